@@ -1,0 +1,4 @@
+pub mod Bytes
+pub mod Hexadecimal
+pub mod Listing
+pub mod Refusal

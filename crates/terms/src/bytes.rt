@@ -1,0 +1,69 @@
+//! Bytes that contracts see as a list.
+
+ghost use Rattle.std.specs.Prelude.{◌≡◌, IfOk};
+ghost use Rattle.terms.specs.Bytes.{IsBytes};
+
+use std::alloc::{AllocError, Global};
+use std::marker::Model;
+
+/// Bytes. In a contract they are the list of their values, so that two are equal where their
+/// contents are.
+#[derive(Debug, Drop)]
+pub struct Bytes {
+    items: Vec<u8>,
+}
+
+impl Model for Bytes {
+    ghost use Rattle.std.specs.Prelude.{List, ℕ};
+    ghost use Rattle.terms.specs.Bytes.{IsBytes};
+
+    ghost Value = { List ℕ };
+
+    ghost view = { λ b. b.items.items };
+
+    ghost invariant = { λ b. IsBytes b.items.items };
+}
+
+impl Bytes {
+    /// A copy of some bytes.
+    pub fn copy_of(alloc: Global, items: &[u8]) -> Result<Bytes, AllocError>
+        ensures { IfOk result (λ copy. copy ≡ items.now) }
+    {
+        Ok(Bytes {
+            items: Vec::from_slice(alloc, items)?,
+        })
+    }
+
+    /// The bytes of a `Vec`, which takes no memory.
+    pub fn from_vec(items: Vec<u8>) -> Bytes
+        ensures { result ≡ items.items }
+    {
+        Bytes { items }
+    }
+
+    /// The bytes themselves.
+    pub fn as_slice(&self) -> &[u8]
+        ensures value { result.now ≡ self.now }
+        ensures bytes { IsBytes self.now }
+    {
+        self.items.as_slice()
+    }
+
+    /// The `Vec` of the bytes, which takes no memory.
+    pub fn into_vec(self) -> Vec<u8>
+        ensures { result.items ≡ self }
+    {
+        let Bytes { items } = self;
+        items
+    }
+}
+
+impl Clone for Bytes {
+    ghost is_clone = { λ source copy. copy ≡ source };
+
+    fn clone(&self) -> Result<Bytes, AllocError> {
+        Ok(Bytes {
+            items: self.items.clone()?,
+        })
+    }
+}

@@ -1,0 +1,14 @@
+//! Words that the other crates' contracts share: texts and bytes as values, hexadecimal digits,
+//! refusals in their order, lists that rise.
+#![tactic(auto)]
+
+mod bytes;
+mod hexadecimal;
+mod text;
+
+pub use bytes::Bytes;
+pub use hexadecimal::{digits_differ, read_digits, write_digits};
+pub use text::Text;
+
+#[cfg(test)]
+mod tests;

@@ -1,0 +1,17 @@
+use super::*;
+
+#[test]
+fn digits_of_numbers(rt: HostRuntime) {
+    let cases = [
+        (0u128, "0000"),
+        (1, "0001"),
+        (10, "000a"),
+        (0xbeef, "beef"),
+        (0x1_2345, "2345"),
+    ];
+    for (number, want) in cases {
+        let mut text = [0u8; 4];
+        write_digits(number, &mut text);
+        assert_eq!(rt; text.as_slice(), want.as_bytes(), "of {number}");
+    }
+}
