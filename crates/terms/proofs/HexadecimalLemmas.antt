@@ -6,6 +6,9 @@ use Rattle.std.proofs.Math.Seq.{get_or-append_seam}
 use Rattle.std.proofs.lemmas.Bool.{cases_lt}
 use Rattle.std.proofs.lemmas.Bool.Decides.{nat_tests}
 use Rattle.std.proofs.lemmas.List.{drop-set, append_cancel_right}
+use Rattle.std.proofs.lemmas.Str.{IsAscii-append}
+use Rattle.std.proofs.lemmas.Str.Ascii.{IsAscii-nil, IsAscii-cons}
+use Rattle.std.specs.Str.{IsAscii}
 use Rattle.terms.specs.Hexadecimal.{hex_digit, hex_digits}
 
 pub hex_digits-suc : (width number : ℕ) → hex_digits (suc width) number ≡ hex_digits width (number / 16) ++ hex_digit (number % 16) ∷ []
@@ -94,3 +97,16 @@ hex_digits-injective (suc width) m n x y same =
     let quotient : m / 16 ≡ n / 16 = hex_digits-injective width (m / 16) (n / 16) (omega arith) (omega arith) front in
     let remainder : m % 16 ≡ n % 16 = hex_digit-injective (m % 16) (n % 16) (omega arith) (omega arith) last in
     omega arith
+
+-- ---- the digits are ASCII
+
+hex_digit-ascii : (digit : ℕ) → digit < 16 → hex_digit digit < 128
+hex_digit-ascii digit small = grind (arith, nat_tests)
+
+pub IsAscii-hex_digits : (width number : ℕ) → IsAscii (hex_digits width number)
+unfolding hex_digits
+IsAscii-hex_digits zero number = IsAscii-nil
+IsAscii-hex_digits (suc width) number =
+    IsAscii-append (hex_digits width (number / 16)) (hex_digit (number % 16) ∷ [])
+    (IsAscii-hex_digits width (number / 16))
+    (IsAscii-cons (hex_digit (number % 16)) [] (hex_digit-ascii (number % 16) (omega arith)) IsAscii-nil)

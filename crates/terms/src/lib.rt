@@ -2,10 +2,12 @@
 //! refusals in their order, lists that rise.
 #![tactic(auto)]
 
+mod ascii;
 mod bytes;
 mod hexadecimal;
 mod text;
 
+pub use ascii::ascii_text;
 pub use bytes::Bytes;
 pub use hexadecimal::{digits_differ, read_digits, write_digits};
 pub use text::Text;
