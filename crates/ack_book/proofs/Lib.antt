@@ -1,0 +1,3 @@
+pub mod EntryLemmas
+pub mod QuestionLemmas
+pub mod HistoryLemmas

@@ -1,0 +1,3 @@
+pub mod Base64Lemmas
+pub mod PacketLemmas
+pub mod PayloadLemmas

@@ -1,0 +1,5 @@
+pub mod Base64
+pub mod Packet
+pub mod Payload
+pub mod Ids
+pub mod Handshake

@@ -1,0 +1,70 @@
+//! The open packet, with which the server answers a new session (Engine.IO protocol 4, "Handshake").
+
+ghost use Rattle.std.specs.Prelude.{◌≡◌, IfOk, IfErr, string_bytes, codes, ◌++◌};
+ghost use Rattle.std.specs.Fmt.{decimal};
+ghost use Rattle.std.specs.Str.{IsAscii};
+ghost use Rattle.eio_wire.specs.Ids.{id_digits};
+ghost use Rattle.eio_wire.specs.Handshake.{open_packet_text, upgrades_of};
+
+use crate::error::WireError;
+use crate::ids::id_text;
+use std::alloc::Global;
+use terms::ascii_text;
+
+/// What the server tells a client of its limits.
+#[derive(Clone, Copy, Debug, PartialEq, Eq)]
+pub struct Numbers {
+    /// Milliseconds between two pings.
+    pub ping_interval: u64,
+    /// Milliseconds that the answer to a ping may take.
+    pub ping_timeout: u64,
+    /// Bytes that a payload may have.
+    pub max_payload: u64,
+}
+
+/// The text of the open packet of a client, which may upgrade where it came by polling. The one
+/// error is Memory.
+pub fn open_text(
+    alloc: Global,
+    client: u128,
+    polling: bool,
+    numbers: &Numbers,
+) -> Result<String, WireError>
+    ensures ok { IfOk result (λ text. string_bytes text ≡ open_packet_text client polling numbers.now) }
+    ensures err { IfErr result (λ error. error ≡ WireError.Memory) }
+{
+    let digits = id_text(client);
+    open_with(alloc, ascii_text(&digits), upgrades(polling), numbers)
+}
+
+/// The JSON list of the transports to which the client may upgrade.
+fn upgrades(polling: bool) -> &'static str
+    ensures { result.now ≡ upgrades_of polling }
+{
+    if polling { r#"["websocket"]"# } else { "[]" }
+}
+
+/// The text of the open packet with these parts.
+fn open_with(
+    alloc: Global,
+    id: &str,
+    upgrades: &str,
+    numbers: &Numbers,
+) -> Result<String, WireError>
+    ensures ok { IfOk result (λ text. string_bytes text ≡
+        codes "0{\"sid\":\"" ++ id.now
+        ++ codes "\",\"upgrades\":" ++ upgrades.now
+        ++ codes ",\"pingInterval\":" ++ decimal numbers.now.ping_interval
+        ++ codes ",\"pingTimeout\":" ++ decimal numbers.now.ping_timeout
+        ++ codes ",\"maxPayload\":" ++ decimal numbers.now.max_payload
+        ++ codes "}") }
+    ensures err { IfErr result (λ error. error ≡ WireError.Memory) }
+{
+    let interval = numbers.ping_interval;
+    let timeout = numbers.ping_timeout;
+    let payload = numbers.max_payload;
+    let text = format!(in alloc;
+        "0{{\"sid\":\"{id}\",\"upgrades\":{upgrades},\"pingInterval\":{interval},\"pingTimeout\":{timeout},\"maxPayload\":{payload}}}"
+    )?;
+    Ok(text)
+}

@@ -1,0 +1,161 @@
+//! One packet and its text (Engine.IO protocol 4, "Packet encoding").
+
+ghost use Rattle.std.specs.Prelude.{List, ℕ, ◌≡◌, ◌≢◌, ◌⊎◌, ◌∷◌, ◌++◌, ◌≤◌, ◌<◌, IfOk, IfErr, IfSome, IfNone, OnOk, length, slice_index, string_bytes};
+ghost use Rattle.terms.specs.Bytes.{IsBytes};
+ghost use Rattle.eio_wire.specs.declared.packet.Packet.{Packet};
+ghost use Rattle.eio_wire.specs.Base64.{base64_text};
+ghost use Rattle.eio_wire.specs.Packet.{Eio, IsNoPacket, fault_of};
+
+use crate::error::WireError;
+use base64::DecodeAllocError;
+use base64::engine::general_purpose::STANDARD;
+use std::alloc::{AllocError, Global};
+use terms::{Bytes, Text};
+
+/// A packet. Each type but `Binary` holds the data that follows the type's digit; after 1, 5 and
+/// 6, where the protocol gives data no meaning, it is kept too.
+#[derive(Clone, Debug, Drop)]
+pub enum Packet {
+    /// 0: the server opens a session.
+    Open(Text),
+    /// 1: the session is to be closed.
+    Close(Text),
+    /// 2: the server asks whether the client is there.
+    Ping(Text),
+    /// 3: the answer to a ping.
+    Pong(Text),
+    /// 4: a message that is a text.
+    Message(Text),
+    /// `b`: a message of bytes.
+    Binary(Bytes),
+    /// 5: the client has upgraded its transport.
+    Upgrade(Text),
+    /// 6: nothing, to end a waiting request.
+    Noop(Text),
+}
+
+/// Reads the packet that has this text. Beside Memory the error is Empty, BadType or BadBase64.
+pub fn read_packet(alloc: Global, text: &str) -> Result<Packet, WireError>
+    ensures ok { IfOk result (λ packet. Eio packet text.now) }
+    ensures err { IfErr result (λ error. (error ≡ WireError.Memory)
+        ⊎ (IsNoPacket text.now × (error ≡ fault_of text.now))) }
+    ensures never { IfErr result (λ error. error ≢ WireError.Separator) }
+{
+    let Some((kind, rest)) = split_type(text) else {
+        return Err(no_type(text));
+    };
+    match kind {
+        b'0' => Ok(Packet::Open(Text::copy_of(alloc, rest)?)),
+        b'1' => Ok(Packet::Close(Text::copy_of(alloc, rest)?)),
+        b'2' => Ok(Packet::Ping(Text::copy_of(alloc, rest)?)),
+        b'3' => Ok(Packet::Pong(Text::copy_of(alloc, rest)?)),
+        b'4' => Ok(Packet::Message(Text::copy_of(alloc, rest)?)),
+        b'5' => Ok(Packet::Upgrade(Text::copy_of(alloc, rest)?)),
+        b'6' => Ok(Packet::Noop(Text::copy_of(alloc, rest)?)),
+        b'b' => Ok(Packet::Binary(read_base64(alloc, rest)?)),
+        _ => Err(WireError::BadType),
+    }
+}
+
+/// The first byte and the text after it, where the text begins with an ASCII character.
+fn split_type(text: &str) -> Option<(u8, &str)>
+    ensures found { IfSome result (λ parts. text.now ≡ parts.0 ∷ parts.1.now) }
+    ensures none { IfNone result ((length text.now ≡ 0) ⊎ (128 ≤ slice_index text.now 0)) }
+{
+    if text.is_empty() {
+        return None;
+    }
+    let kind = text.as_bytes()[0];
+    if kind >= 128 {
+        return None;
+    }
+    Some((kind, &text[1..]))
+}
+
+/// What is wrong with a text that begins with no ASCII character.
+fn no_type(text: &str) -> WireError
+    requires { (length text.now ≡ 0) ⊎ (128 ≤ slice_index text.now 0) }
+    ensures { result ≡ fault_of text.now }
+{
+    if text.is_empty() {
+        WireError::Empty
+    } else {
+        WireError::BadType
+    }
+}
+
+/// The bytes that have this base64 text.
+fn read_base64(alloc: Global, text: &str) -> Result<Bytes, WireError>
+    ensures ok { IfOk result (λ bytes. IsBytes bytes × (text.now ≡ base64_text bytes)) }
+    ensures err { IfErr result (λ error. (error ≡ WireError.Memory)
+        ⊎ ((error ≡ WireError.BadBase64)
+        × ((bytes : List ℕ) → IsBytes bytes → ¬ (text.now ≡ base64_text bytes)))) }
+{
+    match STANDARD.decode(alloc, text.as_bytes()) {
+        Ok(bytes) => Ok(Bytes::from_vec(bytes)),
+        Err(DecodeAllocError::DecodeError(_)) => Err(WireError::BadBase64),
+        Err(DecodeAllocError::OutOfMemory) => Err(WireError::Memory),
+    }
+}
+
+/// The packet's text. The one error is Memory.
+pub fn write_packet(alloc: Global, packet: &Packet) -> Result<String, WireError>
+    ensures ok { IfOk result (λ text. Eio packet.now (string_bytes text)) }
+    ensures err { IfErr result (λ error. error ≡ WireError.Memory) }
+{
+    let mut text = String::new(alloc);
+    push_packet(&mut text, packet)?;
+    Ok(text)
+}
+
+/// Adds the packet's text at the end.
+pub(crate) fn push_packet(text: &mut String, packet: &Packet) -> Result<(), AllocError>
+    ensures ok { OnOk result ((more : List ℕ) × Eio packet.now more
+        × (string_bytes text.new ≡ string_bytes text.old ++ more)) }
+{
+    match packet {
+        Packet::Open(rest) => push_typed(text, "0", rest),
+        Packet::Close(rest) => push_typed(text, "1", rest),
+        Packet::Ping(rest) => push_typed(text, "2", rest),
+        Packet::Pong(rest) => push_typed(text, "3", rest),
+        Packet::Message(rest) => push_typed(text, "4", rest),
+        Packet::Upgrade(rest) => push_typed(text, "5", rest),
+        Packet::Noop(rest) => push_typed(text, "6", rest),
+        Packet::Binary(bytes) => push_binary(text, bytes),
+    }
+}
+
+/// Adds a type and what follows it.
+fn push_typed(text: &mut String, kind: &str, rest: &Text) -> Result<(), AllocError>
+    ensures { OnOk result (string_bytes text.new ≡ string_bytes text.old ++ (kind.now ++ rest.now)) }
+{
+    text.push_str(kind)?;
+    text.push_str(rest.as_str())
+}
+
+/// Adds a `b` and the base64 text of the bytes.
+fn push_binary(text: &mut String, bytes: &Bytes) -> Result<(), AllocError>
+    ensures { OnOk result (IsBytes bytes.now
+        × (string_bytes text.new ≡ string_bytes text.old ++ 98 ∷ base64_text bytes.now)) }
+{
+    text.push_str("b")?;
+    push_base64(text, bytes)
+}
+
+/// Adds the base64 text of the bytes.
+fn push_base64(text: &mut String, bytes: &Bytes) -> Result<(), AllocError>
+    ensures bytes { IsBytes bytes.now }
+    ensures ok { OnOk result (string_bytes text.new ≡ string_bytes text.old ++ base64_text bytes.now) }
+{
+    STANDARD.encode_string(bytes.as_slice(), text)
+}
+
+/// A text is that of at most one packet. It has no effect.
+pub fn one_packet()
+    ensures { (p q : Packet) (text : List ℕ) → Eio p text → Eio q text → p ≡ q }
+{}
+
+/// A packet has at most one text. It has no effect.
+pub fn one_text()
+    ensures { (packet : Packet) (t u : List ℕ) → Eio packet t → Eio packet u → t ≡ u }
+{}

@@ -1,0 +1,175 @@
+use crate::{
+    Numbers, Packet, WireError, id_text, open_text, read_id, read_packet, read_payload,
+    write_packet, write_payload,
+};
+use std::alloc::Global;
+use std::test::Fail;
+use terms::{Bytes, Text};
+
+// Asks again where memory was refused: of a run's allocations at most one is, so the second answer
+// is that of ample memory.
+fn ample<T: Drop, F: Fn() -> Result<T, WireError>>(call: F) -> Result<T, WireError>
+    requires { F.IsAlwaysCallable call }
+{
+    match call() {
+        Err(WireError::Memory) => call(),
+        answer => answer,
+    }
+}
+
+// A packet's type and what it holds.
+fn parts(packet: &Packet) -> (char, &[u8]) {
+    match packet {
+        Packet::Open(text) => ('0', text.as_str().as_bytes()),
+        Packet::Close(text) => ('1', text.as_str().as_bytes()),
+        Packet::Ping(text) => ('2', text.as_str().as_bytes()),
+        Packet::Pong(text) => ('3', text.as_str().as_bytes()),
+        Packet::Message(text) => ('4', text.as_str().as_bytes()),
+        Packet::Binary(bytes) => ('b', bytes.as_slice()),
+        Packet::Upgrade(text) => ('5', text.as_str().as_bytes()),
+        Packet::Noop(text) => ('6', text.as_str().as_bytes()),
+    }
+}
+
+fn read(alloc: Global, text: &str) -> Result<Packet, WireError> {
+    ample(|| read_packet(alloc, text))
+}
+
+fn write(alloc: Global, packet: &Packet) -> Result<String, WireError> {
+    ample(|| write_packet(alloc, packet))
+}
+
+#[test]
+fn texts(rt: HostRuntime) -> Result<(), Fail> {
+    let alloc = rt.alloc();
+    let cases: [(&str, char, &[u8]); 7] = [
+        ("0{}", '0', b"{}"),
+        ("1", '1', b""),
+        ("2", '2', b""),
+        ("3probe", '3', b"probe"),
+        ("4", '4', b""),
+        ("5", '5', b""),
+        ("6", '6', b""),
+    ];
+    for (text, kind, held) in cases {
+        let packet = read(alloc, text)?;
+        assert_eq!(rt; parts(&packet), (kind, held));
+        assert_eq!(rt; write(alloc, &packet)?.as_str(), text);
+    }
+    Ok(())
+}
+
+// RFC 4648's vectors, and the last two symbols of its alphabet.
+#[test]
+fn base64(rt: HostRuntime) -> Result<(), Fail> {
+    let alloc = rt.alloc();
+    let cases: [(&str, &[u8]); 4] = [
+        ("b", b""),
+        ("bAQI=", b"\x01\x02"),
+        ("bZm9vYmFy", b"foobar"),
+        ("b+//+", b"\xfb\xff\xfe"),
+    ];
+    for (text, held) in cases {
+        let packet = read(alloc, text)?;
+        assert_eq!(rt; parts(&packet), ('b', held));
+        assert_eq!(rt; write(alloc, &packet)?.as_str(), text);
+    }
+    Ok(())
+}
+
+#[test]
+fn faults(rt: HostRuntime) {
+    let alloc = rt.alloc();
+    let cases = [
+        ("", WireError::Empty),
+        ("4a\u{1e}", WireError::Empty),
+        ("9x", WireError::BadType),
+        ("\u{e9}", WireError::BadType),
+        ("2\u{1e}B\u{1e}\u{1e}b-", WireError::BadType),
+        ("bAQI", WireError::BadBase64),
+        ("bAQ", WireError::BadBase64),
+    ];
+    for (text, fault) in cases {
+        assert_eq!(rt;
+            ample(|| read_payload(alloc, text)).err(),
+            Some(fault),
+            "of {text}"
+        );
+    }
+}
+
+#[test]
+fn payloads(rt: HostRuntime) -> Result<(), Fail> {
+    let alloc = rt.alloc();
+    let text = "4hello\u{1e}2\u{1e}4world\u{1e}bAQIDBA==";
+    let read = ample(|| read_payload(alloc, text))?;
+    let want: [(char, &[u8]); 4] = [
+        ('4', b"hello"),
+        ('2', b""),
+        ('4', b"world"),
+        ('b', b"\x01\x02\x03\x04"),
+    ];
+    assert_eq!(rt; read.len(), want.len());
+    for (packet, parts_wanted) in read.iter().zip(want) {
+        assert_eq!(rt; parts(packet), parts_wanted);
+    }
+    let written = ample(|| write_payload(alloc, &read))?;
+    assert_eq!(rt; written.as_str(), text);
+    assert_eq!(rt;
+        ample(|| write_payload(alloc, &[])).err(),
+        Some(WireError::Empty)
+    );
+    let Ok(broken) = Text::copy_of(alloc, "a\u{1e}") else {
+        return Ok(());
+    };
+    let broken = [Packet::Message(broken)];
+    assert_eq!(rt;
+        ample(|| write_payload(alloc, &broken)).err(),
+        Some(WireError::Separator)
+    );
+    Ok(())
+}
+
+#[test]
+fn open_packets(rt: HostRuntime) -> Result<(), Fail> {
+    let alloc = rt.alloc();
+    let numbers = Numbers {
+        ping_interval: 25_000,
+        ping_timeout: 20_000,
+        max_payload: 1_000_000,
+    };
+    let polling = ample(|| open_text(alloc, 1, true, &numbers))?;
+    assert_eq!(rt;
+        polling.as_str(),
+        "0{\"sid\":\"00000000000000000000000000000001\",\"upgrades\":[\"websocket\"],\"pingInterval\":25000,\"pingTimeout\":20000,\"maxPayload\":1000000}"
+    );
+    let socket = ample(|| open_text(alloc, 1, false, &numbers))?;
+    assert_eq!(rt;
+        socket.as_str(),
+        "0{\"sid\":\"00000000000000000000000000000001\",\"upgrades\":[],\"pingInterval\":25000,\"pingTimeout\":20000,\"maxPayload\":1000000}"
+    );
+    Ok(())
+}
+
+#[test]
+fn ids(rt: HostRuntime) {
+    let digits = "0123456789abcdef00000000000000ff";
+    let id = 0x0123_4567_89ab_cdef_0000_0000_0000_00ff;
+    assert_eq!(rt; id_text(id).as_slice(), digits.as_bytes());
+    assert_eq!(rt; read_id(digits), Some(id));
+    assert_eq!(rt;
+        read_id("ffffffffffffffffffffffffffffffff"),
+        Some(u128::MAX)
+    );
+    let none = [
+        "0123456789abcdef0000000000000ff",
+        "0123456789abcdef000000000000000ff",
+        "0123456789ABCDEF00000000000000FF",
+        "0123456789abcdeg00000000000000ff",
+        "+123456789abcdef00000000000000ff",
+        "",
+    ];
+    for text in none {
+        assert_eq!(rt; read_id(text), None, "of {text}");
+    }
+}

@@ -1,0 +1,2 @@
+pub mod HeartbeatLemmas
+pub mod HistoryLemmas
