@@ -35,10 +35,10 @@ impl Bytes {
     }
 
     /// The bytes of a `Vec`, which takes no memory.
-    pub fn from_vec(items: Vec<u8>) -> Bytes
-        ensures { result ≡ items.items }
+    pub fn from_vec(owned: Vec<u8>) -> Bytes
+        ensures { result ≡ owned.items }
     {
-        Bytes { items }
+        Bytes { items: owned }
     }
 
     /// The bytes themselves.

@@ -32,10 +32,10 @@ impl Text {
     }
 
     /// The text of a `String`, which takes no memory.
-    pub fn from_string(text: String) -> Text
-        ensures { result ≡ string_bytes text }
+    pub fn from_string(owned: String) -> Text
+        ensures { result ≡ string_bytes owned }
     {
-        Text { text }
+        Text { text: owned }
     }
 
     /// The text itself.

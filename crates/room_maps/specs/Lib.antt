@@ -1,0 +1,5 @@
+pub mod Room
+pub mod Links
+pub mod Membership
+pub mod Mirror
+pub mod Addressed

@@ -1,0 +1,44 @@
+-- A map of sockets to their rooms and a map of rooms to their sockets that hold the same pairs.
+use Rattle.std.specs.Prelude.{◌≡◌, ℕ, true, List, [], map, is_some, Option, None, Some}
+use Rattle.std.specs.Ordering.{nat_cmp}
+use Rattle.std.specs.List.{flat_map}
+use Rattle.std.specs.FinSet as set
+use Rattle.std.specs.BTreeMap.{BTreeMap}
+use Rattle.std.specs.BTreeMap as tree
+use Rattle.std.specs.BTreeSet.{BTreeSet}
+use Rattle.room_maps.specs.Room.{room_cmp, own_room}
+use Rattle.room_maps.specs.Links.{is_linked, HasNoEmptySet}
+use Rattle.room_maps.specs.Membership.{pair_cmp, RoomSets}
+
+abbrev pub SocketMap : Type 0
+SocketMap = BTreeMap ℕ (BTreeSet (List ℕ))
+
+abbrev pub RoomMap : Type 0
+RoomMap = BTreeMap (List ℕ) (BTreeSet ℕ)
+
+-- ---- the sets that a map of sockets holds
+
+abbrev pub rooms_at : Option (BTreeSet (List ℕ)) → List (List ℕ)
+rooms_at None = []
+rooms_at (Some rooms) = rooms.keys
+
+abbrev pub pairs_at : SocketMap → ℕ → List (ℕ × List ℕ)
+pairs_at a sid = map (λ room. (sid, room)) (rooms_at (tree.get nat_cmp a sid))
+
+unfoldable pub sockets_of : SocketMap → set.FinSet nat_cmp
+sockets_of a = set.from_list (tree.keys a)
+
+unfoldable pub pairs_of : SocketMap → set.FinSet pair_cmp
+pairs_of a = set.from_list (flat_map (pairs_at a) (tree.keys a))
+
+abbrev pub sets_of : SocketMap → RoomSets
+sets_of a = record { sockets = sockets_of a; pairs = pairs_of a }
+
+-- ---- the two maps mirror each other
+
+-- both maps hold exactly these pairs, each socket is in its own room, and no room is empty
+pub record Mirror (a : SocketMap) (b : RoomMap) (pairs : set.FinSet pair_cmp) : Type 0 where
+  pub sockets_side : (sid : ℕ) (room : List ℕ) → is_linked nat_cmp room_cmp a sid room ≡ set.contains pairs (sid, room)
+  pub rooms_side : (sid : ℕ) (room : List ℕ) → is_linked room_cmp nat_cmp b room sid ≡ set.contains pairs (sid, room)
+  pub own_rooms : (sid : ℕ) → is_some (tree.get nat_cmp a sid) ≡ true → set.contains pairs (sid, own_room sid) ≡ true
+  pub no_empty_room : HasNoEmptySet room_cmp b

@@ -1,0 +1,120 @@
+//! For whom a broadcast is, as a rising list (Socket.IO server documentation, "Adapter").
+
+ghost use Rattle.std.specs.Prelude.{◌≡◌, ◌&&◌, ◌||◌, ◌++◌, ℕ, not, map, filter, IfOk, OnOk};
+ghost use Rattle.std.specs.List.{list_any};
+ghost use Rattle.std.specs.Ordering.{nat_cmp, eq_by_cmp};
+ghost use Rattle.std.specs.BTreeMap as tree;
+ghost use Rattle.std.specs.BTreeSet as sorted;
+ghost use Rattle.room_maps.specs.Links.{is_linked};
+ghost use Rattle.room_maps.specs.Room.{room_cmp};
+ghost use Rattle.terms.specs.Listing.{ListsRising};
+
+use crate::links;
+use crate::room::Room;
+use crate::sid::Sid;
+use std::alloc::{AllocError, Global};
+use std::collections::{BTreeMap, BTreeSet};
+
+/// Whether one of the rooms is in the set.
+fn meets(inside: &BTreeSet<Room>, rooms: &[Room]) -> bool
+    ensures { result ≡ list_any (sorted.contains room_cmp inside.now) rooms.now }
+{
+    rooms.iter().any(|room| inside.contains(room))
+}
+
+/// Whether the socket is in one of the rooms.
+fn is_in_any(by_socket: &BTreeMap<Sid, BTreeSet<Room>>, sid: Sid, rooms: &[Room]) -> bool
+    ensures { result ≡ list_any (is_linked nat_cmp room_cmp by_socket.now sid) rooms.now }
+{
+    if rooms.is_empty() {
+        return false;
+    }
+    match by_socket.get(&sid) {
+        Some(inside) => meets(inside, rooms),
+        None => false,
+    }
+}
+
+/// All sockets but those in an excepted room. It walks the sockets once.
+pub(crate) fn sockets_but(
+    alloc: Global,
+    by_socket: &BTreeMap<Sid, BTreeSet<Room>>,
+    excepted: &[Room],
+) -> Result<Vec<Sid>, AllocError>
+    ensures ordered { tree.IsOrdered nat_cmp by_socket.now }
+    ensures items { IfOk result (λ sids. sids.items ≡ map (λ e. e.0) (filter (λ e. not (list_any (sorted.contains room_cmp e.1) excepted.now)) by_socket.now.entries)) }
+{
+    by_socket
+        .iter()
+        .filter(|(_, inside)| !meets(inside, excepted))
+        .map(|(sid, _)| *sid)
+        .collect(alloc)
+}
+
+/// Adds the sockets of a set but those in an excepted room.
+fn add_chosen(
+    sids: &mut Vec<Sid>,
+    by_socket: &BTreeMap<Sid, BTreeSet<Room>>,
+    members: &BTreeSet<Sid>,
+    excepted: &[Room],
+) -> Result<(), AllocError>
+    ensures { OnOk result (sids.new.items ≡ sids.old.items ++ filter (λ sid. not (list_any (is_linked nat_cmp room_cmp by_socket.now sid) excepted.now)) members.now.keys) }
+{
+    sids.extend(
+        members
+            .iter()
+            .copied()
+            .filter(|sid| !is_in_any(by_socket, *sid, excepted)),
+    )?;
+    Ok(())
+}
+
+/// Adds the members of a room but those in an excepted one.
+fn add_members(
+    sids: &mut Vec<Sid>,
+    by_socket: &BTreeMap<Sid, BTreeSet<Room>>,
+    by_room: &BTreeMap<Room, BTreeSet<Sid>>,
+    room: Room,
+    excepted: &[Room],
+) -> Result<(), AllocError>
+    ensures { OnOk result ((sid : ℕ) → list_any (eq_by_cmp nat_cmp sid) sids.new.items ≡ (list_any (eq_by_cmp nat_cmp sid) sids.old.items || (is_linked room_cmp nat_cmp by_room.now room sid && not (list_any (is_linked nat_cmp room_cmp by_socket.now sid) excepted.now)))) }
+{
+    match by_room.get(&room) {
+        Some(members) => add_chosen(sids, by_socket, members, excepted),
+        None => Ok(()),
+    }
+}
+
+/// The members of each room but those in an excepted one, room after room.
+fn all_members(
+    alloc: Global,
+    by_socket: &BTreeMap<Sid, BTreeSet<Room>>,
+    by_room: &BTreeMap<Room, BTreeSet<Sid>>,
+    rooms: &[Room],
+    excepted: &[Room],
+) -> Result<Vec<Sid>, AllocError>
+    ensures { IfOk result (λ sids. (sid : ℕ) → list_any (eq_by_cmp nat_cmp sid) sids.items ≡ (list_any (λ room. is_linked room_cmp nat_cmp by_room.now room sid) rooms.now && not (list_any (is_linked nat_cmp room_cmp by_socket.now sid) excepted.now))) }
+{
+    let mut sids = Vec::new(alloc);
+    for room in rooms {
+        add_members(&mut sids, by_socket, by_room, *room, excepted)?;
+    }
+    Ok(sids)
+}
+
+/// The sockets in one of the rooms but those in an excepted one, rising. It walks the members of
+/// the rooms.
+pub(crate) fn members_but(
+    alloc: Global,
+    by_socket: &BTreeMap<Sid, BTreeSet<Room>>,
+    by_room: &BTreeMap<Room, BTreeSet<Sid>>,
+    rooms: &[Room],
+    excepted: &[Room],
+) -> Result<Vec<Sid>, AllocError>
+    ensures { IfOk result (λ sids. ListsRising nat_cmp (λ sid. list_any (λ room. is_linked room_cmp nat_cmp by_room.now room sid) rooms.now && not (list_any (is_linked nat_cmp room_cmp by_socket.now sid) excepted.now)) sids.items) }
+{
+    let mut sids = all_members(alloc, by_socket, by_room, rooms, excepted)?;
+    sids.sort_unstable();
+    sids.dedup();
+    Ok(sids)
+}

@@ -1,0 +1,125 @@
+//! The names of rooms (Socket.IO server documentation, "Rooms").
+
+ghost use Rattle.std.specs.Prelude.{◌≡◌, ◌≤◌, ◌↔◌, length, IfSome, IsSome, nat_eq};
+ghost use Rattle.std.specs.Str.{IsUtf8};
+ghost use Rattle.std.specs.Ordering.{as_partial_cmp};
+ghost use Rattle.std.specs.Cmp.Rules.{comparing};
+ghost use Rattle.std.proofs.Common.{rules};
+ghost use Rattle.room_maps.specs.Room.{room_cmp, same_room, padded, own_room};
+
+use crate::sid::Sid;
+use std::cmp::Ordering;
+use std::marker::Model;
+use terms::write_digits;
+
+/// The most bytes of a room's name.
+const MOST_BYTES: usize = 64;
+
+/// The name of a room: a text of at most 64 bytes, which may be empty. Rooms are ordered by their
+/// bytes, and a contract sees a room as the list of them.
+#[derive(Clone, Copy, Debug)]
+pub struct Room {
+    bytes: [u8; 64],
+    len: u8,
+}
+
+impl Model for Room {
+    ghost use Rattle.std.specs.Prelude.{List, ℕ, length, take};
+    ghost use Rattle.room_maps.specs.Room.{padded, HoldsName};
+
+    ghost Value = { List ℕ };
+
+    ghost view = { λ r. take r.len r.bytes };
+
+    ghost invariant = { λ r. HoldsName r.bytes r.len };
+
+    ghost inverse = { λ xs. record { bytes = padded xs; len = length xs } };
+
+    ghost inverse_ok = { λ a h i. record { bytes = h.zeros i; len = h.whole i } };
+}
+
+/// The bytes, followed by zeros.
+fn fill(source: &[u8]) -> [u8; 64]
+    requires { length source.now ≤ 64 }
+    ensures { result ≡ padded source.now }
+{
+    let mut bytes = [0u8; MOST_BYTES];
+    bytes[..source.len()].copy_from_slice(source);
+    bytes
+}
+
+impl Room {
+    /// The room that has this name, or `None` where the name is longer than 64 bytes.
+    pub fn read(name: &str) -> Option<Room>
+        ensures short { IsSome result ↔ (length name.now ≤ 64) }
+        ensures name { IfSome result (λ room. room ≡ name.now) }
+    {
+        let source = name.as_bytes();
+        if source.len() > MOST_BYTES {
+            return None;
+        }
+        Some(Room {
+            bytes: fill(source),
+            len: source.len() as u8,
+        })
+    }
+
+    /// The room that a socket is in by itself: its id as 32 lower-case hexadecimal digits.
+    pub fn own(sid: Sid) -> Room
+        ensures { result ≡ own_room sid }
+    {
+        let mut digits = [0u8; 32];
+        write_digits(sid.number(), &mut digits);
+        Room {
+            bytes: fill(&digits),
+            len: 32,
+        }
+    }
+
+    /// The bytes of the name, a text in UTF-8.
+    pub fn bytes(&self) -> &[u8]
+        ensures value { result.now ≡ self.now }
+        ensures short { length self.now ≤ 64 }
+        ensures text { IsUtf8 self.now }
+    {
+        &self.bytes[..self.len as usize]
+    }
+}
+
+impl PartialEq for Room {
+    ghost eq = { same_room };
+
+    ghost laws = { Prim.search (comparing, rules) };
+
+    fn eq(&self, other: &Room) -> bool {
+        self.bytes() == other.bytes()
+    }
+}
+
+impl Eq for Room {
+    ghost laws = { Prim.search (comparing, rules) };
+}
+
+impl PartialOrd for Room {
+    ghost partial_cmp = { as_partial_cmp room_cmp };
+
+    ghost laws = { Prim.search (comparing, rules) };
+
+    fn partial_cmp(&self, other: &Room) -> Option<Ordering> {
+        Some(self.cmp(other))
+    }
+}
+
+impl Ord for Room {
+    ghost cmp = { room_cmp };
+
+    ghost total = { Prim.search (comparing, rules) };
+
+    ghost matches_partial_cmp = { Prim.search (comparing, rules) };
+
+    ghost matches_eq = { Prim.search (comparing, rules) };
+
+    fn cmp(&self, other: &Room) -> Ordering {
+        self.bytes().cmp(other.bytes())
+    }
+}
