@@ -1,0 +1,9 @@
+pub mod DigitsLemmas
+pub mod FaultsLemmas
+pub mod FramesLemmas
+pub mod HeaderLemmas
+pub mod JsonFieldsLemmas
+pub mod OffsetLemmas
+pub mod ScanLemmas
+pub mod ShapeLemmas
+pub mod WholeLemmas

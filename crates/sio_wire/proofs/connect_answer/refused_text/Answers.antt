@@ -1,0 +1,11 @@
+use Rattle.std.proofs.Common.{◌≡◌, ◌++◌, List, ℕ, ◌∷◌, ap, sym, ◌∙◌, append_assoc}
+use Rattle.std.specs.Prelude.{codes}
+use Rattle.sio_wire.proofs.connect_answer.refused_text.Goals as goal
+
+four_parts : (a b c d : List ℕ) → a ++ b ++ c ++ d ≡ a ++ (b ++ (c ++ d))
+four_parts a b c d = simp append_assoc
+
+pub returns-clause-ok : goal.returns-clause-ok
+returns-clause-ok c =
+    c.in_ok-format.ensures.ok
+    ∙ rw (c.in_ok-part.ensures, c.in_ok-message.ensures) (ap (λ t. 52 ∷ t) (sym (four_parts _ (codes "{\"message\":") _ (codes "}"))))

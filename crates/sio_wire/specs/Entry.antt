@@ -1,0 +1,7 @@
+-- Packets that wait to be sent.
+use Rattle.std.specs.Prelude.{ℕ, ◌+◌, length, sum_by}
+use Rattle.sio_wire.specs.declared.entry.Entry.{Entry}
+
+-- the bytes that an entry holds: those of its text and of its attachments
+abbrev pub entry_size : Entry → ℕ
+entry_size entry = length entry.text + sum_by (λ part. length part) entry.attachments

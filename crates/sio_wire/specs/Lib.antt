@@ -1,0 +1,11 @@
+pub mod Kinds
+pub mod Placeholders
+pub mod Shape
+pub mod Header
+pub mod Faults
+pub mod Scan
+pub mod Entry
+pub mod Frames
+pub mod Offset
+pub mod ConnectAnswer
+pub mod JsonFields

@@ -1,0 +1,51 @@
+//! What the server answers to a CONNECT (Socket.IO protocol 5, "Connection to a namespace").
+
+ghost use Rattle.std.specs.Prelude.{◌≡◌, IfOk, OnErr, IsErrOf, string_bytes};
+ghost use Rattle.json.specs.Print.{quoted};
+ghost use Rattle.sio_wire.specs.ConnectAnswer as answer;
+ghost use Rattle.sio_wire.specs.Header.{space_text};
+
+use crate::error::SioError;
+use crate::header::push_space;
+use eio_wire::id_text;
+use serde_json::Value;
+use std::alloc::{AllocError, Global};
+use terms::ascii_text;
+
+/// The answer that the socket is connected: its session id `sid`, and the private session id
+/// `pid` by which the client may resume the session.
+pub fn connected_text(alloc: Global, space: &str, sid: u128, pid: u128) -> Result<String, SioError>
+    ensures ok { IfOk result (λ text. string_bytes text ≡ answer.connected_text space.now sid pid) }
+    ensures err { OnErr result (IsErrOf result SioError.Memory) }
+{
+    let part = space_part(alloc, space)?;
+    let (sid, pid) = (id_text(sid), id_text(pid));
+    let (sid, pid) = (ascii_text(&sid), ascii_text(&pid));
+    Ok(format!(in alloc; "0{part}{{\"sid\":\"{sid}\",\"pid\":\"{pid}\"}}")?)
+}
+
+/// The answer that the connection is refused, with a message for the client.
+pub fn refused_text(alloc: Global, space: &str, message: &str) -> Result<String, SioError>
+    ensures ok { IfOk result (λ text. string_bytes text ≡ answer.refused_text space.now message.now) }
+    ensures err { OnErr result (IsErrOf result SioError.Memory) }
+{
+    let part = space_part(alloc, space)?;
+    let message = quote(alloc, message)?;
+    Ok(format!(in alloc; "4{part}{{\"message\":{message}}}")?)
+}
+
+/// The text as a JSON text.
+fn quote(alloc: Global, text: &str) -> Result<String, AllocError>
+    ensures { IfOk result (λ written. string_bytes written ≡ quoted text.now) }
+{
+    Value::try_from_str(alloc, text)?.to_string(alloc)
+}
+
+/// The namespace and a comma, or nothing for `/`.
+fn space_part(alloc: Global, space: &str) -> Result<String, AllocError>
+    ensures { IfOk result (λ part. string_bytes part ≡ space_text space.now) }
+{
+    let mut part = String::new(alloc);
+    push_space(&mut part, space)?;
+    Ok(part)
+}

@@ -1,0 +1,114 @@
+//! Packets with their attachments: one that came, and one that waits to be sent.
+
+ghost use Rattle.std.specs.Prelude.{◌≡◌, [], ◌∷◌, ◌++◌, length, IsTrue, ◌↔◌, OnOk, OnErr};
+
+use crate::header::Header;
+use std::alloc::{AllocError, Global};
+use std::marker::Model;
+use terms::{Bytes, Text};
+
+/// The attachments of a packet, in the order of the binary frames that carry them. In a contract
+/// they are a list of lists of bytes.
+#[derive(Debug, Drop)]
+pub struct Attachments {
+    parts: Vec<Bytes>,
+}
+
+impl Model for Attachments {
+    ghost use Rattle.std.specs.Prelude.{List, ℕ};
+
+    ghost Value = { List (List ℕ) };
+
+    ghost view = { λ a. a.parts.items };
+}
+
+impl Attachments {
+    /// No attachments. It takes no memory.
+    pub fn new(alloc: Global) -> Attachments
+        ensures { result ≡ [] }
+    {
+        Attachments {
+            parts: Vec::new(alloc),
+        }
+    }
+
+    /// The attachments of a `Vec`, which takes no memory.
+    pub fn from_vec(parts: Vec<Bytes>) -> Attachments
+        ensures { result ≡ parts.items }
+    {
+        Attachments { parts }
+    }
+
+    /// The `Vec` of the attachments, which takes no memory.
+    pub fn into_vec(self) -> Vec<Bytes>
+        ensures { result.items ≡ self }
+    {
+        let Attachments { parts } = self;
+        parts
+    }
+
+    /// The attachments themselves.
+    pub fn as_slice(&self) -> &[Bytes]
+        ensures { result.now ≡ self.now }
+    {
+        self.parts.as_slice()
+    }
+
+    /// How many there are.
+    pub fn len(&self) -> usize
+        ensures { result ≡ length self.now }
+    {
+        self.parts.len()
+    }
+
+    /// Whether there are none.
+    pub fn is_empty(&self) -> bool
+        ensures { IsTrue result ↔ (self.now ≡ []) }
+    {
+        self.parts.is_empty()
+    }
+
+    /// Adds one at the end. Where memory is refused, it is dropped.
+    pub fn push(&mut self, part: Bytes) -> Result<(), AllocError>
+        ensures ok { OnOk result (self.new ≡ self.old ++ part ∷ []) }
+        ensures err { OnErr result (self.new ≡ self.old) }
+    {
+        self.parts.push(part)?;
+        Ok(())
+    }
+}
+
+impl Clone for Attachments {
+    ghost is_clone = { λ source copy. copy ≡ source };
+
+    fn clone(&self) -> Result<Attachments, AllocError> {
+        Ok(Attachments {
+            parts: self.parts.clone()?,
+        })
+    }
+}
+
+/// A packet that came whole: its header, and as many attachments as the header counts.
+#[derive(Debug, Drop)]
+pub struct SioPacket {
+    pub header: Header,
+    pub attachments: Attachments,
+}
+
+/// A packet that waits to be sent: its whole text, and the attachments that follow it.
+#[derive(Debug, Drop)]
+pub struct Entry {
+    pub text: Text,
+    pub attachments: Attachments,
+}
+
+impl Clone for Entry {
+    ghost is_clone = { λ source copy. copy ≡ source };
+
+    fn clone(&self) -> Result<Entry, AllocError> {
+        Ok(Entry {
+            text: self.text.clone()?,
+            attachments: self.attachments.clone()?,
+        })
+    }
+}

@@ -1,0 +1,30 @@
+//! Socket.IO packets: their texts, and the attachments that follow them (Socket.IO protocol 5,
+//! "Packet encoding").
+#![tactic(auto)]
+
+mod assembler;
+mod connect_answer;
+mod entry;
+mod error;
+mod event_names;
+mod header;
+mod kind;
+mod offset;
+mod placeholder;
+mod resume;
+mod scan;
+mod shape;
+mod tree;
+
+pub use assembler::{Assembler, Progress, frames_cut_once};
+pub use connect_answer::{connected_text, refused_text};
+pub use entry::{Attachments, Entry, SioPacket};
+pub use error::SioError;
+pub use event_names::names;
+pub use header::{Header, header_faults, header_texts, read_header, write_header};
+pub use kind::Kind;
+pub use offset::{read_offset, with_offset};
+pub use resume::{Resume, resume_of};
+
+#[cfg(test)]
+mod tests;
