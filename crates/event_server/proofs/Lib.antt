@@ -1,0 +1,5 @@
+pub mod LineLemmas
+pub mod RunLemmas
+pub mod ScriptLineLemmas
+pub mod WaitingLemmas
+pub mod WholeLemmas

@@ -1,0 +1,7 @@
+pub mod Cause
+pub mod Relay
+pub mod First
+pub mod Whom
+pub mod Working
+pub mod ScriptLine
+pub mod Printing
