@@ -1,0 +1,3 @@
+pub mod PacketLogLemmas
+pub mod MissedLemmas
+pub mod SavedTableLemmas

@@ -1,0 +1,50 @@
+-- Rooms that a broadcast names, and what was missed past a place of a log that lies in two pieces.
+use Rattle.std.proofs.Common.{◌≡◌, ℕ, zero, suc, ◌==◌, ◌-◌, Bool, false, List, [], ◌∷◌, ◌++◌, length, drop, take, min, map, filter, refl, sym, ap, ◌∙◌, arith}
+use Rattle.std.proofs.lemmas.Bool.Decides.{nat_tests}
+use Rattle.std.proofs.lemmas.List.Elements.{filter-append}
+use Rattle.std.proofs.lemmas.List.{map-append, length-drop}
+use Rattle.std.proofs.Math.Seq.{take-length}
+use Rattle.room_maps.specs.Addressed.{names_no_room}
+use Rattle.recovery.specs.PacketLog.{PlainLogged}
+
+pub no_room : (rooms : List (List ℕ)) → (length rooms == 0) ≡ names_no_room rooms
+no_room [] = refl
+no_room (room ∷ rooms) = some (length rooms)
+  where
+    some : (n : ℕ) → (suc n == 0) ≡ false
+    some n = grind (arith, nat_tests)
+
+-- the offsets of those that pass
+abbrev pub offsets_of : (PlainLogged → Bool) → List PlainLogged → List ℕ
+offsets_of p es = map (λ (e : PlainLogged). e.offset) (filter p es)
+
+pub offsets_of-append : (p : PlainLogged → Bool) (xs ys : List PlainLogged) → offsets_of p (xs ++ ys) ≡ offsets_of p xs ++ offsets_of p ys
+offsets_of-append p xs ys = ap (map (λ (e : PlainLogged). e.offset)) (filter-append p xs ys) ∙ map-append (λ (e : PlainLogged). e.offset) (filter p xs) (filter p ys)
+
+-- a slice from a place on
+pub rest_from : (k : ℕ) (xs : List PlainLogged) → take (length xs - k) (drop k xs) ≡ drop k xs
+rest_from k xs = ap (λ n. take n (drop k xs)) (sym (length-drop k xs)) ∙ take-length (drop k xs)
+
+-- two pieces past a place
+pub drop_pieces : (k : ℕ) (xs ys : List PlainLogged) → drop k (xs ++ ys) ≡ drop (min k (length xs)) xs ++ drop (k - min k (length xs)) ys
+drop_pieces zero xs ys =
+    let m : min 0 (length xs) ≡ 0 = omega arith in
+    ap (λ m. drop m xs ++ drop (0 - m) ys) (sym m)
+drop_pieces (suc k) [] ys =
+    let m : min (suc k) 0 ≡ 0 = omega arith in
+    let n : suc k ≡ suc k - 0 = omega arith in
+    ap (λ n. drop n ys) n ∙ ap (λ m. drop {A = PlainLogged} m [] ++ drop (suc k - m) ys) (sym m)
+drop_pieces (suc k) (x ∷ xs) ys =
+    let m : min (suc k) (suc (length xs)) ≡ suc (min k (length xs)) = omega arith in
+    let d : suc k - min (suc k) (suc (length xs)) ≡ k - min k (length xs) = omega arith in
+    drop_pieces k xs ys
+    ∙ ap (λ d. drop (min k (length xs)) xs ++ drop d ys) (sym d)
+    ∙ ap (λ m. drop m (x ∷ xs) ++ drop (suc k - min (suc k) (suc (length xs))) ys) (sym m)
+
+-- the offsets of both pieces past a place, put one after the other
+pub missed_pieces : (p : PlainLogged → Bool) (k : ℕ) (front back all : List PlainLogged) → front ++ back ≡ all
+    → offsets_of p (drop (min k (length front)) front) ++ offsets_of p (drop (k - min k (length front)) back) ≡ offsets_of p (drop k all)
+missed_pieces p k front back all is =
+    sym (offsets_of-append p (drop (min k (length front)) front) (drop (k - min k (length front)) back))
+    ∙ ap (offsets_of p) (sym (drop_pieces k front back))
+    ∙ ap (λ es. offsets_of p (drop k es)) is

@@ -1,0 +1,15 @@
+use Rattle.std.proofs.Common.{sym, subst, map}
+use Rattle.std.specs.Ordering.{nat_cmp}
+use Rattle.std.specs.List.Sorted.{IsStrictlySortedBy}
+use Rattle.recovery.specs.SavedTable.{PlainSaved, TableContents}
+use Rattle.recovery.proofs.SavedTableLemmas.{pids_rise}
+use Rattle.recovery.proofs.saved_table.SavedTable.list.Goals as goal
+
+abbrev Rise : TableContents → Type 0
+Rise v = IsStrictlySortedBy nat_cmp (map (λ (s : PlainSaved). s.pid) v.sessions)
+
+pub returns-in-Ok-clause-rises : goal.returns-in-Ok-clause-rises
+returns-in-Ok-clause-rises c = subst Rise c.self.view_is (subst (IsStrictlySortedBy nat_cmp) (sym (pids_rise c.self.inside.by_pid.entries c.self.invariant.keyed)) c.self.invariant.rises)
+
+pub returns-in-Err-clause-rises : goal.returns-in-Err-clause-rises
+returns-in-Err-clause-rises c = subst Rise c.self.view_is (subst (IsStrictlySortedBy nat_cmp) (sym (pids_rise c.self.inside.by_pid.entries c.self.invariant.keyed)) c.self.invariant.rises)

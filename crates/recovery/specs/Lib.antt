@@ -1,0 +1,4 @@
+pub mod Expiry
+pub mod PacketLog
+pub mod Missed
+pub mod SavedTable

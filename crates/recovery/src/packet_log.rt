@@ -1,0 +1,257 @@
+//! The latest broadcasts (Socket.IO server documentation, "Connection state recovery").
+
+ghost use Rattle.std.specs.Prelude.{◌≡◌, ◌≢◌, ℕ, ◌+◌, ◌^◌, ◌<◌, ◌≤◌, ◌==◌, max, length, List, [], ◌∷◌, ◌++◌, filter, map, drop, IfOk, IfErr, IfSome, OnOk, OnErr, OnSome, IfNone, Some, None, option_copied, true};
+ghost use Rattle.std.specs.List.{find, take_while};
+ghost use Rattle.recovery.specs.Expiry as expiry;
+ghost use Rattle.std.specs.Arc.{arc_value};
+ghost use Rattle.recovery.specs.PacketLog.{LogCall, LogContents, Pushed, Swept, IsLogOf, IsRun, IsPlace, HasNone, offset_or_spent, pushed, later_than, latest, number_of, with_entry, swept};
+ghost use Rattle.recovery.specs.Missed.{missed, missed_refusal, is_for};
+
+use crate::error::RecoveryError;
+use crate::expiry::is_outdated;
+use crate::logged::Logged;
+use circular_buffer::HeapCircularBuffer;
+use room_maps::Room;
+use sio_wire::Entry;
+use std::alloc::{AllocError, Global};
+use std::marker::Model;
+use std::sync::Arc;
+
+/// The latest broadcasts, each with its offset. It takes its memory once, when it is made.
+/// A moment before the last that it saw counts as that one.
+#[derive(Drop)]
+pub struct PacketLog {
+    /// The next offset, or none where the greatest has been used.
+    next: Option<u64>,
+    /// The last moment that it saw, in milliseconds.
+    last: u64,
+    /// The entries, the oldest first. Their offsets rise by one.
+    ring: HeapCircularBuffer<Logged>,
+}
+
+impl Model for PacketLog {
+    ghost use Rattle.recovery.specs.PacketLog.{LogContents, IsLog};
+
+    ghost Value = { LogContents };
+
+    ghost view = { λ l. record { limit = l.ring.capacity; next = l.next; last = l.last; entries = l.ring.items } };
+
+    ghost invariant = { λ l. IsLog (record { limit = l.ring.capacity; next = l.next; last = l.last; entries = l.ring.items }) };
+}
+
+impl PacketLog {
+    /// A log of at most `limit` broadcasts, which numbers them from `first` on.
+    pub fn new(alloc: Global, limit: usize, first: u64) -> Result<PacketLog, RecoveryError>
+        requires limit { 1 ≤ limit }
+        requires first { 1 ≤ first }
+        ensures empty { IfOk result (λ log. log ≡ record { limit = limit; next = Some first; last = 0; entries = [] }) }
+        ensures leads { IfOk result (λ log. IsLogOf first [] log) }
+        ensures memory { IfErr result (λ error. error ≡ RecoveryError.Memory) }
+    {
+        let ring = HeapCircularBuffer::with_capacity(alloc, limit)?;
+        Ok(PacketLog {
+            next: Some(first),
+            last: 0,
+            ring,
+        })
+    }
+
+    /// The offset that the next broadcast gets, or `None` where the greatest has been used.
+    pub fn next(&self) -> Option<u64>
+        ensures { result ≡ self.now.next }
+    {
+        self.next
+    }
+
+    /// How many broadcasts stand in the log.
+    pub fn len(&self) -> usize
+        ensures len { result ≡ length self.now.entries }
+        ensures within { result ≤ self.now.limit }
+    {
+        self.ring.len()
+    }
+
+    /// Gives a broadcast the next offset and logs it. Where the log is full, the oldest goes.
+    /// Refused where the greatest offset has been used.
+    pub fn push(
+        &mut self,
+        at: u64,
+        space: u16,
+        rooms: Vec<Room>,
+        excepted: Vec<Room>,
+        entry: Arc<Entry>,
+    ) -> Result<u64, RecoveryError>
+        ensures offset { result ≡ offset_or_spent self.old.next }
+        ensures entry { IfOk result (λ offset. self.new ≡ with_entry self.old (record { offset = offset; at = max self.old.last at; space = space; rooms = rooms.items; excepted = excepted.items; entry = arc_value entry })) }
+        ensures unchanged { OnErr result (self.new ≡ self.old) }
+
+        // The history with this call leads to the new contents.
+        ensures leads { IfOk result (λ offset. (first : ℕ) (history : List LogCall) → IsLogOf first history self.old → IsLogOf first (Pushed (record { offset = offset; at = max self.old.last at; space = space; rooms = rooms.items; excepted = excepted.items; entry = arc_value entry }) ∷ history) self.new) }
+    {
+        let Some(offset) = self.next else {
+            return Err(RecoveryError::Spent);
+        };
+        let at = self.last.max(at);
+        self.place(Logged {
+            offset,
+            at,
+            space,
+            rooms,
+            excepted,
+            entry,
+        });
+        Ok(offset)
+    }
+
+    /// Puts an entry with the next offset at the end.
+    fn place(&mut self, entry: Logged)
+        requires next { self.old.next ≡ Some entry.offset }
+        requires small { entry.offset < 2 ^ 64 }
+        requires late { self.old.last ≤ entry.at }
+        ensures entry { self.new ≡ with_entry self.old entry }
+        ensures leads { (first : ℕ) (history : List LogCall) → IsLogOf first history self.old → IsLogOf first (Pushed entry ∷ history) self.new }
+    {
+        self.next = entry.offset.checked_add(1);
+        self.last = entry.at;
+        self.ring.push_back(entry);
+    }
+
+    /// Drops the entries that were logged more than `keep` milliseconds before `now`, and says
+    /// how many.
+    pub fn sweep(&mut self, now: u64, keep: u64) -> usize
+        ensures count { length self.new.entries + result ≡ length self.old.entries }
+        ensures swept { self.new ≡ swept self.old keep (max self.old.last now) }
+
+        // The history with this call leads to the new contents.
+        ensures leads { (first : ℕ) (history : List LogCall) → IsLogOf first history self.old → IsLogOf first (Swept keep (max self.old.last now) ∷ history) self.new }
+    {
+        let now = self.last.max(now);
+        let outdated = count_outdated(&self.ring, keep, now);
+        self.ring.truncate_front(self.ring.len() - outdated);
+        self.last = now;
+        outdated
+    }
+
+    /// The place of the entry with this offset, counted from the oldest: as many after the first
+    /// as it is greater than the first one's.
+    fn place_of(&self, offset: u64) -> Option<usize>
+        ensures place { IfSome result (IsPlace offset self.now.entries) }
+        ensures small { IfSome result (λ place. place + 1 < 2 ^ 64) }
+        ensures none { IfNone result (HasNone offset self.now.entries) }
+    {
+        let Some(first) = self.ring.front() else {
+            return None;
+        };
+        if offset < first.offset {
+            return None;
+        }
+        let place = (offset - first.offset) as usize;
+        if place < self.ring.len() {
+            Some(place)
+        } else {
+            None
+        }
+    }
+
+    /// The entry with this offset.
+    pub fn find(&self, offset: u64) -> Option<&Logged>
+        ensures { option_copied result ≡ find (λ entry. entry.offset == offset) self.now.entries }
+    {
+        self.ring.get(self.place_of(offset)?)
+    }
+
+    /// The offsets of the broadcasts past this one that a socket of the namespace, in these
+    /// rooms, should have got, in their order. Refused where the log has no such offset.
+    pub fn missed(
+        &self,
+        alloc: Global,
+        offset: u64,
+        space: u16,
+        rooms: &[Room],
+    ) -> Result<Vec<u64>, RecoveryError>
+        ensures refused { IfSome (missed_refusal self.now offset) (λ error. result ≡ Err error) }
+        ensures memory { IfNone (missed_refusal self.now offset) (IfErr result (λ error. error ≡ RecoveryError.Memory)) }
+        ensures missed { IfOk result (λ offsets. offsets.items ≡ missed offset space rooms.now self.now.entries) }
+
+        // Nothing is left out: they are those of all broadcasts that were ever pushed.
+        ensures whole { IfOk result (λ offsets. (first : ℕ) (history : List LogCall) → IsLogOf first history self.now → offsets.items ≡ missed offset space rooms.now (pushed history)) }
+    {
+        let Some(place) = self.place_of(offset) else {
+            return Err(RecoveryError::OffsetGone);
+        };
+        match missed_after(alloc, &self.ring, place, space, rooms) {
+            Ok(offsets) => Ok(offsets),
+            Err(AllocError) => Err(RecoveryError::Memory),
+        }
+    }
+
+    /// Copies of all entries, their offsets rising. The sent data is shared, not copied.
+    pub fn list(&self, alloc: Global) -> Result<Vec<Logged>, RecoveryError>
+        ensures entries { IfOk result (λ list. list.items ≡ self.now.entries) }
+        ensures rises { IsRun (number_of self.now.next) self.now.entries }
+        ensures memory { IfErr result (λ error. error ≡ RecoveryError.Memory) }
+    {
+        let mut list = Vec::with_capacity(alloc, self.ring.len())?;
+        let (front, back) = self.ring.as_slices();
+        copy_all(alloc, front, &mut list)?;
+        copy_all(alloc, back, &mut list)?;
+        Ok(list)
+    }
+}
+
+/// How many entries from the oldest on are outdated.
+fn count_outdated(ring: &HeapCircularBuffer<Logged>, keep: u64, now: u64) -> usize
+    ensures { result ≡ length (take_while (λ entry. expiry.is_outdated keep now entry.at) ring.now.items) }
+{
+    ring.iter()
+        .take_while(|entry| is_outdated(entry.at, keep, now))
+        .count()
+}
+
+/// The offsets of the entries past this place that a socket gets.
+fn missed_after(
+    alloc: Global,
+    ring: &HeapCircularBuffer<Logged>,
+    place: usize,
+    space: u16,
+    rooms: &[Room],
+) -> Result<Vec<u64>, AllocError>
+    requires within { place < length ring.now.items }
+    requires small { place + 1 < 2 ^ 64 }
+    ensures { IfOk result (λ offsets. offsets.items ≡ map (λ entry. entry.offset) (filter (is_for space rooms.now) (drop (place + 1) ring.now.items))) }
+{
+    let start = place + 1;
+    let (front, back) = ring.as_slices();
+    let split = start.min(front.len());
+    let mut offsets = Vec::new(alloc);
+    add_offsets(&front[split..], space, rooms, &mut offsets)?;
+    add_offsets(&back[start - split..], space, rooms, &mut offsets)?;
+    Ok(offsets)
+}
+
+/// Puts the offsets of the entries that a socket gets at the end of the list.
+fn add_offsets(
+    entries: &[Logged],
+    space: u16,
+    rooms: &[Room],
+    offsets: &mut Vec<u64>,
+) -> Result<(), AllocError>
+    ensures { OnOk result (offsets.new.items ≡ offsets.old.items ++ map (λ entry. entry.offset) (filter (is_for space rooms.now) entries.now)) }
+{
+    for entry in entries {
+        if entry.is_for(space, rooms) {
+            offsets.push(entry.offset)?;
+        }
+    }
+    Ok(())
+}
+
+/// Puts copies of the entries at the end of the list.
+fn copy_all(alloc: Global, entries: &[Logged], list: &mut Vec<Logged>) -> Result<(), AllocError>
+    ensures { OnOk result (list.new.items ≡ list.old.items ++ entries.now) }
+{
+    for entry in entries {
+        list.push(entry.copy(alloc)?)?;
+    }
+    Ok(())
+}

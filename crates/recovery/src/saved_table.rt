@@ -1,0 +1,275 @@
+//! The lost sessions that may come back (Socket.IO server documentation, "Connection state
+//! recovery").
+
+ghost use Rattle.std.specs.Prelude.{◌≡◌, ℕ, ◌+◌, ◌<◌, ◌≤◌, ◌==◌, if◌then◌else◌, length, [], map, filter, IfOk, IfErr, IfSome, IfNone, IsOkAnd, OnOk, OnErr, OnSome, Some, None, option_copied};
+ghost use Rattle.std.specs.Bool.{OnTrue, OnFalse};
+ghost use Rattle.std.specs.Ordering.{nat_cmp};
+ghost use Rattle.std.specs.List.Sorted.{IsStrictlySortedBy};
+ghost use Rattle.std.specs.Map.{lookup, values_of, remove_entry};
+ghost use Rattle.std.specs.BTreeMap.{is_at, insert_entry, btree_map_len};
+ghost use Rattle.recovery.specs.SavedTable.{PlainSaved, IsTable, session, save_refusal, find_refusal, or_unknown, table_swept, is_alive};
+ghost use Rattle.recovery.specs.SavedTable as table;
+
+use crate::error::RecoveryError;
+use crate::expiry::is_outdated;
+use crate::saved_session::{Pid, Saved};
+use room_maps::Sid;
+use std::alloc::{AllocError, Global};
+use std::collections::{BTreeMap, BTreeSet};
+use std::marker::Model;
+
+/// The lost sessions, at most as many as a limit. Each moment counts as it is handed in.
+#[derive(Drop)]
+pub struct SavedTable {
+    limit: usize,
+    /// The sessions by their private ids.
+    by_pid: BTreeMap<Pid, Saved>,
+    /// The moment at which each was lost, and its private id.
+    by_loss: BTreeSet<(u64, Pid)>,
+}
+
+impl Model for SavedTable {
+    ghost use Rattle.std.specs.Map.{values_of};
+    ghost use Rattle.recovery.specs.SavedTable.{TableContents, IsTable};
+
+    ghost Value = { TableContents };
+
+    ghost view = { λ t. record { limit = t.limit; sessions = values_of t.by_pid.entries } };
+
+    ghost invariant = { λ t. IsTable t.by_pid.entries t.by_loss.keys };
+}
+
+impl SavedTable {
+    /// An empty table for at most `limit` sessions.
+    pub fn new(alloc: Global, limit: usize) -> SavedTable
+        ensures { result ≡ record { limit = limit; sessions = [] } }
+    {
+        SavedTable {
+            limit,
+            by_pid: BTreeMap::new(alloc),
+            by_loss: BTreeSet::new(alloc),
+        }
+    }
+
+    /// How many sessions there are.
+    pub fn len(&self) -> usize
+        ensures { result ≡ length self.now.sessions }
+    {
+        self.by_pid.len()
+    }
+
+    /// Whether a session with this session id is in the table, outdated or not.
+    pub fn has_sid(&self, sid: Sid) -> bool
+        ensures { result ≡ table.has_sid self.now sid }
+    {
+        self.by_pid.values().any(|saved| saved.sid == sid)
+    }
+
+    /// The session with this private id, outdated or not.
+    fn look_up(&self, pid: Pid) -> Option<&Saved>
+        ensures { option_copied result ≡ session self.now pid }
+    {
+        self.by_pid.get(&pid)
+    }
+
+    /// Why a session with this private id can't be saved.
+    fn save_refusal(&self, pid: Pid) -> Option<RecoveryError>
+        ensures { result ≡ save_refusal self.now pid }
+    {
+        if self.look_up(pid).is_some() {
+            Some(RecoveryError::PidTaken)
+        } else if self.len() >= self.limit {
+            Some(RecoveryError::TableFull)
+        } else {
+            None
+        }
+    }
+
+    /// Saves a session. Refused in this order: its private id is taken; the table is full. Then
+    /// it is dropped.
+    pub fn save(&mut self, _alloc: Global, saved: Saved) -> Result<(), RecoveryError>
+        ensures refused { IfSome (save_refusal self.old saved.pid) (λ error. result ≡ Err error) }
+        ensures memory { IfNone (save_refusal self.old saved.pid) (IfErr result (λ error. error ≡ RecoveryError.Memory)) }
+        ensures saved { OnOk result (self.new ≡ table.saved self.old saved) }
+        ensures map { OnOk result ((pid : ℕ) → session self.new pid ≡ (if saved.pid == pid then Some saved else session self.old pid)) }
+        ensures unchanged { OnErr result (self.new ≡ self.old) }
+    {
+        if let Some(refusal) = self.save_refusal(saved.pid) {
+            return Err(refusal);
+        }
+        match self.add(saved) {
+            Ok(()) => Ok(()),
+            Err(AllocError) => Err(RecoveryError::Memory),
+        }
+    }
+
+    /// Puts a session whose private id is free into both indexes.
+    fn add(&mut self, saved: Saved) -> Result<(), AllocError>
+        requires free { session self.old saved.pid ≡ None }
+        ensures saved { OnOk result (self.new ≡ table.saved self.old saved) }
+        ensures map { OnOk result ((pid : ℕ) → session self.new pid ≡ (if saved.pid == pid then Some saved else session self.old pid)) }
+        ensures unchanged { OnErr result (self.new ≡ self.old) }
+    {
+        put(&mut self.by_pid, &mut self.by_loss, saved)?;
+        Ok(())
+    }
+
+    /// The session with this private id. Refused in this order: there is none; it is outdated.
+    pub fn find(&self, pid: Pid, now: u64, keep: u64) -> Result<&Saved, RecoveryError>
+        ensures refused { IfSome (find_refusal self.now pid keep now) (λ error. result ≡ Err error) }
+        ensures found { IfNone (find_refusal self.now pid keep now) (IsOkAnd result (λ saved. session self.now pid ≡ Some saved.now)) }
+    {
+        let Some(saved) = self.look_up(pid) else {
+            return Err(RecoveryError::UnknownPid);
+        };
+        if is_outdated(saved.lost_at, keep, now) {
+            return Err(RecoveryError::Expired);
+        }
+        Ok(saved)
+    }
+
+    /// Takes a session out of the table. Refused where there is none with this private id.
+    pub fn remove(&mut self, pid: Pid) -> Result<Saved, RecoveryError>
+        ensures answer { result ≡ or_unknown (session self.old pid) }
+        ensures removed { self.new ≡ table.removed self.old pid }
+        ensures unchanged { OnErr result (self.new ≡ self.old) }
+    {
+        match self.take_out(pid) {
+            Some(saved) => Ok(saved),
+            None => Err(RecoveryError::UnknownPid),
+        }
+    }
+
+    /// Takes a session out of both indexes.
+    fn take_out(&mut self, pid: Pid) -> Option<Saved>
+        ensures answer { result ≡ session self.old pid }
+        ensures removed { self.new ≡ table.removed self.old pid }
+        ensures unchanged { IfNone result (self.new ≡ self.old) }
+    {
+        take(&mut self.by_pid, &mut self.by_loss, pid)
+    }
+
+    /// Drops the sessions that were lost more than `keep` milliseconds before `now`, and says how
+    /// many. It looks at no other but one.
+    pub fn sweep(&mut self, now: u64, keep: u64) -> usize
+        ensures count { length self.new.sessions + result ≡ length self.old.sessions }
+        ensures swept { self.new ≡ table_swept self.old keep now }
+    {
+        let before = self.len();
+        self.take_out_outdated(keep, now);
+        before - self.len()
+    }
+
+    /// Takes all outdated sessions out of both indexes.
+    fn take_out_outdated(&mut self, keep: u64, now: u64)
+        ensures swept { self.new ≡ table_swept self.old keep now }
+        ensures fewer { length self.new.sessions ≤ length self.old.sessions }
+    {
+        take_outdated(&mut self.by_pid, &mut self.by_loss, keep, now);
+    }
+
+    /// Copies of all sessions, their private ids rising.
+    pub fn list(&self, alloc: Global) -> Result<Vec<Saved>, RecoveryError>
+        ensures sessions { IfOk result (λ list. list.items ≡ self.now.sessions) }
+        ensures rises { IsStrictlySortedBy nat_cmp (map (λ (saved : PlainSaved). saved.pid) self.now.sessions) }
+        ensures memory { IfErr result (λ error. error ≡ RecoveryError.Memory) }
+    {
+        match copy_all(alloc, &self.by_pid) {
+            Ok(list) => Ok(list),
+            Err(AllocError) => Err(RecoveryError::Memory),
+        }
+    }
+}
+
+/// Puts a session into both indexes. Where the second growth is refused, the first is taken back.
+fn put(
+    by_pid: &mut BTreeMap<Pid, Saved>,
+    by_loss: &mut BTreeSet<(u64, Pid)>,
+    saved: Saved,
+) -> Result<(), AllocError>
+    requires free { lookup (is_at (nat_cmp saved.pid)) by_pid.old.entries ≡ None }
+    requires mirrors { IsTable by_pid.old.entries by_loss.old.keys }
+    ensures entries { OnOk result (by_pid.new.entries ≡ insert_entry nat_cmp by_pid.old.entries saved.pid saved) }
+    ensures map { OnOk result ((pid : ℕ) → lookup (is_at (nat_cmp pid)) by_pid.new.entries ≡ (if is_at (nat_cmp saved.pid) pid then Some saved else lookup (is_at (nat_cmp pid)) by_pid.old.entries)) }
+    ensures mirrors { IsTable by_pid.new.entries by_loss.new.keys }
+    ensures unchanged { OnErr result (by_pid.new.entries ≡ by_pid.old.entries) }
+{
+    let (pid, lost_at) = (saved.pid, saved.lost_at);
+    by_pid.insert(pid, saved)?;
+    match by_loss.insert((lost_at, pid)) {
+        Ok(_) => Ok(()),
+        Err(_) => {
+            by_pid.remove(&pid);
+            Err(AllocError)
+        }
+    }
+}
+
+/// Takes a session out of both indexes.
+fn take(
+    by_pid: &mut BTreeMap<Pid, Saved>,
+    by_loss: &mut BTreeSet<(u64, Pid)>,
+    pid: Pid,
+) -> Option<Saved>
+    requires mirrors { IsTable by_pid.old.entries by_loss.old.keys }
+    ensures answer { result ≡ lookup (is_at (nat_cmp pid)) by_pid.old.entries }
+    ensures entries { by_pid.new.entries ≡ remove_entry (is_at (nat_cmp pid)) by_pid.old.entries }
+    ensures unchanged { IfNone result (by_pid.new.entries ≡ by_pid.old.entries) }
+    ensures fewer { OnSome result (btree_map_len by_pid.new < btree_map_len by_pid.old) }
+    ensures mirrors { IsTable by_pid.new.entries by_loss.new.keys }
+{
+    let Some(saved) = by_pid.remove(&pid) else {
+        return None;
+    };
+    by_loss.remove(&(saved.lost_at, pid));
+    Some(saved)
+}
+
+/// Takes the session that was lost first, if it is outdated, and says whether it was.
+fn take_first_outdated(
+    by_pid: &mut BTreeMap<Pid, Saved>,
+    by_loss: &mut BTreeSet<(u64, Pid)>,
+    keep: u64,
+    now: u64,
+) -> bool
+    requires mirrors { IsTable by_pid.old.entries by_loss.old.keys }
+    ensures alive { filter (is_alive keep now) (values_of by_pid.new.entries) ≡ filter (is_alive keep now) (values_of by_pid.old.entries) }
+    ensures fewer { OnTrue result (btree_map_len by_pid.new < btree_map_len by_pid.old) }
+    ensures none_left { OnFalse result (filter (is_alive keep now) (values_of by_pid.new.entries) ≡ values_of by_pid.new.entries) }
+    ensures mirrors { IsTable by_pid.new.entries by_loss.new.keys }
+{
+    let Some(first) = by_loss.first() else {
+        return false;
+    };
+    let (lost_at, pid) = *first;
+    if !is_outdated(lost_at, keep, now) {
+        return false;
+    }
+    take(by_pid, by_loss, pid);
+    true
+}
+
+/// Takes all outdated sessions, those lost first before the others.
+fn take_outdated(
+    by_pid: &mut BTreeMap<Pid, Saved>,
+    by_loss: &mut BTreeSet<(u64, Pid)>,
+    keep: u64,
+    now: u64,
+)
+    requires mirrors { IsTable by_pid.old.entries by_loss.old.keys }
+    ensures alive { values_of by_pid.new.entries ≡ filter (is_alive keep now) (values_of by_pid.old.entries) }
+    ensures mirrors { IsTable by_pid.new.entries by_loss.new.keys }
+{
+    'first: while take_first_outdated(by_pid, by_loss, keep, now) {}
+}
+
+/// Copies of the sessions, in their order.
+fn copy_all(alloc: Global, sessions: &BTreeMap<Pid, Saved>) -> Result<Vec<Saved>, AllocError>
+    ensures { IfOk result (λ list. list.items ≡ values_of sessions.now.entries) }
+{
+    let mut list = Vec::with_capacity(alloc, sessions.len())?;
+    for saved in sessions.values() {
+        list.push(saved.copy(alloc)?)?;
+    }
+    Ok(list)
+}
