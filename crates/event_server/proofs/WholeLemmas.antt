@@ -44,7 +44,7 @@ whole_connected sid pid =
 whole_with_offset : (payload : List ℕ) (offset : ℕ) → IsWhole payload → IsWhole (payload_with_offset payload offset)
 whole_with_offset payload offset whole =
     whole_append _ (codes "\"]") (whole_append _ (hex_digits 16 offset) (whole_append (before_last is_bracket payload) (codes ",\"")
-        (All-take (λ byte. byte ≢ 30) _ payload whole) (whole_by_test (codes ",\"") refl)) (whole_digits 16 offset)) (whole_by_test (codes "\"]") refl)
+    (All-take (λ byte. byte ≢ 30) _ payload whole) (whole_by_test (codes ",\"") refl)) (whole_digits 16 offset)) (whole_by_test (codes "\"]") refl)
 
 pub whole_event : (payload text : List ℕ) (offset : ℕ) → IsWhole payload → Plain (event_header (payload_with_offset payload offset)) text → IsWhole text
 unfolding Plain

@@ -79,7 +79,7 @@ change passes changed lines = map (λ line. if passes line then changed line els
 abbrev pub opened : Served → Served
 opened served = record served {
   lines = served.lines ++ record { client = served.drawn + 1; socket = None; waiting = [] } ∷ [];
-  drawn = served.drawn + 1
+  drawn = served.drawn + 1;
 }
 
 -- the client has a new socket, which is in its own room, and the answer to its CONNECT waits
@@ -87,7 +87,7 @@ abbrev pub attached : Served → ℕ → List ℕ → Served
 attached served client answer = record served {
   lines = change (is_of client) (λ line. seated (served.drawn + 1) (with_text answer line)) served.lines;
   members = served.members ++ record { socket = served.drawn + 1; room = own_room (served.drawn + 1) } ∷ [];
-  drawn = served.drawn + 2
+  drawn = served.drawn + 2;
 }
 
 -- the socket is in the room
@@ -104,7 +104,7 @@ next_after offset = if nat_lt offset (2 ^ 64 - 1) then Some (offset + 1) else No
 abbrev pub broadcast : Served → List (List ℕ) → List (List ℕ) → ℕ → List ℕ → Served
 broadcast served rooms excepted offset text = record served {
   lines = change (has_addressed served.members rooms excepted) (with_text text) served.lines;
-  next = next_after offset
+  next = next_after offset;
 }
 
 -- the client's first texts are handed out
@@ -120,5 +120,5 @@ is_member_of (Some socket) m = m.socket == socket
 abbrev pub closed : Served → ℕ → Served
 closed served client = record served {
   lines = filter (λ line. not (is_of client line)) served.lines;
-  members = filter (λ m. not (is_member_of (socket_of served client) m)) served.members
+  members = filter (λ m. not (is_member_of (socket_of served client) m)) served.members;
 }

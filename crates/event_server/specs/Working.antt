@@ -85,8 +85,8 @@ unserved h = if not (is_served h.kind) then Some cause.BadKind
 abbrev pub DoesPacket : Served → ℕ → Header → Option Cause → Served → Type 0
 DoesPacket old client h closing new = MatchOption (unserved h)
     (MatchBool (is_connect h.kind)
-        (Connects old client (socket_of old client) closing new)
-        (DoesEvent old client (socket_of old client) h.payload closing new))
+    (Connects old client (socket_of old client) closing new)
+    (DoesEvent old client (socket_of old client) h.payload closing new))
     (λ why. Closes old client why closing new)
 
 -- what a message does

@@ -165,7 +165,12 @@ impl First {
     }
 
     /// Hands out the first texts that wait for a client, as one payload, or `None` where there are none.
-    pub fn take(&mut self, alloc: Global, client: u128, most: usize) -> Result<Option<String>, FirstError>
+    pub fn take(
+        &mut self,
+        alloc: Global,
+        client: u128,
+        most: usize,
+    ) -> Result<Option<String>, FirstError>
         ensures unknown { IsErrOf result FirstError.UnknownClient ↔ (line_of self.old client ≡ None) }
         ensures payload { IfOk result (λ answer. MatchOption answer
             (take most (waiting_of self.old client) ≡ [])
@@ -204,7 +209,12 @@ impl First {
     }
 
     /// The messages in turn, until one closes the client.
-    fn work(&mut self, alloc: Global, client: u128, messages: &[Text]) -> Result<Option<Cause>, FirstError>
+    fn work(
+        &mut self,
+        alloc: Global,
+        client: u128,
+        messages: &[Text],
+    ) -> Result<Option<Cause>, FirstError>
         ensures ok { IfOk result (λ closing. Runs client self.old messages.now closing self.new) }
         ensures stopped { IfErr result (λ e. (front : List (List ℕ)) × (message : List ℕ) × (back : List (List ℕ))
             × (messages.now ≡ front ++ message ∷ back) × Runs client self.old front None self.new
@@ -220,7 +230,12 @@ impl First {
 
     /// What a message does.
     #[tactic(auto, unfolding(crate::specs::Working::Does))]
-    fn work_one(&mut self, alloc: Global, client: u128, message: &str) -> Result<Option<Cause>, FirstError>
+    fn work_one(
+        &mut self,
+        alloc: Global,
+        client: u128,
+        message: &str,
+    ) -> Result<Option<Cause>, FirstError>
         ensures ok { IfOk result (λ closing. Does self.old client message.now closing self.new) }
         ensures err { IfErr result (λ e. (e ≡ FirstError.Memory) ⊎ ((e ≡ FirstError.Spent) × Spends self.old client message.now)) }
         ensures unchanged { OnErr result (self.new ≡ self.old) }
@@ -236,7 +251,12 @@ impl First {
     }
 
     /// What a packet with this header does.
-    fn work_packet(&mut self, alloc: Global, client: u128, header: &Header) -> Result<Option<Cause>, FirstError>
+    fn work_packet(
+        &mut self,
+        alloc: Global,
+        client: u128,
+        header: &Header,
+    ) -> Result<Option<Cause>, FirstError>
         requires { IsWhole header.now.payload }
         ensures ok { IfOk result (λ closing. DoesPacket self.old client header.now closing self.new) }
         ensures err { IfErr result (λ e. (e ≡ FirstError.Memory) ⊎ ((e ≡ FirstError.Spent) × SpendsPacket self.old client header.now)) }
@@ -291,7 +311,12 @@ impl First {
 
 impl First {
     /// What an event in `/` does.
-    fn event(&mut self, alloc: Global, client: u128, payload: &str) -> Result<Option<Cause>, FirstError>
+    fn event(
+        &mut self,
+        alloc: Global,
+        client: u128,
+        payload: &str,
+    ) -> Result<Option<Cause>, FirstError>
         requires { IsWhole payload.now }
         ensures ok { IfOk result (λ closing. DoesEvent self.old client (socket_of self.old client) payload.now closing self.new) }
         ensures err { IfErr result (λ e. (e ≡ FirstError.Memory) ⊎ ((e ≡ FirstError.Spent)
@@ -308,7 +333,13 @@ impl First {
     }
 
     /// Does what the app wishes for an event of the socket.
-    fn grant(&mut self, alloc: Global, socket: u128, payload: &str, wish: Wish) -> Result<(), FirstError>
+    fn grant(
+        &mut self,
+        alloc: Global,
+        socket: u128,
+        payload: &str,
+        wish: Wish,
+    ) -> Result<(), FirstError>
         requires { IsWhole payload.now }
         ensures ok { OnOk result (Grants self.old socket payload.now wish self.new) }
         ensures err { IfErr result (λ e. (e ≡ FirstError.Memory)
@@ -335,7 +366,13 @@ impl First {
     }
 
     /// Puts the event, with its offset, into the lines of everybody in the room but the sender.
-    fn say(&mut self, alloc: Global, socket: u128, room: &str, payload: &str) -> Result<(), FirstError>
+    fn say(
+        &mut self,
+        alloc: Global,
+        socket: u128,
+        room: &str,
+        payload: &str,
+    ) -> Result<(), FirstError>
         requires { IsWhole payload.now }
         ensures ok { OnOk result ((offset : ℕ) × (self.old.next ≡ Some offset)
             × MatchBool (list_any is_bracket payload.now) (Says self.old socket room.now payload.now offset self.new) (self.new ≡ self.old)) }

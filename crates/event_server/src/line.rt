@@ -64,13 +64,16 @@ impl Whom<'_> {
 pub(crate) fn is_in(members: &[Member], socket: u128, room: &str) -> bool
     ensures { result ≡ first.is_in members.now socket room.now }
 {
-    members
-        .iter()
-        .any(|member| member.socket == socket && member.room.as_str() == room)
+    members.iter().any(|member| member.socket == socket && member.room.as_str() == room)
 }
 
 /// Puts the text at the end of each of the lines, or of none where memory is refused.
-pub(crate) fn put(alloc: Global, lines: &mut [Line], whom: Whom, text: &str) -> Result<(), FirstError>
+pub(crate) fn put(
+    alloc: Global,
+    lines: &mut [Line],
+    whom: Whom,
+    text: &str,
+) -> Result<(), FirstError>
     requires { IsWhole text.now }
     ensures ok { OnOk result (lines.new ≡ change (passes whom.entry) (with_text text.now) lines.old) }
     ensures err { IfErr result (λ e. (e ≡ FirstError.Memory) × (lines.new ≡ lines.old)) }
@@ -116,7 +119,13 @@ fn take_back_one(line: &mut Line, whom: Whom)
 }
 
 /// Puts the text at the end of the client's line, and gives it a socket.
-pub(crate) fn tell_and_seat(alloc: Global, lines: &mut [Line], client: u128, socket: u128, text: &str) -> Result<(), FirstError>
+pub(crate) fn tell_and_seat(
+    alloc: Global,
+    lines: &mut [Line],
+    client: u128,
+    socket: u128,
+    text: &str,
+) -> Result<(), FirstError>
     requires { IsWhole text.now }
     ensures ok { OnOk result (lines.new ≡ change (is_of client) (λ line. seated socket (with_text text.now line)) lines.old) }
     ensures err { IfErr result (λ e. (e ≡ FirstError.Memory) × (lines.new ≡ lines.old)) }

@@ -82,7 +82,11 @@ impl Waiting {
 }
 
 /// The first texts, each as a message.
-fn messages_of(alloc: Global, texts: &VecDeque<Text>, most: usize) -> Result<Vec<Packet>, FirstError>
+fn messages_of(
+    alloc: Global,
+    texts: &VecDeque<Text>,
+    most: usize,
+) -> Result<Vec<Packet>, FirstError>
     ensures ok { IfOk result (λ packets. packets.items ≡ map Message (take most texts.now.items)) }
     ensures err { IfErr result (λ e. e ≡ FirstError.Memory) }
 {

@@ -253,11 +253,17 @@ fn packet_with_attachment(rt: HostRuntime) -> Result<(), SioError> {
     assert_eq!(rt; assembler.waiting(), 1);
     let packet = binary(&mut assembler, alloc, b"\x01\x02\x03\x04")?;
     assert!(rt; packet.is_some());
-    if let Some(packet) = packet {
-        assert_eq!(rt; packet.header.kind, Kind::BinaryEvent);
+    if let Some(
+        SioPacket {
+            header,
+            attachments,
+        },
+    ) = packet
+    {
+        assert_eq!(rt; header.kind, Kind::BinaryEvent);
         let entry = Entry {
-            text: packet.header.payload,
-            attachments: Attachments::from_vec(packet.attachments.into_vec()),
+            text: header.payload,
+            attachments: Attachments::from_vec(attachments.into_vec()),
         };
         let copy = match entry.clone() {
             Err(_) => entry.clone()?,

@@ -15,9 +15,10 @@ loop-at-preserved c =
 pub returns-then-is_err-clause-err : goal.returns-then-is_err-clause-err
 returns-then-is_err-clause-err c =
     let same = on_error (λ e. e ≡ Memory) c.put_one.result c.put_one.ensures.err (sym c.is_err.ensures.value ∙ c.if-is_err.true) in
-    let lines = ap (set c.loop-at.lines c.loop-at.at) same ∙ set-get_or c.loop-at.lines c.loop-at.at c.index-lines-at.result in
-    (refl,
-        ap (λ xs. xs ++ drop c.loop-at.at (set c.loop-at.lines c.loop-at.at c.put_one.new.line)) c.take_back.ensures
-        ∙ ap (λ ls. map (λ line. if passes c.args.whom line then without_last line else line) (take c.loop-at.at ls) ++ drop c.loop-at.at ls) lines
-        ∙ front_undone (λ line. if passes c.args.whom line then with_text c.args.text.now line else line) (λ line. if passes c.args.whom line then without_last line else line)
-            (put_taken_back c.args.whom c.args.text.now) c.args.lines.now c.loop-at.lines c.loop-at.at (omega arith) c.loop-at.invariant)
+    let lines = ap (set c.loop-at.lines c.loop-at.at) same ∙ set-get_or c.loop-at.lines c.loop-at.at c.index-lines-at.result in (
+      refl,
+      ap (λ xs. xs ++ drop c.loop-at.at (set c.loop-at.lines c.loop-at.at c.put_one.new.line)) c.take_back.ensures
+          ∙ ap (λ ls. map (λ line. if passes c.args.whom line then without_last line else line) (take c.loop-at.at ls) ++ drop c.loop-at.at ls) lines
+          ∙ front_undone (λ line. if passes c.args.whom line then with_text c.args.text.now line else line) (λ line. if passes c.args.whom line then without_last line else line)
+          (put_taken_back c.args.whom c.args.text.now) c.args.lines.now c.loop-at.lines c.loop-at.at (omega arith) c.loop-at.invariant,
+    )

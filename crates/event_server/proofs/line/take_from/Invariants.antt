@@ -1,6 +1,5 @@
 use Rattle.std.proofs.Common.{◌≡◌, ◌++◌, take, drop}
 use Rattle.event_server.specs.First.{change, is_of, taken_from}
-
 use Rattle.event_server.proofs.line.take_from.Given as goal
 
 abbrev pub invariant-loop-line : goal.invariant-loop-line

@@ -13,8 +13,8 @@ for_memory-requires c =
     let whole : All IsWhole (take c.args.most c.self.inside.texts.items) = All-take IsWhole c.args.most c.self.inside.texts.items c.self.invariant in
     let refused : (c.in-Err.refused ≡ Memory) ⊎ IsRefused (map Message (take c.args.most c.self.inside.texts.items)) c.in-Err.refused = rw written at c.in-Err.ensures.err in
     let some : take c.args.most c.self.inside.texts.items ≢ [] = λ none.
-        (let long : vec_len c.in_ok-packets.packets ≡ 0 = sym c.as_slice.ensures.len ∙ ap length written ∙ ap (λ texts. length (map Message texts)) none in
-         let empty : c.is_empty.result ≡ true = c.is_empty.ensures ∙ ap (λ n. n == 0) long in
-         let both : true ≡ false = sym empty ∙ c.if-is_empty.false in
-         cc) in
+    (let long : vec_len c.in_ok-packets.packets ≡ 0 = sym c.as_slice.ensures.len ∙ ap length written ∙ ap (λ texts. length (map Message texts)) none in
+    let empty : c.is_empty.result ≡ true = c.is_empty.ensures ∙ ap (λ n. n == 0) long in
+    let both : true ≡ false = sym empty ∙ c.if-is_empty.false in
+    cc) in
     memory_alone (take c.args.most c.self.inside.texts.items) c.in-Err.refused some whole refused
