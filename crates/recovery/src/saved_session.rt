@@ -8,7 +8,7 @@ use std::marker::Model;
 
 /// A private session id, by which a client asks for its session back. In a contract it is the
 /// number.
-#[derive(Clone, Copy, PartialEq, Eq, PartialOrd, Ord)]
+#[derive(Clone, Copy, Debug, PartialEq, Eq, PartialOrd, Ord)]
 pub struct Pid(u128);
 
 impl Model for Pid {

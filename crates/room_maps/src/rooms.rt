@@ -84,7 +84,8 @@ impl Rooms {
         }
     }
 
-    fn join_refusal(&self, sid: Sid, room: Room) -> Option<RoomError>
+    /// Why a `join` of the socket would be refused, but for `Memory`. It takes the logarithm.
+    pub fn join_refusal(&self, sid: Sid, room: Room) -> Option<RoomError>
         ensures { result ≡ join_refusal self.now sid room }
     {
         if !self.is_socket(sid) {
@@ -98,7 +99,8 @@ impl Rooms {
         }
     }
 
-    fn leave_refusal(&self, sid: Sid, room: Room) -> Option<RoomError>
+    /// Why a `leave` of the socket would be refused. It takes the logarithm.
+    pub fn leave_refusal(&self, sid: Sid, room: Room) -> Option<RoomError>
         ensures { result ≡ leave_refusal self.now sid room }
     {
         if !self.is_socket(sid) {

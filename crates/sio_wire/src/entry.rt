@@ -33,10 +33,10 @@ impl Attachments {
     }
 
     /// The attachments of a `Vec`, which takes no memory.
-    pub fn from_vec(parts: Vec<Bytes>) -> Attachments
-        ensures { result ≡ parts.items }
+    pub fn from_vec(owned: Vec<Bytes>) -> Attachments
+        ensures { result ≡ owned.items }
     {
-        Attachments { parts }
+        Attachments { parts: owned }
     }
 
     /// The `Vec` of the attachments, which takes no memory.

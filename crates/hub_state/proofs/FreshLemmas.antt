@@ -1,0 +1,84 @@
+-- A hub that has just been made.
+use Rattle.std.proofs.Common.{◌≡◌, ℕ, ◌+◌, ◌<◌, ◌≤◌, ◌^◌, length, Bool, true, false, List, [], refl, sym, ◌∙◌, ap, arith, Option, None, Some, nat_lt}
+use Rattle.std.proofs.lemmas.Bool.Decides.{nat_tests}
+use Rattle.std.specs.List.{IsDistinct}
+use Rattle.room_maps.specs.Membership.{RoomSets, no_sockets}
+use Rattle.recovery.specs.PacketLog.{kept, IsRun, offset_at}
+use Rattle.hub_state.specs.declared.socket.Socket.{Socket}
+use Rattle.hub_state.specs.declared.totals.Counts.{Counts}
+use Rattle.hub_state.specs.Plain.{Limits, PlainBase, PlainClient}
+use Rattle.hub_state.specs.Config.{empty_base}
+use Rattle.hub_state.specs.Journal.{moment, total}
+use Rattle.hub_state.specs.Membership.{open_clients, is_open, sockets, sockets_of, socket_with, rooms}
+use Rattle.hub_state.specs.Sessions.{sessions}
+use Rattle.hub_state.specs.Log.{log_calls, log, next_number, next}
+use Rattle.hub_state.specs.Outboxes.{placements, taken, waiting}
+use Rattle.hub_state.specs.Totals.{commands, placed, dropped, handed_out, discarded, waiting_in_all, IsConserved}
+use Rattle.hub_state.specs.Legal.{EachTwo, IsSound, IsLegal}
+use Rattle.hub_state.specs.Hub.{Fields, Kept, Counted, client_at}
+use Rattle.hub_state.proofs.CommandLemmas.{IsHub}
+
+module _ (limits : Limits) (first : ℕ) where
+  fresh_conserved : IsConserved (empty_base first) limits []
+  unfolding placed handed_out discarded total waiting_in_all open_clients
+  fresh_conserved = refl
+
+  fresh_sound : IsSound (empty_base first) limits []
+  unfolding open_clients sockets sessions log log_calls kept IsRun IsDistinct EachTwo
+  fresh_sound = record {
+    clients_once = tt;
+    sockets_apart = tt;
+    of_open_clients = tt;
+    in_spaces = tt;
+    apart = tt;
+    sessions_differ = tt;
+    offsets_rise = tt;
+    conserved = fresh_conserved;
+  }
+
+  fresh_legal : IsLegal (empty_base first) limits []
+  unfolding IsLegal
+  fresh_legal = fresh_sound
+
+  fresh_kept : length limits.spaces ≤ 65536 → Kept (empty_base first) limits []
+  unfolding open_clients sockets sessions IsDistinct EachTwo
+  fresh_kept few = record {
+    clients_once = tt;
+    sockets_apart = tt;
+    of_open_clients = tt;
+    in_spaces = tt;
+    nothing_saved = refl;
+    few_spaces = few;
+    conserved = fresh_conserved;
+  }
+
+  fresh_counted : Counted (empty_base first) limits (record { commands = 0; placed = 0; dropped = 0; taken = 0; discarded = 0 }) []
+  unfolding commands placed dropped handed_out discarded total
+  fresh_counted = record { commands = refl; placed = refl; dropped = refl; taken = refl; discarded = refl }
+
+  first_offset_at : first < 2 ^ 64 → Some first ≡ next (empty_base first) []
+  unfolding next_number total
+  first_offset_at small = let e : nat_lt first (2 ^ 64) ≡ true = grind (arith, nat_tests, small) in rw e refl
+
+  fresh_client : (c : ℕ) → client_at (empty_base first) limits [] c ≡ None
+  unfolding is_open open_clients
+  fresh_client c = refl
+
+  fresh_fields : (find : ℕ → Option PlainClient) (seat : ℕ → Option Socket) (is_pid : ℕ → Bool) (sets : RoomSets) → first < 2 ^ 64
+      → ((c : ℕ) → find c ≡ None) → ((s : ℕ) → seat s ≡ None) → ((p : ℕ) → is_pid p ≡ false) → sets ≡ no_sockets
+      → Fields (empty_base first) limits find seat is_pid sets (Some first) 0 []
+  unfolding sockets socket_with rooms moment
+  fresh_fields find seat is_pid sets small no_client no_seat no_pid no_room = record {
+    clients = λ c. no_client c ∙ sym (fresh_client c);
+    seats = no_seat;
+    pids = no_pid;
+    rooms_are = no_room;
+    next_is = first_offset_at small;
+    last = refl;
+  }
+
+  pub fresh : (find : ℕ → Option PlainClient) (seat : ℕ → Option Socket) (is_pid : ℕ → Bool) (sets : RoomSets) → first < 2 ^ 64 → length limits.spaces ≤ 65536
+      → ((c : ℕ) → find c ≡ None) → ((s : ℕ) → seat s ≡ None) → ((p : ℕ) → is_pid p ≡ false) → sets ≡ no_sockets
+      → IsHub (empty_base first) limits find seat is_pid sets (Some first) 0 (record { commands = 0; placed = 0; dropped = 0; taken = 0; discarded = 0 }) []
+  fresh find seat is_pid sets small few no_client no_seat no_pid no_room =
+      (fresh_fields find seat is_pid sets small no_client no_seat no_pid no_room, fresh_legal, fresh_kept few, fresh_counted)

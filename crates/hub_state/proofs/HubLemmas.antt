@@ -1,0 +1,257 @@
+-- What one more step makes of the fields of a hub.
+use Rattle.std.proofs.Common.{◌≡◌, ◌≢◌, ℕ, ◌+◌, ◌-◌, ◌<◌, ◌≤◌, ◌==◌, Bool, true, false, ◌&&◌, ◌||◌, not, List, [], ◌∷◌, ◌++◌, length, drop, filter, map, max, refl, sym, ◌∙◌, ap, subst, arith, if◌then◌else◌, Option, None, Some, nat_eq, append-nil}
+use Rattle.std.specs.Prelude.{is_some}
+use Rattle.std.specs.List.{sum_by, list_any, find, IsDistinct, AllByRecursion}
+use Rattle.std.specs.Set.{is_member}
+use Rattle.std.proofs.lemmas.Grind.{common_steps}
+use Rattle.std.proofs.lemmas.Bool.{eqb-true, eq-eqb}
+use Rattle.std.proofs.lemmas.Bool.Decides.{nat_tests}
+use Rattle.std.proofs.lemmas.List.Sums.{sum_by-append}
+use Rattle.sio_wire.specs.declared.entry.Entry.{Entry}
+use Rattle.room_maps.specs.Membership.{RoomSets}
+use Rattle.recovery.specs.PacketLog.{offset_at, number_of}
+use Rattle.recovery.specs.SavedTable.{PlainSaved}
+use Rattle.hub_state.specs.declared.socket.Socket.{Socket}
+use Rattle.hub_state.specs.declared.step.Step.{Step}
+use Rattle.hub_state.specs.declared.step.What.{What}
+use Rattle.hub_state.specs.declared.step.What.TheVariants.{Opened, Attached, Recovered, Joined, Left, Cast, Told, Took, Parked, Ended, Closed, Swept}
+use Rattle.hub_state.specs.Plain.{PlainBase, Limits, PlainClient, PlainOutbox, PlainMessage}
+use Rattle.hub_state.specs.Journal.{moment, total}
+use Rattle.hub_state.specs.Membership.{opens, closes, open_clients, is_open, connects, ends, sockets, sid_of, pid_of, socket_with, is_connected, sockets_of, rooms, rooms_after, is_space}
+use Rattle.hub_state.specs.Sessions.{sessions, sessions_after}
+use Rattle.hub_state.specs.Log.{offsets_used, next_number, next}
+use Rattle.hub_state.specs.Outboxes.{put, entries_for, begins, taken_by, waiting}
+use Rattle.hub_state.specs.Totals.{handed_out_by, discarded_by, placed_by, is_spent, waiting_in_all}
+use Rattle.hub_state.specs.Legal.{IsAllowed, IsLegal, EachTwo, AreApart}
+use Rattle.hub_state.specs.Hub.{Fields, Kept, client_at, new_client, without_first, with_entry}
+use Rattle.std.specs.Option.{option_map}
+use Rattle.hub_state.proofs.SumsLemmas.{sum-same, sum-zero}
+use Rattle.hub_state.proofs.MembershipLemmas.{clients-quiet, is_open-quiet, sockets-quiet, sockets_of-quiet, socket_with-quiet, clients-opened, is_open-opened}
+use Rattle.hub_state.proofs.OutboxesLemmas.{waiting-step, waiting-begins, waiting-quiet}
+use Rattle.hub_state.proofs.TotalsLemmas.{conserved-step, flow-quiet, one_of}
+
+module _ (base : PlainBase) (limits : Limits) where
+  pub legal-step : (step : Step) (before : List Step) → IsAllowed base limits before step step.what → is_spent base limits before step.what ≡ false → moment base before ≤ step.at → IsLegal base limits before
+      → IsLegal base limits (step ∷ before)
+  unfolding IsLegal
+  legal-step step before allowed unspent late legal = (allowed, unspent, late, legal)
+
+  pub next-quiet : (step : Step) (before : List Step) → offsets_used step.what ≡ 0 → next base (step ∷ before) ≡ next base before
+  unfolding next_number total
+  next-quiet step before none =
+      ap offset_at (let e : total (λ before what. offsets_used what) (number_of base.next) before + offsets_used step.what ≡ total (λ before what. offsets_used what) (number_of base.next) before = omega (arith, none) in e)
+
+  pub rooms-step : (step : Step) (before : List Step) (sets sets' : RoomSets) → sets ≡ rooms base before → sets' ≡ rooms_after base before sets step.what → sets' ≡ rooms base (step ∷ before)
+  unfolding rooms
+  rooms-step step before sets sets' was change = change ∙ ap (λ s. rooms_after base before s step.what) was
+
+  -- a step that connects and ends no socket and uses no offset
+  pub fields-quiet : (step : Step) (before : List Step) (find find' : ℕ → Option PlainClient) (seat : ℕ → Option Socket) (is_pid : ℕ → Bool) (sets sets' : RoomSets) (offset : Option ℕ) (newest : ℕ)
+      → Fields base limits find seat is_pid sets offset newest before
+      → connects step.what ≡ [] → ((k : Socket) → ends step.what k ≡ false) → offsets_used step.what ≡ 0
+      → sets' ≡ rooms_after base before sets step.what
+      → ((c : ℕ) → find' c ≡ client_at base limits (step ∷ before) c)
+      → Fields base limits find' seat is_pid sets' offset step.at (step ∷ before)
+  unfolding moment
+  fields-quiet step before find find' seat is_pid sets sets' offset newest was none stay unused change clients = record {
+    clients = clients;
+    seats = λ s. was.seats s ∙ sym (socket_with-quiet base step before sid_of none stay s);
+    pids = λ p. was.pids p ∙ sym (ap is_some (socket_with-quiet base step before pid_of none stay p));
+    rooms_are = rooms-step step before sets sets' was.rooms_are change;
+    next_is = was.next_is ∙ sym (next-quiet step before unused);
+    last = refl;
+  }
+
+  pub sessions-quiet : (step : Step) (before : List Step) → sessions_after base limits before step.at (sessions base limits before) step.what ≡ sessions base limits before → sessions base limits before ≡ []
+      → sessions base limits (step ∷ before) ≡ []
+  unfolding sessions
+  sessions-quiet step before same none = same ∙ none
+
+  pub all-open : (step : Step) (before : List Step) → ((c : ℕ) → is_open base before c ≡ true → is_open base (step ∷ before) c ≡ true) → (ks : List Socket)
+      → AllByRecursion (λ (k : Socket). is_open base before k.client ≡ true) ks → AllByRecursion (λ (k : Socket). is_open base (step ∷ before) k.client ≡ true) ks
+  all-open step before keeps [] h = tt
+  all-open step before keeps (k ∷ ks) h = (keeps k.client h.0, all-open step before keeps ks h.1)
+
+  -- a step that opens and closes no client, and connects and ends no socket
+  pub kept-quiet : (step : Step) (before : List Step) → IsLegal base limits before → IsAllowed base limits before step step.what → Kept base limits before
+      → opens step.what ≡ [] → ((c : ℕ) → closes step.what c ≡ false) → connects step.what ≡ [] → ((k : Socket) → ends step.what k ≡ false) → ((c : ℕ) → begins c step.what ≡ false)
+      → sessions_after base limits before step.at (sessions base limits before) step.what ≡ sessions base limits before
+      → AllByRecursion (λ (p : ℕ × Entry). is_open base before p.0 ≡ true) (put base limits before step.what)
+      → sum_by (λ c. taken_by c step.what) (open_clients base before) ≡ handed_out_by step.what
+      → discarded_by base limits before step.what ≡ 0
+      → Kept base limits (step ∷ before)
+  kept-quiet step before legal allowed was none stay unconnected unended begun same known takes kept =
+      let cs = clients-quiet base step before none stay in
+      let ks = sockets-quiet base step before unconnected unended in
+      record {
+        clients_once = subst (IsDistinct nat_eq) (sym cs) was.clients_once;
+        sockets_apart = subst (EachTwo AreApart) (sym ks) was.sockets_apart;
+        of_open_clients = subst (AllByRecursion (λ (k : Socket). is_open base (step ∷ before) k.client ≡ true)) (sym ks)
+            (all-open step before (λ c e. is_open-quiet base step before none stay c ∙ e) (sockets base before) was.of_open_clients);
+        in_spaces = subst (AllByRecursion (λ (k : Socket). is_space limits k.space ≡ true)) (sym ks) was.in_spaces;
+        nothing_saved = sessions-quiet step before same was.nothing_saved;
+        few_spaces = was.few_spaces;
+        conserved = conserved-step base limits step before was.conserved
+            (let f = flow-quiet base limits step before legal allowed was.clients_once none stay begun known takes in omega (arith, f, kept));
+      }
+
+  -- ---- a client is opened
+
+  no_sockets : (d : ℕ) (before : List Step) (ks : List Socket) → is_open base before d ≡ false → AllByRecursion (λ (k : Socket). is_open base before k.client ≡ true) ks → filter (λ (k : Socket). k.client == d) ks ≡ []
+  no_sockets d before [] shut h = refl
+  no_sockets d before (k ∷ ks) shut h = on (no_sockets d before ks shut h.1) (k.client == d) refl
+    where
+      on : filter (λ (k : Socket). k.client == d) ks ≡ [] → (b : Bool) → (k.client == d) ≡ b → (if b then k ∷ filter (λ (k : Socket). k.client == d) ks else filter (λ (k : Socket). k.client == d) ks) ≡ []
+      on rest true e = let same : k.client ≡ d = eqb-true k.client d e in let known : is_open base before d ≡ true = subst (λ c. is_open base before c ≡ true) same h.0 in cc
+      on rest false e = rest
+
+  pub sockets_of-none : (d : ℕ) (before : List Step) → is_open base before d ≡ false → AllByRecursion (λ (k : Socket). is_open base before k.client ≡ true) (sockets base before) → sockets_of base before d ≡ []
+  unfolding sockets_of
+  sockets_of-none d before shut h = no_sockets d before (sockets base before) shut h
+
+  or-true : (b : Bool) → (b || true) ≡ true
+  or-true true = refl
+  or-true false = refl
+
+  or-false : (b : Bool) → (b || false) ≡ b
+  or-false true = refl
+  or-false false = refl
+
+  opened-at : (d at : ℕ) (before : List Step) → IsLegal base limits before → Kept base limits before → is_open base before d ≡ false → (q : ℕ) (b : Bool) → (d == q) ≡ b
+      → client_at base limits (record { at = at; what = Opened d } ∷ before) q ≡ (if b then Some (new_client limits) else client_at base limits before q)
+  unfolding put
+  opened-at d at before legal kept shut q true e =
+      let step : Step = record { at = at; what = Opened d } in
+      let same : d ≡ q = eqb-true d q e in
+      let known : is_open base (step ∷ before) q ≡ true = is_open-opened base at d before q ∙ ap (λ t. is_open base before q || t) (eq-eqb q d (sym same)) ∙ or-true (is_open base before q) in
+      let none : sockets_of base (step ∷ before) q ≡ [] = sockets_of-quiet base step before refl (λ k. refl) q ∙ ap (sockets_of base before) (sym same) ∙ sockets_of-none d before shut kept.of_open_clients in
+      let empty : waiting base limits (step ∷ before) q ≡ [] = waiting-begins base limits step before q e in
+      rw (known, none, empty) refl
+  opened-at d at before legal kept shut q false e =
+      let step : Step = record { at = at; what = Opened d } in
+      let other : nat_eq q d ≡ false = grind (arith, nat_tests, e) in
+      let known : is_open base (step ∷ before) q ≡ is_open base before q = is_open-opened base at d before q ∙ ap (λ t. is_open base before q || t) other ∙ or-false (is_open base before q) in
+      let same : sockets_of base (step ∷ before) q ≡ sockets_of base before q = sockets_of-quiet base step before refl (λ k. refl) q in
+      let waits : waiting base limits (step ∷ before) q ≡ waiting base limits before q = waiting-quiet base limits step before legal q e refl refl in
+      rw (known, same, waits) refl
+
+  pub opened-fields : (d now newest : ℕ) (before : List Step) (find find' : ℕ → Option PlainClient) (seat : ℕ → Option Socket) (is_pid : ℕ → Bool) (sets : RoomSets) (offset : Option ℕ)
+      → Fields base limits find seat is_pid sets offset newest before → IsLegal base limits before → Kept base limits before → is_open base before d ≡ false
+      → ((q : ℕ) → find' q ≡ (if d == q then Some (new_client limits) else find q))
+      → Fields base limits find' seat is_pid sets offset (max now newest) (record { at = max now newest; what = Opened d } ∷ before)
+  opened-fields d now newest before find find' seat is_pid sets offset was legal kept shut puts =
+      fields-quiet (record { at = max now newest; what = Opened d }) before find find' seat is_pid sets sets offset newest was refl (λ k. refl) refl refl
+      (λ q. puts q ∙ ap (λ o. if d == q then Some (new_client limits) else o) (was.clients q) ∙ sym (opened-at d (max now newest) before legal kept shut q (d == q) refl))
+
+  distinct-push : (d : ℕ) (xs : List ℕ) → IsDistinct nat_eq xs → is_member nat_eq xs d ≡ false → IsDistinct nat_eq (xs ++ d ∷ [])
+  unfolding IsDistinct
+  distinct-push d [] apart new = (tt, tt)
+  distinct-push d (x ∷ xs) apart new = (apart-push xs apart.0 (grind (arith, nat_tests, new)), distinct-push d xs apart.1 (grind (arith, nat_tests, new)))
+    where
+      apart-push : (ys : List ℕ) → AllByRecursion (λ y. nat_eq x y ≡ false) ys → nat_eq x d ≡ false → AllByRecursion (λ y. nat_eq x y ≡ false) (ys ++ d ∷ [])
+      apart-push [] h e = (e, tt)
+      apart-push (y ∷ ys) h e = (h.0, apart-push ys h.1 e)
+
+  opened-waits : (d at : ℕ) (before : List Step) → IsLegal base limits before → is_open base before d ≡ false
+      → waiting_in_all base limits (record { at = at; what = Opened d } ∷ before) ≡ waiting_in_all base limits before
+  unfolding waiting_in_all is_open put
+  opened-waits d at before legal shut =
+      let step : Step = record { at = at; what = Opened d } in
+      let after : ℕ → ℕ = λ c. length (waiting base limits (step ∷ before) c) in
+      let cs : List ℕ = open_clients base before in
+      let all : sum_by after (open_clients base (step ∷ before)) ≡ sum_by after (cs ++ d ∷ []) = ap (sum_by after) (clients-opened base at d before) in
+      let split : sum_by after (cs ++ d ∷ []) ≡ sum_by after cs + sum_by after (d ∷ []) = sum_by-append after cs (d ∷ []) in
+      let last : sum_by after (d ∷ []) ≡ 0 = sum-zero after (d ∷ []) (λ c e. let same : (d == c) ≡ true = grind (arith, nat_tests, e) in ap length (waiting-begins base limits step before c same)) in
+      let rest : sum_by after cs ≡ sum_by (λ c. length (waiting base limits before c)) cs
+      = sum-same after (λ c. length (waiting base limits before c)) cs (λ c e. ap length (waiting-quiet base limits step before legal c (other c e) refl refl)) in
+      omega (arith, all, split, last, rest)
+    where
+      other : (c : ℕ) → is_member nat_eq (open_clients base before) c ≡ true → (d == c) ≡ false
+      other c e = on (d == c) refl
+        where
+          on : (b : Bool) → (d == c) ≡ b → b ≡ false
+          on true k = let same : d ≡ c = eqb-true d c k in let there : is_member nat_eq (open_clients base before) d ≡ true = subst (λ z. is_member nat_eq (open_clients base before) z ≡ true) (sym same) e in cc
+          on false k = refl
+
+  pub opened-kept : (d at : ℕ) (before : List Step) → IsLegal base limits before → Kept base limits before → is_open base before d ≡ false
+      → Kept base limits (record { at = at; what = Opened d } ∷ before)
+  unfolding is_open put
+  opened-kept d at before legal was shut =
+      let step : Step = record { at = at; what = Opened d } in
+      let ks = sockets-quiet base step before refl (λ k. refl) in
+      record {
+        clients_once = subst (IsDistinct nat_eq) (sym (clients-opened base at d before)) (distinct-push d (open_clients base before) was.clients_once shut);
+        sockets_apart = subst (EachTwo AreApart) (sym ks) was.sockets_apart;
+        of_open_clients = subst (AllByRecursion (λ (k : Socket). is_open base (step ∷ before) k.client ≡ true)) (sym ks)
+            (all-open step before (λ c e. is_open-opened base at d before c ∙ ap (λ b. b || nat_eq c d) e) (sockets base before) was.of_open_clients);
+        in_spaces = subst (AllByRecursion (λ (k : Socket). is_space limits k.space ≡ true)) (sym ks) was.in_spaces;
+        nothing_saved = sessions-quiet step before refl was.nothing_saved;
+        few_spaces = was.few_spaces;
+        conserved = conserved-step base limits step before was.conserved (let w = opened-waits d at before legal shut in omega (arith, w));
+      }
+
+  -- ---- steps that put and hand out, but open, close, connect and end nothing
+
+  -- what such a step makes of a client
+  client_at-step : (step : Step) (before : List Step) → IsLegal base limits before → opens step.what ≡ [] → ((c : ℕ) → closes step.what c ≡ false) → connects step.what ≡ [] → ((k : Socket) → ends step.what k ≡ false) → (q : ℕ) → begins q step.what ≡ false
+      → client_at base limits (step ∷ before) q
+      ≡ (if is_open base before q then Some (record { sockets = sockets_of base before q; outbox = record { waiting = drop (taken_by q step.what) (waiting base limits before q ++ entries_for q (put base limits before step.what)); capacity = limits.capacity; bytes = limits.bytes } }) else None)
+  client_at-step step before legal none stay unconnected unended q begun =
+      rw (is_open-quiet base step before none stay q, sockets_of-quiet base step before unconnected unended q, waiting-step base limits step before legal q begun) refl
+
+  took-at : (d n at : ℕ) (before : List Step) → IsLegal base limits before → (q : ℕ) (b : Bool) → (d == q) ≡ b
+      → client_at base limits (record { at = at; what = Took d n } ∷ before) q ≡ (if b then option_map (without_first n) (client_at base limits before q) else client_at base limits before q)
+  unfolding put
+  took-at d n at before legal q true e =
+      client_at-step (record { at = at; what = Took d n }) before legal refl (λ c. refl) refl (λ k. refl) q refl
+      ∙ rw (e, append-nil) (on (is_open base before q))
+    where
+      on : (o : Bool) → (if o then Some (record { sockets = sockets_of base before q; outbox = record { waiting = drop n (waiting base limits before q); capacity = limits.capacity; bytes = limits.bytes } }) else None)
+          ≡ option_map (without_first n) (if o then Some (record { sockets = sockets_of base before q; outbox = record { waiting = waiting base limits before q; capacity = limits.capacity; bytes = limits.bytes } }) else None)
+      on true = refl
+      on false = refl
+  took-at d n at before legal q false e =
+      client_at-step (record { at = at; what = Took d n }) before legal refl (λ c. refl) refl (λ k. refl) q refl ∙ rw (e, append-nil) refl
+
+  pub took-fields : (d n now newest : ℕ) (before : List Step) (find find' : ℕ → Option PlainClient) (seat : ℕ → Option Socket) (is_pid : ℕ → Bool) (sets : RoomSets) (offset : Option ℕ)
+      → Fields base limits find seat is_pid sets offset newest before → IsLegal base limits before
+      → ((q : ℕ) → find' q ≡ (if d == q then option_map (without_first n) (find q) else find q))
+      → Fields base limits find' seat is_pid sets offset (max now newest) (record { at = max now newest; what = Took d n } ∷ before)
+  took-fields d n now newest before find find' seat is_pid sets offset was legal takes =
+      fields-quiet (record { at = max now newest; what = Took d n }) before find find' seat is_pid sets sets offset newest was refl (λ k. refl) refl refl
+      (λ q. takes q ∙ ap (λ o. if d == q then option_map (without_first n) o else o) (was.clients q) ∙ sym (took-at d n (max now newest) before legal q (d == q) refl))
+
+  pub took-kept : (d n at : ℕ) (before : List Step) → IsLegal base limits before → IsAllowed base limits before (record { at = at; what = Took d n }) (Took d n) → Kept base limits before → is_open base before d ≡ true
+      → Kept base limits (record { at = at; what = Took d n } ∷ before)
+  unfolding put is_open
+  took-kept d n at before legal allowed was known =
+      kept-quiet (record { at = at; what = Took d n }) before legal allowed was refl (λ c. refl) refl (λ k. refl) (λ c. refl) refl tt
+      (one_of d n (open_clients base before) was.clients_once known) refl
+
+  told-at : (m : PlainMessage) (at : ℕ) (before : List Step) → IsLegal base limits before → (q : ℕ) (b : Bool) → (m.client == q) ≡ b
+      → client_at base limits (record { at = at; what = Told m } ∷ before) q ≡ (if b then option_map (with_entry m.entry) (client_at base limits before q) else client_at base limits before q)
+  unfolding put
+  told-at m at before legal q true e =
+      client_at-step (record { at = at; what = Told m }) before legal refl (λ c. refl) refl (λ k. refl) q refl ∙ rw e (on (is_open base before q))
+    where
+      on : (o : Bool) → (if o then Some (record { sockets = sockets_of base before q; outbox = record { waiting = waiting base limits before q ++ m.entry ∷ []; capacity = limits.capacity; bytes = limits.bytes } }) else None)
+          ≡ option_map (with_entry m.entry) (if o then Some (record { sockets = sockets_of base before q; outbox = record { waiting = waiting base limits before q; capacity = limits.capacity; bytes = limits.bytes } }) else None)
+      on true = refl
+      on false = refl
+  told-at m at before legal q false e =
+      client_at-step (record { at = at; what = Told m }) before legal refl (λ c. refl) refl (λ k. refl) q refl ∙ rw (e, append-nil) refl
+
+  pub told-fields : (m : PlainMessage) (now newest : ℕ) (before : List Step) (find find' : ℕ → Option PlainClient) (seat : ℕ → Option Socket) (is_pid : ℕ → Bool) (sets : RoomSets) (offset : Option ℕ)
+      → Fields base limits find seat is_pid sets offset newest before → IsLegal base limits before
+      → ((q : ℕ) → find' q ≡ (if m.client == q then option_map (with_entry m.entry) (find q) else find q))
+      → Fields base limits find' seat is_pid sets offset (max now newest) (record { at = max now newest; what = Told m } ∷ before)
+  told-fields m now newest before find find' seat is_pid sets offset was legal puts =
+      fields-quiet (record { at = max now newest; what = Told m }) before find find' seat is_pid sets sets offset newest was refl (λ k. refl) refl refl
+      (λ q. puts q ∙ ap (λ o. if m.client == q then option_map (with_entry m.entry) o else o) (was.clients q) ∙ sym (told-at m (max now newest) before legal q (m.client == q) refl))
+
+  pub told-kept : (m : PlainMessage) (at : ℕ) (before : List Step) → IsLegal base limits before → IsAllowed base limits before (record { at = at; what = Told m }) (Told m) → Kept base limits before → is_open base before m.client ≡ true
+      → Kept base limits (record { at = at; what = Told m } ∷ before)
+  unfolding put
+  told-kept m at before legal allowed was known =
+      kept-quiet (record { at = at; what = Told m }) before legal allowed was refl (λ c. refl) refl (λ k. refl) (λ c. refl) refl (known, tt)
+      (sum-zero (λ c. taken_by c (Told m)) (open_clients base before) (λ c e. refl)) refl

@@ -1,0 +1,11 @@
+pub mod SumsLemmas
+pub mod MembershipLemmas
+pub mod OutboxesLemmas
+pub mod TotalsLemmas
+pub mod HubLemmas
+pub mod CountsLemmas
+pub mod CommandLemmas
+pub mod FreshLemmas
+pub mod RoomsLemmas
+pub mod SocketsLemmas
+pub mod AnswersLemmas

@@ -1,0 +1,100 @@
+-- What joining and leaving a room make of a hub.
+use Rattle.std.proofs.Common.{◌≡◌, ℕ, ◌+◌, ◌≤◌, Bool, true, false, List, [], ◌∷◌, max, refl, sym, ◌∙◌, ap, arith, Option, None, Some}
+use Rattle.std.specs.List.{sum_by}
+use Rattle.room_maps.specs.Membership.{RoomSets, with_pair, without_pair}
+use Rattle.room_maps.specs.Membership as room_maps
+use Rattle.room_maps.specs.declared.error.RoomError.{RoomError}
+use Rattle.hub_state.specs.declared.error.HubError.{HubError}
+use Rattle.hub_state.specs.declared.socket.Socket.{Socket}
+use Rattle.hub_state.specs.declared.step.Step.{Step}
+use Rattle.hub_state.specs.declared.step.What.{What}
+use Rattle.hub_state.specs.declared.step.What.TheVariants.{Opened, Attached, Recovered, Joined, Left, Cast, Told, Took, Parked, Ended, Closed, Swept}
+use Rattle.hub_state.specs.declared.totals.Counts.{Counts}
+use Rattle.hub_state.specs.Plain.{PlainBase, Limits, PlainClient}
+use Rattle.hub_state.specs.Membership.{opens, closes, open_clients, is_open, connects, ends, sid_of, is_connected, rooms}
+use Rattle.hub_state.specs.Log.{offsets_used}
+use Rattle.hub_state.specs.Outboxes.{put, begins, taken_by, entries_for}
+use Rattle.hub_state.specs.Sessions.{sessions, sessions_after}
+use Rattle.hub_state.specs.Totals.{placed_by, handed_out_by, discarded_by, is_spent}
+use Rattle.hub_state.specs.Refusals.{or_spent, room_refusal, join_refusal, leave_refusal}
+use Rattle.hub_state.specs.Legal.{IsAllowed, IsLegal}
+use Rattle.hub_state.specs.Hub.{Fields, Kept, Counted, CanCount, client_at}
+use Rattle.hub_state.proofs.SumsLemmas.{sum-zero}
+use Rattle.hub_state.proofs.MembershipLemmas.{is_open-quiet, sockets_of-quiet}
+use Rattle.hub_state.proofs.OutboxesLemmas.{waiting-quiet}
+use Rattle.hub_state.proofs.HubLemmas.{legal-step, fields-quiet, kept-quiet}
+use Rattle.hub_state.proofs.CountsLemmas.{counted, can, unrefused, unspent}
+use Rattle.hub_state.proofs.CommandLemmas.{IsHub}
+
+module _ (base : PlainBase) (limits : Limits) where
+  -- a client of which the step says nothing
+  joined-client : (s : ℕ) (room : List ℕ) (at : ℕ) (before : List Step) → IsLegal base limits before → (q : ℕ) → client_at base limits (record { at = at; what = Joined s room } ∷ before) q ≡ client_at base limits before q
+  unfolding put
+  joined-client s room at before legal q =
+      let step : Step = record { at = at; what = Joined s room } in
+      rw (is_open-quiet base step before refl (λ c. refl) q, sockets_of-quiet base step before refl (λ k. refl) q, waiting-quiet base limits step before legal q refl refl refl) refl
+
+  left-client : (s : ℕ) (room : List ℕ) (at : ℕ) (before : List Step) → IsLegal base limits before → (q : ℕ) → client_at base limits (record { at = at; what = Left s room } ∷ before) q ≡ client_at base limits before q
+  unfolding put
+  left-client s room at before legal q =
+      let step : Step = record { at = at; what = Left s room } in
+      rw (is_open-quiet base step before refl (λ c. refl) q, sockets_of-quiet base step before refl (λ k. refl) q, waiting-quiet base limits step before legal q refl refl refl) refl
+
+  pub puts_joined : (before : List Step) (s : ℕ) (room : List ℕ) → placed_by base limits before (Joined s room) ≡ 0
+  unfolding put
+  puts_joined before s room = refl
+
+  pub puts_left : (before : List Step) (s : ℕ) (room : List ℕ) → placed_by base limits before (Left s room) ≡ 0
+  unfolding put
+  puts_left before s room = refl
+
+  pub joined : (s : ℕ) (room : List ℕ) (now newest : ℕ) (find : ℕ → Option PlainClient) (seat : ℕ → Option Socket) (is_pid : ℕ → Bool) (sets sets' : RoomSets) (offset : Option ℕ) (counts : Counts) (before : List Step)
+      → IsHub base limits find seat is_pid sets offset newest counts before
+      → None ≡ or_spent (join_refusal base before s room) (is_spent base limits before (Joined s room))
+      → sets' ≡ with_pair sets s room
+      → IsHub base limits find seat is_pid sets' offset (max now newest) (record { commands = counts.commands + 1; placed = counts.placed + 0; dropped = counts.dropped + 0; taken = counts.taken + 0; discarded = counts.discarded + 0 }) (record { at = max now newest; what = Joined s room } ∷ before)
+  unfolding put
+  joined s room now newest find seat is_pid sets sets' offset counts before was accepted change =
+      let step : Step = record { at = max now newest; what = Joined s room } in
+      let allowed = unrefused (join_refusal base before s room) (is_spent base limits before (Joined s room)) accepted in
+      let room_left = unspent (join_refusal base before s room) (is_spent base limits before (Joined s room)) accepted in (
+        fields-quiet base limits step before find find seat is_pid sets sets' offset newest was.0 refl (λ k. refl) refl change (λ q. was.0.clients q ∙ sym (joined-client s room (max now newest) before was.1 q)),
+        legal-step base limits step before allowed room_left (rw (← was.0.last) (omega arith)) was.1,
+        kept-quiet base limits step before was.1 allowed was.2 refl (λ c. refl) refl (λ k. refl) (λ c. refl) refl tt (sum-zero (λ c. taken_by c (Joined s room)) (open_clients base before) (λ c e. refl)) refl,
+        counted base limits before counts was.3 was.2.conserved step 0 0 0 0 (puts_joined before s room) refl refl refl,
+      )
+
+  pub can_join : (before : List Step) (counts : Counts) → Counted base limits counts before → Kept base limits before → (s : ℕ) (room : List ℕ) → None ≡ or_spent (join_refusal base before s room) (is_spent base limits before (Joined s room)) → CanCount counts 0 0 0 0
+  can_join before counts was kept s room accepted =
+      can base limits before counts was kept.conserved (Joined s room) 0 0 0 0 (puts_joined before s room) refl refl refl (unspent (join_refusal base before s room) (is_spent base limits before (Joined s room)) accepted)
+
+  pub left : (s : ℕ) (room : List ℕ) (now newest : ℕ) (find : ℕ → Option PlainClient) (seat : ℕ → Option Socket) (is_pid : ℕ → Bool) (sets sets' : RoomSets) (offset : Option ℕ) (counts : Counts) (before : List Step)
+      → IsHub base limits find seat is_pid sets offset newest counts before
+      → None ≡ or_spent (leave_refusal base before s room) (is_spent base limits before (Left s room))
+      → sets' ≡ without_pair sets s room
+      → IsHub base limits find seat is_pid sets' offset (max now newest) (record { commands = counts.commands + 1; placed = counts.placed + 0; dropped = counts.dropped + 0; taken = counts.taken + 0; discarded = counts.discarded + 0 }) (record { at = max now newest; what = Left s room } ∷ before)
+  unfolding put
+  left s room now newest find seat is_pid sets sets' offset counts before was accepted change =
+      let step : Step = record { at = max now newest; what = Left s room } in
+      let allowed = unrefused (leave_refusal base before s room) (is_spent base limits before (Left s room)) accepted in
+      let room_left = unspent (leave_refusal base before s room) (is_spent base limits before (Left s room)) accepted in (
+        fields-quiet base limits step before find find seat is_pid sets sets' offset newest was.0 refl (λ k. refl) refl change (λ q. was.0.clients q ∙ sym (left-client s room (max now newest) before was.1 q)),
+        legal-step base limits step before allowed room_left (rw (← was.0.last) (omega arith)) was.1,
+        kept-quiet base limits step before was.1 allowed was.2 refl (λ c. refl) refl (λ k. refl) (λ c. refl) refl tt (sum-zero (λ c. taken_by c (Left s room)) (open_clients base before) (λ c e. refl)) refl,
+        counted base limits before counts was.3 was.2.conserved step 0 0 0 0 (puts_left before s room) refl refl refl,
+      )
+
+  pub can_leave : (before : List Step) (counts : Counts) → Counted base limits counts before → Kept base limits before → (s : ℕ) (room : List ℕ) → None ≡ or_spent (leave_refusal base before s room) (is_spent base limits before (Left s room)) → CanCount counts 0 0 0 0
+  can_leave before counts was kept s room accepted =
+      can base limits before counts was kept.conserved (Left s room) 0 0 0 0 (puts_left before s room) refl refl refl (unspent (leave_refusal base before s room) (is_spent base limits before (Left s room)) accepted)
+
+  room_free : (known : Bool) (refusal : Option RoomError) → room_refusal known refusal ≡ None → refusal ≡ None
+  room_free false refusal e = cc
+  room_free true None e = refl
+  room_free true (Some x) e = cc
+
+  -- the rooms let the socket leave
+  pub may_leave : (sets : RoomSets) (before : List Step) (s : ℕ) (room : List ℕ) → sets ≡ rooms base before → None ≡ or_spent (leave_refusal base before s room) (is_spent base limits before (Left s room)) → room_maps.leave_refusal sets s room ≡ None
+  may_leave sets before s room same accepted =
+      ap (λ v. room_maps.leave_refusal v s room) same
+      ∙ room_free (is_connected sid_of base before s) (room_maps.leave_refusal (rooms base before) s room) (unrefused (leave_refusal base before s room) (is_spent base limits before (Left s room)) accepted)

@@ -1,0 +1,25 @@
+use Rattle.std.proofs.Common.{rules, ◌≡◌, ◌||◌, ◌==◌, ℕ, reverse, Option, None, Some, if◌then◌else◌}
+use Rattle.std.specs.Ordering.{nat_cmp}
+use Rattle.std.specs.BTreeMap.{get}
+use Rattle.std.specs.BTreeSet as sorted
+use Rattle.room_maps.specs.Membership as room_maps
+use Rattle.hub_state.specs.declared.socket.Socket.{Socket}
+use Rattle.hub_state.specs.Outboxes.{answer}
+use Rattle.hub_state.proofs.SocketsLemmas.{attached, can_attach, seated}
+use Rattle.hub_state.proofs.state.State.connect.Goals as goal
+
+pub count-requires : goal.count-requires
+count-requires c = can_attach c.self.inside.base c.self.inside.limits (reverse c.self.inside.journal.items) c.self.inside.counts c.self.invariant.3 c.self.invariant.2 c.args.socket (rw (← c.self.view_is) at c.requires.accepted)
+
+pub invariant_of-self-2 : goal.invariant_of-self-2
+invariant_of-self-2 c =
+    let told = rw (← c.self.view_is) at c.requires.answer in
+    let puts = seated (get nat_cmp c.self.inside.clients) (get nat_cmp c.add_socket.new.clients) (get nat_cmp c.put_entry.new.clients) c.args.socket.client c.args.socket (answer c.self.inside.limits c.args.socket)
+    c.in_ok-add_socket.ensures.ok (rw told at c.put_entry.ensures) in
+    let seats : (s : ℕ) → get nat_cmp c.enter-entered.new.seats s ≡ (if c.args.socket.sid == s then Some c.args.socket else get nat_cmp c.self.inside.seats s) = search rules in
+    let pids : (p : ℕ) → sorted.contains nat_cmp c.enter-entered.new.pids p ≡ ((c.args.socket.pid == p) || sorted.contains nat_cmp c.self.inside.pids p) = search rules in
+    let rooms : c.enter-entered.new.rooms ≡ room_maps.with_socket c.self.inside.rooms c.args.socket.sid = search rules in
+    rw (c.record.ensures.journal, c.record.ensures.last, c.reserve.ensures.items, c.count.ensures)
+    (attached c.self.inside.base c.self.inside.limits c.args.socket c.args.now c.self.inside.last (get nat_cmp c.self.inside.clients) (get nat_cmp c.put_entry.new.clients) (get nat_cmp c.self.inside.seats) (get nat_cmp c.enter-entered.new.seats)
+    (sorted.contains nat_cmp c.self.inside.pids) (sorted.contains nat_cmp c.enter-entered.new.pids) c.self.inside.rooms c.enter-entered.new.rooms c.self.inside.next c.self.inside.counts (reverse c.self.inside.journal.items)
+    c.self.invariant (rw (← c.self.view_is) at c.requires.accepted) puts seats pids rooms)

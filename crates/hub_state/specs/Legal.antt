@@ -1,0 +1,89 @@
+-- Which journals a hub may have, and what a base may be.
+use Rattle.std.specs.Prelude.{◌≡◌, ◌≢◌, ℕ, ◌≤◌, ◌<◌, ◌==◌, Bool, true, false, min, nat_eq, List, [], ◌∷◌, length, map, is_some, Option, None, Some, IfSome}
+use Rattle.std.specs.List.{list_any, IsDistinct, AllByRecursion}
+use Rattle.sio_wire.specs.declared.entry.Entry.{Entry}
+use Rattle.sio_wire.specs.Offset.{is_bracket}
+use Rattle.recovery.specs.PacketLog.{IsRun, RisesTo, number_of}
+use Rattle.recovery.specs.SavedTable.{PlainSaved}
+use Rattle.recovery.specs.Missed.{missed}
+use Rattle.room_maps.specs.Membership.{AreConsistent}
+use Rattle.hub_state.specs.declared.socket.Socket.{Socket}
+use Rattle.hub_state.specs.declared.step.Step.{Step}
+use Rattle.hub_state.specs.declared.step.What.{What}
+use Rattle.hub_state.specs.declared.step.What.TheVariants.{Opened, Attached, Recovered, Joined, Left, Cast, Told, Took, Parked, Ended, Closed, Swept}
+use Rattle.hub_state.specs.Plain.{Limits, PlainBase, PlainRecovery, PlainBroadcast}
+use Rattle.hub_state.specs.Journal.{moment}
+use Rattle.hub_state.specs.Membership.{open_clients, is_open, sockets, sid_of, pid_of, socket_of, rooms, is_space}
+use Rattle.hub_state.specs.Sessions.{sessions, session_with}
+use Rattle.hub_state.specs.Log.{log, next, next_number}
+use Rattle.hub_state.specs.Outboxes.{waiting}
+use Rattle.hub_state.specs.Broadcast.{RightCast, SpellsEvent}
+use Rattle.hub_state.specs.Totals.{is_spent, IsConserved}
+use Rattle.hub_state.specs.Refusals.{open_refusal, client_refusal, tell_refusal, park_refusal, attach_refusal, end_refusal, join_refusal, leave_refusal, recover_refusal, cast_refusal}
+
+-- a recovery brings back what was saved: the socket's ids and rooms, and the offsets of what it missed
+pub record RightRecovery (base : PlainBase) (limits : Limits) (before : List Step) (r : PlainRecovery) : Type 0 where
+  pub lost_at : ℕ
+  pub session : session_with r.socket.pid (sessions base limits before) ≡ Some (record { sid = r.socket.sid; pid = r.socket.pid; space = r.socket.space; rooms = r.rooms; lost_at = lost_at })
+  pub missed_is : r.missed ≡ missed r.offset r.socket.space r.rooms (log base limits before)
+
+-- a broadcast is the text of an event, has the next offset where it has one, and reaches whom it is for
+pub record RightBroadcast (base : PlainBase) (limits : Limits) (before : List Step) (step : Step) (b : PlainBroadcast) : Type 0 where
+  pub payload : List ℕ
+  pub refusal : cast_refusal limits b.space payload (length b.entry.attachments) ≡ None
+  pub text : SpellsEvent limits b payload
+  pub offset : IfSome b.offset (λ offset. next base before ≡ Some offset)
+  pub cast : RightCast base limits before step b
+
+-- what must hold before a step: its command isn't refused, and what it tells is right
+abbrev pub IsAllowed : PlainBase → Limits → List Step → Step → What → Type 0
+IsAllowed base limits before step (Opened c) = open_refusal base limits before c ≡ None
+IsAllowed base limits before step (Attached k) = attach_refusal base limits before k ≡ None
+IsAllowed base limits before step (Recovered r) =
+    (recover_refusal base limits before r.socket.client r.socket.space r.socket.pid r.offset step.at ≡ None) × RightRecovery base limits before r
+IsAllowed base limits before step (Joined s room) = join_refusal base before s room ≡ None
+IsAllowed base limits before step (Left s room) = leave_refusal base before s room ≡ None
+IsAllowed base limits before step (Cast b) = RightBroadcast base limits before step b
+IsAllowed base limits before step (Told m) = tell_refusal base limits before m.client m.entry ≡ None
+IsAllowed base limits before step (Took c n) = (client_refusal base before c ≡ None) × (n ≤ length (waiting base limits before c))
+IsAllowed base limits before step (Parked c) = park_refusal base limits before c ≡ None
+IsAllowed base limits before step (Ended s) = end_refusal base before s ≡ None
+IsAllowed base limits before step (Closed c) = client_refusal base before c ≡ None
+IsAllowed base limits before step Swept = Unit {0}
+
+-- ---- what is so in every legal journal
+
+-- no two sockets have an id together, and none two of one client are in one namespace
+abbrev pub AreApart : Socket → Socket → Type 0
+AreApart k l = (k.sid ≢ l.sid) × (k.pid ≢ l.pid) × ((k.client ≡ l.client) → (k.space ≢ l.space))
+
+-- no saved session has an id of a connected socket
+abbrev pub IsAway : List Socket → PlainSaved → Type 0
+IsAway connected s = (list_any (λ (k : Socket). k.sid == s.sid) connected ≡ false) × (list_any (λ (k : Socket). k.pid == s.pid) connected ≡ false)
+
+-- no two saved sessions have an id together
+abbrev pub DifferInIds : PlainSaved → PlainSaved → Type 0
+DifferInIds s t = (s.sid ≢ t.sid) × (s.pid ≢ t.pid)
+
+-- each two of the list stand in this relation
+unfoldable pub EachTwo : {X : Type 0} → (X → X → Type 0) → List X → Type 0
+EachTwo R [] = Unit {0}
+EachTwo R (x ∷ xs) = AllByRecursion (R x) xs × EachTwo R xs
+
+-- clients are open once; sockets are apart, in a namespace of the hub and of open clients; no session is both saved
+-- and connected; offsets of the log rise by one and end below the next
+pub record IsSound (base : PlainBase) (limits : Limits) (journal : List Step) : Type 0 where
+  pub clients_once : IsDistinct nat_eq (open_clients base journal)
+  pub sockets_apart : EachTwo AreApart (sockets base journal)
+  pub of_open_clients : AllByRecursion (λ (k : Socket). is_open base journal k.client ≡ true) (sockets base journal)
+  pub in_spaces : AllByRecursion (λ (k : Socket). is_space limits k.space ≡ true) (sockets base journal)
+  pub apart : AllByRecursion (IsAway (sockets base journal)) (sessions base limits journal)
+  pub sessions_differ : EachTwo DifferInIds (sessions base limits journal)
+  pub offsets_rise : IsRun (next_number base journal) (log base limits journal)
+  pub conserved : IsConserved base limits journal
+
+-- each step was allowed by those before it, none passed a count, and moments never fall; the base is sound
+unfoldable pub IsLegal : PlainBase → Limits → List Step → Type 0
+IsLegal base limits [] = IsSound base limits []
+IsLegal base limits (step ∷ before) =
+    IsAllowed base limits before step step.what × (is_spent base limits before step.what ≡ false) × (moment base before ≤ step.at) × IsLegal base limits before

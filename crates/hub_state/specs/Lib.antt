@@ -1,0 +1,13 @@
+pub mod Plain
+pub mod Config
+pub mod Journal
+pub mod Membership
+pub mod Sessions
+pub mod Log
+pub mod Outboxes
+pub mod Broadcast
+pub mod Totals
+pub mod Refusals
+pub mod Legal
+pub mod Hub
+pub mod Inside

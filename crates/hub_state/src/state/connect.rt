@@ -1,0 +1,418 @@
+//! Sockets are connected (Socket.IO protocol 5, "Connection to a namespace").
+
+ghost use Rattle.std.specs.Prelude.{◌≡◌, ℕ, ◌+◌, ◌<◌, ◌≤◌, ◌==◌, ◌||◌, true, false, [], ◌∷◌, ◌++◌, length, OnOk, OnErr, IfOk, IfErr, IfSome, IfNone, None, Some, option_copied, nat_le, nat_lt, position, bytes_eq, get_or, unwrap_or, if◌then◌else◌};
+ghost use Rattle.std.specs.List.{find};
+ghost use Rattle.std.specs.Option.{option_map};
+ghost use Rattle.std.specs.Ordering.{nat_cmp};
+ghost use Rattle.std.specs.BTreeMap.{get};
+ghost use Rattle.std.specs.BTreeSet as sorted;
+ghost use Rattle.std.specs.Arc.{arc_value};
+ghost use Rattle.room_maps.specs.Membership as room_maps;
+ghost use Rattle.sio_wire.specs.Entry.{entry_size};
+ghost use Rattle.sio_wire.specs.ConnectAnswer as connect_answer;
+ghost use Rattle.hub_state.specs.Membership.{place_of, is_open, is_connected, pid_of, sid_of, sockets_of, socket_of};
+ghost use Rattle.hub_state.specs.Sessions.{sessions};
+ghost use Rattle.hub_state.specs.Outboxes.{answer, waiting, total_size, is_full};
+ghost use Rattle.hub_state.specs.Outboxes as outboxes;
+ghost use Rattle.hub_state.specs.Journal.{with_step};
+ghost use Rattle.hub_state.specs.Totals.{is_spent};
+ghost use Rattle.hub_state.specs.Refusals.{or_spent, attach_refusal, is_taken};
+ghost use Rattle.hub_state.specs.Hub.{Does, plus_socket, without_last};
+ghost use Rattle.hub_state.specs.declared.socket.Socket.{Socket};
+ghost use Rattle.hub_state.specs.declared.step.What.{What};
+
+use crate::client::Client;
+use crate::error::HubError;
+use crate::socket::Socket;
+use crate::state::{State, count, put_entry, record, reserve};
+use crate::step::What;
+use recovery::Pid;
+use room_maps::{Rooms, Sid};
+use sio_wire::{Attachments, Entry, connected_text};
+use std::alloc::Global;
+use std::collections::{BTreeMap, BTreeSet};
+use std::sync::Arc;
+use terms::Text;
+
+/// The place of a name in a list.
+fn position_in(names: &[Text], name: &str) -> Option<usize>
+    ensures { result ≡ position (bytes_eq name.now) names.now }
+{
+    names.iter().position(|known| name == known.as_str())
+}
+
+/// The place of a name in a list, or the length of the list where it isn't there.
+fn place_in(names: &[Text], name: &str) -> usize
+    ensures { result ≡ unwrap_or (position (bytes_eq name.now) names.now) (length names.now) }
+{
+    match position_in(names, name) {
+        Some(place) => place,
+        None => names.len(),
+    }
+}
+
+/// The first socket at a place.
+fn find_socket(sockets: &[Socket], place: usize) -> Option<&Socket>
+    ensures { option_copied result ≡ find (λ k. k.space == place) sockets.now }
+{
+    sockets
+        .iter()
+        .find(|socket| usize::from(socket.space) == place)
+}
+
+/// A copy of the first socket at a place.
+fn find_place(sockets: &[Socket], place: usize) -> Option<Socket>
+    ensures { result ≡ find (λ k. k.space == place) sockets.now }
+{
+    match find_socket(sockets, place) {
+        Some(socket) => Some(*socket),
+        None => None,
+    }
+}
+
+/// How many bytes the answer to a CONNECT to this namespace has.
+fn answer_size(name: &str) -> usize
+    ensures { (sid pid : ℕ) → result ≡ length (connect_answer.connected_text name.now sid pid) }
+{
+    if name == "/" { 84 } else { 85 + name.len() }
+}
+
+/// The answer to a CONNECT to this namespace.
+fn answer_text(alloc: Global, name: &str, sid: Sid, pid: Pid) -> Result<Entry, HubError>
+    ensures ok { IfOk result (λ entry. entry ≡ record { text = connect_answer.connected_text name.now sid pid; attachments = [] }) }
+    ensures memory { IfErr result (λ e. e ≡ HubError.Memory) }
+{
+    match connected_text(alloc, name, sid.number(), pid.number()) {
+        Ok(text) => Ok(Entry {
+            text: Text::from_string(text),
+            attachments: Attachments::new(alloc),
+        }),
+        Err(_) => Err(HubError::Memory),
+    }
+}
+
+/// Makes a socket known by its session id.
+fn add_seat(seats: &mut BTreeMap<Sid, Socket>, socket: Socket) -> Result<(), HubError>
+    ensures ok { OnOk result ((s : ℕ) → get nat_cmp seats.new s ≡ (if socket.sid == s then Some socket else get nat_cmp seats.old s)) }
+    ensures err { OnErr result ((s : ℕ) → get nat_cmp seats.new s ≡ get nat_cmp seats.old s) }
+    ensures memory { IfErr result (λ e. e ≡ HubError.Memory) }
+{
+    match seats.insert(socket.sid, socket) {
+        Ok(_) => Ok(()),
+        Err(_) => Err(HubError::Memory),
+    }
+}
+
+/// Forgets the socket with a session id.
+fn drop_seat(seats: &mut BTreeMap<Sid, Socket>, sid: Sid)
+    ensures { (s : ℕ) → get nat_cmp seats.new s ≡ (if sid == s then None else get nat_cmp seats.old s) }
+{
+    seats.remove(&sid);
+}
+
+/// Makes a socket known by its private id.
+fn add_pid(pids: &mut BTreeSet<Pid>, pid: Pid) -> Result<(), HubError>
+    ensures ok { OnOk result ((p : ℕ) → sorted.contains nat_cmp pids.new p ≡ ((pid == p) || sorted.contains nat_cmp pids.old p)) }
+    ensures err { OnErr result ((p : ℕ) → sorted.contains nat_cmp pids.new p ≡ sorted.contains nat_cmp pids.old p) }
+    ensures memory { IfErr result (λ e. e ≡ HubError.Memory) }
+{
+    match pids.insert(pid) {
+        Ok(_) => Ok(()),
+        Err(_) => Err(HubError::Memory),
+    }
+}
+
+/// Forgets a private id.
+fn drop_pid(pids: &mut BTreeSet<Pid>, pid: Pid)
+    ensures { (p : ℕ) → sorted.contains nat_cmp pids.new p ≡ (if pid == p then false else sorted.contains nat_cmp pids.old p) }
+{
+    pids.remove(&pid);
+}
+
+/// Makes a socket known by both its ids, in its own room.
+fn enter(
+    alloc: Global,
+    seats: &mut BTreeMap<Sid, Socket>,
+    pids: &mut BTreeSet<Pid>,
+    rooms: &mut Rooms,
+    socket: Socket,
+) -> Result<(), HubError>
+    requires free { get nat_cmp seats.old socket.sid ≡ None }
+    requires unused { sorted.contains nat_cmp pids.old socket.pid ≡ false }
+    ensures seats { OnOk result ((s : ℕ) → get nat_cmp seats.new s ≡ (if socket.sid == s then Some socket else get nat_cmp seats.old s)) }
+    ensures pids { OnOk result ((p : ℕ) → sorted.contains nat_cmp pids.new p ≡ ((socket.pid == p) || sorted.contains nat_cmp pids.old p)) }
+    ensures rooms { OnOk result (rooms.new ≡ room_maps.with_socket rooms.old socket.sid) }
+    ensures same_seats { OnErr result ((s : ℕ) → get nat_cmp seats.new s ≡ get nat_cmp seats.old s) }
+    ensures same_pids { OnErr result ((p : ℕ) → sorted.contains nat_cmp pids.new p ≡ sorted.contains nat_cmp pids.old p) }
+    ensures same_rooms { OnErr result (rooms.new ≡ rooms.old) }
+    ensures memory { IfErr result (λ e. e ≡ HubError.Memory) }
+{
+    let (sid, pid) = (socket.sid, socket.pid);
+    add_seat(seats, socket)?;
+    if add_pid(pids, pid).is_err() {
+        drop_seat(seats, sid);
+        return Err(HubError::Memory);
+    }
+    if rooms.enter(alloc, sid).is_err() {
+        drop_seat(seats, sid);
+        drop_pid(pids, pid);
+        return Err(HubError::Memory);
+    }
+    Ok(())
+}
+
+/// Gives a client a socket more.
+fn add_socket(
+    clients: &mut BTreeMap<u128, Client>,
+    client: u128,
+    socket: Socket,
+) -> Result<(), HubError>
+    ensures ok { OnOk result ((q : ℕ) → get nat_cmp clients.new q ≡ (if client == q then option_map (plus_socket socket) (get nat_cmp clients.old q) else get nat_cmp clients.old q)) }
+    ensures err { OnErr result ((q : ℕ) → get nat_cmp clients.new q ≡ get nat_cmp clients.old q) }
+    ensures memory { IfErr result (λ e. e ≡ HubError.Memory) }
+{
+    match clients.get_mut(&client) {
+        Some(known) => {
+            if known.sockets.push(socket).is_err() {
+                return Err(HubError::Memory);
+            }
+        }
+        None => {}
+    }
+    Ok(())
+}
+
+/// Takes the newest socket of a client away.
+fn drop_socket(clients: &mut BTreeMap<u128, Client>, client: u128)
+    ensures { (q : ℕ) → get nat_cmp clients.new q ≡ (if client == q then option_map without_last (get nat_cmp clients.old q) else get nat_cmp clients.old q) }
+{
+    if let Some(known) = clients.get_mut(&client) {
+        known.sockets.pop();
+    }
+}
+
+impl State {
+    /// The place of a namespace in the hub's list, or the length of the list where it isn't there.
+    #[tactic(auto, unfolding(crate::specs::Membership::place_of))]
+    fn place_of(&self, space: &str) -> usize
+        ensures { result ≡ place_of self.now.limits space.now }
+    {
+        place_in(&self.limits.spaces, space)
+    }
+
+    /// The namespaces.
+    fn spaces(&self) -> &[Text]
+        ensures names { result.now ≡ self.now.limits.spaces }
+        ensures few { length self.now.limits.spaces ≤ 65536 }
+    {
+        &self.limits.spaces
+    }
+
+    /// Whether a socket with this private id is connected.
+    fn is_pid_connected(&self, pid: Pid) -> bool
+        ensures { result ≡ is_connected pid_of self.now.base self.now.journal pid }
+    {
+        self.pids.contains(&pid)
+    }
+
+    /// The socket of a client at a place, where the client is open.
+    fn socket_if_open(&self, client: u128, place: usize) -> Option<Socket>
+        ensures { result ≡ (if is_open self.now.base self.now.journal client then find (λ k. k.space == place) (sockets_of self.now.base self.now.journal client) else None) }
+    {
+        match self.clients.get(&client) {
+            Some(known) => find_place(&known.sockets, place),
+            None => None,
+        }
+    }
+
+    /// The socket of a client at a place.
+    fn socket_at(&self, client: u128, place: usize) -> Option<Socket>
+        ensures { result ≡ socket_of self.now.base self.now.journal client place }
+    {
+        self.facts();
+        self.socket_if_open(client, place)
+    }
+
+    /// The session id of a client's socket in a namespace, or `None` where it has none there. It
+    /// takes the logarithm of the clients, and walks the namespaces and the client's sockets.
+    pub fn socket_of(&self, client: u128, space: &str) -> Option<Sid>
+        ensures { result ≡ option_map sid_of (socket_of self.now.base self.now.journal client (place_of self.now.limits space.now)) }
+    {
+        let place = self.place_of(space);
+        match self.socket_at(client, place) {
+            Some(socket) => Some(socket.sid),
+            None => None,
+        }
+    }
+
+    /// Nothing is saved.
+    fn nothing_saved(&self)
+        ensures { sessions self.now.base self.now.limits self.now.journal ≡ [] }
+    {
+        let _fields = &self.base;
+    }
+
+    fn is_taken(&self, sid: Sid, pid: Pid) -> bool
+        ensures { (c space : ℕ) → result ≡ is_taken self.now.base self.now.limits self.now.journal (record { client = c; space = space; sid = sid; pid = pid }) }
+    {
+        self.nothing_saved();
+        self.is_connected(sid) || self.is_pid_connected(pid)
+    }
+
+    /// Whether an open client's outbox has no place for an entry of this many bytes.
+    fn lacks(&self, client: u128, size: usize) -> bool
+        ensures { is_open self.now.base self.now.journal client ≡ true → result ≡ (nat_le self.now.limits.capacity (length (waiting self.now.base self.now.limits self.now.journal client)) || nat_lt self.now.limits.bytes (total_size (waiting self.now.base self.now.limits self.now.journal client) + size)) }
+    {
+        match self.clients.get(&client) {
+            Some(known) => known.outbox.lacks(size),
+            None => false,
+        }
+    }
+
+    /// The namespace at a place, or the empty text where there is none.
+    fn name_at(&self, place: usize) -> &str
+        ensures { result.now ≡ get_or self.now.limits.spaces place [] }
+    {
+        match self.spaces().get(place) {
+            Some(name) => name.as_str(),
+            None => "",
+        }
+    }
+
+    /// How many bytes the answer to a CONNECT to the namespace at a place has.
+    fn answer_size(&self, place: usize) -> usize
+        ensures { (client sid pid : ℕ) → result ≡ entry_size (answer self.now.limits (record { client = client; space = place; sid = sid; pid = pid })) }
+    {
+        answer_size(self.name_at(place))
+    }
+
+    /// The answer to a CONNECT to the namespace at a place.
+    fn answer(&self, alloc: Global, place: usize, sid: Sid, pid: Pid) -> Result<Entry, HubError>
+        ensures ok { IfOk result (λ entry. (client : ℕ) → entry ≡ answer self.now.limits (record { client = client; space = place; sid = sid; pid = pid })) }
+        ensures memory { IfErr result (λ e. e ≡ HubError.Memory) }
+    {
+        answer_text(alloc, self.name_at(place), sid, pid)
+    }
+
+    /// Whether an open client's outbox has no place for the answer to a CONNECT.
+    fn lacks_answer(&self, client: u128, place: usize) -> bool
+        ensures { is_open self.now.base self.now.journal client ≡ true → (sid pid : ℕ) → result ≡ is_full self.now.base self.now.limits self.now.journal client (answer self.now.limits (record { client = client; space = place; sid = sid; pid = pid })) }
+    {
+        let size = self.answer_size(place);
+        self.lacks(client, size)
+    }
+
+    fn attach_refusal(&self, client: u128, place: usize, sid: Sid, pid: Pid) -> Option<HubError>
+        ensures refusal { let socket : Socket = record { client = client; space = place; sid = sid; pid = pid } in result ≡ or_spent (attach_refusal self.now.base self.now.limits self.now.journal socket) (is_spent self.now.base self.now.limits self.now.journal (What.Attached socket)) }
+        ensures known { IfNone result (place < length self.now.limits.spaces) }
+        ensures small { IfNone result (place < 65536) }
+    {
+        if !self.is_open(client) {
+            return Some(HubError::UnknownClient);
+        }
+        if place >= self.spaces().len() {
+            return Some(HubError::UnknownNamespace);
+        }
+        if self.socket_at(client, place).is_some() {
+            return Some(HubError::AlreadyConnected);
+        }
+        if self.is_taken(sid, pid) {
+            return Some(HubError::IdTaken);
+        }
+        if self.lacks_answer(client, place) {
+            return Some(HubError::OutboxFull);
+        }
+        self.count_refusal(1, 0)
+    }
+
+    /// Connects a client's new socket to a namespace: it is in its own room, and the answer to the
+    /// CONNECT is put. Refused as `UnknownClient`, `UnknownNamespace`, `AlreadyConnected`,
+    /// `IdTaken`, `OutboxFull`, `Spent`, then for `Memory`. It takes the logarithm of the clients
+    /// and sockets, and walks the namespaces and the client's sockets.
+    pub fn attach(
+        &mut self,
+        alloc: Global,
+        client: u128,
+        space: &str,
+        sid: Sid,
+        pid: Pid,
+        now: u64,
+    ) -> Result<(), HubError>
+        ensures { let socket : Socket = record { client = client; space = place_of self.old.limits space.now; sid = sid; pid = pid } in Does self.old self.new now (What.Attached socket) (or_spent (attach_refusal self.old.base self.old.limits self.old.journal socket) (is_spent self.old.base self.old.limits self.old.journal (What.Attached socket))) result }
+    {
+        let place = self.place_of(space);
+        self.attach_at(alloc, client, place, sid, pid, now)
+    }
+
+    fn attach_at(
+        &mut self,
+        alloc: Global,
+        client: u128,
+        place: usize,
+        sid: Sid,
+        pid: Pid,
+        now: u64,
+    ) -> Result<(), HubError>
+        ensures { let socket : Socket = record { client = client; space = place; sid = sid; pid = pid } in Does self.old self.new now (What.Attached socket) (or_spent (attach_refusal self.old.base self.old.limits self.old.journal socket) (is_spent self.old.base self.old.limits self.old.journal (What.Attached socket))) result }
+    {
+        if let Some(refusal) = self.attach_refusal(client, place, sid, pid) {
+            return Err(refusal);
+        }
+        let entry = self.answer(alloc, place, sid, pid)?;
+        let answer = Arc::new(alloc, entry)?;
+        let socket = Socket {
+            client,
+            space: place as u16,
+            sid,
+            pid,
+        };
+        self.connect(alloc, socket, answer, now)
+    }
+
+    /// Connects a socket that may be connected.
+    fn connect(
+        &mut self,
+        alloc: Global,
+        socket: Socket,
+        answer: Arc<Entry>,
+        now: u64,
+    ) -> Result<(), HubError>
+        requires accepted { None ≡ or_spent (attach_refusal self.old.base self.old.limits self.old.journal socket) (is_spent self.old.base self.old.limits self.old.journal (What.Attached socket)) }
+        requires answer { arc_value answer ≡ outboxes.answer self.old.limits socket }
+        ensures ok { OnOk result (self.new ≡ with_step self.old now (What.Attached socket)) }
+        ensures err { OnErr result (self.new ≡ self.old) }
+        ensures memory { IfErr result (λ e. e ≡ HubError.Memory) }
+    {
+        let client = socket.client;
+        let same = Socket {
+            client,
+            space: socket.space,
+            sid: socket.sid,
+            pid: socket.pid,
+        };
+        let again = Socket {
+            client,
+            space: socket.space,
+            sid: socket.sid,
+            pid: socket.pid,
+        };
+        reserve(&mut self.journal)?;
+        add_socket(&mut self.clients, client, same)?;
+        let entered = enter(
+            alloc,
+            &mut self.seats,
+            &mut self.pids,
+            &mut self.rooms,
+            again,
+        );
+        if entered.is_err() {
+            drop_socket(&mut self.clients, client);
+            return Err(HubError::Memory);
+        }
+        put_entry(&mut self.clients, client, answer);
+        count(&mut self.counts, 1, 0, 0, 0);
+        let what = What::Attached(socket);
+        record(&mut self.journal, &mut self.last, now, what);
+        Ok(())
+    }
+}

@@ -1,0 +1,42 @@
+//! The steps of a journal: the commands that were accepted.
+
+use crate::contents::{Broadcast, Message, Recovery};
+use crate::socket::Socket;
+use room_maps::{Room, Sid};
+
+/// A command that was accepted, and when.
+#[derive(Drop)]
+pub struct Step {
+    /// The moment, in milliseconds. Moments never fall.
+    pub at: u64,
+    pub what: What,
+}
+
+/// What an accepted command did.
+#[derive(Drop)]
+pub enum What {
+    /// A client was opened.
+    Opened(u128),
+    /// A socket was connected.
+    Attached(Socket),
+    /// A saved session came back.
+    Recovered(Recovery),
+    /// A socket joined a room.
+    Joined(Sid, Room),
+    /// A socket left a room.
+    Left(Sid, Room),
+    /// A broadcast was put into the outboxes of those whom it is for.
+    Cast(Broadcast),
+    /// One client was told something.
+    Told(Message),
+    /// This many entries were handed out to the client.
+    Took(u128, usize),
+    /// A client was lost, and its sockets' sessions were saved.
+    Parked(u128),
+    /// A socket was ended.
+    Ended(Sid),
+    /// A client was closed, and its sockets were ended.
+    Closed(u128),
+    /// Outdated broadcasts of the log and outdated sessions were dropped.
+    Swept,
+}
