@@ -40,7 +40,7 @@ impl Model for Logged {
 
 impl Logged {
     /// Whether a socket of this namespace, in these rooms, gets it.
-    pub(crate) fn is_for(&self, space: u16, rooms: &[Room]) -> bool
+    pub fn is_for(&self, space: u16, rooms: &[Room]) -> bool
         ensures { result ≡ missed.is_for space rooms.now self.now }
     {
         self.space == space

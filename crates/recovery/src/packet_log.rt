@@ -1,10 +1,10 @@
 //! The latest broadcasts (Socket.IO server documentation, "Connection state recovery").
 
-ghost use Rattle.std.specs.Prelude.{◌≡◌, ◌≢◌, ℕ, ◌+◌, ◌^◌, ◌<◌, ◌≤◌, ◌==◌, max, length, List, [], ◌∷◌, ◌++◌, filter, map, drop, IfOk, IfErr, IfSome, OnOk, OnErr, OnSome, IfNone, Some, None, option_copied, true};
+ghost use Rattle.std.specs.Prelude.{◌≡◌, ◌≢◌, ℕ, ◌+◌, ◌^◌, ◌<◌, ◌≤◌, ◌==◌, max, length, List, [], ◌∷◌, ◌++◌, filter, map, drop, IfOk, IfErr, IfSome, OnOk, OnErr, OnSome, IfNone, Some, None, option_copied, is_some, true};
 ghost use Rattle.std.specs.List.{find, take_while};
 ghost use Rattle.recovery.specs.Expiry as expiry;
 ghost use Rattle.std.specs.Arc.{arc_value};
-ghost use Rattle.recovery.specs.PacketLog.{LogCall, LogContents, Pushed, Swept, IsLogOf, IsRun, IsPlace, HasNone, offset_or_spent, pushed, later_than, latest, number_of, with_entry, swept};
+ghost use Rattle.recovery.specs.PacketLog.{LogCall, LogContents, Pushed, Swept, IsLogOf, IsRun, IsPlace, HasNone, offset_or_spent, pushed, stands, later_than, latest, number_of, with_entry, swept};
 ghost use Rattle.recovery.specs.Missed.{missed, missed_refusal, is_for};
 
 use crate::error::RecoveryError;
@@ -160,6 +160,16 @@ impl PacketLog {
         self.ring.get(self.place_of(offset)?)
     }
 
+    /// The entries past this offset, in their order and in two pieces, or `None` where the log has
+    /// no such offset. It looks at no entry but the first.
+    pub fn later(&self, offset: u64) -> Option<(&[Logged], &[Logged])>
+        ensures stands { is_some result ≡ stands offset self.now.entries }
+        ensures later { IfSome result (λ pieces. pieces.0.now ++ pieces.1.now ≡ later_than offset self.now.entries) }
+    {
+        let place = self.place_of(offset)?;
+        Some(pieces_after(&self.ring, place))
+    }
+
     /// The offsets of the broadcasts past this one that a socket of the namespace, in these
     /// rooms, should have got, in their order. Refused where the log has no such offset.
     pub fn missed(
@@ -206,6 +216,18 @@ fn count_outdated(ring: &HeapCircularBuffer<Logged>, keep: u64, now: u64) -> usi
     ring.iter()
         .take_while(|entry| is_outdated(entry.at, keep, now))
         .count()
+}
+
+/// The entries past this place, in two pieces.
+fn pieces_after(ring: &HeapCircularBuffer<Logged>, place: usize) -> (&[Logged], &[Logged])
+    requires within { place < length ring.now.items }
+    requires small { place + 1 < 2 ^ 64 }
+    ensures { result.0.now ++ result.1.now ≡ drop (place + 1) ring.now.items }
+{
+    let past = place + 1;
+    let (front, back) = ring.as_slices();
+    let split = past.min(front.len());
+    (&front[split..], &back[past - split..])
 }
 
 /// The offsets of the entries past this place that a socket gets.

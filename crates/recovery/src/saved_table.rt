@@ -1,7 +1,7 @@
 //! The lost sessions that may come back (Socket.IO server documentation, "Connection state
 //! recovery").
 
-ghost use Rattle.std.specs.Prelude.{◌≡◌, ℕ, ◌+◌, ◌<◌, ◌≤◌, ◌==◌, if◌then◌else◌, length, [], map, filter, IfOk, IfErr, IfSome, IfNone, IsOkAnd, OnOk, OnErr, OnSome, Some, None, option_copied};
+ghost use Rattle.std.specs.Prelude.{◌≡◌, ℕ, ◌+◌, ◌<◌, ◌≤◌, ◌==◌, if◌then◌else◌, length, [], map, filter, IfOk, IfErr, IfSome, IfNone, IsOkAnd, OnOk, OnErr, OnSome, Some, None, option_copied, is_some};
 ghost use Rattle.std.specs.Bool.{OnTrue, OnFalse};
 ghost use Rattle.std.specs.Ordering.{nat_cmp};
 ghost use Rattle.std.specs.List.Sorted.{IsStrictlySortedBy};
@@ -72,11 +72,19 @@ impl SavedTable {
         self.by_pid.get(&pid)
     }
 
+    /// Whether a session with this private id is in the table, outdated or not. It takes the
+    /// logarithm of the sessions.
+    pub fn has_pid(&self, pid: Pid) -> bool
+        ensures { result ≡ is_some (session self.now pid) }
+    {
+        self.look_up(pid).is_some()
+    }
+
     /// Why a session with this private id can't be saved.
     fn save_refusal(&self, pid: Pid) -> Option<RecoveryError>
         ensures { result ≡ save_refusal self.now pid }
     {
-        if self.look_up(pid).is_some() {
+        if self.has_pid(pid) {
             Some(RecoveryError::PidTaken)
         } else if self.len() >= self.limit {
             Some(RecoveryError::TableFull)

@@ -6,6 +6,7 @@ use super::*;
 use room_maps::{Room, Sid};
 use sio_wire::{Attachments, Entry};
 use std::alloc::Global;
+use std::process::Abort;
 use std::sync::Arc;
 use terms::Text;
 
@@ -58,122 +59,146 @@ fn save(alloc: Global, table: &mut SavedTable, id: u64, lost_at: u64) -> bool {
     table.save(alloc, session(alloc, id, lost_at)).is_ok()
 }
 
+/// A log and an entry for it.
+fn log_and_entry(alloc: Global) -> Option<(PacketLog, Arc<Entry>)> {
+    Some((log_of_three(alloc)?, some_entry(alloc)?))
+}
+
 #[test]
 fn ten_thousand_pushes_into_a_log_of_three(rt: HostRuntime) {
-    let alloc = rt.alloc();
-    let Some(entry) = some_entry(alloc) else {
-        assert!(rt; false, "no entry");
-        return;
-    };
-    let Some(mut log) = log_of_three(alloc) else {
-        assert!(rt; false, "no log");
-        return;
-    };
-    for want in 1..=10_000u64 {
-        assert_eq!(rt; push(alloc, &mut log, &entry, 0), Some(want));
+    match log_and_entry(rt.alloc()) {
+        Some((mut log, entry)) => expect_last_three(&rt, &mut log, &entry),
+        None => assert!(rt; false, "no log"),
     }
-    assert_eq!(rt; log.len(), 3);
+}
+
+fn expect_last_three(rt: &(impl Abort + AllocGlobal), log: &mut PacketLog, entry: &Arc<Entry>) {
+    for want in 1..=10_000u64 {
+        assert!(rt;
+            push(rt.alloc(), log, entry, 0) == Some(want),
+            "push {want}"
+        );
+    }
+    assert!(rt; log.len() == 3);
     for offset in 0..10_010u64 {
         let stands = 9_998 <= offset && offset <= 10_000;
-        assert_eq!(rt; log.find(offset).is_some(), stands, "offset {offset}");
+        assert!(rt; log.find(offset).is_some() == stands, "offset {offset}");
     }
 }
 
 #[test]
 fn the_greatest_offset(rt: HostRuntime) {
-    let alloc = rt.alloc();
-    assert!(rt; PacketLog::new(alloc, usize::MAX, 1).is_err());
-    let Some(entry) = some_entry(alloc) else {
-        assert!(rt; false, "no entry");
-        return;
-    };
-    let mut made = PacketLog::new(alloc, 1, u64::MAX);
-    if made.is_err() {
-        made = PacketLog::new(alloc, 1, u64::MAX);
+    assert!(rt; PacketLog::new(rt.alloc(), usize::MAX, 1).is_err());
+    match last_log_and_entry(rt.alloc()) {
+        Some((mut log, entry)) => expect_greatest(&rt, &mut log, &entry),
+        None => assert!(rt; false, "no log"),
     }
-    let Ok(mut log) = made else {
-        assert!(rt; false, "no log");
-        return;
+}
+
+/// A log whose first offset is the greatest, and an entry for it.
+fn last_log_and_entry(alloc: Global) -> Option<(PacketLog, Arc<Entry>)> {
+    let log = match PacketLog::new(alloc, 1, u64::MAX) {
+        Ok(log) => log,
+        Err(_) => PacketLog::new(alloc, 1, u64::MAX).ok()?,
     };
-    assert_eq!(rt; log.next(), Some(u64::MAX));
-    assert_eq!(rt; push(alloc, &mut log, &entry, 0), Some(u64::MAX));
-    assert_eq!(rt; log.next(), None);
-    assert_eq!(rt; push(alloc, &mut log, &entry, 0), None);
+    Some((log, some_entry(alloc)?))
+}
+
+fn expect_greatest(rt: &(impl Abort + AllocGlobal), log: &mut PacketLog, entry: &Arc<Entry>) {
+    assert!(rt; log.next() == Some(u64::MAX));
+    assert!(rt; push(rt.alloc(), log, entry, 0) == Some(u64::MAX));
+    assert!(rt; log.next() == None);
+    assert!(rt; push(rt.alloc(), log, entry, 0) == None);
     assert!(rt; log.find(u64::MAX).is_some());
 }
 
 #[test]
 fn missed_and_swept(rt: HostRuntime) {
+    match log_and_entry(rt.alloc()) {
+        Some((mut log, entry)) => expect_missed(&rt, &mut log, &entry),
+        None => assert!(rt; false, "no log"),
+    }
+}
+
+fn expect_missed(rt: &(impl Abort + AllocGlobal), log: &mut PacketLog, entry: &Arc<Entry>) {
     let alloc = rt.alloc();
-    let Some(entry) = some_entry(alloc) else {
-        assert!(rt; false, "no entry");
-        return;
-    };
-    let Some(mut log) = log_of_three(alloc) else {
-        assert!(rt; false, "no log");
-        return;
-    };
     for at in [0, 0, 1, 2] {
-        assert!(rt; push(alloc, &mut log, &entry, at).is_some());
+        assert!(rt; push(alloc, log, entry, at).is_some());
     }
     assert!(rt; log.missed(alloc, 1, 0, &[]).is_err());
-    let mut missed = log.missed(alloc, 2, 0, &[]);
-    if missed.is_err() {
-        assert_eq!(rt; log.len(), 3);
-        missed = log.missed(alloc, 2, 0, &[]);
+    assert!(rt; misses(alloc, log, 2, &[3, 4]));
+    assert!(rt; lists_three(alloc, log));
+    assert!(rt; log.sweep(120_000, 120_000) == 0);
+    assert!(rt; log.sweep(120_001, 120_000) == 1);
+    assert!(rt; log.next() == Some(5));
+}
+
+/// Whether these offsets are missed, at the second try where the first has no memory and leaves
+/// the log as it was.
+fn misses(alloc: Global, log: &PacketLog, after: u64, want: &[u64]) -> bool {
+    match log.missed(alloc, after, 0, &[]) {
+        Ok(offsets) => offsets.as_slice() == want,
+        Err(_) if log.len() != 3 => false,
+        Err(_) => match log.missed(alloc, after, 0, &[]) {
+            Ok(offsets) => offsets.as_slice() == want,
+            Err(_) => false,
+        },
     }
-    let Ok(offsets) = missed else {
-        assert!(rt; false, "nothing missed");
-        return;
-    };
-    assert_eq!(rt; offsets.as_slice(), [3, 4].as_slice());
-    let mut listed = log.list(alloc);
-    if listed.is_err() {
-        assert_eq!(rt; log.len(), 3);
-        listed = log.list(alloc);
+}
+
+fn lists_three(alloc: Global, log: &PacketLog) -> bool {
+    match log.list(alloc) {
+        Ok(list) => list.len() == 3,
+        Err(_) if log.len() != 3 => false,
+        Err(_) => match log.list(alloc) {
+            Ok(list) => list.len() == 3,
+            Err(_) => false,
+        },
     }
-    let Ok(list) = listed else {
-        assert!(rt; false, "no list");
-        return;
-    };
-    assert_eq!(rt; list.len(), 3);
-    assert_eq!(rt; log.sweep(120_000, 120_000), 0);
-    assert_eq!(rt; log.sweep(120_001, 120_000), 1);
-    assert_eq!(rt; log.next(), Some(5));
 }
 
 #[test]
 fn sessions(rt: HostRuntime) {
+    let mut table = SavedTable::new(rt.alloc(), 2);
+    expect_saved(&rt, &mut table);
+    expect_found(&rt, &table);
+    assert!(rt; lists_two(rt.alloc(), &table));
+    expect_swept(&rt, &mut table);
+}
+
+fn expect_saved(rt: &(impl Abort + AllocGlobal), table: &mut SavedTable) {
     let alloc = rt.alloc();
-    let mut table = SavedTable::new(alloc, 2);
-    assert!(rt; save(alloc, &mut table, 5, 1_000));
-    assert!(rt; save(alloc, &mut table, 3, 2_000));
-    assert_eq!(rt;
-        table.save(alloc, session(alloc, 5, 0)),
-        Err(RecoveryError::PidTaken)
-    );
-    assert_eq!(rt;
-        table.save(alloc, session(alloc, 7, 0)),
-        Err(RecoveryError::TableFull)
-    );
+    assert!(rt; save(alloc, table, 5, 1_000));
+    assert!(rt; save(alloc, table, 3, 2_000));
+    assert!(rt; table.save(alloc, session(alloc, 5, 0)) == Err(RecoveryError::PidTaken));
+    assert!(rt; table.save(alloc, session(alloc, 7, 0)) == Err(RecoveryError::TableFull));
+}
+
+fn expect_found(rt: &impl Abort, table: &SavedTable) {
     assert!(rt; table.find(Pid::new(6), 121_000, 120_000).is_ok());
     assert!(rt; table.find(Pid::new(6), 121_001, 120_000).is_err());
     assert!(rt; table.find(Pid::new(6), u64::MAX, u64::MAX).is_ok());
-    let mut listed = table.list(alloc);
-    if listed.is_err() {
-        assert_eq!(rt; table.len(), 2);
-        listed = table.list(alloc);
+}
+
+/// Whether both sessions are listed, at the second try where the first has no memory and leaves
+/// the table as it was.
+fn lists_two(alloc: Global, table: &SavedTable) -> bool {
+    match table.list(alloc) {
+        Ok(list) => list.len() == 2 && list[0].pid == Pid::new(4),
+        Err(_) if table.len() != 2 => false,
+        Err(_) => match table.list(alloc) {
+            Ok(list) => list.len() == 2 && list[0].pid == Pid::new(4),
+            Err(_) => false,
+        },
     }
-    let Ok(list) = listed else {
-        assert!(rt; false, "no list");
-        return;
-    };
-    assert_eq!(rt; list.len(), 2);
-    assert!(rt; list[0].pid == Pid::new(4));
-    assert_eq!(rt; table.sweep(121_000, 120_000), 0);
-    assert_eq!(rt; table.sweep(121_001, 120_000), 1);
+}
+
+fn expect_swept(rt: &impl Abort, table: &mut SavedTable) {
+    assert!(rt; table.sweep(121_000, 120_000) == 0);
+    assert!(rt; table.sweep(121_001, 120_000) == 1);
     assert!(rt; !table.has_sid(Sid::new(5)));
+    assert!(rt; table.has_pid(Pid::new(4)) && !table.has_pid(Pid::new(6)));
     assert!(rt; table.remove(Pid::new(4)).is_ok());
     assert!(rt; table.remove(Pid::new(4)).is_err());
-    assert_eq!(rt; table.len(), 0);
+    assert!(rt; table.len() == 0);
 }

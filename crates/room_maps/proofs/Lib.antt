@@ -6,3 +6,4 @@ pub mod MembershipLemmas
 pub mod MembershipLaws
 pub mod MirrorLemmas
 pub mod AddressedLemmas
+pub mod PairsLemmas

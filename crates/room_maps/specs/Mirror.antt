@@ -2,6 +2,7 @@
 use Rattle.std.specs.Prelude.{◌≡◌, ℕ, true, List, [], map, is_some, Option, None, Some}
 use Rattle.std.specs.Ordering.{nat_cmp}
 use Rattle.std.specs.List.{flat_map}
+use Rattle.std.specs.List.Sorted.{IsStrictlySortedBy}
 use Rattle.std.specs.FinSet as set
 use Rattle.std.specs.BTreeMap.{BTreeMap}
 use Rattle.std.specs.BTreeMap as tree
@@ -24,6 +25,14 @@ rooms_at (Some rooms) = rooms.keys
 
 abbrev pub pairs_at : SocketMap → ℕ → List (ℕ × List ℕ)
 pairs_at a sid = map (λ room. (sid, room)) (rooms_at (tree.get nat_cmp a sid))
+
+-- the pairs of an entry
+abbrev pub entry_pairs : ℕ × BTreeSet (List ℕ) → List (ℕ × List ℕ)
+entry_pairs e = map (λ room. (e.0, room)) e.1.keys
+
+-- the rooms of an entry rise
+abbrev pub HasRisingRooms : ℕ × BTreeSet (List ℕ) → Type 0
+HasRisingRooms e = IsStrictlySortedBy room_cmp e.1.keys
 
 unfoldable pub sockets_of : SocketMap → set.FinSet nat_cmp
 sockets_of a = set.from_list (tree.keys a)

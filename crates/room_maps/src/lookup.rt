@@ -1,11 +1,14 @@
-//! For whom a broadcast is, as a rising list (Socket.IO server documentation, "Adapter").
+//! For whom a broadcast is, and all pairs, as rising lists (Socket.IO server documentation,
+//! "Adapter").
 
 ghost use Rattle.std.specs.Prelude.{◌≡◌, ◌&&◌, ◌||◌, ◌++◌, ℕ, not, map, filter, IfOk, OnOk};
-ghost use Rattle.std.specs.List.{list_any};
+ghost use Rattle.std.specs.List.{list_any, flat_map, AllByRecursion};
+ghost use Rattle.std.specs.List.Sorted.{IsStrictlySortedBy};
 ghost use Rattle.std.specs.Ordering.{nat_cmp, eq_by_cmp};
 ghost use Rattle.std.specs.BTreeMap as tree;
 ghost use Rattle.std.specs.BTreeSet as sorted;
 ghost use Rattle.room_maps.specs.Links.{is_linked};
+ghost use Rattle.room_maps.specs.Mirror.{entry_pairs, HasRisingRooms};
 ghost use Rattle.room_maps.specs.Room.{room_cmp};
 ghost use Rattle.terms.specs.Listing.{ListsRising};
 
@@ -117,4 +120,36 @@ pub(crate) fn members_but(
     sids.sort_unstable();
     sids.dedup();
     Ok(sids)
+}
+
+/// Adds a socket's pairs, its rooms rising.
+fn add_pairs(
+    pairs: &mut Vec<(Sid, Room)>,
+    sid: Sid,
+    rooms: &BTreeSet<Room>,
+) -> Result<(), AllocError>
+    ensures items { OnOk result (pairs.new.items ≡ pairs.old.items ++ map (λ room. (sid, room)) rooms.now.keys) }
+    ensures rises { IsStrictlySortedBy room_cmp rooms.now.keys }
+{
+    for room in rooms.iter() {
+        pairs.push((sid, *room))?;
+    }
+    Ok(())
+}
+
+/// The pairs of all sockets, which rise, each with its rooms, which rise too. It walks the pairs
+/// once.
+pub(crate) fn all_pairs(
+    alloc: Global,
+    by_socket: &BTreeMap<Sid, BTreeSet<Room>>,
+) -> Result<Vec<(Sid, Room)>, AllocError>
+    ensures ordered { tree.IsOrdered nat_cmp by_socket.now }
+    ensures items { IfOk result (λ pairs. pairs.items ≡ flat_map entry_pairs by_socket.now.entries) }
+    ensures rises { IfOk result (λ pairs. AllByRecursion HasRisingRooms by_socket.now.entries) }
+{
+    let mut pairs = Vec::with_capacity(alloc, by_socket.len())?;
+    for (sid, rooms) in by_socket {
+        add_pairs(&mut pairs, *sid, rooms)?;
+    }
+    Ok(pairs)
 }

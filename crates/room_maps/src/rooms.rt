@@ -8,7 +8,7 @@ ghost use Rattle.terms.specs.Refusal.{ok_unless};
 ghost use Rattle.terms.specs.Listing.{ListsRising};
 ghost use Rattle.room_maps.specs.Room.{room_cmp, same_room, own_room};
 ghost use Rattle.room_maps.specs.Links.{is_linked, HasNoEmptySet, IsUnchanged, AddsLink};
-ghost use Rattle.room_maps.specs.Membership.{no_sockets, is_socket, is_in, rooms_in, is_full, with_pair, without_pair, with_pairs, with_socket, with_socket_in, without_socket, enter_refusal, enter_all_refusal, join_refusal, leave_refusal, unknown_refusal, AreConsistent};
+ghost use Rattle.room_maps.specs.Membership.{pair_cmp, no_sockets, is_socket, is_in, rooms_in, is_full, with_pair, without_pair, with_pairs, with_socket, with_socket_in, without_socket, enter_refusal, enter_all_refusal, join_refusal, leave_refusal, unknown_refusal, AreConsistent};
 ghost use Rattle.room_maps.specs.Membership as membership;
 ghost use Rattle.room_maps.specs.Addressed.{is_addressed};
 
@@ -288,6 +288,24 @@ impl Rooms {
         } else {
             lookup::members_but(alloc, &self.by_socket, &self.by_room, rooms, excepted)
         }
+    }
+
+    /// Each socket with each room that it is in, rising by the sockets' ids and each socket's rooms
+    /// by their bytes. Refused for `Memory` alone. It walks the pairs once.
+    pub fn pairs(&self, alloc: Global) -> Result<Vec<(Sid, Room)>, RoomError>
+        ensures pairs { IfOk result (λ pairs. ListsRising pair_cmp (λ pair. is_in self.now pair.0 pair.1) pairs.items) }
+        ensures memory_alone { IfErr result (λ e. e ≡ RoomError.Memory) }
+    {
+        match self.pair_list(alloc) {
+            Ok(pairs) => Ok(pairs),
+            Err(AllocError) => Err(RoomError::Memory),
+        }
+    }
+
+    fn pair_list(&self, alloc: Global) -> Result<Vec<(Sid, Room)>, AllocError>
+        ensures { IfOk result (λ pairs. ListsRising pair_cmp (λ pair. is_in self.now pair.0 pair.1) pairs.items) }
+    {
+        lookup::all_pairs(alloc, &self.by_socket)
     }
 
     /// What every `Rooms` keeps. It has no effect.
