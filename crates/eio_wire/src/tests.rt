@@ -3,6 +3,7 @@ use crate::{
     write_packet, write_payload,
 };
 use std::alloc::Global;
+use std::process::Abort;
 use std::test::Fail;
 use terms::{Bytes, Text};
 
@@ -39,9 +40,22 @@ fn write(alloc: Global, packet: &Packet) -> Result<String, WireError> {
     ample(|| write_packet(alloc, packet))
 }
 
+/// The text is read as a packet with these parts, which is written as the same text.
+fn expect_packet(
+    rt: &(impl Abort + AllocGlobal),
+    text: &str,
+    kind: char,
+    held: &[u8],
+) -> Result<(), WireError> {
+    let packet = read(rt.alloc(), text)?;
+    assert!(rt; parts(&packet) == (kind, held), "parts of {text}");
+    let written = write(rt.alloc(), &packet)?;
+    assert!(rt; written.as_str() == text, "text of {text}");
+    Ok(())
+}
+
 #[test]
 fn texts(rt: HostRuntime) -> Result<(), Fail> {
-    let alloc = rt.alloc();
     let cases: [(&str, char, &[u8]); 7] = [
         ("0{}", '0', b"{}"),
         ("1", '1', b""),
@@ -52,9 +66,7 @@ fn texts(rt: HostRuntime) -> Result<(), Fail> {
         ("6", '6', b""),
     ];
     for (text, kind, held) in cases {
-        let packet = read(alloc, text)?;
-        assert_eq!(rt; parts(&packet), (kind, held));
-        assert_eq!(rt; write(alloc, &packet)?.as_str(), text);
+        expect_packet(&rt, text, kind, held)?;
     }
     Ok(())
 }
@@ -62,7 +74,6 @@ fn texts(rt: HostRuntime) -> Result<(), Fail> {
 // RFC 4648's vectors, and the last two symbols of its alphabet.
 #[test]
 fn base64(rt: HostRuntime) -> Result<(), Fail> {
-    let alloc = rt.alloc();
     let cases: [(&str, &[u8]); 4] = [
         ("b", b""),
         ("bAQI=", b"\x01\x02"),
@@ -70,9 +81,7 @@ fn base64(rt: HostRuntime) -> Result<(), Fail> {
         ("b+//+", b"\xfb\xff\xfe"),
     ];
     for (text, held) in cases {
-        let packet = read(alloc, text)?;
-        assert_eq!(rt; parts(&packet), ('b', held));
-        assert_eq!(rt; write(alloc, &packet)?.as_str(), text);
+        expect_packet(&rt, text, 'b', held)?;
     }
     Ok(())
 }
@@ -103,31 +112,37 @@ fn payloads(rt: HostRuntime) -> Result<(), Fail> {
     let alloc = rt.alloc();
     let text = "4hello\u{1e}2\u{1e}4world\u{1e}bAQIDBA==";
     let read = ample(|| read_payload(alloc, text))?;
+    expect_parts(&rt, read.as_slice());
+    let written = ample(|| write_payload(alloc, &read))?;
+    assert!(rt; written.as_str() == text);
+    Ok(())
+}
+
+fn expect_parts(rt: &impl Abort, packets: &[Packet]) {
     let want: [(char, &[u8]); 4] = [
         ('4', b"hello"),
         ('2', b""),
         ('4', b"world"),
         ('b', b"\x01\x02\x03\x04"),
     ];
-    assert_eq!(rt; read.len(), want.len());
-    for (packet, parts_wanted) in read.iter().zip(want) {
-        assert_eq!(rt; parts(packet), parts_wanted);
+    assert!(rt; packets.len() == want.len());
+    for (packet, parts_wanted) in packets.iter().zip(want) {
+        assert!(rt; parts(packet) == parts_wanted);
     }
-    let written = ample(|| write_payload(alloc, &read))?;
-    assert_eq!(rt; written.as_str(), text);
-    assert_eq!(rt;
-        ample(|| write_payload(alloc, &[])).err(),
-        Some(WireError::Empty)
-    );
-    let Ok(broken) = Text::copy_of(alloc, "a\u{1e}") else {
-        return Ok(());
-    };
-    let broken = [Packet::Message(broken)];
-    assert_eq!(rt;
-        ample(|| write_payload(alloc, &broken)).err(),
-        Some(WireError::Separator)
-    );
-    Ok(())
+}
+
+fn unwritten(alloc: Global, packets: &[Packet]) -> Option<WireError> {
+    ample(|| write_payload(alloc, packets)).err()
+}
+
+#[test]
+fn payloads_that_are_not_written(rt: HostRuntime) {
+    let alloc = rt.alloc();
+    assert!(rt; unwritten(alloc, &[]) == Some(WireError::Empty));
+    if let Ok(broken) = Text::copy_of(alloc, "a\u{1e}") {
+        let broken = [Packet::Message(broken)];
+        assert!(rt; unwritten(alloc, &broken) == Some(WireError::Separator));
+    }
 }
 
 #[test]

@@ -1,3 +1,4 @@
+pub mod FirstLemmas
 pub mod LineLemmas
 pub mod RunLemmas
 pub mod ScriptLineLemmas

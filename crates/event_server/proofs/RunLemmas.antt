@@ -1,5 +1,5 @@
 -- A list of messages, one longer.
-use Rattle.std.proofs.Common.{◌≡◌, ◌++◌, ◌∷◌, [], ℕ, List, Option, Some, None, IsSome, inl, inr, refl, sym, ap, ◌∙◌, true, false, ◌<◌, ◌+◌, suc, length, take, drop, get_or, add-one, zero, map, arith}
+use Rattle.std.proofs.Common.{◌≡◌, ◌++◌, ◌∷◌, [], ℕ, List, Some, None, inl, inr, refl, sym, ap, ◌∙◌, true, false, ◌<◌, ◌+◌, suc, length, take, drop, get_or, add-one, zero, map, arith}
 use Rattle.std.proofs.lemmas.List.{length-map}
 use Rattle.eio_wire.specs.declared.packet.Packet.{Packet}
 use Rattle.eio_wire.specs.declared.packet.Packet.TheVariants.{Message}

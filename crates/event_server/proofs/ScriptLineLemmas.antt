@@ -1,5 +1,5 @@
 -- Words, names and rests of a script line.
-use Rattle.std.proofs.Common.{◌≡◌, ◌≢◌, ◌↔◌, ℕ, ◌<◌, List, ◌∷◌, ◌++◌, [], length, get_or, Bool, true, false, IsTrue, Option, Some, None, sym, ◌∙◌, arith, append_assoc}
+use Rattle.std.proofs.Common.{◌≡◌, ◌≢◌, ◌↔◌, ℕ, ◌<◌, List, ◌∷◌, ◌++◌, length, get_or, Bool, true, false, IsTrue, Option, Some, None, sym, ◌∙◌, arith, append_assoc}
 use Rattle.std.specs.Prelude.{IfNone, MatchOption}
 use Rattle.std.specs.Borrow.{Bor}
 use Rattle.std.proofs.lemmas.List.{append_cancel_left}

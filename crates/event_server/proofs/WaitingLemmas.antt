@@ -1,7 +1,6 @@
 -- Messages with whole texts are not refused.
-use Rattle.std.proofs.Common.{◌≡◌, ◌≢◌, ◌<◌, ◌+◌, ◌∷◌, [], ℕ, suc, zero, List, length, map, get_or, arith, ap, sym, ◌∙◌, inl, inr, ◌⊎◌, refl}
+use Rattle.std.proofs.Common.{◌≡◌, ◌≢◌, ◌∷◌, [], ℕ, suc, zero, List, map, arith, inl, inr, ◌⊎◌, refl}
 use Rattle.std.specs.List.{All, Any, Contains}
-use Rattle.eio_wire.specs.declared.packet.Packet.{Packet}
 use Rattle.eio_wire.specs.declared.packet.Packet.TheVariants.{Message}
 use Rattle.eio_wire.specs.declared.error.WireError.{WireError}
 use Rattle.eio_wire.specs.declared.error.WireError.TheVariants.{Memory}

@@ -1,5 +1,5 @@
 -- What the first server holds, and the changes of it.
-use Rattle.std.specs.Prelude.{ℕ, Bool, true, false, not, ◌+◌, ◌^◌, ◌-◌, ◌==◌, ◌&&◌, ◌||◌, List, [], ◌∷◌, ◌++◌, map, filter, find, take, drop, Option, Some, None, option_and_then, if◌then◌else◌, bytes_eq, nat_lt, nat_eq, length}
+use Rattle.std.specs.Prelude.{ℕ, Bool, false, not, ◌+◌, ◌^◌, ◌-◌, ◌==◌, ◌&&◌, ◌||◌, List, [], ◌∷◌, ◌++◌, map, filter, find, take, drop, Option, Some, None, option_and_then, if◌then◌else◌, bytes_eq, nat_lt, nat_eq, length}
 use Rattle.std.specs.Option.{option_map_or}
 use Rattle.std.specs.List.{list_any}
 use Rattle.terms.specs.Hexadecimal.{hex_digits}

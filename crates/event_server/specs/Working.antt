@@ -1,5 +1,5 @@
 -- What each message of a client does, and what a list of them does.
-use Rattle.std.specs.Prelude.{◌≡◌, ◌⊎◌, ℕ, ◌+◌, ◌<◌, ◌≤◌, ◌^◌, Bool, true, false, not, ◌||◌, List, [], ◌∷◌, ◌++◌, map, Option, Some, None, IsSome, is_some, MatchOption, MatchBool, if◌then◌else◌, bytes_eq, codes}
+use Rattle.std.specs.Prelude.{◌≡◌, ◌⊎◌, ℕ, ◌+◌, ◌<◌, ◌≤◌, ◌^◌, Bool, true, false, not, List, [], ◌∷◌, ◌++◌, map, Option, Some, None, IsSome, is_some, MatchOption, MatchBool, if◌then◌else◌, bytes_eq, codes}
 use Rattle.std.specs.List.{list_any}
 use Rattle.eio_wire.specs.declared.error.WireError.{WireError}
 use Rattle.eio_wire.specs.declared.error.WireError.TheVariants as wire
@@ -18,7 +18,7 @@ use Rattle.event_server.specs.declared.cause.Cause.{Cause}
 use Rattle.event_server.specs.declared.cause.Cause.TheVariants as cause
 use Rattle.event_server.specs.declared.relay.Wish.{Wish}
 use Rattle.event_server.specs.declared.relay.Wish.TheVariants.{Join, Say, Nothing}
-use Rattle.event_server.specs.Cause.{cause_of_wire, cause_of_header}
+use Rattle.event_server.specs.Cause.{cause_of_header}
 use Rattle.event_server.specs.Relay.{wish_at}
 use Rattle.event_server.specs.First.{Served, socket_of, own_room, attached, joined, broadcast, closed}
 

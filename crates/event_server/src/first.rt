@@ -13,7 +13,7 @@ ghost use Rattle.event_server.specs.declared.line.Line.{Line};
 ghost use Rattle.event_server.specs.declared.line.Member.{Member};
 ghost use Rattle.std.specs.List.{list_any};
 ghost use Rattle.event_server.specs.Cause.{cause_of_wire};
-ghost use Rattle.event_server.specs.First.{nobody, line_of, socket_of, waiting_of, opened, attached, joined, taken, has_addressed, own_room};
+ghost use Rattle.event_server.specs.First.{nobody, line_of, socket_of, waiting_of, opened, attached, joined, taken, has_addressed, broadcast, own_room};
 ghost use Rattle.event_server.specs.First as first;
 ghost use Rattle.event_server.specs.Working.{Does, DoesPacket, DoesEvent, Connects, Grants, Runs, IsPost, IsUnread, LacksIds, Spends, SpendsPacket, Says, event_header, StopsSpent, StopsShort, unserved};
 
@@ -382,16 +382,33 @@ impl First {
         let Some(offset) = self.next else {
             return Err(FirstError::Spent);
         };
-        let Some(text) = event_text(alloc, payload, offset)? else {
-            return Ok(());
-        };
+        match event_text(alloc, payload, offset)? {
+            Some(text) => self.broadcast(alloc, socket, room, offset, text.as_str()),
+            None => Ok(()),
+        }
+    }
+
+    /// Puts the text into the lines of everybody in the room but the sender, and uses its offset.
+    fn broadcast(
+        &mut self,
+        alloc: Global,
+        socket: u128,
+        room: &str,
+        offset: u64,
+        text: &str,
+    ) -> Result<(), FirstError>
+        requires { IsWhole text.now }
+        ensures ok { OnOk result (self.new
+            ≡ broadcast self.old (room.now ∷ []) (own_room socket ∷ []) offset text.now) }
+        ensures err { IfErr result (λ e. (e ≡ FirstError.Memory) × (self.new ≡ self.old)) }
+    {
         let own = own_room_of(alloc, socket)?;
         let whom = Whom::Room {
             members: self.members.as_slice(),
             room,
             excepted: own.as_str(),
         };
-        put(alloc, &mut self.lines, whom, text.as_str())?;
+        put(alloc, &mut self.lines, whom, text)?;
         self.next = offset.checked_add(1);
         Ok(())
     }

@@ -2,8 +2,9 @@ use crate::{
     Assembler, Attachments, Entry, Header, Kind, Resume, SioError, SioPacket, connected_text,
     names, read_header, read_offset, refused_text, resume_of, with_offset, write_header,
 };
-use std::alloc::Global;
-use terms::Text;
+use std::alloc::{AllocError, Global};
+use std::process::Abort;
+use terms::{Bytes, Text};
 
 // At most one allocation of a run is refused, so a second call has its memory.
 fn read(alloc: Global, text: &str) -> Result<Header, SioError> {
@@ -41,6 +42,27 @@ fn resumed(alloc: Global, payload: &str) -> Result<Option<Resume>, SioError> {
     }
 }
 
+fn connected(alloc: Global, space: &str, sid: u128, pid: u128) -> Result<String, SioError> {
+    match connected_text(alloc, space, sid, pid) {
+        Err(SioError::Memory) => connected_text(alloc, space, sid, pid),
+        answer => answer,
+    }
+}
+
+fn refused(alloc: Global, space: &str, message: &str) -> Result<String, SioError> {
+    match refused_text(alloc, space, message) {
+        Err(SioError::Memory) => refused_text(alloc, space, message),
+        answer => answer,
+    }
+}
+
+fn copied(entry: &Entry) -> Result<Entry, AllocError> {
+    match entry.clone() {
+        Err(_) => Ok(entry.clone()?),
+        Ok(copy) => Ok(copy),
+    }
+}
+
 // A refused frame leaves the assembler as it was.
 fn text(
     assembler: &mut Assembler,
@@ -66,72 +88,88 @@ fn binary(
     }
 }
 
+fn text_fault(assembler: &mut Assembler, alloc: Global, frame: &str) -> Option<SioError> {
+    text(assembler, alloc, frame).err()
+}
+
+fn binary_fault(assembler: &mut Assembler, alloc: Global, bytes: &[u8]) -> Option<SioError> {
+    binary(assembler, alloc, bytes).err()
+}
+
+/// The text is no whole packet, and this many attachments are awaited.
+fn expect_waiting(
+    rt: &(impl Abort + AllocGlobal),
+    assembler: &mut Assembler,
+    frame: &str,
+    waiting: u32,
+) -> Result<(), SioError> {
+    let packet = text(assembler, rt.alloc(), frame)?;
+    assert!(rt; packet.is_none(), "a packet at {frame}");
+    assert_eq!(rt; assembler.waiting(), waiting, "at {frame}");
+    Ok(())
+}
+
+/// What a text is read as: type, namespace, id, payload and number of attachments.
+type Fields<'a> = (Kind, &'a str, Option<u64>, &'a str, u32);
+
+/// The text is read as these fields, which are written as the plain text.
+fn expect_read(
+    rt: &(impl Abort + AllocGlobal),
+    text: &str,
+    want: Fields<'_>,
+    plain: &str,
+) -> Result<(), SioError> {
+    let header = read(rt.alloc(), text)?;
+    assert!(rt; has_fields(&header, want), "fields of {text}");
+    let written = write(rt.alloc(), &header)?;
+    assert!(rt; written.as_str() == plain, "plain text of {text}");
+    Ok(())
+}
+
+fn has_fields(header: &Header, want: Fields<'_>) -> bool {
+    let (kind, space, id, payload, count) = want;
+    header.kind == kind
+        && header.space.as_str() == space
+        && header.id == id
+        && header.payload.as_str() == payload
+        && header.count == count
+}
+
+/// Whether the entry has this text and this one attachment.
+fn is_entry(entry: &Entry, text: &str, bytes: &[u8]) -> bool {
+    let attachments = &entry.attachments;
+    let is_whole = attachments.len() == 1 && !attachments.is_empty();
+    let lent = attachments.as_slice().first();
+    is_whole && entry.text.as_str() == text && lent.map(Bytes::as_slice) == Some(bytes)
+}
+
+fn entry_of(packet: SioPacket) -> Entry {
+    let SioPacket {
+        header,
+        attachments,
+    } = packet;
+    Entry {
+        text: header.payload,
+        attachments: Attachments::from_vec(attachments.into_vec()),
+    }
+}
+
 #[test]
 fn each_kind_read_and_written(rt: HostRuntime) -> Result<(), SioError> {
-    let alloc = rt.alloc();
-    let cases = [
-        (
-            "0/admin,{}",
-            Kind::Connect,
-            "/admin",
-            None,
-            "{}",
-            0,
-            "0/admin,{}",
-        ),
-        (
-            "1/admin",
-            Kind::Disconnect,
-            "/admin",
-            None,
-            "",
-            0,
-            "1/admin,",
-        ),
-        ("2/,012[1]", Kind::Event, "/", Some(12), "[1]", 0, "212[1]"),
-        (
-            "3/admin,13[]",
-            Kind::Ack,
-            "/admin",
-            Some(13),
-            "[]",
-            0,
-            "3/admin,13[]",
-        ),
-        (
-            "4\"no\"",
-            Kind::ConnectError,
-            "/",
-            None,
-            "\"no\"",
-            0,
-            "4\"no\"",
-        ),
-        (
-            "532-[1]",
-            Kind::BinaryEvent,
-            "/",
-            None,
-            "[1]",
-            32,
-            "532-[1]",
-        ),
-        ("600-0[]", Kind::BinaryAck, "/", Some(0), "[]", 0, "60-0[]"),
-    ];
-    for (text, kind, space, id, payload, count, plain) in cases {
-        let header = read(alloc, text)?;
-        assert_eq!(rt; header.kind, kind, "type of {text}");
-        assert_eq!(rt; header.space.as_str(), space, "namespace of {text}");
-        assert_eq!(rt; header.id, id, "id of {text}");
-        assert_eq!(rt; header.payload.as_str(), payload, "payload of {text}");
-        assert_eq!(rt; header.count, count, "count of {text}");
-        assert_eq!(rt;
-            write(alloc, &header)?.as_str(),
-            plain,
-            "plain text of {text}"
-        );
-    }
-    Ok(())
+    let connect = (Kind::Connect, "/admin", None, "{}", 0);
+    expect_read(&rt, "0/admin,{}", connect, "0/admin,{}")?;
+    let disconnect = (Kind::Disconnect, "/admin", None, "", 0);
+    expect_read(&rt, "1/admin", disconnect, "1/admin,")?;
+    let event = (Kind::Event, "/", Some(12), "[1]", 0);
+    expect_read(&rt, "2/,012[1]", event, "212[1]")?;
+    let ack = (Kind::Ack, "/admin", Some(13), "[]", 0);
+    expect_read(&rt, "3/admin,13[]", ack, "3/admin,13[]")?;
+    let refusal = (Kind::ConnectError, "/", None, "\"no\"", 0);
+    expect_read(&rt, "4\"no\"", refusal, "4\"no\"")?;
+    let binary_event = (Kind::BinaryEvent, "/", None, "[1]", 32);
+    expect_read(&rt, "532-[1]", binary_event, "532-[1]")?;
+    let binary_ack = (Kind::BinaryAck, "/", Some(0), "[]", 0);
+    expect_read(&rt, "600-0[]", binary_ack, "60-0[]")
 }
 
 #[test]
@@ -198,110 +236,131 @@ fn offsets_added_and_read(rt: HostRuntime) -> Result<(), SioError> {
 }
 
 #[test]
-fn answers_to_a_connect(rt: HostRuntime) -> Result<(), SioError> {
-    let alloc = rt.alloc();
-    let text = match connected_text(alloc, "/admin", 2, 3) {
-        Err(SioError::Memory) => connected_text(alloc, "/admin", 2, 3)?,
-        answer => answer?,
-    };
+fn answer_to_a_connect(rt: HostRuntime) -> Result<(), SioError> {
+    let text = connected(rt.alloc(), "/admin", 2, 3)?;
     let want =
         "0/admin,{\"sid\":\"00000000000000000000000000000002\",\"pid\":\"00000000000000000000000000000003\"}";
     assert_eq!(rt; text.as_str(), want);
-    let text = match refused_text(alloc, "/", "\"no\"") {
-        Err(SioError::Memory) => refused_text(alloc, "/", "\"no\"")?,
-        answer => answer?,
-    };
+    Ok(())
+}
+
+#[test]
+fn refusal_of_a_connect(rt: HostRuntime) -> Result<(), SioError> {
+    let text = refused(rt.alloc(), "/", "\"no\"")?;
     assert_eq!(rt; text.as_str(), "4{\"message\":\"\\\"no\\\"\"}");
     Ok(())
 }
 
 #[test]
 fn texts_of_an_event(rt: HostRuntime) -> Result<(), SioError> {
+    let found = named(rt.alloc(), "[\"say\",1]")?;
+    expect_say(&rt, found.as_slice());
+    Ok(())
+}
+
+fn expect_say(rt: &impl Abort, found: &[Option<Text>]) {
+    let is_say = match found {
+        [Some(event), None] => event.as_str() == "say",
+        _ => false,
+    };
+    assert!(rt; is_say);
+}
+
+#[test]
+fn texts_of_no_event(rt: HostRuntime) {
     let alloc = rt.alloc();
-    let found = named(alloc, "[\"say\",1]")?;
-    assert_eq!(rt; found.len(), 2);
-    let say = found[0].as_ref().map(Text::as_str);
-    assert_eq!(rt; say, Some("say"));
-    assert!(rt; found[1].is_none());
     assert_eq!(rt; named(alloc, "{").err(), Some(SioError::BadJson));
     assert_eq!(rt; named(alloc, "{}").err(), Some(SioError::BadShape));
-    Ok(())
 }
 
 #[test]
 fn sessions_named(rt: HostRuntime) -> Result<(), SioError> {
+    let resume = resumed(rt.alloc(), "{\"pid\":\"a\",\"offset\":\"b\"}")?;
+    match &resume {
+        Some(resume) => expect_resume(&rt, resume),
+        None => assert!(rt; false, "no session is named"),
+    }
+    Ok(())
+}
+
+fn expect_resume(rt: &impl Abort, resume: &Resume) {
+    assert!(rt; resume.pid.as_str() == "a" && resume.offset.as_str() == "b");
+}
+
+#[test]
+fn no_session_named(rt: HostRuntime) -> Result<(), SioError> {
     let alloc = rt.alloc();
     for payload in ["", "{\"pid\":\"a\"}", "{\"pid\":\"a\",\"offset\":1}"] {
-        assert!(rt; resumed(alloc, payload)?.is_none(), "at {payload}");
+        assert!(rt; !names_session(alloc, payload)?, "at {payload}");
     }
-    let resume = resumed(alloc, "{\"pid\":\"a\",\"offset\":\"b\"}")?;
-    assert!(rt; resume.is_some());
-    if let Some(resume) = resume {
-        assert_eq!(rt; resume.pid.as_str(), "a");
-        assert_eq!(rt; resume.offset.as_str(), "b");
-    }
-    assert_eq!(rt; resumed(alloc, "{").err(), Some(SioError::BadJson));
+    assert_eq!(rt; names_session(alloc, "{").err(), Some(SioError::BadJson));
     Ok(())
+}
+
+fn names_session(alloc: Global, payload: &str) -> Result<bool, SioError> {
+    Ok(resumed(alloc, payload)?.is_some())
 }
 
 #[test]
 fn packet_with_attachment(rt: HostRuntime) -> Result<(), SioError> {
-    let alloc = rt.alloc();
     let mut assembler = Assembler::new();
-    let header = "51-[\"say\",\"r\",{\"_placeholder\":true,\"num\":0}]";
-    assert!(rt; text(&mut assembler, alloc, header)?.is_none());
-    assert_eq!(rt; assembler.waiting(), 1);
-    let packet = binary(&mut assembler, alloc, b"\x01\x02\x03\x04")?;
-    assert!(rt; packet.is_some());
-    if let Some(
-        SioPacket {
-            header,
-            attachments,
-        },
-    ) = packet
-    {
-        assert_eq!(rt; header.kind, Kind::BinaryEvent);
-        let entry = Entry {
-            text: header.payload,
-            attachments: Attachments::from_vec(attachments.into_vec()),
-        };
-        let copy = match entry.clone() {
-            Err(_) => entry.clone()?,
-            Ok(copy) => copy,
-        };
-        assert_eq!(rt; copy.text.as_str(), entry.text.as_str());
-        assert!(rt; !copy.attachments.is_empty());
-        assert_eq!(rt; copy.attachments.len(), 1);
-        assert_eq!(rt;
-            copy.attachments.as_slice()[0].as_slice(),
-            [1, 2, 3, 4].as_slice()
-        );
-    }
-    assert_eq!(rt;
-        binary(&mut assembler, alloc, b"\x01").err(),
-        Some(SioError::BinaryUnawaited)
-    );
-    assert_eq!(rt;
-        text(&mut assembler, alloc, "2[\"x\"]").err(),
-        Some(SioError::BinaryUnawaited)
-    );
+    work_on_packet(&rt, &mut assembler)
+}
+
+fn work_on_packet(
+    rt: &(impl Abort + AllocGlobal),
+    assembler: &mut Assembler,
+) -> Result<(), SioError> {
+    let alloc = rt.alloc();
+    let payload = "[\"say\",\"r\",{\"_placeholder\":true,\"num\":0}]";
+    expect_waiting(
+        rt,
+        assembler,
+        "51-[\"say\",\"r\",{\"_placeholder\":true,\"num\":0}]",
+        1,
+    )?;
+    expect_packet(rt, assembler, &[1, 2, 3, 4], payload)?;
+    let unawaited = Some(SioError::BinaryUnawaited);
+    assert_eq!(rt; binary_fault(assembler, alloc, b"\x01"), unawaited);
+    assert_eq!(rt; text_fault(assembler, alloc, "2[\"x\"]"), unawaited);
     assert_eq!(rt; assembler.waiting(), 0);
+    Ok(())
+}
+
+/// The attachment ends a packet with this payload, and so does each copy of it.
+fn expect_packet(
+    rt: &(impl Abort + AllocGlobal),
+    assembler: &mut Assembler,
+    bytes: &[u8],
+    payload: &str,
+) -> Result<(), SioError> {
+    match binary(assembler, rt.alloc(), bytes)? {
+        Some(packet) => {
+            assert!(rt; packet.header.kind == Kind::BinaryEvent);
+            let entry = entry_of(packet);
+            assert!(rt; is_entry(&entry, payload, bytes), "the packet");
+            assert!(rt; is_entry(&copied(&entry)?, payload, bytes), "its copy");
+        }
+        None => assert!(rt; false, "no packet"),
+    }
     Ok(())
 }
 
 #[test]
 fn text_before_its_time(rt: HostRuntime) -> Result<(), SioError> {
-    let alloc = rt.alloc();
     let mut assembler = Assembler::new();
-    assert!(rt; text(&mut assembler, alloc, "51-[1]")?.is_none());
-    assert_eq!(rt;
-        text(&mut assembler, alloc, "2[1]").err(),
-        Some(SioError::TextAwaitingBinary)
-    );
-    assert_eq!(rt;
-        binary(&mut assembler, alloc, b"").err(),
-        Some(SioError::TextAwaitingBinary)
-    );
+    work_before_its_time(&rt, &mut assembler)
+}
+
+fn work_before_its_time(
+    rt: &(impl Abort + AllocGlobal),
+    assembler: &mut Assembler,
+) -> Result<(), SioError> {
+    let alloc = rt.alloc();
+    expect_waiting(rt, assembler, "51-[1]", 1)?;
+    let early = Some(SioError::TextAwaitingBinary);
+    assert_eq!(rt; text_fault(assembler, alloc, "2[1]"), early);
+    assert_eq!(rt; binary_fault(assembler, alloc, b""), early);
     assert_eq!(rt; assembler.waiting(), 0);
     Ok(())
 }

@@ -1,4 +1,4 @@
-use Rattle.std.proofs.Common.{◌≡◌, ◌++◌, arith, ap, sym, set, drop, map, take, ◌∙◌, if◌then◌else◌, refl, length}
+use Rattle.std.proofs.Common.{◌≡◌, ◌++◌, arith, ap, sym, set, drop, map, take, ◌∙◌, if◌then◌else◌, refl}
 use Rattle.std.proofs.lemmas.List.{set-get_or}
 use Rattle.event_server.specs.First.{with_text, without_last}
 use Rattle.event_server.specs.declared.first.FirstError.TheVariants.{Memory}

@@ -1,4 +1,4 @@
-use Rattle.std.proofs.Common.{◌≡◌, arith, if◌then◌else◌}
+use Rattle.std.proofs.Common.{arith, if◌then◌else◌}
 use Rattle.event_server.specs.First.{without_last}
 use Rattle.event_server.specs.Whom.{passes}
 use Rattle.event_server.proofs.LineLemmas.{one_more_changed}

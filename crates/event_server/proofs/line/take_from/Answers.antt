@@ -1,4 +1,4 @@
-use Rattle.std.proofs.Common.{◌≡◌, arith, if◌then◌else◌}
+use Rattle.std.proofs.Common.{arith, if◌then◌else◌}
 use Rattle.event_server.specs.First.{is_of, taken_from}
 use Rattle.event_server.proofs.LineLemmas.{one_more_changed}
 use Rattle.event_server.proofs.line.take_from.Goals as goal

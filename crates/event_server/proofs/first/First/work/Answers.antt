@@ -1,4 +1,4 @@
-use Rattle.std.proofs.Common.{◌≡◌, Some, None, take, drop, ◌+◌, sym, subst, ◌∙◌}
+use Rattle.std.proofs.Common.{take, drop, ◌+◌}
 use Rattle.event_server.proofs.RunLemmas.{runs_none, runs_then, runs_closed, next_taken, split_there}
 use Rattle.std.proofs.lemmas.Result.{err_from_is_err_and}
 use Rattle.event_server.proofs.first.First.work.Goals as goal
