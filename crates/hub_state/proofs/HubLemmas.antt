@@ -8,27 +8,26 @@ use Rattle.std.proofs.lemmas.Bool.{eqb-true, eq-eqb}
 use Rattle.std.proofs.lemmas.Bool.Decides.{nat_tests}
 use Rattle.std.proofs.lemmas.List.Sums.{sum_by-append}
 use Rattle.sio_wire.specs.declared.entry.Entry.{Entry}
-use Rattle.room_maps.specs.Membership.{RoomSets}
-use Rattle.recovery.specs.PacketLog.{offset_at, number_of}
-use Rattle.recovery.specs.SavedTable.{PlainSaved}
+use Rattle.room_maps.specs.Membership.{RoomSets, is_socket, AreConsistent}
+use Rattle.recovery.specs.PacketLog.{LogContents}
+use Rattle.recovery.specs.SavedTable.{TableContents}
 use Rattle.hub_state.specs.declared.socket.Socket.{Socket}
 use Rattle.hub_state.specs.declared.step.Step.{Step}
 use Rattle.hub_state.specs.declared.step.What.{What}
 use Rattle.hub_state.specs.declared.step.What.TheVariants.{Opened, Attached, Recovered, Joined, Left, Cast, Told, Took, Parked, Ended, Closed, Swept}
 use Rattle.hub_state.specs.Plain.{PlainBase, Limits, PlainClient, PlainOutbox, PlainMessage}
-use Rattle.hub_state.specs.Journal.{moment, total}
+use Rattle.hub_state.specs.Journal.{moment}
 use Rattle.hub_state.specs.Membership.{opens, closes, open_clients, is_open, connects, ends, sockets, sid_of, pid_of, socket_with, is_connected, sockets_of, rooms, rooms_after, is_space}
-use Rattle.hub_state.specs.Sessions.{sessions, sessions_after}
-use Rattle.hub_state.specs.Log.{offsets_used, next_number, next}
 use Rattle.hub_state.specs.Outboxes.{put, entries_for, begins, taken_by, waiting}
 use Rattle.hub_state.specs.Totals.{handed_out_by, discarded_by, placed_by, is_spent, waiting_in_all}
-use Rattle.hub_state.specs.Legal.{IsAllowed, IsLegal, EachTwo, AreApart}
-use Rattle.hub_state.specs.Hub.{Fields, Kept, client_at, new_client, without_first, with_entry}
+use Rattle.hub_state.specs.Legal.{IsAllowed, IsLegal, IsSound, EachTwo, AreApart}
+use Rattle.hub_state.specs.Hub.{Fields, client_at, new_client, without_first, with_entry}
 use Rattle.std.specs.Option.{option_map}
 use Rattle.hub_state.proofs.SumsLemmas.{sum-same, sum-zero}
 use Rattle.hub_state.proofs.MembershipLemmas.{clients-quiet, is_open-quiet, sockets-quiet, sockets_of-quiet, socket_with-quiet, clients-opened, is_open-opened}
 use Rattle.hub_state.proofs.OutboxesLemmas.{waiting-step, waiting-begins, waiting-quiet}
 use Rattle.hub_state.proofs.TotalsLemmas.{conserved-step, flow-quiet, one_of}
+use Rattle.hub_state.proofs.SessionsLemmas.{LeavesBacklog, table-quiet, packets-quiet, backlog-quiet, apart-quiet}
 
 module _ (base : PlainBase) (limits : Limits) where
   pub legal-step : (step : Step) (before : List Step) → IsAllowed base limits before step step.what → is_spent base limits before step.what ≡ false → moment base before ≤ step.at → IsLegal base limits before
@@ -36,63 +35,66 @@ module _ (base : PlainBase) (limits : Limits) where
   unfolding IsLegal
   legal-step step before allowed unspent late legal = (allowed, unspent, late, legal)
 
-  pub next-quiet : (step : Step) (before : List Step) → offsets_used step.what ≡ 0 → next base (step ∷ before) ≡ next base before
-  unfolding next_number total
-  next-quiet step before none =
-      ap offset_at (let e : total (λ before what. offsets_used what) (number_of base.next) before + offsets_used step.what ≡ total (λ before what. offsets_used what) (number_of base.next) before = omega (arith, none) in e)
-
   pub rooms-step : (step : Step) (before : List Step) (sets sets' : RoomSets) → sets ≡ rooms base before → sets' ≡ rooms_after base before sets step.what → sets' ≡ rooms base (step ∷ before)
   unfolding rooms
   rooms-step step before sets sets' was change = change ∙ ap (λ s. rooms_after base before s step.what) was
 
-  -- a step that connects and ends no socket and uses no offset
-  pub fields-quiet : (step : Step) (before : List Step) (find find' : ℕ → Option PlainClient) (seat : ℕ → Option Socket) (is_pid : ℕ → Bool) (sets sets' : RoomSets) (offset : Option ℕ) (newest : ℕ)
-      → Fields base limits find seat is_pid sets offset newest before
-      → connects step.what ≡ [] → ((k : Socket) → ends step.what k ≡ false) → offsets_used step.what ≡ 0
+  -- a step that connects and ends no socket, and leaves the saved sessions and the log alone
+  pub fields-quiet : (step : Step) (before : List Step) (find find' : ℕ → Option PlainClient) (seat : ℕ → Option Socket) (is_pid : ℕ → Bool) (sets sets' : RoomSets) (table : TableContents) (packets : LogContents) (newest : ℕ)
+      → Fields base limits find seat is_pid sets table packets newest before
+      → connects step.what ≡ [] → ((k : Socket) → ends step.what k ≡ false) → LeavesBacklog base limits step before → newest ≤ step.at
       → sets' ≡ rooms_after base before sets step.what
       → ((c : ℕ) → find' c ≡ client_at base limits (step ∷ before) c)
-      → Fields base limits find' seat is_pid sets' offset step.at (step ∷ before)
+      → Fields base limits find' seat is_pid sets' table packets step.at (step ∷ before)
   unfolding moment
-  fields-quiet step before find find' seat is_pid sets sets' offset newest was none stay unused change clients = record {
+  fields-quiet step before find find' seat is_pid sets sets' table packets newest was none stay leaves late change clients = record {
     clients = clients;
     seats = λ s. was.seats s ∙ sym (socket_with-quiet base step before sid_of none stay s);
     pids = λ p. was.pids p ∙ sym (ap is_some (socket_with-quiet base step before pid_of none stay p));
     rooms_are = rooms-step step before sets sets' was.rooms_are change;
-    next_is = was.next_is ∙ sym (next-quiet step before unused);
+    saved_is = table-quiet base limits step before table leaves was.saved_is;
+    log_is = packets-quiet base limits step before packets leaves was.log_is;
+    log_last = omega (arith, was.log_last, late);
     last = refl;
   }
-
-  pub sessions-quiet : (step : Step) (before : List Step) → sessions_after base limits before step.at (sessions base limits before) step.what ≡ sessions base limits before → sessions base limits before ≡ []
-      → sessions base limits (step ∷ before) ≡ []
-  unfolding sessions
-  sessions-quiet step before same none = same ∙ none
 
   pub all-open : (step : Step) (before : List Step) → ((c : ℕ) → is_open base before c ≡ true → is_open base (step ∷ before) c ≡ true) → (ks : List Socket)
       → AllByRecursion (λ (k : Socket). is_open base before k.client ≡ true) ks → AllByRecursion (λ (k : Socket). is_open base (step ∷ before) k.client ≡ true) ks
   all-open step before keeps [] h = tt
   all-open step before keeps (k ∷ ks) h = (keeps k.client h.0, all-open step before keeps ks h.1)
 
-  -- a step that opens and closes no client, and connects and ends no socket
-  pub kept-quiet : (step : Step) (before : List Step) → IsLegal base limits before → IsAllowed base limits before step step.what → Kept base limits before
+  -- a step that opens and closes no client, connects and ends no socket, and leaves the saved sessions and the log alone
+  pub sound-quiet : (step : Step) (before : List Step) → IsLegal base limits before → IsAllowed base limits before step step.what → IsSound base limits before → moment base before ≤ step.at
       → opens step.what ≡ [] → ((c : ℕ) → closes step.what c ≡ false) → connects step.what ≡ [] → ((k : Socket) → ends step.what k ≡ false) → ((c : ℕ) → begins c step.what ≡ false)
-      → sessions_after base limits before step.at (sessions base limits before) step.what ≡ sessions base limits before
+      → LeavesBacklog base limits step before
+      → ((s : ℕ) → is_socket (rooms_after base before (rooms base before) step.what) s ≡ is_socket (rooms base before) s)
+      → AreConsistent (rooms_after base before (rooms base before) step.what)
       → AllByRecursion (λ (p : ℕ × Entry). is_open base before p.0 ≡ true) (put base limits before step.what)
       → sum_by (λ c. taken_by c step.what) (open_clients base before) ≡ handed_out_by step.what
       → discarded_by base limits before step.what ≡ 0
-      → Kept base limits (step ∷ before)
-  kept-quiet step before legal allowed was none stay unconnected unended begun same known takes kept =
+      → IsSound base limits (step ∷ before)
+  unfolding rooms
+  sound-quiet step before legal allowed was late none stay unconnected unended begun leaves seats agree known takes undiscarded =
       let cs = clients-quiet base step before none stay in
       let ks = sockets-quiet base step before unconnected unended in
+      let backlog = backlog-quiet base limits step before leaves late was in
       record {
+        few_spaces = was.few_spaces;
         clients_once = subst (IsDistinct nat_eq) (sym cs) was.clients_once;
         sockets_apart = subst (EachTwo AreApart) (sym ks) was.sockets_apart;
         of_open_clients = subst (AllByRecursion (λ (k : Socket). is_open base (step ∷ before) k.client ≡ true)) (sym ks)
             (all-open step before (λ c e. is_open-quiet base step before none stay c ∙ e) (sockets base before) was.of_open_clients);
         in_spaces = subst (AllByRecursion (λ (k : Socket). is_space limits k.space ≡ true)) (sym ks) was.in_spaces;
-        nothing_saved = sessions-quiet step before same was.nothing_saved;
-        few_spaces = was.few_spaces;
+        seated = λ s. seats s ∙ was.seated s ∙ sym (ap is_some (socket_with-quiet base step before sid_of unconnected unended s));
+        rooms_agree = agree;
+        apart = apart-quiet base limits step before (sockets base before) (sockets base (step ∷ before)) leaves ks was.apart;
+        sessions_differ = backlog.sessions_differ;
+        few_rooms = backlog.few_rooms;
+        offsets_rise = backlog.offsets_rise;
+        log_rises = backlog.log_rises;
+        log_late = backlog.log_late;
         conserved = conserved-step base limits step before was.conserved
-            (let f = flow-quiet base limits step before legal allowed was.clients_once none stay begun known takes in omega (arith, f, kept));
+            (let f = flow-quiet base limits step before legal allowed was.clients_once none stay begun known takes in omega (arith, f, undiscarded));
       }
 
   -- ---- a client is opened
@@ -117,17 +119,17 @@ module _ (base : PlainBase) (limits : Limits) where
   or-false true = refl
   or-false false = refl
 
-  opened-at : (d at : ℕ) (before : List Step) → IsLegal base limits before → Kept base limits before → is_open base before d ≡ false → (q : ℕ) (b : Bool) → (d == q) ≡ b
+  opened-at : (d at : ℕ) (before : List Step) → IsLegal base limits before → IsSound base limits before → is_open base before d ≡ false → (q : ℕ) (b : Bool) → (d == q) ≡ b
       → client_at base limits (record { at = at; what = Opened d } ∷ before) q ≡ (if b then Some (new_client limits) else client_at base limits before q)
   unfolding put
-  opened-at d at before legal kept shut q true e =
+  opened-at d at before legal sound shut q true e =
       let step : Step = record { at = at; what = Opened d } in
       let same : d ≡ q = eqb-true d q e in
       let known : is_open base (step ∷ before) q ≡ true = is_open-opened base at d before q ∙ ap (λ t. is_open base before q || t) (eq-eqb q d (sym same)) ∙ or-true (is_open base before q) in
-      let none : sockets_of base (step ∷ before) q ≡ [] = sockets_of-quiet base step before refl (λ k. refl) q ∙ ap (sockets_of base before) (sym same) ∙ sockets_of-none d before shut kept.of_open_clients in
+      let none : sockets_of base (step ∷ before) q ≡ [] = sockets_of-quiet base step before refl (λ k. refl) q ∙ ap (sockets_of base before) (sym same) ∙ sockets_of-none d before shut sound.of_open_clients in
       let empty : waiting base limits (step ∷ before) q ≡ [] = waiting-begins base limits step before q e in
       rw (known, none, empty) refl
-  opened-at d at before legal kept shut q false e =
+  opened-at d at before legal sound shut q false e =
       let step : Step = record { at = at; what = Opened d } in
       let other : nat_eq q d ≡ false = grind (arith, nat_tests, e) in
       let known : is_open base (step ∷ before) q ≡ is_open base before q = is_open-opened base at d before q ∙ ap (λ t. is_open base before q || t) other ∙ or-false (is_open base before q) in
@@ -135,13 +137,13 @@ module _ (base : PlainBase) (limits : Limits) where
       let waits : waiting base limits (step ∷ before) q ≡ waiting base limits before q = waiting-quiet base limits step before legal q e refl refl in
       rw (known, same, waits) refl
 
-  pub opened-fields : (d now newest : ℕ) (before : List Step) (find find' : ℕ → Option PlainClient) (seat : ℕ → Option Socket) (is_pid : ℕ → Bool) (sets : RoomSets) (offset : Option ℕ)
-      → Fields base limits find seat is_pid sets offset newest before → IsLegal base limits before → Kept base limits before → is_open base before d ≡ false
+  pub opened-fields : (d now newest : ℕ) (before : List Step) (find find' : ℕ → Option PlainClient) (seat : ℕ → Option Socket) (is_pid : ℕ → Bool) (sets : RoomSets) (table : TableContents) (packets : LogContents)
+      → Fields base limits find seat is_pid sets table packets newest before → IsLegal base limits before → IsSound base limits before → is_open base before d ≡ false
       → ((q : ℕ) → find' q ≡ (if d == q then Some (new_client limits) else find q))
-      → Fields base limits find' seat is_pid sets offset (max now newest) (record { at = max now newest; what = Opened d } ∷ before)
-  opened-fields d now newest before find find' seat is_pid sets offset was legal kept shut puts =
-      fields-quiet (record { at = max now newest; what = Opened d }) before find find' seat is_pid sets sets offset newest was refl (λ k. refl) refl refl
-      (λ q. puts q ∙ ap (λ o. if d == q then Some (new_client limits) else o) (was.clients q) ∙ sym (opened-at d (max now newest) before legal kept shut q (d == q) refl))
+      → Fields base limits find' seat is_pid sets table packets (max now newest) (record { at = max now newest; what = Opened d } ∷ before)
+  opened-fields d now newest before find find' seat is_pid sets table packets was legal sound shut puts =
+      fields-quiet (record { at = max now newest; what = Opened d }) before find find' seat is_pid sets sets table packets newest was refl (λ k. refl) (record { same_sessions = refl; no_call = refl; unused = refl }) (omega arith) refl
+      (λ q. puts q ∙ ap (λ o. if d == q then Some (new_client limits) else o) (was.clients q) ∙ sym (opened-at d (max now newest) before legal sound shut q (d == q) refl))
 
   distinct-push : (d : ℕ) (xs : List ℕ) → IsDistinct nat_eq xs → is_member nat_eq xs d ≡ false → IsDistinct nat_eq (xs ++ d ∷ [])
   unfolding IsDistinct
@@ -173,20 +175,29 @@ module _ (base : PlainBase) (limits : Limits) where
           on true k = let same : d ≡ c = eqb-true d c k in let there : is_member nat_eq (open_clients base before) d ≡ true = subst (λ z. is_member nat_eq (open_clients base before) z ≡ true) (sym same) e in cc
           on false k = refl
 
-  pub opened-kept : (d at : ℕ) (before : List Step) → IsLegal base limits before → Kept base limits before → is_open base before d ≡ false
-      → Kept base limits (record { at = at; what = Opened d } ∷ before)
-  unfolding is_open put
-  opened-kept d at before legal was shut =
+  pub opened-sound : (d at : ℕ) (before : List Step) → IsLegal base limits before → IsSound base limits before → moment base before ≤ at → is_open base before d ≡ false
+      → IsSound base limits (record { at = at; what = Opened d } ∷ before)
+  unfolding is_open put rooms
+  opened-sound d at before legal was late shut =
       let step : Step = record { at = at; what = Opened d } in
       let ks = sockets-quiet base step before refl (λ k. refl) in
+      let leaves : LeavesBacklog base limits step before = record { same_sessions = refl; no_call = refl; unused = refl } in
+      let backlog = backlog-quiet base limits step before leaves late was in
       record {
+        few_spaces = was.few_spaces;
         clients_once = subst (IsDistinct nat_eq) (sym (clients-opened base at d before)) (distinct-push d (open_clients base before) was.clients_once shut);
         sockets_apart = subst (EachTwo AreApart) (sym ks) was.sockets_apart;
         of_open_clients = subst (AllByRecursion (λ (k : Socket). is_open base (step ∷ before) k.client ≡ true)) (sym ks)
             (all-open step before (λ c e. is_open-opened base at d before c ∙ ap (λ b. b || nat_eq c d) e) (sockets base before) was.of_open_clients);
         in_spaces = subst (AllByRecursion (λ (k : Socket). is_space limits k.space ≡ true)) (sym ks) was.in_spaces;
-        nothing_saved = sessions-quiet step before refl was.nothing_saved;
-        few_spaces = was.few_spaces;
+        seated = λ s. was.seated s ∙ sym (ap is_some (socket_with-quiet base step before sid_of refl (λ k. refl) s));
+        rooms_agree = was.rooms_agree;
+        apart = apart-quiet base limits step before (sockets base before) (sockets base (step ∷ before)) leaves ks was.apart;
+        sessions_differ = backlog.sessions_differ;
+        few_rooms = backlog.few_rooms;
+        offsets_rise = backlog.offsets_rise;
+        log_rises = backlog.log_rises;
+        log_late = backlog.log_late;
         conserved = conserved-step base limits step before was.conserved (let w = opened-waits d at before legal shut in omega (arith, w));
       }
 
@@ -213,19 +224,19 @@ module _ (base : PlainBase) (limits : Limits) where
   took-at d n at before legal q false e =
       client_at-step (record { at = at; what = Took d n }) before legal refl (λ c. refl) refl (λ k. refl) q refl ∙ rw (e, append-nil) refl
 
-  pub took-fields : (d n now newest : ℕ) (before : List Step) (find find' : ℕ → Option PlainClient) (seat : ℕ → Option Socket) (is_pid : ℕ → Bool) (sets : RoomSets) (offset : Option ℕ)
-      → Fields base limits find seat is_pid sets offset newest before → IsLegal base limits before
+  pub took-fields : (d n now newest : ℕ) (before : List Step) (find find' : ℕ → Option PlainClient) (seat : ℕ → Option Socket) (is_pid : ℕ → Bool) (sets : RoomSets) (table : TableContents) (packets : LogContents)
+      → Fields base limits find seat is_pid sets table packets newest before → IsLegal base limits before
       → ((q : ℕ) → find' q ≡ (if d == q then option_map (without_first n) (find q) else find q))
-      → Fields base limits find' seat is_pid sets offset (max now newest) (record { at = max now newest; what = Took d n } ∷ before)
-  took-fields d n now newest before find find' seat is_pid sets offset was legal takes =
-      fields-quiet (record { at = max now newest; what = Took d n }) before find find' seat is_pid sets sets offset newest was refl (λ k. refl) refl refl
+      → Fields base limits find' seat is_pid sets table packets (max now newest) (record { at = max now newest; what = Took d n } ∷ before)
+  took-fields d n now newest before find find' seat is_pid sets table packets was legal takes =
+      fields-quiet (record { at = max now newest; what = Took d n }) before find find' seat is_pid sets sets table packets newest was refl (λ k. refl) (record { same_sessions = refl; no_call = refl; unused = refl }) (omega arith) refl
       (λ q. takes q ∙ ap (λ o. if d == q then option_map (without_first n) o else o) (was.clients q) ∙ sym (took-at d n (max now newest) before legal q (d == q) refl))
 
-  pub took-kept : (d n at : ℕ) (before : List Step) → IsLegal base limits before → IsAllowed base limits before (record { at = at; what = Took d n }) (Took d n) → Kept base limits before → is_open base before d ≡ true
-      → Kept base limits (record { at = at; what = Took d n } ∷ before)
+  pub took-sound : (d n at : ℕ) (before : List Step) → IsLegal base limits before → IsAllowed base limits before (record { at = at; what = Took d n }) (Took d n) → IsSound base limits before → moment base before ≤ at → is_open base before d ≡ true
+      → IsSound base limits (record { at = at; what = Took d n } ∷ before)
   unfolding put is_open
-  took-kept d n at before legal allowed was known =
-      kept-quiet (record { at = at; what = Took d n }) before legal allowed was refl (λ c. refl) refl (λ k. refl) (λ c. refl) refl tt
+  took-sound d n at before legal allowed was late known =
+      sound-quiet (record { at = at; what = Took d n }) before legal allowed was late refl (λ c. refl) refl (λ k. refl) (λ c. refl) (record { same_sessions = refl; no_call = refl; unused = refl }) (λ s. refl) was.rooms_agree tt
       (one_of d n (open_clients base before) was.clients_once known) refl
 
   told-at : (m : PlainMessage) (at : ℕ) (before : List Step) → IsLegal base limits before → (q : ℕ) (b : Bool) → (m.client == q) ≡ b
@@ -241,17 +252,17 @@ module _ (base : PlainBase) (limits : Limits) where
   told-at m at before legal q false e =
       client_at-step (record { at = at; what = Told m }) before legal refl (λ c. refl) refl (λ k. refl) q refl ∙ rw (e, append-nil) refl
 
-  pub told-fields : (m : PlainMessage) (now newest : ℕ) (before : List Step) (find find' : ℕ → Option PlainClient) (seat : ℕ → Option Socket) (is_pid : ℕ → Bool) (sets : RoomSets) (offset : Option ℕ)
-      → Fields base limits find seat is_pid sets offset newest before → IsLegal base limits before
+  pub told-fields : (m : PlainMessage) (now newest : ℕ) (before : List Step) (find find' : ℕ → Option PlainClient) (seat : ℕ → Option Socket) (is_pid : ℕ → Bool) (sets : RoomSets) (table : TableContents) (packets : LogContents)
+      → Fields base limits find seat is_pid sets table packets newest before → IsLegal base limits before
       → ((q : ℕ) → find' q ≡ (if m.client == q then option_map (with_entry m.entry) (find q) else find q))
-      → Fields base limits find' seat is_pid sets offset (max now newest) (record { at = max now newest; what = Told m } ∷ before)
-  told-fields m now newest before find find' seat is_pid sets offset was legal puts =
-      fields-quiet (record { at = max now newest; what = Told m }) before find find' seat is_pid sets sets offset newest was refl (λ k. refl) refl refl
+      → Fields base limits find' seat is_pid sets table packets (max now newest) (record { at = max now newest; what = Told m } ∷ before)
+  told-fields m now newest before find find' seat is_pid sets table packets was legal puts =
+      fields-quiet (record { at = max now newest; what = Told m }) before find find' seat is_pid sets sets table packets newest was refl (λ k. refl) (record { same_sessions = refl; no_call = refl; unused = refl }) (omega arith) refl
       (λ q. puts q ∙ ap (λ o. if m.client == q then option_map (with_entry m.entry) o else o) (was.clients q) ∙ sym (told-at m (max now newest) before legal q (m.client == q) refl))
 
-  pub told-kept : (m : PlainMessage) (at : ℕ) (before : List Step) → IsLegal base limits before → IsAllowed base limits before (record { at = at; what = Told m }) (Told m) → Kept base limits before → is_open base before m.client ≡ true
-      → Kept base limits (record { at = at; what = Told m } ∷ before)
+  pub told-sound : (m : PlainMessage) (at : ℕ) (before : List Step) → IsLegal base limits before → IsAllowed base limits before (record { at = at; what = Told m }) (Told m) → IsSound base limits before → moment base before ≤ at → is_open base before m.client ≡ true
+      → IsSound base limits (record { at = at; what = Told m } ∷ before)
   unfolding put
-  told-kept m at before legal allowed was known =
-      kept-quiet (record { at = at; what = Told m }) before legal allowed was refl (λ c. refl) refl (λ k. refl) (λ c. refl) refl (known, tt)
+  told-sound m at before legal allowed was late known =
+      sound-quiet (record { at = at; what = Told m }) before legal allowed was late refl (λ c. refl) refl (λ k. refl) (λ c. refl) (record { same_sessions = refl; no_call = refl; unused = refl }) (λ s. refl) was.rooms_agree (known, tt)
       (sum-zero (λ c. taken_by c (Told m)) (open_clients base before) (λ c e. refl)) refl

@@ -2,6 +2,7 @@ pub mod SumsLemmas
 pub mod MembershipLemmas
 pub mod OutboxesLemmas
 pub mod TotalsLemmas
+pub mod SessionsLemmas
 pub mod HubLemmas
 pub mod CountsLemmas
 pub mod CommandLemmas
@@ -9,3 +10,18 @@ pub mod FreshLemmas
 pub mod RoomsLemmas
 pub mod SocketsLemmas
 pub mod AnswersLemmas
+pub mod RetainLemmas
+pub mod EndLemmas
+pub mod CloseLemmas
+pub mod RecoverLemmas
+pub mod RecoverRefusalLemmas
+pub mod RecoverStepLemmas
+pub mod LastWordLemmas
+pub mod CastLemmas
+pub mod CastStepLemmas
+pub mod MembersLemmas
+pub mod LegalLemmas
+pub mod ParkLemmas
+pub mod SweepLemmas
+pub mod SealListsLemmas
+pub mod SealLemmas

@@ -1,9 +1,12 @@
 -- What joining and leaving a room make of a hub.
-use Rattle.std.proofs.Common.{◌≡◌, ℕ, ◌+◌, ◌≤◌, Bool, true, false, List, [], ◌∷◌, max, refl, sym, ◌∙◌, ap, arith, Option, None, Some}
+use Rattle.std.proofs.Common.{◌≡◌, ℕ, ◌+◌, ◌≤◌, Bool, true, false, List, [], ◌∷◌, max, refl, sym, ◌∙◌, ap, subst, arith, Option, None, Some}
 use Rattle.std.specs.List.{sum_by}
-use Rattle.room_maps.specs.Membership.{RoomSets, with_pair, without_pair}
+use Rattle.room_maps.specs.Membership.{RoomSets, is_socket, AreConsistent, with_pair, without_pair}
 use Rattle.room_maps.specs.Membership as room_maps
 use Rattle.room_maps.specs.declared.error.RoomError.{RoomError}
+use Rattle.room_maps.proofs.MembershipLaws.{is_socket-with_pair, is_socket-without_pair}
+use Rattle.recovery.specs.PacketLog.{LogContents}
+use Rattle.recovery.specs.SavedTable.{TableContents}
 use Rattle.hub_state.specs.declared.error.HubError.{HubError}
 use Rattle.hub_state.specs.declared.socket.Socket.{Socket}
 use Rattle.hub_state.specs.declared.step.Step.{Step}
@@ -11,18 +14,17 @@ use Rattle.hub_state.specs.declared.step.What.{What}
 use Rattle.hub_state.specs.declared.step.What.TheVariants.{Opened, Attached, Recovered, Joined, Left, Cast, Told, Took, Parked, Ended, Closed, Swept}
 use Rattle.hub_state.specs.declared.totals.Counts.{Counts}
 use Rattle.hub_state.specs.Plain.{PlainBase, Limits, PlainClient}
+use Rattle.hub_state.specs.Journal.{moment}
 use Rattle.hub_state.specs.Membership.{opens, closes, open_clients, is_open, connects, ends, sid_of, is_connected, rooms}
-use Rattle.hub_state.specs.Log.{offsets_used}
 use Rattle.hub_state.specs.Outboxes.{put, begins, taken_by, entries_for}
-use Rattle.hub_state.specs.Sessions.{sessions, sessions_after}
 use Rattle.hub_state.specs.Totals.{placed_by, handed_out_by, discarded_by, is_spent}
 use Rattle.hub_state.specs.Refusals.{or_spent, room_refusal, join_refusal, leave_refusal}
-use Rattle.hub_state.specs.Legal.{IsAllowed, IsLegal}
-use Rattle.hub_state.specs.Hub.{Fields, Kept, Counted, CanCount, client_at}
+use Rattle.hub_state.specs.Legal.{IsAllowed, IsLegal, IsSound}
+use Rattle.hub_state.specs.Hub.{Fields, Counted, CanCount, client_at}
 use Rattle.hub_state.proofs.SumsLemmas.{sum-zero}
 use Rattle.hub_state.proofs.MembershipLemmas.{is_open-quiet, sockets_of-quiet}
 use Rattle.hub_state.proofs.OutboxesLemmas.{waiting-quiet}
-use Rattle.hub_state.proofs.HubLemmas.{legal-step, fields-quiet, kept-quiet}
+use Rattle.hub_state.proofs.HubLemmas.{legal-step, fields-quiet, sound-quiet}
 use Rattle.hub_state.proofs.CountsLemmas.{counted, can, unrefused, unspent}
 use Rattle.hub_state.proofs.CommandLemmas.{IsHub}
 
@@ -48,45 +50,49 @@ module _ (base : PlainBase) (limits : Limits) where
   unfolding put
   puts_left before s room = refl
 
-  pub joined : (s : ℕ) (room : List ℕ) (now newest : ℕ) (find : ℕ → Option PlainClient) (seat : ℕ → Option Socket) (is_pid : ℕ → Bool) (sets sets' : RoomSets) (offset : Option ℕ) (counts : Counts) (before : List Step)
-      → IsHub base limits find seat is_pid sets offset newest counts before
+  pub joined : (s : ℕ) (room : List ℕ) (now newest : ℕ) (find : ℕ → Option PlainClient) (seat : ℕ → Option Socket) (is_pid : ℕ → Bool) (sets sets' : RoomSets) (table : TableContents) (packets : LogContents) (counts : Counts) (before : List Step)
+      → IsHub base limits find seat is_pid sets table packets newest counts before
       → None ≡ or_spent (join_refusal base before s room) (is_spent base limits before (Joined s room))
-      → sets' ≡ with_pair sets s room
-      → IsHub base limits find seat is_pid sets' offset (max now newest) (record { commands = counts.commands + 1; placed = counts.placed + 0; dropped = counts.dropped + 0; taken = counts.taken + 0; discarded = counts.discarded + 0 }) (record { at = max now newest; what = Joined s room } ∷ before)
+      → sets' ≡ with_pair sets s room → AreConsistent sets'
+      → IsHub base limits find seat is_pid sets' table packets (max now newest) (record { commands = counts.commands + 1; placed = counts.placed + 0; dropped = counts.dropped + 0; taken = counts.taken + 0; discarded = counts.discarded + 0 }) (record { at = max now newest; what = Joined s room } ∷ before)
   unfolding put
-  joined s room now newest find seat is_pid sets sets' offset counts before was accepted change =
+  joined s room now newest find seat is_pid sets sets' table packets counts before was accepted change consistent =
       let step : Step = record { at = max now newest; what = Joined s room } in
+      let late : moment base before ≤ max now newest = rw (← was.0.last) (omega arith) in
+      let agree : AreConsistent (with_pair (rooms base before) s room) = subst AreConsistent (change ∙ ap (λ v. with_pair v s room) was.0.rooms_are) consistent in
       let allowed = unrefused (join_refusal base before s room) (is_spent base limits before (Joined s room)) accepted in
       let room_left = unspent (join_refusal base before s room) (is_spent base limits before (Joined s room)) accepted in (
-        fields-quiet base limits step before find find seat is_pid sets sets' offset newest was.0 refl (λ k. refl) refl change (λ q. was.0.clients q ∙ sym (joined-client s room (max now newest) before was.1 q)),
-        legal-step base limits step before allowed room_left (rw (← was.0.last) (omega arith)) was.1,
-        kept-quiet base limits step before was.1 allowed was.2 refl (λ c. refl) refl (λ k. refl) (λ c. refl) refl tt (sum-zero (λ c. taken_by c (Joined s room)) (open_clients base before) (λ c e. refl)) refl,
+        fields-quiet base limits step before find find seat is_pid sets sets' table packets newest was.0 refl (λ k. refl) (record { same_sessions = refl; no_call = refl; unused = refl }) (omega arith) change (λ q. was.0.clients q ∙ sym (joined-client s room (max now newest) before was.1 q)),
+        legal-step base limits step before allowed room_left late was.1,
+        sound-quiet base limits step before was.1 allowed was.2 late refl (λ c. refl) refl (λ k. refl) (λ c. refl) (record { same_sessions = refl; no_call = refl; unused = refl }) (is_socket-with_pair (rooms base before) s room) agree tt (sum-zero (λ c. taken_by c (Joined s room)) (open_clients base before) (λ c e. refl)) refl,
         counted base limits before counts was.3 was.2.conserved step 0 0 0 0 (puts_joined before s room) refl refl refl,
       )
 
-  pub can_join : (before : List Step) (counts : Counts) → Counted base limits counts before → Kept base limits before → (s : ℕ) (room : List ℕ) → None ≡ or_spent (join_refusal base before s room) (is_spent base limits before (Joined s room)) → CanCount counts 0 0 0 0
-  can_join before counts was kept s room accepted =
-      can base limits before counts was kept.conserved (Joined s room) 0 0 0 0 (puts_joined before s room) refl refl refl (unspent (join_refusal base before s room) (is_spent base limits before (Joined s room)) accepted)
+  pub can_join : (before : List Step) (counts : Counts) → Counted base limits counts before → IsSound base limits before → (s : ℕ) (room : List ℕ) → None ≡ or_spent (join_refusal base before s room) (is_spent base limits before (Joined s room)) → CanCount counts 0 0 0 0
+  can_join before counts was sound s room accepted =
+      can base limits before counts was sound.conserved (Joined s room) 0 0 0 0 (puts_joined before s room) refl refl refl (unspent (join_refusal base before s room) (is_spent base limits before (Joined s room)) accepted)
 
-  pub left : (s : ℕ) (room : List ℕ) (now newest : ℕ) (find : ℕ → Option PlainClient) (seat : ℕ → Option Socket) (is_pid : ℕ → Bool) (sets sets' : RoomSets) (offset : Option ℕ) (counts : Counts) (before : List Step)
-      → IsHub base limits find seat is_pid sets offset newest counts before
+  pub left : (s : ℕ) (room : List ℕ) (now newest : ℕ) (find : ℕ → Option PlainClient) (seat : ℕ → Option Socket) (is_pid : ℕ → Bool) (sets sets' : RoomSets) (table : TableContents) (packets : LogContents) (counts : Counts) (before : List Step)
+      → IsHub base limits find seat is_pid sets table packets newest counts before
       → None ≡ or_spent (leave_refusal base before s room) (is_spent base limits before (Left s room))
-      → sets' ≡ without_pair sets s room
-      → IsHub base limits find seat is_pid sets' offset (max now newest) (record { commands = counts.commands + 1; placed = counts.placed + 0; dropped = counts.dropped + 0; taken = counts.taken + 0; discarded = counts.discarded + 0 }) (record { at = max now newest; what = Left s room } ∷ before)
+      → sets' ≡ without_pair sets s room → AreConsistent sets'
+      → IsHub base limits find seat is_pid sets' table packets (max now newest) (record { commands = counts.commands + 1; placed = counts.placed + 0; dropped = counts.dropped + 0; taken = counts.taken + 0; discarded = counts.discarded + 0 }) (record { at = max now newest; what = Left s room } ∷ before)
   unfolding put
-  left s room now newest find seat is_pid sets sets' offset counts before was accepted change =
+  left s room now newest find seat is_pid sets sets' table packets counts before was accepted change consistent =
       let step : Step = record { at = max now newest; what = Left s room } in
+      let late : moment base before ≤ max now newest = rw (← was.0.last) (omega arith) in
+      let agree : AreConsistent (without_pair (rooms base before) s room) = subst AreConsistent (change ∙ ap (λ v. without_pair v s room) was.0.rooms_are) consistent in
       let allowed = unrefused (leave_refusal base before s room) (is_spent base limits before (Left s room)) accepted in
       let room_left = unspent (leave_refusal base before s room) (is_spent base limits before (Left s room)) accepted in (
-        fields-quiet base limits step before find find seat is_pid sets sets' offset newest was.0 refl (λ k. refl) refl change (λ q. was.0.clients q ∙ sym (left-client s room (max now newest) before was.1 q)),
-        legal-step base limits step before allowed room_left (rw (← was.0.last) (omega arith)) was.1,
-        kept-quiet base limits step before was.1 allowed was.2 refl (λ c. refl) refl (λ k. refl) (λ c. refl) refl tt (sum-zero (λ c. taken_by c (Left s room)) (open_clients base before) (λ c e. refl)) refl,
+        fields-quiet base limits step before find find seat is_pid sets sets' table packets newest was.0 refl (λ k. refl) (record { same_sessions = refl; no_call = refl; unused = refl }) (omega arith) change (λ q. was.0.clients q ∙ sym (left-client s room (max now newest) before was.1 q)),
+        legal-step base limits step before allowed room_left late was.1,
+        sound-quiet base limits step before was.1 allowed was.2 late refl (λ c. refl) refl (λ k. refl) (λ c. refl) (record { same_sessions = refl; no_call = refl; unused = refl }) (is_socket-without_pair (rooms base before) s room) agree tt (sum-zero (λ c. taken_by c (Left s room)) (open_clients base before) (λ c e. refl)) refl,
         counted base limits before counts was.3 was.2.conserved step 0 0 0 0 (puts_left before s room) refl refl refl,
       )
 
-  pub can_leave : (before : List Step) (counts : Counts) → Counted base limits counts before → Kept base limits before → (s : ℕ) (room : List ℕ) → None ≡ or_spent (leave_refusal base before s room) (is_spent base limits before (Left s room)) → CanCount counts 0 0 0 0
-  can_leave before counts was kept s room accepted =
-      can base limits before counts was kept.conserved (Left s room) 0 0 0 0 (puts_left before s room) refl refl refl (unspent (leave_refusal base before s room) (is_spent base limits before (Left s room)) accepted)
+  pub can_leave : (before : List Step) (counts : Counts) → Counted base limits counts before → IsSound base limits before → (s : ℕ) (room : List ℕ) → None ≡ or_spent (leave_refusal base before s room) (is_spent base limits before (Left s room)) → CanCount counts 0 0 0 0
+  can_leave before counts was sound s room accepted =
+      can base limits before counts was sound.conserved (Left s room) 0 0 0 0 (puts_left before s room) refl refl refl (unspent (leave_refusal base before s room) (is_spent base limits before (Left s room)) accepted)
 
   room_free : (known : Bool) (refusal : Option RoomError) → room_refusal known refusal ≡ None → refusal ≡ None
   room_free false refusal e = cc

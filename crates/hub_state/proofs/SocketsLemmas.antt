@@ -7,7 +7,10 @@ use Rattle.std.proofs.lemmas.Grind.{common_steps}
 use Rattle.std.proofs.Math.Seq.{take-append_seam}
 use Rattle.std.proofs.lemmas.Bool.{eqb-true, eq-eqb}
 use Rattle.std.proofs.lemmas.Bool.Decides.{nat_tests}
-use Rattle.room_maps.specs.Membership.{RoomSets}
+use Rattle.room_maps.specs.Membership.{RoomSets, is_socket, AreConsistent}
+use Rattle.room_maps.proofs.MembershipLaws.{is_socket-with_socket}
+use Rattle.recovery.specs.PacketLog.{LogContents}
+use Rattle.recovery.specs.SavedTable.{TableContents}
 use Rattle.room_maps.specs.Membership as room_maps
 use Rattle.sio_wire.specs.declared.entry.Entry.{Entry}
 use Rattle.terms.specs.Refusal.{first_refusal}
@@ -25,14 +28,15 @@ use Rattle.hub_state.specs.Sessions.{sessions, is_sid_saved, is_pid_saved}
 use Rattle.hub_state.specs.Outboxes.{put, begins, taken_by, entries_for, waiting, answer, is_full}
 use Rattle.hub_state.specs.Totals.{placed_by, is_spent}
 use Rattle.hub_state.specs.Refusals.{or_spent, attach_refusal, is_taken}
-use Rattle.hub_state.specs.Legal.{IsAllowed, IsLegal, EachTwo, AreApart}
-use Rattle.hub_state.specs.Hub.{Fields, Kept, Counted, CanCount, client_at, with_socket, plus_socket, without_last, with_entry}
+use Rattle.hub_state.specs.Legal.{IsAllowed, IsLegal, IsSound, IsAway, EachTwo, AreApart}
+use Rattle.hub_state.specs.Hub.{Fields, Counted, CanCount, client_at, with_socket, plus_socket, without_last, with_entry}
 use Rattle.hub_state.proofs.SumsLemmas.{sum-zero}
 use Rattle.hub_state.proofs.MembershipLemmas.{filter-all, is_open-quiet, clients-quiet}
 use Rattle.std.proofs.lemmas.List.Elements.{filter-append}
 use Rattle.hub_state.proofs.OutboxesLemmas.{waiting-step}
 use Rattle.hub_state.proofs.TotalsLemmas.{conserved-step, flow-quiet}
-use Rattle.hub_state.proofs.HubLemmas.{legal-step, next-quiet, rooms-step, sessions-quiet, all-open, sockets_of-none}
+use Rattle.hub_state.proofs.SessionsLemmas.{LeavesBacklog, sessions-quiet, table-quiet, packets-quiet, backlog-quiet, away-push}
+use Rattle.hub_state.proofs.HubLemmas.{legal-step, rooms-step, all-open, sockets_of-none}
 use Rattle.hub_state.proofs.CountsLemmas.{counted, can, unrefused, unspent}
 use Rattle.hub_state.proofs.CommandLemmas.{IsHub}
 
@@ -54,7 +58,7 @@ pub is-not : (b : Bool) → not b ≡ false → b ≡ true
 is-not true e = refl
 is-not false e = cc
 
-no-one : {A : Type 0} (o : Option A) → is_some o ≡ false → o ≡ None
+pub no-one : {A : Type 0} (o : Option A) → is_some o ≡ false → o ≡ None
 no-one None e = refl
 no-one (Some x) e = cc
 
@@ -64,7 +68,7 @@ or-none : {A : Type 0} (o : Option A) → option_or o None ≡ o
 or-none None = refl
 or-none (Some x) = refl
 
-find-push : (id : Socket → ℕ) (k : Socket) (x : ℕ) (ks : List Socket) → find (has_id id (id k)) ks ≡ None
+pub find-push : (id : Socket → ℕ) (k : Socket) (x : ℕ) (ks : List Socket) → find (has_id id (id k)) ks ≡ None
     → find (has_id id x) (ks ++ k ∷ []) ≡ (if id k == x then Some k else find (has_id id x) ks)
 find-push id k x [] none = refl
 find-push id k x (l ∷ ks) none = on (λ others. find-push id k x ks others) (id l == id k) refl
@@ -81,7 +85,7 @@ find-push id k x (l ∷ ks) none = on (λ others. find-push id k x ks others) (i
         let same : find (has_id id (id k)) (l ∷ ks) ≡ find (has_id id (id k)) ks = rw e refl in
         split e (id l == x) refl (ih (sym same ∙ none))
 
-apart-ids : (id : Socket → ℕ) (x : ℕ) (ks : List Socket) → find (has_id id x) ks ≡ None → AllByRecursion (λ (l : Socket). (id l == x) ≡ false) ks
+pub apart-ids : (id : Socket → ℕ) (x : ℕ) (ks : List Socket) → find (has_id id x) ks ≡ None → AllByRecursion (λ (l : Socket). (id l == x) ≡ false) ks
 apart-ids id x [] none = tt
 apart-ids id x (l ∷ ks) none = on (apart-ids id x ks) (id l == x) refl none
   where
@@ -90,7 +94,7 @@ apart-ids id x (l ∷ ks) none = on (apart-ids id x ks) (id l == x) refl none
     on ih true e none = cc
     on ih false e none = (e, ih none)
 
-apart-spaces : (c space : ℕ) (ks : List Socket) → find (λ (l : Socket). l.space == space) (filter (λ (l : Socket). l.client == c) ks) ≡ None
+pub apart-spaces : (c space : ℕ) (ks : List Socket) → find (λ (l : Socket). l.space == space) (filter (λ (l : Socket). l.client == c) ks) ≡ None
     → AllByRecursion (λ (l : Socket). (l.client == c) ≡ true → (l.space == space) ≡ false) ks
 apart-spaces c space [] none = tt
 apart-spaces c space (l ∷ ks) none = on (apart-spaces c space ks) (l.client == c) refl none
@@ -110,13 +114,13 @@ apart-spaces c space (l ∷ ks) none = on (apart-spaces c space ks) (l.client ==
 differ : (x y : ℕ) → (x == y) ≡ false → x ≢ y
 differ x y e same = let is : (x == y) ≡ true = eq-eqb x y same in cc
 
-all-apart : (k : Socket) (ks : List Socket) → AllByRecursion (λ (l : Socket). (l.sid == k.sid) ≡ false) ks → AllByRecursion (λ (l : Socket). (l.pid == k.pid) ≡ false) ks
+pub all-apart : (k : Socket) (ks : List Socket) → AllByRecursion (λ (l : Socket). (l.sid == k.sid) ≡ false) ks → AllByRecursion (λ (l : Socket). (l.pid == k.pid) ≡ false) ks
     → AllByRecursion (λ (l : Socket). (l.client == k.client) ≡ true → (l.space == k.space) ≡ false) ks → AllByRecursion (λ (l : Socket). AreApart l k) ks
 all-apart k [] a b c = tt
 all-apart k (l ∷ ks) a b c =
     ((differ l.sid k.sid a.0, differ l.pid k.pid b.0, λ same. differ l.space k.space (c.0 (eq-eqb l.client k.client same))), all-apart k ks a.1 b.1 c.1)
 
-apart-push : (k : Socket) (ks : List Socket) → EachTwo AreApart ks → AllByRecursion (λ (l : Socket). AreApart l k) ks → EachTwo AreApart (ks ++ k ∷ [])
+pub apart-push : (k : Socket) (ks : List Socket) → EachTwo AreApart ks → AllByRecursion (λ (l : Socket). AreApart l k) ks → EachTwo AreApart (ks ++ k ∷ [])
 unfolding EachTwo
 apart-push k [] each all = (tt, tt)
 apart-push k (l ∷ ks) each all = (more ks each.0 all.0, apart-push k ks each.1 all.1)
@@ -125,7 +129,7 @@ apart-push k (l ∷ ks) each all = (more ks each.0 all.0, apart-push k ks each.1
     more [] h e = (e, tt)
     more (m ∷ ms) h e = (h.0, more ms h.1 e)
 
-all-push : {A : Type 0} (P : A → Type 0) (xs : List A) (x : A) → AllByRecursion P xs → P x → AllByRecursion P (xs ++ x ∷ [])
+pub all-push : {A : Type 0} (P : A → Type 0) (xs : List A) (x : A) → AllByRecursion P xs → P x → AllByRecursion P (xs ++ x ∷ [])
 all-push P [] x h e = (e, tt)
 all-push P (y ∷ xs) x h e = (h.0, all-push P xs x h.1 e)
 
@@ -138,6 +142,8 @@ pub record MayAttach (base : PlainBase) (limits : Limits) (before : List Step) (
   pub alone : socket_of base before k.client k.space ≡ None
   pub new_sid : socket_with sid_of base before k.sid ≡ None
   pub new_pid : socket_with pid_of base before k.pid ≡ None
+  pub unsaved_sid : is_sid_saved (sessions base limits before) k.sid ≡ false
+  pub unsaved_pid : is_pid_saved (sessions base limits before) k.pid ≡ false
   pub place : is_full base limits before k.client (answer limits k) ≡ false
 
 module _ (base : PlainBase) (limits : Limits) where
@@ -153,6 +159,8 @@ module _ (base : PlainBase) (limits : Limits) where
         alone = no-one (socket_of base before k.client k.space) p.2;
         new_sid = no-one (socket_with sid_of base before k.sid) sids.0;
         new_pid = no-one (socket_with pid_of base before k.pid) pids.0;
+        unsaved_sid = sids.1;
+        unsaved_pid = pids.1;
         place = p.4;
       }
 
@@ -192,32 +200,48 @@ module _ (base : PlainBase) (limits : Limits) where
   unfolding put
   puts_attached before k = refl
 
-  attached-fields : (k : Socket) (now newest : ℕ) (before : List Step) (find find' : ℕ → Option PlainClient) (seat seat' : ℕ → Option Socket) (is_pid is_pid' : ℕ → Bool) (sets sets' : RoomSets) (offset : Option ℕ)
-      → Fields base limits find seat is_pid sets offset newest before → IsLegal base limits before → MayAttach base limits before k
+  attached-fields : (k : Socket) (now newest : ℕ) (before : List Step) (find find' : ℕ → Option PlainClient) (seat seat' : ℕ → Option Socket) (is_pid is_pid' : ℕ → Bool) (sets sets' : RoomSets) (table : TableContents) (packets : LogContents)
+      → Fields base limits find seat is_pid sets table packets newest before → IsLegal base limits before → MayAttach base limits before k
       → ((q : ℕ) → find' q ≡ (if k.client == q then option_map (with_socket k (answer limits k)) (find q) else find q))
       → ((s : ℕ) → seat' s ≡ (if k.sid == s then Some k else seat s))
       → ((p : ℕ) → is_pid' p ≡ ((k.pid == p) || is_pid p))
       → sets' ≡ room_maps.with_socket sets k.sid
-      → Fields base limits find' seat' is_pid' sets' offset (max now newest) (record { at = max now newest; what = Attached k } ∷ before)
+      → Fields base limits find' seat' is_pid' sets' table packets (max now newest) (record { at = max now newest; what = Attached k } ∷ before)
   unfolding moment
-  attached-fields k now newest before find find' seat seat' is_pid is_pid' sets sets' offset was legal may puts seats pids change =
+  attached-fields k now newest before find find' seat seat' is_pid is_pid' sets sets' table packets was legal may puts seats pids change =
       let step : Step = record { at = max now newest; what = Attached k } in
+      let leaves : LeavesBacklog base limits step before = record { same_sessions = refl; no_call = refl; unused = refl } in
       record {
         clients = λ q. puts q ∙ ap (λ o. if k.client == q then option_map (with_socket k (answer limits k)) o else o) (was.clients q) ∙ sym (attached-at k (max now newest) before legal q (k.client == q) refl);
         seats = λ s. seats s ∙ ap (λ o. if k.sid == s then Some k else o) (was.seats s) ∙ sym (with-attached sid_of k (max now newest) before s may.new_sid);
         pids = λ p. pids p ∙ ap (λ b. (k.pid == p) || b) (was.pids p) ∙ sym (some-or (k.pid == p) k (socket_with pid_of base before p)) ∙ sym (ap is_some (with-attached pid_of k (max now newest) before p may.new_pid));
         rooms_are = rooms-step base limits step before sets sets' was.rooms_are change;
-        next_is = was.next_is ∙ sym (next-quiet base limits step before refl);
+        saved_is = table-quiet base limits step before table leaves was.saved_is;
+        log_is = packets-quiet base limits step before packets leaves was.log_is;
+        log_last = omega (arith, was.log_last);
         last = refl;
       }
 
-  attached-kept : (k : Socket) (at : ℕ) (before : List Step) → IsLegal base limits before → attach_refusal base limits before k ≡ None → Kept base limits before → Kept base limits (record { at = at; what = Attached k } ∷ before)
-  unfolding put socket_with socket_of sockets_of
-  attached-kept k at before legal allowed was =
+  -- the new socket, and no other, is in rooms now
+  seated-attached : (k : Socket) (at : ℕ) (before : List Step) (s : ℕ) → socket_with sid_of base before k.sid ≡ None → is_socket (rooms base before) s ≡ is_connected sid_of base before s
+      → is_socket (room_maps.with_socket (rooms base before) k.sid) s ≡ is_connected sid_of base (record { at = at; what = Attached k } ∷ before) s
+  seated-attached k at before s none was =
+      is_socket-with_socket (rooms base before) k.sid s
+      ∙ ap (λ b. (k.sid == s) || b) was
+      ∙ sym (some-or (k.sid == s) k (socket_with sid_of base before s))
+      ∙ sym (ap is_some (with-attached sid_of k at before s none))
+
+  attached-sound : (k : Socket) (at : ℕ) (before : List Step) → IsLegal base limits before → attach_refusal base limits before k ≡ None → IsSound base limits before → moment base before ≤ at → AreConsistent (room_maps.with_socket (rooms base before) k.sid)
+      → IsSound base limits (record { at = at; what = Attached k } ∷ before)
+  unfolding put socket_with socket_of sockets_of rooms
+  attached-sound k at before legal allowed was late agree =
       let step : Step = record { at = at; what = Attached k } in
+      let leaves : LeavesBacklog base limits step before = record { same_sessions = refl; no_call = refl; unused = refl } in
+      let backlog = backlog-quiet base limits step before leaves late was in
       let may = may-attach before k allowed in
       let ks = sockets-attached k at before in
       record {
+        few_spaces = was.few_spaces;
         clients_once = subst (IsDistinct nat_eq) (sym (clients-quiet base step before refl (λ c. refl))) was.clients_once;
         sockets_apart = subst (EachTwo AreApart) (sym ks) (apart-push k (sockets base before) was.sockets_apart
             (all-apart k (sockets base before) (apart-ids sid_of k.sid (sockets base before) may.new_sid) (apart-ids pid_of k.pid (sockets base before) may.new_pid) (apart-spaces k.client k.space (sockets base before) may.alone)));
@@ -226,33 +250,42 @@ module _ (base : PlainBase) (limits : Limits) where
             (all-open base limits step before (λ c e. is_open-quiet base step before refl (λ c. refl) c ∙ e) (sockets base before) was.of_open_clients)
             (is_open-quiet base step before refl (λ c. refl) k.client ∙ may.known));
         in_spaces = subst (AllByRecursion (λ (l : Socket). is_space limits l.space ≡ true)) (sym ks) (all-push (λ (l : Socket). is_space limits l.space ≡ true) (sockets base before) k was.in_spaces may.space);
-        nothing_saved = sessions-quiet base limits step before refl was.nothing_saved;
-        few_spaces = was.few_spaces;
+        seated = λ s. seated-attached k at before s may.new_sid (was.seated s);
+        rooms_agree = agree;
+        apart = subst (AllByRecursion (IsAway (sockets base (step ∷ before)))) (sym (sessions-quiet base limits step before leaves))
+            (subst (λ l. AllByRecursion (IsAway l) (sessions base limits before)) (sym ks) (away-push k (sockets base before) (sessions base limits before) may.unsaved_sid may.unsaved_pid was.apart));
+        sessions_differ = backlog.sessions_differ;
+        few_rooms = backlog.few_rooms;
+        offsets_rise = backlog.offsets_rise;
+        log_rises = backlog.log_rises;
+        log_late = backlog.log_late;
         conserved = conserved-step base limits step before was.conserved
             (let f = flow-quiet base limits step before legal allowed was.clients_once refl (λ c. refl) (λ c. refl) (may.known, tt) (sum-zero (λ c. taken_by c (Attached k)) (open_clients base before) (λ c e. refl)) in omega (arith, f));
       }
 
-  pub attached : (k : Socket) (now newest : ℕ) (find find' : ℕ → Option PlainClient) (seat seat' : ℕ → Option Socket) (is_pid is_pid' : ℕ → Bool) (sets sets' : RoomSets) (offset : Option ℕ) (counts : Counts) (before : List Step)
-      → IsHub base limits find seat is_pid sets offset newest counts before
+  pub attached : (k : Socket) (now newest : ℕ) (find find' : ℕ → Option PlainClient) (seat seat' : ℕ → Option Socket) (is_pid is_pid' : ℕ → Bool) (sets sets' : RoomSets) (table : TableContents) (packets : LogContents) (counts : Counts) (before : List Step)
+      → IsHub base limits find seat is_pid sets table packets newest counts before
       → None ≡ or_spent (attach_refusal base limits before k) (is_spent base limits before (Attached k))
       → ((q : ℕ) → find' q ≡ (if k.client == q then option_map (with_socket k (answer limits k)) (find q) else find q))
       → ((s : ℕ) → seat' s ≡ (if k.sid == s then Some k else seat s))
       → ((p : ℕ) → is_pid' p ≡ ((k.pid == p) || is_pid p))
-      → sets' ≡ room_maps.with_socket sets k.sid
-      → IsHub base limits find' seat' is_pid' sets' offset (max now newest) (record { commands = counts.commands + 1; placed = counts.placed + 1; dropped = counts.dropped + 0; taken = counts.taken + 0; discarded = counts.discarded + 0 }) (record { at = max now newest; what = Attached k } ∷ before)
-  attached k now newest find find' seat seat' is_pid is_pid' sets sets' offset counts before was accepted puts seats pids change =
+      → sets' ≡ room_maps.with_socket sets k.sid → AreConsistent sets'
+      → IsHub base limits find' seat' is_pid' sets' table packets (max now newest) (record { commands = counts.commands + 1; placed = counts.placed + 1; dropped = counts.dropped + 0; taken = counts.taken + 0; discarded = counts.discarded + 0 }) (record { at = max now newest; what = Attached k } ∷ before)
+  attached k now newest find find' seat seat' is_pid is_pid' sets sets' table packets counts before was accepted puts seats pids change consistent =
       let step : Step = record { at = max now newest; what = Attached k } in
+      let late : moment base before ≤ max now newest = rw (← was.0.last) (omega arith) in
+      let agree : AreConsistent (room_maps.with_socket (rooms base before) k.sid) = subst AreConsistent (change ∙ ap (λ v. room_maps.with_socket v k.sid) was.0.rooms_are) consistent in
       let allowed = unrefused (attach_refusal base limits before k) (is_spent base limits before (Attached k)) accepted in
       let room = unspent (attach_refusal base limits before k) (is_spent base limits before (Attached k)) accepted in (
-        attached-fields k now newest before find find' seat seat' is_pid is_pid' sets sets' offset was.0 was.1 (may-attach before k allowed) puts seats pids change,
-        legal-step base limits step before allowed room (rw (← was.0.last) (omega arith)) was.1,
-        attached-kept k (max now newest) before was.1 allowed was.2,
+        attached-fields k now newest before find find' seat seat' is_pid is_pid' sets sets' table packets was.0 was.1 (may-attach before k allowed) puts seats pids change,
+        legal-step base limits step before allowed room late was.1,
+        attached-sound k (max now newest) before was.1 allowed was.2 late agree,
         counted base limits before counts was.3 was.2.conserved step 1 0 0 0 (puts_attached before k) refl refl refl,
       )
 
-  pub can_attach : (before : List Step) (counts : Counts) → Counted base limits counts before → Kept base limits before → (k : Socket) → None ≡ or_spent (attach_refusal base limits before k) (is_spent base limits before (Attached k)) → CanCount counts 1 0 0 0
-  can_attach before counts was kept k accepted =
-      can base limits before counts was kept.conserved (Attached k) 1 0 0 0 (puts_attached before k) refl refl refl (unspent (attach_refusal base limits before k) (is_spent base limits before (Attached k)) accepted)
+  pub can_attach : (before : List Step) (counts : Counts) → Counted base limits counts before → IsSound base limits before → (k : Socket) → None ≡ or_spent (attach_refusal base limits before k) (is_spent base limits before (Attached k)) → CanCount counts 1 0 0 0
+  can_attach before counts was sound k accepted =
+      can base limits before counts was sound.conserved (Attached k) 1 0 0 0 (puts_attached before k) refl refl refl (unspent (attach_refusal base limits before k) (is_spent base limits before (Attached k)) accepted)
 
   -- a client that isn't open has no socket
   pub socket_of-open : (before : List Step) (c space : ℕ) → AllByRecursion (λ (k : Socket). is_open base before k.client ≡ true) (sockets base before)
@@ -263,15 +296,6 @@ module _ (base : PlainBase) (limits : Limits) where
       on : (b : Bool) → is_open base before c ≡ b → (if b then find (λ (k : Socket). k.space == space) (sockets_of base before c) else None) ≡ find (λ (k : Socket). k.space == space) (sockets_of base before c)
       on true e = refl
       on false e = sym (ap (find (λ (k : Socket). k.space == space)) (sockets_of-none base limits c before e known))
-
-  -- where nothing is saved, only a connected socket takes an id
-  pub taken-unsaved : (before : List Step) (k : Socket) → sessions base limits before ≡ [] → (is_connected sid_of base before k.sid || is_connected pid_of base before k.pid) ≡ is_taken base limits before k
-  taken-unsaved before k none = rw none (on (is_connected sid_of base before k.sid) (is_connected pid_of base before k.pid))
-    where
-      on : (a b : Bool) → (a || b) ≡ ((a || false) || (b || false))
-      on true b = refl
-      on false true = refl
-      on false false = refl
 
 -- ---- the maps
 
@@ -304,15 +328,17 @@ unseated find mid new c k first second q = second q ∙ ap (λ o. if c == q then
     on false o = refl
 
 -- maps with the same look-ups
-pub same-fields : (base : PlainBase) (limits : Limits) (find find' : ℕ → Option PlainClient) (seat seat' : ℕ → Option Socket) (is_pid is_pid' : ℕ → Bool) (sets sets' : RoomSets) (offset : Option ℕ) (newest : ℕ) (journal : List Step)
-    → Fields base limits find seat is_pid sets offset newest journal → ((q : ℕ) → find' q ≡ find q) → ((s : ℕ) → seat' s ≡ seat s) → ((p : ℕ) → is_pid' p ≡ is_pid p) → sets' ≡ sets
-    → Fields base limits find' seat' is_pid' sets' offset newest journal
-same-fields base limits find find' seat seat' is_pid is_pid' sets sets' offset newest journal was clients seats pids rooms = record {
+pub same-fields : (base : PlainBase) (limits : Limits) (find find' : ℕ → Option PlainClient) (seat seat' : ℕ → Option Socket) (is_pid is_pid' : ℕ → Bool) (sets sets' : RoomSets) (table : TableContents) (packets : LogContents) (newest : ℕ) (journal : List Step)
+    → Fields base limits find seat is_pid sets table packets newest journal → ((q : ℕ) → find' q ≡ find q) → ((s : ℕ) → seat' s ≡ seat s) → ((p : ℕ) → is_pid' p ≡ is_pid p) → sets' ≡ sets
+    → Fields base limits find' seat' is_pid' sets' table packets newest journal
+same-fields base limits find find' seat seat' is_pid is_pid' sets sets' table packets newest journal was clients seats pids rooms = record {
   clients = λ q. clients q ∙ was.clients q;
   seats = λ s. seats s ∙ was.seats s;
   pids = λ p. pids p ∙ was.pids p;
   rooms_are = rooms ∙ was.rooms_are;
-  next_is = was.next_is;
+  saved_is = was.saved_is;
+  log_is = was.log_is;
+  log_last = was.log_last;
   last = was.last;
 }
 

@@ -1,10 +1,12 @@
 -- What a hub keeps: its state is what its base and its journal say.
-use Rattle.std.specs.Prelude.{◌≡◌, ℕ, ◌+◌, ◌<◌, ◌≤◌, ◌^◌, Bool, true, false, List, [], ◌∷◌, ◌++◌, drop, take, length, ◌-◌, reverse, nat_eq, Option, None, Some, Result, Ok, Err, unwrap_or, if◌then◌else◌}
+use Rattle.std.specs.Prelude.{◌≡◌, ℕ, ◌+◌, ◌<◌, ◌≤◌, ◌^◌, Bool, true, false, List, [], ◌∷◌, ◌++◌, drop, take, length, ◌-◌, ◌==◌, not, filter, reverse, nat_eq, Option, None, Some, Result, Ok, Err, unwrap_or, if◌then◌else◌}
 use Rattle.std.specs.Ordering.{nat_cmp}
 use Rattle.std.specs.List.{IsDistinct, AllByRecursion}
 use Rattle.std.specs.BTreeMap.{get}
 use Rattle.std.specs.BTreeSet as sorted
 use Rattle.room_maps.specs.Membership.{RoomSets}
+use Rattle.recovery.specs.PacketLog.{LogContents}
+use Rattle.recovery.specs.SavedTable.{TableContents}
 use Rattle.sio_wire.specs.declared.entry.Entry.{Entry}
 use Rattle.hub_state.specs.declared.error.HubError.{HubError}
 use Rattle.hub_state.specs.declared.error.HubError.TheVariants.{Memory}
@@ -15,11 +17,10 @@ use Rattle.hub_state.specs.Plain.{Limits, PlainBase, PlainClient}
 use Rattle.hub_state.specs.Journal.{History, moment, with_step}
 use Rattle.hub_state.specs.Membership.{open_clients, is_open, sockets, socket_with, sid_of, pid_of, is_connected, sockets_of, rooms, is_space}
 use Rattle.hub_state.specs.Sessions.{sessions}
-use Rattle.hub_state.specs.Log.{next}
+use Rattle.hub_state.specs.Log.{log, next}
 use Rattle.hub_state.specs.Outboxes.{waiting}
 use Rattle.hub_state.specs.Totals as totals
-use Rattle.hub_state.specs.Totals.{handed_out, IsConserved}
-use Rattle.hub_state.specs.Legal.{AreApart, EachTwo, IsLegal}
+use Rattle.hub_state.specs.Totals.{handed_out}
 use Rattle.hub_state.specs.declared.totals.Counts.{Counts}
 
 -- ---- the contract of a command
@@ -63,24 +64,15 @@ plus_socket socket known = record known { sockets = known.sockets ++ socket ∷ 
 abbrev pub without_last : PlainClient → PlainClient
 without_last known = record known { sockets = take (length known.sockets - 1) known.sockets }
 
--- clients are open once; sockets are apart, in namespaces of the hub and of open clients; nothing is saved; what was
--- put was handed out, was discarded or waits
-pub record Kept (base : PlainBase) (limits : Limits) (journal : List Step) : Type 0 where
-  pub clients_once : IsDistinct nat_eq (open_clients base journal)
-  pub sockets_apart : EachTwo AreApart (sockets base journal)
-  pub of_open_clients : AllByRecursion (λ (k : Socket). is_open base journal k.client ≡ true) (sockets base journal)
-  pub in_spaces : AllByRecursion (λ (k : Socket). is_space limits k.space ≡ true) (sockets base journal)
-  pub nothing_saved : sessions base limits journal ≡ []
-  pub few_spaces : length limits.spaces ≤ 65536
-  pub conserved : IsConserved base limits journal
-
--- the maps, the next offset and the last moment are what the history says
-pub record Fields (base : PlainBase) (limits : Limits) (find : ℕ → Option PlainClient) (seat : ℕ → Option Socket) (is_pid : ℕ → Bool) (sets : RoomSets) (offset : Option ℕ) (newest : ℕ) (journal : List Step) : Type 0 where
+-- the maps, the saved sessions, the log and the last moment are what the history says
+pub record Fields (base : PlainBase) (limits : Limits) (find : ℕ → Option PlainClient) (seat : ℕ → Option Socket) (is_pid : ℕ → Bool) (sets : RoomSets) (table : TableContents) (packets : LogContents) (newest : ℕ) (journal : List Step) : Type 0 where
   pub clients : (c : ℕ) → find c ≡ client_at base limits journal c
   pub seats : (s : ℕ) → seat s ≡ socket_with sid_of base journal s
   pub pids : (p : ℕ) → is_pid p ≡ is_connected pid_of base journal p
   pub rooms_are : sets ≡ rooms base journal
-  pub next_is : offset ≡ next base journal
+  pub saved_is : table ≡ record { limit = limits.saved; sessions = sessions base limits journal }
+  pub log_is : packets ≡ record { limit = limits.log; next = next base journal; last = packets.last; entries = log base limits journal }
+  pub log_last : packets.last ≤ newest
   pub last : newest ≡ moment base journal
 
 -- the counts are what the history counts
@@ -99,3 +91,16 @@ CanCount counts puts drops takes discards =
     × (counts.dropped + drops ≤ 18446744073709551615)
     × (counts.taken + takes ≤ 18446744073709551615)
     × (counts.discarded + discards ≤ 18446744073709551615)
+
+-- a client without the socket with this session id
+abbrev pub without_sid : ℕ → PlainClient → PlainClient
+without_sid s known = record known { sockets = filter (λ (k : Socket). not (k.sid == s)) known.sockets }
+
+-- what is held of a client's sockets, and what waits for it, if anything is held of it
+abbrev pub held_sockets : Option PlainClient → List Socket
+held_sockets None = []
+held_sockets (Some known) = known.sockets
+
+abbrev pub held_entries : Option PlainClient → List Entry
+held_entries None = []
+held_entries (Some known) = known.outbox.waiting

@@ -3,19 +3,19 @@ use Rattle.std.specs.Prelude.{◌≡◌, ◌≢◌, ℕ, ◌≤◌, ◌<◌, ◌
 use Rattle.std.specs.List.{list_any, IsDistinct, AllByRecursion}
 use Rattle.sio_wire.specs.declared.entry.Entry.{Entry}
 use Rattle.sio_wire.specs.Offset.{is_bracket}
-use Rattle.recovery.specs.PacketLog.{IsRun, RisesTo, number_of}
+use Rattle.recovery.specs.PacketLog.{IsRun, Rises, latest}
 use Rattle.recovery.specs.SavedTable.{PlainSaved}
 use Rattle.recovery.specs.Missed.{missed}
-use Rattle.room_maps.specs.Membership.{AreConsistent}
+use Rattle.room_maps.specs.Membership.{AreConsistent, is_socket, are_too_many}
 use Rattle.hub_state.specs.declared.socket.Socket.{Socket}
 use Rattle.hub_state.specs.declared.step.Step.{Step}
 use Rattle.hub_state.specs.declared.step.What.{What}
 use Rattle.hub_state.specs.declared.step.What.TheVariants.{Opened, Attached, Recovered, Joined, Left, Cast, Told, Took, Parked, Ended, Closed, Swept}
 use Rattle.hub_state.specs.Plain.{Limits, PlainBase, PlainRecovery, PlainBroadcast}
 use Rattle.hub_state.specs.Journal.{moment}
-use Rattle.hub_state.specs.Membership.{open_clients, is_open, sockets, sid_of, pid_of, socket_of, rooms, is_space}
+use Rattle.hub_state.specs.Membership.{open_clients, is_open, sockets, sid_of, pid_of, is_connected, socket_of, rooms, is_space}
 use Rattle.hub_state.specs.Sessions.{sessions, session_with}
-use Rattle.hub_state.specs.Log.{log, next, next_number}
+use Rattle.hub_state.specs.Log.{log, log_calls, next, next_number}
 use Rattle.hub_state.specs.Outboxes.{waiting}
 use Rattle.hub_state.specs.Broadcast.{RightCast, SpellsEvent}
 use Rattle.hub_state.specs.Totals.{is_spent, IsConserved}
@@ -70,16 +70,23 @@ unfoldable pub EachTwo : {X : Type 0} → (X → X → Type 0) → List X → Ty
 EachTwo R [] = Unit {0}
 EachTwo R (x ∷ xs) = AllByRecursion (R x) xs × EachTwo R xs
 
--- clients are open once; sockets are apart, in a namespace of the hub and of open clients; no session is both saved
--- and connected; offsets of the log rise by one and end below the next
+-- clients are open once; sockets are apart, in a namespace of the hub and of open clients, and just they are in rooms,
+-- each in its own; no session is both saved and connected, and saved ones have different ids and at most 256 rooms;
+-- offsets of the log rise by one and end below the next, and its moments never fall
 pub record IsSound (base : PlainBase) (limits : Limits) (journal : List Step) : Type 0 where
+  pub few_spaces : length limits.spaces ≤ 65536
   pub clients_once : IsDistinct nat_eq (open_clients base journal)
   pub sockets_apart : EachTwo AreApart (sockets base journal)
   pub of_open_clients : AllByRecursion (λ (k : Socket). is_open base journal k.client ≡ true) (sockets base journal)
   pub in_spaces : AllByRecursion (λ (k : Socket). is_space limits k.space ≡ true) (sockets base journal)
+  pub seated : (s : ℕ) → is_socket (rooms base journal) s ≡ is_connected sid_of base journal s
+  pub rooms_agree : AreConsistent (rooms base journal)
   pub apart : AllByRecursion (IsAway (sockets base journal)) (sessions base limits journal)
   pub sessions_differ : EachTwo DifferInIds (sessions base limits journal)
+  pub few_rooms : AllByRecursion (λ (s : PlainSaved). are_too_many s.sid s.rooms ≡ false) (sessions base limits journal)
   pub offsets_rise : IsRun (next_number base journal) (log base limits journal)
+  pub log_rises : Rises (log_calls base limits journal)
+  pub log_late : latest (log_calls base limits journal) ≤ moment base journal
   pub conserved : IsConserved base limits journal
 
 -- each step was allowed by those before it, none passed a count, and moments never fall; the base is sound

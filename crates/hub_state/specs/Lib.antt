@@ -7,7 +7,12 @@ pub mod Log
 pub mod Outboxes
 pub mod Broadcast
 pub mod Totals
+pub mod Recovery
 pub mod Refusals
 pub mod Legal
 pub mod Hub
+pub mod Casting
 pub mod Inside
+pub mod LastWord
+pub mod Parking
+pub mod Seal

@@ -1,5 +1,5 @@
 -- The data of configuration, steps and base as plain values, in which two are equal where their contents are.
-use Rattle.std.specs.Prelude.{ℕ, List, Option}
+use Rattle.std.specs.Prelude.{ℕ, Bool, List, Option}
 use Rattle.sio_wire.specs.declared.entry.Entry.{Entry}
 use Rattle.recovery.specs.PacketLog.{PlainLogged}
 use Rattle.recovery.specs.SavedTable.{PlainSaved}
@@ -27,6 +27,16 @@ pub record PlainBroadcast : Type 0 where
   pub offset : Option ℕ
   pub entry : Entry
   pub dropped : List ℕ
+
+-- a broadcast that is asked for: the name of its namespace, its rooms and excepted rooms, whether it is logged, the
+-- event as a JSON array and its attachments
+pub record PlainCast : Type 0 where
+  pub space : List ℕ
+  pub rooms : List (List ℕ)
+  pub excepted : List (List ℕ)
+  pub logged : Bool
+  pub payload : List ℕ
+  pub attachments : List (List ℕ)
 
 -- a session that came back: its socket, the offset that was named, its rooms, and the offsets of what it missed
 pub record PlainRecovery : Type 0 where

@@ -38,7 +38,7 @@ impl Model for Base {
 pub struct BaseClient {
     pub client: u128,
     /// The place of the namespace, the session id and the private session id of each of its
-    /// sockets, rising.
+    /// sockets, in the order in which they were connected.
     pub sockets: Vec<(u16, Sid, Pid)>,
     /// What waits for it, in order.
     pub waiting: Vec<Arc<Entry>>,

@@ -2,10 +2,13 @@
 #![tactic(auto)]
 
 mod base;
+mod broadcast;
 mod client;
 mod config;
 mod contents;
+mod epoch;
 mod error;
+mod laws;
 mod namespaces;
 mod outbox;
 mod socket;
@@ -14,13 +17,13 @@ mod step;
 mod totals;
 
 pub use base::{Base, BaseClient};
+pub use broadcast::{Cast, CastDone};
 pub use config::Config;
 pub use contents::{Broadcast, Message, Recovery};
+pub use epoch::Epoch;
 pub use error::{HubError, RecoveryRefusal};
+pub use laws::last_words;
 pub use socket::Socket;
-pub use state::State;
+pub use state::{State, Swept};
 pub use step::{Step, What};
 pub use totals::Totals;
-
-#[cfg(test)]
-mod tests;

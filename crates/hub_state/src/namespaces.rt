@@ -53,6 +53,8 @@ fn has_stranger(names: &[Text]) -> bool
 pub(crate) fn is_bad(config: &Config) -> bool
     ensures is { result ≡ rules.is_bad_config config.now }
     ensures few { result ≡ false → length config.now.spaces ≤ 65536 }
+    ensures log { result ≡ false → 1 ≤ config.now.log }
+    ensures first { result ≡ false → 1 ≤ config.now.first_offset }
 {
     config.clients == 0
         || config.capacity == 0

@@ -1,6 +1,6 @@
 //! A client's queue of entries, which is bounded by their number and by their bytes.
 
-ghost use Rattle.std.specs.Prelude.{◌≡◌, ℕ, ◌+◌, ◌<◌, ◌≤◌, ◌^◌, [], ◌∷◌, ◌++◌, length, take, drop, map, false, ◌||◌, nat_le, nat_lt, IfOk, IfSome, IfNone, option_copied, slice_get, Some, None};
+ghost use Rattle.std.specs.Prelude.{◌≡◌, ℕ, ◌+◌, ◌<◌, ◌≤◌, ◌^◌, [], ◌∷◌, ◌++◌, length, take, drop, map, false, ◌||◌, nat_le, nat_lt, IfOk, OnOk, IfSome, IfNone, option_copied, slice_get, Some, None};
 ghost use Rattle.std.specs.Arc.{arc_value};
 ghost use Rattle.sio_wire.specs.Entry.{entry_size};
 ghost use Rattle.hub_state.specs.Outboxes.{total_size, has_no_place};
@@ -36,7 +36,7 @@ impl Model for Outbox {
 
 /// The room that is left after an entry, or `None` where there isn't room for it.
 #[tactic(auto, using(std::proofs::lemmas::List::Sums::sum_by_more_le))]
-fn room_after(room: usize, entry: &Entry) -> Option<usize>
+pub(crate) fn room_after(room: usize, entry: &Entry) -> Option<usize>
     ensures some { IfSome result (λ left. left + entry_size entry.now ≡ room) }
     ensures none { IfNone result (room < entry_size entry.now) }
 {
@@ -159,4 +159,25 @@ impl Outbox {
         }
         Ok(entries)
     }
+
+    /// The entries that wait, in order, each shared.
+    pub(crate) fn shares(&self, alloc: Global) -> Result<Vec<Arc<Entry>>, AllocError>
+        ensures { IfOk result (λ entries. map arc_value entries.items ≡ self.now.waiting) }
+    {
+        let mut entries = Vec::with_capacity(alloc, self.ring.len())?;
+        let (front, back) = self.ring.as_slices();
+        share_all(&mut entries, front)?;
+        share_all(&mut entries, back)?;
+        Ok(entries)
+    }
+}
+
+/// Puts shares of the entries at the end of the list.
+fn share_all(list: &mut Vec<Arc<Entry>>, entries: &[Arc<Entry>]) -> Result<(), AllocError>
+    ensures { OnOk result (map arc_value list.new.items ≡ map arc_value list.old.items ++ map arc_value entries.now) }
+{
+    for entry in entries {
+        list.push(Arc::try_clone(entry)?)?;
+    }
+    Ok(())
 }

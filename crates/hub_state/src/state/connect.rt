@@ -11,7 +11,7 @@ ghost use Rattle.room_maps.specs.Membership as room_maps;
 ghost use Rattle.sio_wire.specs.Entry.{entry_size};
 ghost use Rattle.sio_wire.specs.ConnectAnswer as connect_answer;
 ghost use Rattle.hub_state.specs.Membership.{place_of, is_open, is_connected, pid_of, sid_of, sockets_of, socket_of};
-ghost use Rattle.hub_state.specs.Sessions.{sessions};
+ghost use Rattle.hub_state.specs.Sessions.{sessions, is_sid_saved, is_pid_saved};
 ghost use Rattle.hub_state.specs.Outboxes.{answer, waiting, total_size, is_full};
 ghost use Rattle.hub_state.specs.Outboxes as outboxes;
 ghost use Rattle.hub_state.specs.Journal.{with_step};
@@ -24,7 +24,8 @@ ghost use Rattle.hub_state.specs.declared.step.What.{What};
 use crate::client::Client;
 use crate::error::HubError;
 use crate::socket::Socket;
-use crate::state::{State, count, put_entry, record, reserve};
+use crate::state::deliver::put_entry;
+use crate::state::{State, count, record, reserve};
 use crate::step::What;
 use recovery::Pid;
 use room_maps::{Rooms, Sid};
@@ -92,7 +93,7 @@ fn answer_text(alloc: Global, name: &str, sid: Sid, pid: Pid) -> Result<Entry, H
 }
 
 /// Makes a socket known by its session id.
-fn add_seat(seats: &mut BTreeMap<Sid, Socket>, socket: Socket) -> Result<(), HubError>
+pub(crate) fn add_seat(seats: &mut BTreeMap<Sid, Socket>, socket: Socket) -> Result<(), HubError>
     ensures ok { OnOk result ((s : ℕ) → get nat_cmp seats.new s ≡ (if socket.sid == s then Some socket else get nat_cmp seats.old s)) }
     ensures err { OnErr result ((s : ℕ) → get nat_cmp seats.new s ≡ get nat_cmp seats.old s) }
     ensures memory { IfErr result (λ e. e ≡ HubError.Memory) }
@@ -104,14 +105,14 @@ fn add_seat(seats: &mut BTreeMap<Sid, Socket>, socket: Socket) -> Result<(), Hub
 }
 
 /// Forgets the socket with a session id.
-fn drop_seat(seats: &mut BTreeMap<Sid, Socket>, sid: Sid)
+pub(crate) fn drop_seat(seats: &mut BTreeMap<Sid, Socket>, sid: Sid)
     ensures { (s : ℕ) → get nat_cmp seats.new s ≡ (if sid == s then None else get nat_cmp seats.old s) }
 {
     seats.remove(&sid);
 }
 
 /// Makes a socket known by its private id.
-fn add_pid(pids: &mut BTreeSet<Pid>, pid: Pid) -> Result<(), HubError>
+pub(crate) fn add_pid(pids: &mut BTreeSet<Pid>, pid: Pid) -> Result<(), HubError>
     ensures ok { OnOk result ((p : ℕ) → sorted.contains nat_cmp pids.new p ≡ ((pid == p) || sorted.contains nat_cmp pids.old p)) }
     ensures err { OnErr result ((p : ℕ) → sorted.contains nat_cmp pids.new p ≡ sorted.contains nat_cmp pids.old p) }
     ensures memory { IfErr result (λ e. e ≡ HubError.Memory) }
@@ -123,7 +124,7 @@ fn add_pid(pids: &mut BTreeSet<Pid>, pid: Pid) -> Result<(), HubError>
 }
 
 /// Forgets a private id.
-fn drop_pid(pids: &mut BTreeSet<Pid>, pid: Pid)
+pub(crate) fn drop_pid(pids: &mut BTreeSet<Pid>, pid: Pid)
     ensures { (p : ℕ) → sorted.contains nat_cmp pids.new p ≡ (if pid == p then false else sorted.contains nat_cmp pids.old p) }
 {
     pids.remove(&pid);
@@ -162,7 +163,7 @@ fn enter(
 }
 
 /// Gives a client a socket more.
-fn add_socket(
+pub(crate) fn add_socket(
     clients: &mut BTreeMap<u128, Client>,
     client: u128,
     socket: Socket,
@@ -183,7 +184,7 @@ fn add_socket(
 }
 
 /// Takes the newest socket of a client away.
-fn drop_socket(clients: &mut BTreeMap<u128, Client>, client: u128)
+pub(crate) fn drop_socket(clients: &mut BTreeMap<u128, Client>, client: u128)
     ensures { (q : ℕ) → get nat_cmp clients.new q ≡ (if client == q then option_map without_last (get nat_cmp clients.old q) else get nat_cmp clients.old q) }
 {
     if let Some(known) = clients.get_mut(&client) {
@@ -194,14 +195,14 @@ fn drop_socket(clients: &mut BTreeMap<u128, Client>, client: u128)
 impl State {
     /// The place of a namespace in the hub's list, or the length of the list where it isn't there.
     #[tactic(auto, unfolding(crate::specs::Membership::place_of))]
-    fn place_of(&self, space: &str) -> usize
+    pub(crate) fn place_of(&self, space: &str) -> usize
         ensures { result ≡ place_of self.now.limits space.now }
     {
         place_in(&self.limits.spaces, space)
     }
 
     /// The namespaces.
-    fn spaces(&self) -> &[Text]
+    pub(crate) fn spaces(&self) -> &[Text]
         ensures names { result.now ≡ self.now.limits.spaces }
         ensures few { length self.now.limits.spaces ≤ 65536 }
     {
@@ -226,7 +227,7 @@ impl State {
     }
 
     /// The socket of a client at a place.
-    fn socket_at(&self, client: u128, place: usize) -> Option<Socket>
+    pub(crate) fn socket_at(&self, client: u128, place: usize) -> Option<Socket>
         ensures { result ≡ socket_of self.now.base self.now.journal client place }
     {
         self.facts();
@@ -245,18 +246,26 @@ impl State {
         }
     }
 
-    /// Nothing is saved.
-    fn nothing_saved(&self)
-        ensures { sessions self.now.base self.now.limits self.now.journal ≡ [] }
+    /// Whether a saved session has this session id.
+    fn is_sid_saved(&self, sid: Sid) -> bool
+        ensures { result ≡ is_sid_saved (sessions self.now.base self.now.limits self.now.journal) sid }
     {
-        let _fields = &self.base;
+        self.saved.has_sid(sid)
     }
 
+    /// Whether a saved session has this private id.
+    fn is_pid_saved(&self, pid: Pid) -> bool
+        ensures { result ≡ is_pid_saved (sessions self.now.base self.now.limits self.now.journal) pid }
+    {
+        self.saved.has_pid(pid)
+    }
+
+    /// Whether a connected socket or a saved session has one of these ids.
     fn is_taken(&self, sid: Sid, pid: Pid) -> bool
         ensures { (c space : ℕ) → result ≡ is_taken self.now.base self.now.limits self.now.journal (record { client = c; space = space; sid = sid; pid = pid }) }
     {
-        self.nothing_saved();
-        self.is_connected(sid) || self.is_pid_connected(pid)
+        (self.is_connected(sid) || self.is_sid_saved(sid))
+            || (self.is_pid_connected(pid) || self.is_pid_saved(pid))
     }
 
     /// Whether an open client's outbox has no place for an entry of this many bytes.
@@ -270,7 +279,7 @@ impl State {
     }
 
     /// The namespace at a place, or the empty text where there is none.
-    fn name_at(&self, place: usize) -> &str
+    pub(crate) fn name_at(&self, place: usize) -> &str
         ensures { result.now ≡ get_or self.now.limits.spaces place [] }
     {
         match self.spaces().get(place) {
@@ -280,14 +289,20 @@ impl State {
     }
 
     /// How many bytes the answer to a CONNECT to the namespace at a place has.
-    fn answer_size(&self, place: usize) -> usize
+    pub(crate) fn answer_size(&self, place: usize) -> usize
         ensures { (client sid pid : ℕ) → result ≡ entry_size (answer self.now.limits (record { client = client; space = place; sid = sid; pid = pid })) }
     {
         answer_size(self.name_at(place))
     }
 
     /// The answer to a CONNECT to the namespace at a place.
-    fn answer(&self, alloc: Global, place: usize, sid: Sid, pid: Pid) -> Result<Entry, HubError>
+    pub(crate) fn answer(
+        &self,
+        alloc: Global,
+        place: usize,
+        sid: Sid,
+        pid: Pid,
+    ) -> Result<Entry, HubError>
         ensures ok { IfOk result (λ entry. (client : ℕ) → entry ≡ answer self.now.limits (record { client = client; space = place; sid = sid; pid = pid })) }
         ensures memory { IfErr result (λ e. e ≡ HubError.Memory) }
     {
@@ -328,7 +343,7 @@ impl State {
     /// Connects a client's new socket to a namespace: it is in its own room, and the answer to the
     /// CONNECT is put. Refused as `UnknownClient`, `UnknownNamespace`, `AlreadyConnected`,
     /// `IdTaken`, `OutboxFull`, `Spent`, then for `Memory`. It takes the logarithm of the clients
-    /// and sockets, and walks the namespaces and the client's sockets.
+    /// and sockets, and walks the namespaces, the client's sockets and the saved sessions.
     pub fn attach(
         &mut self,
         alloc: Global,
@@ -409,6 +424,7 @@ impl State {
             drop_socket(&mut self.clients, client);
             return Err(HubError::Memory);
         }
+        self.rooms.kept_facts();
         put_entry(&mut self.clients, client, answer);
         count(&mut self.counts, 1, 0, 0, 0);
         let what = What::Attached(socket);

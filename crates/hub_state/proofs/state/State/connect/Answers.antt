@@ -21,5 +21,5 @@ invariant_of-self-2 c =
     let rooms : c.enter-entered.new.rooms ≡ room_maps.with_socket c.self.inside.rooms c.args.socket.sid = search rules in
     rw (c.record.ensures.journal, c.record.ensures.last, c.reserve.ensures.items, c.count.ensures)
     (attached c.self.inside.base c.self.inside.limits c.args.socket c.args.now c.self.inside.last (get nat_cmp c.self.inside.clients) (get nat_cmp c.put_entry.new.clients) (get nat_cmp c.self.inside.seats) (get nat_cmp c.enter-entered.new.seats)
-    (sorted.contains nat_cmp c.self.inside.pids) (sorted.contains nat_cmp c.enter-entered.new.pids) c.self.inside.rooms c.enter-entered.new.rooms c.self.inside.next c.self.inside.counts (reverse c.self.inside.journal.items)
-    c.self.invariant (rw (← c.self.view_is) at c.requires.accepted) puts seats pids rooms)
+    (sorted.contains nat_cmp c.self.inside.pids) (sorted.contains nat_cmp c.enter-entered.new.pids) c.self.inside.rooms c.enter-entered.new.rooms c.self.inside.saved c.self.inside.log c.self.inside.counts (reverse c.self.inside.journal.items)
+    c.self.invariant (rw (← c.self.view_is) at c.requires.accepted) puts seats pids rooms c.kept_facts.ensures)

@@ -5,7 +5,7 @@ use Rattle.hub_state.proofs.state.State.leave.Goals as goal
 pub invariant_of-self-2 : goal.invariant_of-self-2
 invariant_of-self-2 c =
     rw (c.record.ensures.journal, c.record.ensures.last, c.reserve.ensures.items, c.count.ensures)
-    (left _ _ c.args.sid c.args.room c.args.now _ _ _ _ _ _ _ _ _ c.self.invariant (search rules) c.take_out.ensures)
+    (left _ _ c.args.sid c.args.room c.args.now _ _ _ _ _ _ _ _ _ _ c.self.invariant (search rules) c.take_out.ensures.left c.take_out.ensures.agree)
 
 pub count-requires : goal.count-requires
 count-requires c = can_leave _ _ _ _ c.self.invariant.3 c.self.invariant.2 c.args.sid c.args.room (search rules)

@@ -1,0 +1,5 @@
+use Rattle.hub_state.proofs.LegalLemmas.{cast-at}
+use Rattle.hub_state.proofs.state.State.facts.Goals as goal
+
+pub returns-clause-casts : goal.returns-clause-casts
+returns-clause-casts c = rw (← c.self.view_is) (λ later before step b is what. cast-at _ _ _ later step before b c.self.invariant.1 is what)

@@ -1,0 +1,18 @@
+use Rattle.std.proofs.Common.{◌&&◌, reverse}
+use Rattle.std.specs.Ordering.{nat_cmp}
+use Rattle.std.specs.BTreeMap.{get}
+use Rattle.terms.specs.Listing.{ListsRising}
+use Rattle.room_maps.specs.Membership.{is_in}
+use Rattle.hub_state.specs.Membership.{is_in_space, rooms}
+use Rattle.hub_state.proofs.MembersLemmas.{here-members, ok-for}
+use Rattle.hub_state.proofs.state.State.members_at.Goals as goal
+
+pub returns-clause-ok : goal.returns-clause-ok
+returns-clause-ok c =
+    let base = c.self.inside.base in
+    let journal = reverse c.self.inside.journal.items in
+    let kept = rw c.deref.ensures.value at c.keep_here.ensures.ok in
+    let inside = rw (← c.self.view_is) at c.in_ok-sids.ensures.ok in
+    rw (← c.self.view_is)
+    (ok-for (λ v. v.items) c.keep_here.result _ (ListsRising nat_cmp (λ s. is_in_space base journal c.args.place s && is_in (rooms base journal) s c.args.room)) kept
+    (here-members base journal c.self.invariant.2.sockets_apart (get nat_cmp c.self.inside.seats) c.self.invariant.0.seats c.args.place (λ s. is_in (rooms base journal) s c.args.room) c.in_ok-sids.sids.items inside))

@@ -1,0 +1,25 @@
+use Rattle.std.proofs.Common.{rules, reverse}
+use Rattle.std.specs.Ordering.{nat_cmp}
+use Rattle.std.specs.BTreeMap.{get}
+use Rattle.hub_state.proofs.ParkLemmas.{parked, can_park, can_part}
+use Rattle.hub_state.proofs.state.State.park.Goals as goal
+
+pub invariant_of-self-2 : goal.invariant_of-self-2
+invariant_of-self-2 c =
+    rw (c.record.ensures.journal, c.record.ensures.last, c.reserve.ensures.items, c.count.ensures)
+    (parked _ _ c.args.client c.forget_client-discards.result c.args.now _ _ _ _ _ _ _ _ _ _ _ _ _ _ c.self.invariant (search rules) c.forget_client-discards.ensures.discards c.forget_client-discards.ensures.clients
+    c.forget_client-discards.ensures.seats c.forget_client-discards.ensures.pids c.forget_client-discards.ensures.rooms c.kept_facts.ensures c.max-at.result (search rules) c.in_ok-save_client.ensures.saved)
+
+pub count-requires : goal.count-requires
+count-requires c =
+    can_park c.self.inside.base c.self.inside.limits (get nat_cmp c.self.inside.clients) (reverse c.self.inside.journal.items) c.self.inside.counts c.self.invariant.3 c.self.invariant.2 c.self.invariant.0.clients
+    c.args.client c.forget_client-discards.result (search rules) c.forget_client-discards.ensures.discards
+
+pub forget_client-discards-requires-clause-known : goal.forget_client-discards-requires-clause-known
+forget_client-discards-requires-clause-known c = (can_part _ _ c.args.client _ (get nat_cmp c.self.inside.clients) _ _ _ _ _ _ _ c.self.invariant (search rules)).0
+
+pub forget_client-discards-requires-clause-apart : goal.forget_client-discards-requires-clause-apart
+forget_client-discards-requires-clause-apart c = (can_part _ _ c.args.client _ (get nat_cmp c.self.inside.clients) _ _ _ _ _ _ _ c.self.invariant (search rules)).1
+
+pub save_client-requires : goal.save_client-requires
+save_client-requires c = (can_part _ _ c.args.client _ (get nat_cmp c.self.inside.clients) _ _ _ _ _ _ _ c.self.invariant (search rules)).2

@@ -1,0 +1,30 @@
+use Rattle.std.proofs.Common.{rules, ◌≡◌, false, subst, sym, ap, ◌∙◌, length, reverse}
+use Rattle.std.specs.List.{AllByRecursion}
+use Rattle.std.specs.Ordering.{nat_cmp}
+use Rattle.std.specs.BTreeMap.{get}
+use Rattle.std.specs.BTreeSet as sorted
+use Rattle.hub_state.specs.Plain.{PlainMessage}
+use Rattle.hub_state.specs.Casting.{is_full_in, with_logged}
+use Rattle.hub_state.proofs.CastStepLemmas.{casted}
+use Rattle.hub_state.proofs.state.State.send.Goals as goal
+
+pub put_messages-requires-clause-places : goal.put_messages-requires-clause-places
+put_messages-requires-clause-places c =
+    let places = rw (← c.self.view_is) at c.requires.tells.places in
+    subst (λ find. AllByRecursion (λ (m : PlainMessage). is_full_in find m.entry m.client ≡ false) c.args.messages.items) (λ i q. sym (c.self.invariant.0.clients q) i) places
+
+pub invariant_of-self-2 : goal.invariant_of-self-2
+invariant_of-self-2 c =
+    let event = rw (← c.self.view_is) at c.requires.event in
+    let given = rw (← c.self.view_is) at c.requires.offset in
+    let told = rw (← c.self.view_is) at c.requires.tells in
+    let room = rw (← c.self.view_is) at c.requires.unspent in
+    let logs = rw (← c.self.view_is, ← c.self.invariant.0.last) at c.requires.logged in
+    let logged = c.push_logged.ensures ∙ ap (with_logged c.self.inside.log) logs in
+    let placed : c.outcome-done.result.placed ≡ length c.args.messages.items = search rules in
+    let dropped : c.outcome-done.result.dropped ≡ length c.args.broadcast.dropped = search rules in
+    rw (c.record.ensures.journal, c.record.ensures.last, c.reserve.ensures.items, c.count.ensures, placed, dropped)
+    (casted c.self.inside.base c.self.inside.limits (reverse c.self.inside.journal.items) c.args.broadcast c.self.invariant.1 c.self.invariant.2 event.0 event.1 event.2 given
+    c.args.messages.items told c.args.now c.self.inside.last (get nat_cmp c.self.inside.clients) (get nat_cmp c.put_messages.new.clients) (get nat_cmp c.self.inside.seats)
+    (sorted.contains nat_cmp c.self.inside.pids) c.self.inside.rooms c.self.inside.saved c.self.inside.log c.push_logged.new.log c.self.inside.counts
+    c.self.invariant room logged c.put_messages.ensures)

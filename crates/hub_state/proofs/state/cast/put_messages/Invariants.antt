@@ -1,0 +1,13 @@
+use Rattle.std.proofs.Common.{◌≡◌, ℕ, ◌++◌, map}
+use Rattle.std.specs.Ordering.{nat_cmp}
+use Rattle.std.specs.BTreeMap.{get}
+use Rattle.std.specs.Option.{option_map}
+use Rattle.hub_state.specs.Outboxes.{entries_for}
+use Rattle.hub_state.specs.Casting.{pair_of, with_entries}
+use Rattle.hub_state.proofs.state.cast.put_messages.Given as goal
+
+abbrev pub invariant-loop-message : goal.invariant-loop-message
+invariant-loop-message l = record {
+  clients : (q : ℕ) → get nat_cmp l.clients q ≡ option_map (with_entries (entries_for q (map pair_of l.yielded))) (get nat_cmp l.initial.clients q);
+  split : l.fn.messages.items ≡ l.yielded ++ l.message-iterator.rest.items;
+}

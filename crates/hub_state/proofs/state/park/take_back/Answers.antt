@@ -1,0 +1,9 @@
+use Rattle.hub_state.proofs.ParkLemmas.{one-back, none-back}
+use Rattle.hub_state.proofs.state.park.take_back.Goals as goal
+
+pub loop-socket-init : goal.loop-socket-init
+loop-socket-init c = none-back c.args.saved.now
+
+pub loop-socket-preserved : goal.loop-socket-preserved
+loop-socket-preserved c =
+    one-back c.socket-item.result c.loop-socket.socket-index c.args.sockets.now c.args.saved.now c.loop-socket.saved c.remove-taken.new.self c.loop-socket-test.true c.socket-item.is c.loop-socket.invariant c.remove-taken.ensures.removed

@@ -1,0 +1,87 @@
+//! Clients are closed.
+
+ghost use Rattle.std.specs.Prelude.{◌≡◌, ℕ, ◌==◌, true, false, length, None, if◌then◌else◌};
+ghost use Rattle.std.specs.List.{list_any, AllByRecursion};
+ghost use Rattle.std.specs.Ordering.{nat_cmp};
+ghost use Rattle.std.specs.BTreeMap.{get};
+ghost use Rattle.std.specs.BTreeSet as sorted;
+ghost use Rattle.room_maps.specs.Membership as room_maps;
+ghost use Rattle.hub_state.specs.Membership.{without_sockets};
+ghost use Rattle.hub_state.specs.Totals.{is_spent};
+ghost use Rattle.hub_state.specs.Refusals.{or_spent, client_refusal};
+ghost use Rattle.hub_state.specs.Legal.{EachTwo, AreApart};
+ghost use Rattle.hub_state.specs.Hub.{Does, held_sockets, held_entries};
+ghost use Rattle.hub_state.specs.declared.socket.Socket.{Socket};
+ghost use Rattle.hub_state.specs.declared.step.What.{What};
+
+use crate::client::Client;
+use crate::error::HubError;
+use crate::socket::Socket;
+use crate::state::end::forget_all;
+use crate::state::{State, count, record, reserve};
+use crate::step::What;
+use recovery::Pid;
+use room_maps::{Rooms, Sid};
+use std::collections::{BTreeMap, BTreeSet};
+
+/// Forgets a client and its sockets, with their ids and rooms. It says how many entries waited for
+/// the client.
+pub(crate) fn forget_client(
+    clients: &mut BTreeMap<u128, Client>,
+    seats: &mut BTreeMap<Sid, Socket>,
+    pids: &mut BTreeSet<Pid>,
+    rooms: &mut Rooms,
+    client: u128,
+) -> usize
+    requires known { AllByRecursion (λ (k : Socket). room_maps.is_socket rooms.old k.sid ≡ true) (held_sockets (get nat_cmp clients.old client)) }
+    requires apart { EachTwo AreApart (held_sockets (get nat_cmp clients.old client)) }
+    ensures discards { result ≡ length (held_entries (get nat_cmp clients.old client)) }
+    ensures clients { (q : ℕ) → get nat_cmp clients.new q ≡ (if client == q then None else get nat_cmp clients.old q) }
+    ensures seats { (s : ℕ) → get nat_cmp seats.new s ≡ (if list_any (λ (k : Socket). k.sid == s) (held_sockets (get nat_cmp clients.old client)) then None else get nat_cmp seats.old s) }
+    ensures pids { (p : ℕ) → sorted.contains nat_cmp pids.new p ≡ (if list_any (λ (k : Socket). k.pid == p) (held_sockets (get nat_cmp clients.old client)) then false else sorted.contains nat_cmp pids.old p) }
+    ensures rooms { rooms.new ≡ without_sockets rooms.old (held_sockets (get nat_cmp clients.old client)) }
+{
+    match clients.remove(&client) {
+        Some(known) => {
+            forget_all(seats, pids, rooms, &known.sockets);
+            known.outbox.len()
+        }
+        None => 0,
+    }
+}
+
+impl State {
+    fn close_refusal(&self, client: u128) -> Option<HubError>
+        ensures { result ≡ or_spent (client_refusal self.now.base self.now.journal client) (is_spent self.now.base self.now.limits self.now.journal (What.Closed client)) }
+    {
+        self.facts();
+        if !self.is_open(client) {
+            return Some(HubError::UnknownClient);
+        }
+        self.count_refusal(0, 0)
+    }
+
+    /// Closes a client: its sockets end, nothing of them is saved, and what waits for it is
+    /// discarded. Refused as `UnknownClient`, `Spent`, then for `Memory`. It takes the logarithm of
+    /// the clients and, for each of the client's sockets, that of the sockets, and each of their
+    /// rooms takes the logarithm of the sockets and of the rooms.
+    pub fn close(&mut self, client: u128, now: u64) -> Result<(), HubError>
+        ensures { Does self.old self.new now (What.Closed client) (or_spent (client_refusal self.old.base self.old.journal client) (is_spent self.old.base self.old.limits self.old.journal (What.Closed client))) result }
+    {
+        if let Some(refusal) = self.close_refusal(client) {
+            return Err(refusal);
+        }
+        reserve(&mut self.journal)?;
+        let discards = forget_client(
+            &mut self.clients,
+            &mut self.seats,
+            &mut self.pids,
+            &mut self.rooms,
+            client,
+        );
+        self.rooms.kept_facts();
+        count(&mut self.counts, 0, 0, 0, discards as u64);
+        record(&mut self.journal, &mut self.last, now, What::Closed(client));
+        Ok(())
+    }
+}

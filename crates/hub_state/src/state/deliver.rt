@@ -1,0 +1,157 @@
+//! Entries are put into clients' outboxes and handed out.
+
+ghost use Rattle.std.specs.Prelude.{◌≡◌, ℕ, ◌≤◌, true, false, length, min, take, ◌==◌, IfOk, IfErr, IfSome, IfNone, None, Some, if◌then◌else◌};
+ghost use Rattle.std.specs.Ordering.{nat_cmp};
+ghost use Rattle.std.specs.BTreeMap.{get};
+ghost use Rattle.std.specs.Arc.{arc_value};
+ghost use Rattle.hub_state.specs.Membership.{is_open};
+ghost use Rattle.hub_state.specs.Outboxes.{waiting, is_full, has_no_place};
+ghost use Rattle.hub_state.specs.Totals.{is_spent};
+ghost use Rattle.hub_state.specs.Refusals.{or_spent, client_refusal, tell_refusal};
+ghost use Rattle.hub_state.specs.Hub.{Does, without_first, with_entry};
+ghost use Rattle.std.specs.Option.{option_map};
+ghost use Rattle.hub_state.specs.declared.step.What.{What};
+
+use crate::client::Client;
+use crate::contents::Message;
+use crate::error::HubError;
+use crate::state::{State, count, record, reserve};
+use crate::step::What;
+use sio_wire::Entry;
+use std::alloc::Global;
+use std::collections::BTreeMap;
+use std::sync::Arc;
+
+/// Takes the first entries of a client's outbox away.
+fn hand_out(clients: &mut BTreeMap<u128, Client>, client: u128, count: usize)
+    ensures { (q : ℕ) → get nat_cmp clients.new q ≡ (if client == q then option_map (without_first count) (get nat_cmp clients.old q) else get nat_cmp clients.old q) }
+{
+    if let Some(known) = clients.get_mut(&client) {
+        known.outbox.pop_first(count);
+    }
+}
+
+/// An entry that two may hold.
+fn share(alloc: Global, entry: Entry) -> Result<(Arc<Entry>, Arc<Entry>), HubError>
+    ensures first { IfOk result (λ both. arc_value both.0 ≡ entry) }
+    ensures second { IfOk result (λ both. arc_value both.1 ≡ entry) }
+    ensures memory { IfErr result (λ e. e ≡ HubError.Memory) }
+{
+    let first = Arc::new(alloc, entry)?;
+    let second = Arc::try_clone(&first)?;
+    Ok((first, second))
+}
+
+/// Puts an entry at the end of a client's outbox, which has a place for it.
+pub(crate) fn put_entry(clients: &mut BTreeMap<u128, Client>, client: u128, entry: Arc<Entry>)
+    requires { IfSome (get nat_cmp clients.old client) (λ known. has_no_place known.outbox.capacity known.outbox.bytes known.outbox.waiting (arc_value entry) ≡ false) }
+    ensures { (q : ℕ) → get nat_cmp clients.new q ≡ (if client == q then option_map (with_entry (arc_value entry)) (get nat_cmp clients.old q) else get nat_cmp clients.old q) }
+{
+    if let Some(known) = clients.get_mut(&client) {
+        known.outbox.push(entry);
+    }
+}
+
+impl State {
+    /// Whether an open client's outbox has no place for an entry.
+    fn is_full(&self, client: u128, entry: &Entry) -> bool
+        ensures { is_open self.now.base self.now.journal client ≡ true → result ≡ is_full self.now.base self.now.limits self.now.journal client entry.now }
+    {
+        match self.clients.get(&client) {
+            Some(known) => known.outbox.has_no_place(entry),
+            None => false,
+        }
+    }
+
+    fn tell_refusal(&self, client: u128, entry: &Entry) -> Option<HubError>
+        ensures refusal { let what = What.Told (record { client = client; entry = entry.now }) in result ≡ or_spent (tell_refusal self.now.base self.now.limits self.now.journal client entry.now) (is_spent self.now.base self.now.limits self.now.journal what) }
+        ensures place { IfNone result (is_full self.now.base self.now.limits self.now.journal client entry.now ≡ false) }
+    {
+        if !self.is_open(client) {
+            return Some(HubError::UnknownClient);
+        }
+        if self.is_full(client, entry) {
+            return Some(HubError::OutboxFull);
+        }
+        self.count_refusal(1, 0)
+    }
+
+    /// Puts an entry at the end of a client's outbox. Refused as `UnknownClient`, `OutboxFull`,
+    /// `Spent`, then for `Memory`. It takes the logarithm of the clients.
+    pub fn tell(
+        &mut self,
+        alloc: Global,
+        client: u128,
+        entry: Entry,
+        now: u64,
+    ) -> Result<(), HubError>
+        ensures { let what = What.Told (record { client = client; entry = entry }) in Does self.old self.new now what (or_spent (tell_refusal self.old.base self.old.limits self.old.journal client entry) (is_spent self.old.base self.old.limits self.old.journal what)) result }
+    {
+        if let Some(refusal) = self.tell_refusal(client, &entry) {
+            return Err(refusal);
+        }
+        let (entry, shared) = share(alloc, entry)?;
+        reserve(&mut self.journal)?;
+        put_entry(&mut self.clients, client, shared);
+        count(&mut self.counts, 1, 0, 0, 0);
+        let what = What::Told(Message { client, entry });
+        record(&mut self.journal, &mut self.last, now, what);
+        Ok(())
+    }
+
+    /// How many entries a `take` hands out, or why it is refused.
+    fn takes(&self, client: u128, most: usize) -> Result<usize, HubError>
+        ensures number { IfOk result (λ number. number ≡ min most (length (waiting self.now.base self.now.limits self.now.journal client))) }
+        ensures accepted { IfOk result (λ number. or_spent (client_refusal self.now.base self.now.journal client) (is_spent self.now.base self.now.limits self.now.journal (What.Took client number)) ≡ None) }
+        ensures refused { IfErr result (λ refusal. or_spent (client_refusal self.now.base self.now.journal client) (is_spent self.now.base self.now.limits self.now.journal (What.Took client (min most (length (waiting self.now.base self.now.limits self.now.journal client))))) ≡ Some refusal) }
+    {
+        self.facts();
+        let Some(waits) = self.waiting(client) else {
+            return Err(HubError::UnknownClient);
+        };
+        let number = most.min(waits);
+        match self.count_refusal(0, 0) {
+            Some(refusal) => Err(refusal),
+            None => Ok(number),
+        }
+    }
+
+    /// Copies of the first entries that wait for a client.
+    fn copies(&self, alloc: Global, client: u128, count: usize) -> Result<Vec<Entry>, HubError>
+        requires { count ≤ length (waiting self.now.base self.now.limits self.now.journal client) }
+        ensures ok { IfOk result (λ entries. is_open self.now.base self.now.journal client ≡ true → entries.items ≡ take count (waiting self.now.base self.now.limits self.now.journal client)) }
+        ensures memory { IfErr result (λ e. e ≡ HubError.Memory) }
+    {
+        match self.clients.get(&client) {
+            Some(known) => Ok(known.outbox.copies(alloc, count)?),
+            None => Ok(Vec::new(alloc)),
+        }
+    }
+
+    /// Hands out the first `most` entries that wait for a client, or all where fewer wait. Refused
+    /// as `UnknownClient`, `Spent`, then for `Memory`. It takes the logarithm of the clients, and
+    /// copies what it hands out.
+    pub fn take(
+        &mut self,
+        alloc: Global,
+        client: u128,
+        most: usize,
+        now: u64,
+    ) -> Result<Vec<Entry>, HubError>
+        ensures entries { IfOk result (λ entries. entries.items ≡ take most (waiting self.old.base self.old.limits self.old.journal client)) }
+        ensures does { let number = min most (length (waiting self.old.base self.old.limits self.old.journal client)) in Does self.old self.new now (What.Took client number) (or_spent (client_refusal self.old.base self.old.journal client) (is_spent self.old.base self.old.limits self.old.journal (What.Took client number))) result }
+    {
+        let number = self.takes(client, most)?;
+        let entries = self.copies(alloc, client, number)?;
+        reserve(&mut self.journal)?;
+        hand_out(&mut self.clients, client, number);
+        count(&mut self.counts, 0, 0, number as u64, 0);
+        record(
+            &mut self.journal,
+            &mut self.last,
+            now,
+            What::Took(client, number),
+        );
+        Ok(entries)
+    }
+}

@@ -1,0 +1,88 @@
+//! What can be asked of a hub.
+
+ghost use Rattle.std.specs.Prelude.{◌≡◌, length, reverse, None, Some, option_copied, slice_get, if◌then◌else◌};
+ghost use Rattle.hub_state.specs.Membership.{is_open, is_connected, sid_of};
+ghost use Rattle.hub_state.specs.Outboxes.{waiting, total_size};
+ghost use Rattle.hub_state.specs.Totals as counted;
+
+use crate::base::Base;
+use crate::state::State;
+use crate::step::Step;
+use crate::totals::Totals;
+use room_maps::Sid;
+use sio_wire::Entry;
+
+impl State {
+    /// The state from which the journal begins.
+    pub fn base(&self) -> &Base
+        ensures { result.now ≡ self.now.base }
+    {
+        &self.base
+    }
+
+    /// The steps since the base, the oldest first.
+    pub fn steps(&self) -> &[Step]
+        ensures { result.now ≡ reverse self.now.journal }
+    {
+        &self.journal
+    }
+
+    /// Whether the client is open.
+    pub fn is_open(&self, client: u128) -> bool
+        ensures { result ≡ is_open self.now.base self.now.journal client }
+    {
+        self.clients.contains_key(&client)
+    }
+
+    /// Whether a socket with this session id is connected.
+    pub fn is_connected(&self, sid: Sid) -> bool
+        ensures { result ≡ is_connected sid_of self.now.base self.now.journal sid }
+    {
+        self.seats.contains_key(&sid)
+    }
+
+    /// How many entries wait for a client, or `None` where it isn't open.
+    pub fn waiting(&self, client: u128) -> Option<usize>
+        ensures { result ≡ (if is_open self.now.base self.now.journal client then Some (length (waiting self.now.base self.now.limits self.now.journal client)) else None) }
+    {
+        match self.clients.get(&client) {
+            Some(known) => Some(known.outbox.len()),
+            None => None,
+        }
+    }
+
+    /// How many bytes the entries that wait for a client have together, or `None` where it isn't
+    /// open.
+    pub fn waiting_bytes(&self, client: u128) -> Option<usize>
+        ensures { result ≡ (if is_open self.now.base self.now.journal client then Some (total_size (waiting self.now.base self.now.limits self.now.journal client)) else None) }
+    {
+        match self.clients.get(&client) {
+            Some(known) => Some(known.outbox.used()),
+            None => None,
+        }
+    }
+
+    /// An entry that waits for a client, counted from the oldest, or `None` where there is none.
+    pub fn front(&self, client: u128, index: usize) -> Option<&Entry>
+        ensures { option_copied result ≡ (if is_open self.now.base self.now.journal client then slice_get (waiting self.now.base self.now.limits self.now.journal client) index else None) }
+    {
+        match self.clients.get(&client) {
+            Some(known) => known.outbox.get(index),
+            None => None,
+        }
+    }
+
+    /// The counts of the whole history.
+    pub fn totals(&self) -> Totals
+        ensures { result ≡ counted.totals self.now.base self.now.limits self.now.journal }
+    {
+        Totals {
+            commands: self.counts.commands,
+            placed: self.counts.placed,
+            dropped: self.counts.dropped,
+            taken: self.counts.taken,
+            discarded: self.counts.discarded,
+            waiting: self.counts.placed - self.counts.taken - self.counts.discarded,
+        }
+    }
+}

@@ -1,0 +1,82 @@
+//! The members of a room (Socket.IO server documentation, "Rooms").
+
+ghost use Rattle.std.specs.Prelude.{◌≡◌, ℕ, ◌==◌, ◌&&◌, true, false, not, filter, OnOk, IfOk, IfErr, Err};
+ghost use Rattle.std.specs.Ordering.{nat_cmp};
+ghost use Rattle.std.specs.BTreeMap.{get};
+ghost use Rattle.room_maps.specs.Membership.{is_in};
+ghost use Rattle.terms.specs.Listing.{ListsRising};
+ghost use Rattle.hub_state.specs.Membership.{place_of, is_space, is_in_space, rooms};
+ghost use Rattle.hub_state.specs.Casting.{is_here};
+
+use crate::error::HubError;
+use crate::socket::Socket;
+use crate::state::State;
+use room_maps::{Room, Sid};
+use std::alloc::Global;
+use std::collections::BTreeMap;
+
+/// Whether the socket with this id is in the namespace at a place.
+fn is_here(seats: &BTreeMap<Sid, Socket>, sid: Sid, place: usize) -> bool
+    ensures { result ≡ is_here place (get nat_cmp seats.now sid) }
+{
+    match seats.get(&sid) {
+        Some(socket) => usize::from(socket.space) == place,
+        None => false,
+    }
+}
+
+/// Those of the sockets with these ids that are in the namespace at a place, in the same order.
+fn keep_here(
+    alloc: Global,
+    seats: &BTreeMap<Sid, Socket>,
+    sids: &[Sid],
+    place: usize,
+) -> Result<Vec<Sid>, HubError>
+    ensures ok { IfOk result (λ kept. kept.items ≡ filter (λ s. is_here place (get nat_cmp seats.now s)) sids.now) }
+    ensures memory { IfErr result (λ e. e ≡ HubError.Memory) }
+{
+    let mut kept = Vec::new(alloc);
+    for sid in sids {
+        if is_here(seats, *sid, place) {
+            kept.push(*sid)?;
+        }
+    }
+    Ok(kept)
+}
+
+impl State {
+    /// The sockets of all namespaces that are in a room, rising.
+    fn members_of(&self, alloc: Global, room: Room) -> Result<Vec<Sid>, HubError>
+        ensures ok { IfOk result (λ sids. ListsRising nat_cmp (λ s. is_in (rooms self.now.base self.now.journal) s room) sids.items) }
+        ensures memory { IfErr result (λ e. e ≡ HubError.Memory) }
+    {
+        match self.rooms.members_of(alloc, room) {
+            Ok(sids) => Ok(sids),
+            Err(_) => Err(HubError::Memory),
+        }
+    }
+
+    /// The sockets of a namespace that are in a room, rising.
+    fn members_at(&self, alloc: Global, place: usize, room: Room) -> Result<Vec<Sid>, HubError>
+        ensures ok { IfOk result (λ sids. ListsRising nat_cmp (λ s. is_in_space self.now.base self.now.journal place s && is_in (rooms self.now.base self.now.journal) s room) sids.items) }
+        ensures memory { IfErr result (λ e. e ≡ HubError.Memory) }
+    {
+        let sids = self.members_of(alloc, room)?;
+        keep_here(alloc, &self.seats, &sids, place)
+    }
+
+    /// The connected sockets of a namespace that are in a room, rising by their ids. Refused as
+    /// `UnknownNamespace`, then for `Memory`. It walks the namespaces and the room's members of
+    /// all namespaces, each with the logarithm.
+    pub fn members(&self, alloc: Global, space: &str, room: Room) -> Result<Vec<Sid>, HubError>
+        ensures members { IfOk result (λ sids. ListsRising nat_cmp (λ s. is_in_space self.now.base self.now.journal (place_of self.now.limits space.now) s && is_in (rooms self.now.base self.now.journal) s room) sids.items) }
+        ensures refused { is_space self.now.limits (place_of self.now.limits space.now) ≡ false → result ≡ Err HubError.UnknownNamespace }
+        ensures memory { is_space self.now.limits (place_of self.now.limits space.now) ≡ true → IfErr result (λ e. e ≡ HubError.Memory) }
+    {
+        let place = self.place_of(space);
+        if place >= self.spaces().len() {
+            return Err(HubError::UnknownNamespace);
+        }
+        self.members_at(alloc, place, room)
+    }
+}

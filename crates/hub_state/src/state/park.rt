@@ -1,0 +1,180 @@
+//! Clients are lost, and their sockets' sessions are saved (Socket.IO server documentation,
+//! "Connection state recovery").
+
+ghost use Rattle.std.specs.Prelude.{◌≡◌, ◌-◌, length, OnOk, OnErr, IfOk, IfErr, None, Some, if◌then◌else◌};
+ghost use Rattle.std.specs.Ordering.{nat_cmp};
+ghost use Rattle.std.specs.BTreeMap.{get};
+ghost use Rattle.recovery.specs.SavedTable as table;
+ghost use Rattle.hub_state.specs.Membership.{is_open, sockets_of};
+ghost use Rattle.hub_state.specs.Sessions.{sessions};
+ghost use Rattle.hub_state.specs.Totals.{is_spent};
+ghost use Rattle.hub_state.specs.Refusals.{or_spent, park_refusal};
+ghost use Rattle.hub_state.specs.Hub.{Does, held_sockets};
+ghost use Rattle.hub_state.specs.Parking.{lost_in, HasNoneOf, with_lost, without_lost};
+ghost use Rattle.hub_state.specs.declared.step.What.{What};
+
+use crate::client::Client;
+use crate::error::HubError;
+use crate::socket::Socket;
+use crate::state::close::forget_client;
+use crate::state::{State, count, record, reserve};
+use crate::step::What;
+use recovery::{Saved, SavedTable};
+use room_maps::Rooms;
+use std::alloc::Global;
+use std::collections::BTreeMap;
+
+/// The session of a socket that is lost at a moment.
+fn lost_session(rooms: &Rooms, alloc: Global, socket: Socket, at: u64) -> Result<Saved, HubError>
+    ensures session { IfOk result (λ session. session ≡ lost_in rooms.now at socket) }
+    ensures memory { IfErr result (λ e. e ≡ HubError.Memory) }
+{
+    let Ok(inside) = rooms.rooms_of(alloc, socket.sid) else {
+        return Err(HubError::Memory);
+    };
+    Ok(Saved {
+        sid: socket.sid,
+        pid: socket.pid,
+        space: socket.space,
+        rooms: inside,
+        lost_at: at,
+    })
+}
+
+/// Saves the session of a socket that is lost.
+fn save_one(
+    saved: &mut SavedTable,
+    rooms: &Rooms,
+    alloc: Global,
+    socket: Socket,
+    at: u64,
+) -> Result<(), HubError>
+    ensures saved { OnOk result (saved.new ≡ table.saved saved.old (lost_in rooms.now at socket)) }
+    ensures unchanged { OnErr result (saved.new ≡ saved.old) }
+    ensures memory { IfErr result (λ e. e ≡ HubError.Memory) }
+{
+    let session = lost_session(rooms, alloc, socket, at)?;
+    match saved.save(alloc, session) {
+        Ok(()) => Ok(()),
+        Err(_) => Err(HubError::Memory),
+    }
+}
+
+/// Takes the sessions of sockets out of the table.
+fn take_back(saved: &mut SavedTable, sockets: &[Socket])
+    ensures { saved.new ≡ without_lost sockets.now saved.old }
+{
+    for socket in sockets {
+        let _taken = saved.remove(socket.pid);
+    }
+}
+
+/// Saves the sessions of sockets that are lost. Where memory is refused in the middle, those that
+/// were saved are taken back.
+fn save_all(
+    saved: &mut SavedTable,
+    rooms: &Rooms,
+    alloc: Global,
+    sockets: &[Socket],
+    at: u64,
+) -> Result<(), HubError>
+    requires { HasNoneOf sockets.now saved.old }
+    ensures saved { OnOk result (saved.new ≡ with_lost rooms.now at sockets.now saved.old) }
+    ensures unchanged { OnErr result (saved.new ≡ saved.old) }
+    ensures memory { IfErr result (λ e. e ≡ HubError.Memory) }
+{
+    for (index, socket) in sockets.iter().enumerate() {
+        if let Err(refusal) = save_one(saved, rooms, alloc, *socket, at) {
+            take_back(saved, &sockets[..index]);
+            return Err(refusal);
+        }
+    }
+    Ok(())
+}
+
+/// Saves the sessions of a client's sockets.
+fn save_client(
+    saved: &mut SavedTable,
+    clients: &BTreeMap<u128, Client>,
+    rooms: &Rooms,
+    alloc: Global,
+    client: u128,
+    at: u64,
+) -> Result<(), HubError>
+    requires { HasNoneOf (held_sockets (get nat_cmp clients.now client)) saved.old }
+    ensures saved { OnOk result (saved.new ≡ with_lost rooms.now at (held_sockets (get nat_cmp clients.now client)) saved.old) }
+    ensures unchanged { OnErr result (saved.new ≡ saved.old) }
+    ensures memory { IfErr result (λ e. e ≡ HubError.Memory) }
+{
+    match clients.get(&client) {
+        Some(known) => save_all(saved, rooms, alloc, &known.sockets, at),
+        None => Ok(()),
+    }
+}
+
+impl State {
+    /// How many sockets a client has, or `None` where it isn't open.
+    fn socket_count(&self, client: u128) -> Option<usize>
+        ensures { result ≡ (if is_open self.now.base self.now.journal client then Some (length (sockets_of self.now.base self.now.journal client)) else None) }
+    {
+        match self.clients.get(&client) {
+            Some(known) => Some(known.sockets.len()),
+            None => None,
+        }
+    }
+
+    /// How many more sessions may be saved.
+    fn free_places(&self) -> usize
+        ensures { result ≡ self.now.limits.saved - length (sessions self.now.base self.now.limits self.now.journal) }
+    {
+        self.limits.saved.saturating_sub(self.saved.len())
+    }
+
+    fn park_refusal(&self, client: u128) -> Option<HubError>
+        ensures { result ≡ or_spent (park_refusal self.now.base self.now.limits self.now.journal client) (is_spent self.now.base self.now.limits self.now.journal (What.Parked client)) }
+    {
+        self.facts();
+        let Some(sockets) = self.socket_count(client) else {
+            return Some(HubError::UnknownClient);
+        };
+        if self.free_places() < sockets {
+            return Some(HubError::SavedFull);
+        }
+        self.count_refusal(0, 0)
+    }
+
+    /// Parks a client that was lost: the sessions of its sockets are saved with their rooms, its
+    /// sockets end, and what waits for it is discarded. Refused as `UnknownClient`, `SavedFull`
+    /// where the saved sessions leave fewer places than it has sockets, `Spent`, then for `Memory`.
+    /// It takes the logarithm of the clients and, for each of the client's sockets, that of the
+    /// sockets and of the saved sessions, and each of their rooms takes the logarithm of the sockets
+    /// and of the rooms.
+    pub fn park(&mut self, alloc: Global, client: u128, now: u64) -> Result<(), HubError>
+        ensures { Does self.old self.new now (What.Parked client) (or_spent (park_refusal self.old.base self.old.limits self.old.journal client) (is_spent self.old.base self.old.limits self.old.journal (What.Parked client))) result }
+    {
+        if let Some(refusal) = self.park_refusal(client) {
+            return Err(refusal);
+        }
+        reserve(&mut self.journal)?;
+        let at = now.max(self.last);
+        save_client(
+            &mut self.saved,
+            &self.clients,
+            &self.rooms,
+            alloc,
+            client,
+            at,
+        )?;
+        let discards = forget_client(
+            &mut self.clients,
+            &mut self.seats,
+            &mut self.pids,
+            &mut self.rooms,
+            client,
+        );
+        self.rooms.kept_facts();
+        count(&mut self.counts, 0, 0, 0, discards as u64);
+        record(&mut self.journal, &mut self.last, now, What::Parked(client));
+        Ok(())
+    }
+}

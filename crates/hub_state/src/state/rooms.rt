@@ -1,0 +1,106 @@
+//! Sockets join and leave rooms (Socket.IO server documentation, "Rooms").
+
+ghost use Rattle.std.specs.Prelude.{◌≡◌, None};
+ghost use Rattle.room_maps.specs.Membership as room_maps;
+ghost use Rattle.hub_state.specs.Membership.{rooms};
+ghost use Rattle.hub_state.specs.Totals.{is_spent};
+ghost use Rattle.hub_state.specs.Refusals.{or_spent, join_refusal, leave_refusal};
+ghost use Rattle.hub_state.specs.Hub.{Does};
+ghost use Rattle.hub_state.specs.declared.step.What.{What};
+
+use crate::error::HubError;
+use crate::state::{State, count, record, reserve};
+use crate::step::What;
+use room_maps::{Room, RoomError, Rooms, Sid};
+use std::alloc::Global;
+
+/// Takes a socket out of a room that it may leave.
+fn take_out(rooms: &mut Rooms, sid: Sid, room: Room)
+    requires { room_maps.leave_refusal rooms.old sid room ≡ None }
+    ensures left { rooms.new ≡ room_maps.without_pair rooms.old sid room }
+    ensures agree { room_maps.AreConsistent rooms.new }
+{
+    let _left = rooms.leave(sid, room);
+    rooms.kept_facts();
+}
+
+impl State {
+    fn rooms_refuse_join(&self, sid: Sid, room: Room) -> Option<RoomError>
+        ensures { result ≡ room_maps.join_refusal (rooms self.now.base self.now.journal) sid room }
+    {
+        self.rooms.join_refusal(sid, room)
+    }
+
+    fn rooms_refuse_leave(&self, sid: Sid, room: Room) -> Option<RoomError>
+        ensures { result ≡ room_maps.leave_refusal (rooms self.now.base self.now.journal) sid room }
+    {
+        self.rooms.leave_refusal(sid, room)
+    }
+
+    fn join_refusal(&self, sid: Sid, room: Room) -> Option<HubError>
+        ensures { result ≡ or_spent (join_refusal self.now.base self.now.journal sid room) (is_spent self.now.base self.now.limits self.now.journal (What.Joined sid room)) }
+    {
+        if !self.is_connected(sid) {
+            return Some(HubError::UnknownSocket);
+        }
+        if let Some(refusal) = self.rooms_refuse_join(sid, room) {
+            return Some(HubError::RoomRefused(refusal));
+        }
+        self.count_refusal(0, 0)
+    }
+
+    fn leave_refusal(&self, sid: Sid, room: Room) -> Option<HubError>
+        ensures { result ≡ or_spent (leave_refusal self.now.base self.now.journal sid room) (is_spent self.now.base self.now.limits self.now.journal (What.Left sid room)) }
+    {
+        if !self.is_connected(sid) {
+            return Some(HubError::UnknownSocket);
+        }
+        if let Some(refusal) = self.rooms_refuse_leave(sid, room) {
+            return Some(HubError::RoomRefused(refusal));
+        }
+        self.count_refusal(0, 0)
+    }
+
+    /// A socket joins a room. Refused as `UnknownSocket`, `RoomRefused`, `Spent`, then for
+    /// `Memory`. It takes the logarithm of the sockets and of the rooms.
+    pub fn join(&mut self, alloc: Global, sid: Sid, room: Room, now: u64) -> Result<(), HubError>
+        ensures { Does self.old self.new now (What.Joined sid room) (or_spent (join_refusal self.old.base self.old.journal sid room) (is_spent self.old.base self.old.limits self.old.journal (What.Joined sid room))) result }
+    {
+        if let Some(refusal) = self.join_refusal(sid, room) {
+            return Err(refusal);
+        }
+        reserve(&mut self.journal)?;
+        if self.rooms.join(alloc, sid, room).is_err() {
+            return Err(HubError::Memory);
+        }
+        self.rooms.kept_facts();
+        count(&mut self.counts, 0, 0, 0, 0);
+        record(
+            &mut self.journal,
+            &mut self.last,
+            now,
+            What::Joined(sid, room),
+        );
+        Ok(())
+    }
+
+    /// A socket leaves a room. Refused as `UnknownSocket`, `RoomRefused`, `Spent`, then for
+    /// `Memory`. It takes the logarithm of the sockets and of the rooms.
+    pub fn leave(&mut self, sid: Sid, room: Room, now: u64) -> Result<(), HubError>
+        ensures { Does self.old self.new now (What.Left sid room) (or_spent (leave_refusal self.old.base self.old.journal sid room) (is_spent self.old.base self.old.limits self.old.journal (What.Left sid room))) result }
+    {
+        if let Some(refusal) = self.leave_refusal(sid, room) {
+            return Err(refusal);
+        }
+        reserve(&mut self.journal)?;
+        take_out(&mut self.rooms, sid, room);
+        count(&mut self.counts, 0, 0, 0, 0);
+        record(
+            &mut self.journal,
+            &mut self.last,
+            now,
+            What::Left(sid, room),
+        );
+        Ok(())
+    }
+}

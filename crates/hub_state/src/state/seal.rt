@@ -1,0 +1,145 @@
+//! The present state becomes the base.
+
+ghost use Rattle.std.specs.Prelude.{◌≡◌, map, OnOk, OnErr, IfOk, IfErr};
+ghost use Rattle.std.specs.Ordering.{nat_cmp};
+ghost use Rattle.std.specs.BTreeMap.{IsOrdered};
+ghost use Rattle.terms.specs.Listing.{ListsRising};
+ghost use Rattle.room_maps.specs.Membership.{pair_cmp, is_in};
+ghost use Rattle.recovery.specs.PacketLog.{IsRun, number_of};
+ghost use Rattle.hub_state.specs.Membership.{is_open, rooms};
+ghost use Rattle.hub_state.specs.Sessions.{sessions};
+ghost use Rattle.hub_state.specs.Log.{log, next};
+ghost use Rattle.hub_state.specs.Legal.{IsLegal};
+ghost use Rattle.hub_state.specs.Seal.{ids_of, client_of, base_of, base_client, LeadsTo, IsSealed, SaysTheSame};
+
+use crate::base::{Base, BaseClient};
+use crate::client::Client;
+use crate::epoch::Epoch;
+use crate::error::HubError;
+use crate::socket::Socket;
+use crate::state::State;
+use recovery::{Logged, Pid, Saved};
+use room_maps::{Room, Sid};
+use std::alloc::{AllocError, Global};
+use std::collections::BTreeMap;
+use std::mem::replace;
+
+/// The namespace, the session id and the private session id of each of the sockets.
+fn socket_ids(alloc: Global, sockets: &[Socket]) -> Result<Vec<(u16, Sid, Pid)>, AllocError>
+    ensures { IfOk result (λ ids. ids.items ≡ map ids_of sockets.now) }
+{
+    sockets
+        .iter()
+        .map(|socket| (socket.space, socket.sid, socket.pid))
+        .collect(alloc)
+}
+
+/// A client as a base has it. It shares the entries that wait.
+fn copy_client(alloc: Global, client: u128, known: &Client) -> Result<BaseClient, AllocError>
+    ensures { IfOk result (λ copy. copy ≡ base_of (client, known.now)) }
+{
+    Ok(BaseClient {
+        client,
+        sockets: socket_ids(alloc, &known.sockets)?,
+        waiting: known.outbox.shares(alloc)?,
+    })
+}
+
+/// All clients as a base has them, rising.
+fn copy_clients(
+    alloc: Global,
+    clients: &BTreeMap<u128, Client>,
+) -> Result<Vec<BaseClient>, AllocError>
+    ensures ordered { IsOrdered nat_cmp clients.now }
+    ensures clients { IfOk result (λ copies. copies.items ≡ map base_of clients.now.entries) }
+{
+    let mut copies = Vec::with_capacity(alloc, clients.len())?;
+    for (client, known) in clients {
+        copies.push(copy_client(alloc, *client, known)?)?;
+    }
+    Ok(copies)
+}
+
+impl State {
+    /// The open clients as a base has them, rising.
+    fn base_clients(&self, alloc: Global) -> Result<Vec<BaseClient>, HubError>
+        ensures open { IfOk result (λ clients. ListsRising nat_cmp (is_open self.now.base self.now.journal) (map client_of clients.items)) }
+        ensures are { IfOk result (λ clients. clients.items ≡ map (base_client self.now.base self.now.limits self.now.journal) (map client_of clients.items)) }
+        ensures memory { IfErr result (λ e. e ≡ HubError.Memory) }
+    {
+        match copy_clients(alloc, &self.clients) {
+            Ok(clients) => Ok(clients),
+            Err(AllocError) => Err(HubError::Memory),
+        }
+    }
+
+    /// Each socket with each of its rooms, rising.
+    fn base_pairs(&self, alloc: Global) -> Result<Vec<(Sid, Room)>, HubError>
+        ensures pairs { IfOk result (λ pairs. ListsRising pair_cmp (λ pair. is_in (rooms self.now.base self.now.journal) pair.0 pair.1) pairs.items) }
+        ensures memory { IfErr result (λ e. e ≡ HubError.Memory) }
+    {
+        match self.rooms.pairs(alloc) {
+            Ok(pairs) => Ok(pairs),
+            Err(_) => Err(HubError::Memory),
+        }
+    }
+
+    /// The log, rising by offset. The entries are shared.
+    fn base_log(&self, alloc: Global) -> Result<Vec<Logged>, HubError>
+        ensures log { IfOk result (λ list. list.items ≡ log self.now.base self.now.limits self.now.journal) }
+        ensures run { IsRun (number_of (next self.now.base self.now.journal)) (log self.now.base self.now.limits self.now.journal) }
+        ensures memory { IfErr result (λ e. e ≡ HubError.Memory) }
+    {
+        match self.log.list(alloc) {
+            Ok(entries) => Ok(entries),
+            Err(_) => Err(HubError::Memory),
+        }
+    }
+
+    /// The saved sessions, rising by private id.
+    fn base_sessions(&self, alloc: Global) -> Result<Vec<Saved>, HubError>
+        ensures sessions { IfOk result (λ list. list.items ≡ sessions self.now.base self.now.limits self.now.journal) }
+        ensures memory { IfErr result (λ e. e ≡ HubError.Memory) }
+    {
+        match self.saved.list(alloc) {
+            Ok(sessions) => Ok(sessions),
+            Err(_) => Err(HubError::Memory),
+        }
+    }
+
+    /// The present state as a base.
+    fn present(&self, alloc: Global) -> Result<Base, HubError>
+        ensures leads { IfOk result (λ base. LeadsTo self.now.base self.now.limits self.now.journal base) }
+        ensures run { IfOk result (λ base. IsRun (number_of (next self.now.base self.now.journal)) (log self.now.base self.now.limits self.now.journal)) }
+        ensures memory { IfErr result (λ e. e ≡ HubError.Memory) }
+    {
+        Ok(Base {
+            at: self.last,
+            next: self.next_offset(),
+            clients: self.base_clients(alloc)?,
+            pairs: self.base_pairs(alloc)?,
+            log: self.base_log(alloc)?,
+            saved: self.base_sessions(alloc)?,
+            totals: self.totals(),
+        })
+    }
+
+    /// Closes the journal: the present state becomes the base, from which an empty journal begins,
+    /// and the old base is handed out with the old journal. It is no command and makes no step, and
+    /// nothing that can be asked of the hub changes but its base and its steps. Refused for
+    /// `Memory` alone. It takes time and memory for the present state, whose entries are shared,
+    /// and none for the journal.
+    pub fn seal(&mut self, alloc: Global) -> Result<Epoch, HubError>
+        ensures epoch { IfOk result (λ epoch. epoch ≡ record { base = self.old.base; journal = self.old.journal }) }
+        ensures legal { IfOk result (λ epoch. IsLegal epoch.base self.old.limits epoch.journal) }
+        ensures sealed { OnOk result (IsSealed self.old self.new) }
+        ensures same { OnOk result (SaysTheSame self.old self.new) }
+        ensures unchanged { OnErr result (self.new ≡ self.old) }
+        ensures memory { IfErr result (λ e. e ≡ HubError.Memory) }
+    {
+        let present = self.present(alloc)?;
+        let base = replace(&mut self.base, present);
+        let steps = replace(&mut self.journal, Vec::new(alloc));
+        Ok(Epoch { base, steps })
+    }
+}

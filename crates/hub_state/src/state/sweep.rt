@@ -1,0 +1,66 @@
+//! Outdated broadcasts and sessions are dropped (Socket.IO server documentation, "Connection state
+//! recovery").
+
+ghost use Rattle.std.specs.Prelude.{◌≡◌, ◌+◌, max, length, None, IfOk};
+ghost use Rattle.recovery.specs.PacketLog.{swept};
+ghost use Rattle.recovery.specs.SavedTable.{table_swept};
+ghost use Rattle.hub_state.specs.Sessions.{sessions};
+ghost use Rattle.hub_state.specs.Log.{log};
+ghost use Rattle.hub_state.specs.Totals.{is_spent};
+ghost use Rattle.hub_state.specs.Refusals.{or_spent};
+ghost use Rattle.hub_state.specs.Hub.{Does};
+ghost use Rattle.hub_state.specs.declared.step.What.{What};
+
+use crate::config::Config;
+use crate::error::HubError;
+use crate::state::{State, count, record, reserve};
+use crate::step::What;
+use recovery::{PacketLog, SavedTable};
+
+/// How much a sweep dropped.
+#[derive(Clone, Copy, Debug, PartialEq, Eq)]
+pub struct Swept {
+    /// The entries of the log.
+    pub log: usize,
+    /// The saved sessions.
+    pub saved: usize,
+}
+
+/// Drops what is outdated at a moment.
+fn drop_outdated(log: &mut PacketLog, saved: &mut SavedTable, limits: &Config, at: u64) -> Swept
+    ensures log { log.new ≡ swept log.old limits.now.keep (max log.old.last at) }
+    ensures saved { saved.new ≡ table_swept saved.old limits.now.keep at }
+    ensures log_count { length log.new.entries + result.log ≡ length log.old.entries }
+    ensures saved_count { length saved.new.sessions + result.saved ≡ length saved.old.sessions }
+{
+    Swept {
+        log: log.sweep(at, limits.keep),
+        saved: saved.sweep(at, limits.keep),
+    }
+}
+
+impl State {
+    fn sweep_refusal(&self) -> Option<HubError>
+        ensures { result ≡ or_spent None (is_spent self.now.base self.now.limits self.now.journal What.Swept) }
+    {
+        self.count_refusal(0, 0)
+    }
+
+    /// Drops the entries of the log and the saved sessions that are older than the hub keeps them,
+    /// and says how many. Refused as `Spent`, then for `Memory`. Each that is dropped takes the
+    /// logarithm of the saved sessions, and it looks at one more of both.
+    pub fn sweep(&mut self, now: u64) -> Result<Swept, HubError>
+        ensures does { Does self.old self.new now What.Swept (or_spent None (is_spent self.old.base self.old.limits self.old.journal What.Swept)) result }
+        ensures counts { IfOk result (λ dropped. (length (log self.old.base self.old.limits self.old.journal) ≡ length (log self.new.base self.new.limits self.new.journal) + dropped.log) × (length (sessions self.old.base self.old.limits self.old.journal) ≡ length (sessions self.new.base self.new.limits self.new.journal) + dropped.saved)) }
+    {
+        if let Some(refusal) = self.sweep_refusal() {
+            return Err(refusal);
+        }
+        reserve(&mut self.journal)?;
+        let at = now.max(self.last);
+        let swept = drop_outdated(&mut self.log, &mut self.saved, &self.limits, at);
+        count(&mut self.counts, 0, 0, 0, 0);
+        record(&mut self.journal, &mut self.last, now, What::Swept);
+        Ok(swept)
+    }
+}
