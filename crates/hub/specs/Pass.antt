@@ -1,0 +1,67 @@
+-- What a pass has counted, and how a hub counts each command together with the pass that it came with.
+use Rattle.std.specs.Prelude.{◌≡◌, ℕ, ◌+◌, ◌≤◌, Option, None, Result, Ok, Err, unwrap_or}
+use Rattle.hub_state.specs.declared.error.HubError.{HubError}
+use Rattle.hub_state.specs.declared.error.HubError.TheVariants.{Memory}
+use Rattle.hub_state.specs.declared.step.What.{What}
+use Rattle.hub_state.specs.Journal.{History, with_step}
+use Rattle.hub_state.specs.Totals as totals
+use Rattle.hub_state.specs.Totals.{handed_out, handed_out_by}
+
+-- a total, and how many parts of its ledger no holder was given
+pub record PlainCounter : Type 0 where
+  pub total : ℕ
+  pub rest : ℕ
+
+-- what one holder added to a total, and how many parts of its ledger it has
+pub record PlainPart : Type 0 where
+  pub amount : ℕ
+  pub parts : ℕ
+
+-- the commands that were accepted with a pass, the entries that they handed out, and how many parts of each of both
+-- ledgers the pass has
+pub record PlainPass : Type 0 where
+  pub commands : ℕ
+  pub taken : ℕ
+  pub parts : ℕ
+
+-- the totals of both ledgers, and how many parts of each no pass was given
+pub record PlainBooks : Type 0 where
+  pub commands : ℕ
+  pub taken : ℕ
+  pub rest : ℕ
+
+-- a hub's history, and how many parts of each ledger no pass was given
+pub record PlainHub : Type 0 where
+  pub history : History
+  pub rest : ℕ
+
+-- the commands of a hub's whole history, and the entries that they handed out
+abbrev pub commands_of : PlainHub → ℕ
+commands_of hub = totals.commands hub.history.base hub.history.journal
+
+abbrev pub taken_of : PlainHub → ℕ
+taken_of hub = handed_out hub.history.base hub.history.journal
+
+-- the pass with one command more, which did this
+abbrev pub with_command : What → PlainPass → PlainPass
+with_command what pass = record pass { commands = pass.commands + 1; taken = pass.taken + handed_out_by what }
+
+-- the command that makes this step was answered as `Does` says; where it was accepted, its pass counts it, and else
+-- both hub and pass are as before
+abbrev pub DoesCounted : {X : Type 0} → (before after : PlainHub) → (old new : PlainPass) → ℕ → What → Option HubError → Result X HubError → Type 0
+DoesCounted before after old new now what refusal (Ok x) =
+    (refusal ≡ None) × (after ≡ record before { history = with_step before.history now what }) × (new ≡ with_command what old)
+DoesCounted before after old new now what refusal (Err e) =
+    (e ≡ unwrap_or refusal Memory) × (after ≡ before) × (new ≡ old)
+
+-- the pass rises by as much as the hub's totals
+pub record Rises (before after : PlainHub) (old new : PlainPass) : Type 0 where
+  pub commands : new.commands + commands_of before ≡ old.commands + commands_of after
+  pub taken : new.taken + taken_of before ≡ old.taken + taken_of after
+  pub parts : new.parts ≡ old.parts
+
+-- the hub's totals are u64s, and at least what the pass has counted
+pub record AtLeast (hub : PlainHub) (pass : PlainPass) : Type 0 where
+  pub commands : pass.commands ≤ commands_of hub
+  pub taken : pass.taken ≤ taken_of hub
+  pub fits : (commands_of hub ≤ 18446744073709551615) × (taken_of hub ≤ 18446744073709551615)

@@ -1,0 +1,102 @@
+//! The counts of commands and of entries that were handed out, which a hub raises together with its
+//! passes.
+
+ghost use Rattle.std.specs.Prelude.{◌≡◌, ℕ, ◌+◌, ◌-◌, ◌≤◌, ◌<◌, IfOk, IfErr, OnOk, OnErr};
+ghost use Rattle.hub_state.specs.Totals as totals;
+ghost use Rattle.hub_state.specs.Totals.{handed_out};
+
+use crate::count::Counter;
+use crate::pass::{NotAll, Pass};
+use hub_state::{HubError, State, Totals};
+use std::marker::Model;
+use std::sync::ledger::{Blank, Ledger};
+
+/// The books of both ledgers, with the parts that no pass was given.
+#[derive(Drop)]
+pub(crate) struct Books<C: Ledger, T: Ledger> {
+    commands: Counter<C>,
+    taken: Counter<T>,
+}
+
+impl<C: Ledger, T: Ledger> Model for Books<C, T> {
+    ghost use Rattle.std.specs.Prelude.{◌≡◌};
+    ghost use Rattle.hub.specs.Pass.{PlainBooks};
+
+    ghost Value = { PlainBooks };
+
+    ghost view = { λ b. record { commands = b.commands.total; taken = b.taken.total; rest = b.commands.rest } };
+
+    ghost invariant = { λ b. b.taken.rest ≡ b.commands.rest };
+}
+
+impl<C: Ledger, T: Ledger> Books<C, T> {
+    /// Both totals 0, and the first pass.
+    pub(crate) fn open(commands: Blank, taken: Blank) -> (Books<C, T>, Pass<C, T>)
+        requires commands { (commands.name ≡ C.name) × (commands.parts ≡ C.parts) × (commands.parts ≡ 65536) }
+        requires taken { (taken.name ≡ T.name) × (taken.parts ≡ T.parts) × (taken.parts ≡ 65536) }
+        ensures books { result.0 ≡ record { commands = 0; taken = 0; rest = 65535 } }
+        ensures pass { result.1 ≡ record { commands = 0; taken = 0; parts = 1 } }
+    {
+        let (commands, command_part) = Counter::open(commands);
+        let (taken, taken_part) = Counter::open(taken);
+        let pass = Pass {
+            commands: command_part,
+            taken: taken_part,
+        };
+        (Books { commands, taken }, pass)
+    }
+
+    /// Raises the books and the pass by the command that the state has just accepted, and by the
+    /// entries that it handed out. The totals are u64s and the pass is within them, so its numbers
+    /// stay exact.
+    pub(crate) fn count(&mut self, pass: &mut Pass<C, T>, state: &State, entries: u64)
+        requires commands { totals.commands state.now.base state.now.journal ≡ self.old.commands + 1 }
+        requires taken { handed_out state.now.base state.now.journal ≡ self.old.taken + entries }
+        ensures books { self.new ≡ record { commands = self.old.commands + 1; taken = self.old.taken + entries; rest = self.old.rest } }
+        ensures pass { pass.new ≡ record { commands = pass.old.commands + 1; taken = pass.old.taken + entries; parts = pass.old.parts } }
+    {
+        let _fits = state.totals();
+        self.commands.raise(&mut pass.commands, 1);
+        self.taken.raise(&mut pass.taken, entries);
+    }
+
+    /// A new pass, which has nothing. Refused as `Spent` where the rest has its last part alone.
+    pub(crate) fn new_pass(&mut self) -> Result<Pass<C, T>, HubError>
+        ensures pass { IfOk result (λ pass. pass ≡ record { commands = 0; taken = 0; parts = 1 }) }
+        ensures ok { OnOk result ((1 < self.old.rest) × (self.new ≡ record self.old { rest = self.old.rest - 1 })) }
+        ensures err { OnErr result ((self.old.rest ≡ 1) × (self.new ≡ self.old)) }
+        ensures spent { IfErr result (λ e. e ≡ HubError.Spent) }
+    {
+        if self.commands.is_last() {
+            return Err(HubError::Spent);
+        }
+        let commands = self.commands.part();
+        let taken = self.taken.part();
+        Ok(Pass { commands, taken })
+    }
+
+    /// Changes nothing. It tells that the totals are at least what the pass has counted.
+    pub(crate) fn audit(&mut self, pass: &mut Pass<C, T>)
+        ensures same { (self.new ≡ self.old) × (pass.new ≡ pass.old) }
+        ensures commands { pass.old.commands ≤ self.old.commands }
+        ensures taken { pass.old.taken ≤ self.old.taken }
+    {
+        self.commands.audit(&mut pass.commands);
+        self.taken.audit(&mut pass.taken);
+    }
+
+    /// What the pass lacks of these totals, which are the books'. Changes nothing.
+    pub(crate) fn lacks(&mut self, pass: &mut Pass<C, T>, totals: &Totals) -> NotAll
+        requires { (totals.now.commands ≡ self.old.commands) × (totals.now.taken ≡ self.old.taken) }
+        ensures same { (self.new ≡ self.old) × (pass.new ≡ pass.old) }
+        ensures commands { pass.old.commands + result.commands ≡ self.old.commands }
+        ensures taken { pass.old.taken + result.taken ≡ self.old.taken }
+        ensures no_command { self.old.rest + pass.old.parts ≡ C.parts → result.commands ≡ 0 }
+        ensures no_entry { self.old.rest + pass.old.parts ≡ T.parts → result.taken ≡ 0 }
+    {
+        NotAll {
+            commands: self.commands.lacks(&mut pass.commands, totals.commands),
+            taken: self.taken.lacks(&mut pass.taken, totals.taken),
+        }
+    }
+}

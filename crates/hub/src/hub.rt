@@ -1,0 +1,105 @@
+//! A hub that many threads use: each counts what it has had accepted in a pass of its own.
+
+ghost use Rattle.std.specs.Prelude.{◌≡◌, ℕ, ◌+◌, ◌-◌, ◌≤◌, ◌<◌, [], IsOk, IfOk, IfErr, OnOk, OnErr, unwrap_or};
+ghost use Rattle.hub_state.specs.Config.{config_refusal, empty_base};
+ghost use Rattle.hub_state.specs.Totals as counted;
+ghost use Rattle.hub.specs.Pass.{commands_of, taken_of, AtLeast};
+
+mod broadcasts;
+mod commands;
+mod lookups;
+mod sessions;
+
+use crate::books::Books;
+use crate::pass::{NotAll, Pass};
+use hub_state::{Config, HubError, State, Totals};
+use std::alloc::Global;
+use std::marker::Model;
+use std::sync::ledger::{Blank, Ledger};
+
+/// A hub with its books. `C` is the ledger of the commands that it accepts, `T` that of the entries
+/// that it hands out; both are this hub's alone, so a pass at these types is a pass of this hub.
+///
+/// In a contract it is its history and the number of parts of each ledger that no pass was given.
+/// Each command is `State`'s, with the pass that counts it: where it is accepted, the history is one
+/// step longer and the pass has one command more, and a `take` also the entries that it handed out.
+/// Where it is refused, both are as before. A command takes no more time or memory than `State`'s.
+#[derive(Drop)]
+pub struct Hub<C: Ledger, T: Ledger> {
+    state: State,
+    books: Books<C, T>,
+}
+
+impl<C: Ledger, T: Ledger> Model for Hub<C, T> {
+    ghost use Rattle.std.specs.Prelude.{◌≡◌};
+    ghost use Rattle.hub_state.specs.Totals as totals;
+    ghost use Rattle.hub_state.specs.Totals.{handed_out};
+    ghost use Rattle.hub.specs.Pass.{PlainHub};
+
+    ghost Value = { PlainHub };
+
+    ghost view = { λ h. record { history = h.state; rest = h.books.rest } };
+
+    ghost invariant = { λ h. (h.books.commands ≡ totals.commands h.state.base h.state.journal) × (h.books.taken ≡ handed_out h.state.base h.state.journal) };
+}
+
+impl<C: Ledger, T: Ledger> Hub<C, T> {
+    /// A hub with no clients and an empty journal, and its first pass. Each blank is a ledger cut
+    /// into 65,536 parts, of which a pass takes one. Refused as `BadConfig`, then for `Memory`.
+    #[tactic(auto, unfolding(hub_state::specs::Totals::commands, hub_state::specs::Totals::handed_out, hub_state::specs::Journal::total))]
+    pub fn new(
+        alloc: Global,
+        config: Config,
+        commands: Blank,
+        taken: Blank,
+    ) -> Result<(Hub<C, T>, Pass<C, T>), HubError>
+        requires commands { (commands.name ≡ C.name) × (commands.parts ≡ C.parts) × (commands.parts ≡ 65536) }
+        requires taken { (taken.name ≡ T.name) × (taken.parts ≡ T.parts) × (taken.parts ≡ 65536) }
+        ensures config { OnOk result (config_refusal config ≡ None) }
+        ensures hub { IfOk result (λ made. made.0 ≡ record { history = record { base = empty_base config.first_offset; limits = config; journal = [] }; rest = 65535 }) }
+        ensures pass { IfOk result (λ made. made.1 ≡ record { commands = 0; taken = 0; parts = 1 }) }
+        ensures err { IfErr result (λ e. e ≡ unwrap_or (config_refusal config) HubError.Memory) }
+    {
+        let state = State::new(alloc, config)?;
+        let (books, pass) = Books::open(commands, taken);
+        Ok((Hub { state, books }, pass))
+    }
+
+    /// A pass that has counted nothing, for one more thread. Refused as `Spent` alone, after 65,534
+    /// of them.
+    pub fn new_pass(&mut self) -> Result<Pass<C, T>, HubError>
+        ensures pass { IfOk result (λ pass. pass ≡ record { commands = 0; taken = 0; parts = 1 }) }
+        ensures ok { OnOk result ((1 < self.old.rest) × (self.new ≡ record self.old { rest = self.old.rest - 1 })) }
+        ensures err { OnErr result ((self.old.rest ≡ 1) × (self.new ≡ self.old)) }
+        ensures spent { IfErr result (λ e. e ≡ HubError.Spent) }
+    {
+        self.books.new_pass()
+    }
+
+    /// Changes nothing. It tells that the hub's counts are at least what the pass has counted.
+    pub fn audit(&mut self, pass: &mut Pass<C, T>)
+        ensures same { (self.new ≡ self.old) × (pass.new ≡ pass.old) }
+        ensures at_least { AtLeast self.old pass.old }
+    {
+        // The totals are u64s.
+        let _fits = self.state.totals();
+        self.books.audit(pass);
+    }
+
+    /// The hub's counts, where the pass has all of its commands and all that it handed out, and else
+    /// what the pass lacks. It lacks nothing where every other pass was absorbed. Changes nothing.
+    pub fn settle(&mut self, pass: &mut Pass<C, T>) -> Result<Totals, NotAll>
+        ensures same { (self.new ≡ self.old) × (pass.new ≡ pass.old) }
+        ensures totals { IfOk result (λ totals. totals ≡ counted.totals self.old.history.base self.old.history.limits self.old.history.journal) }
+        ensures all { OnOk result ((pass.old.commands ≡ commands_of self.old) × (pass.old.taken ≡ taken_of self.old)) }
+        ensures lacks { IfErr result (λ lack. (pass.old.commands + lack.commands ≡ commands_of self.old) × (pass.old.taken + lack.taken ≡ taken_of self.old) × (0 < lack.commands + lack.taken)) }
+        ensures whole { self.old.rest + pass.old.parts ≡ C.parts → self.old.rest + pass.old.parts ≡ T.parts → IsOk result }
+    {
+        let totals = self.state.totals();
+        let lack = self.books.lacks(pass, &totals);
+        if lack.commands != 0 || lack.taken != 0 {
+            return Err(lack);
+        }
+        Ok(totals)
+    }
+}

@@ -1,0 +1,159 @@
+//! The commands of a hub: `State`'s, each counted in a pass.
+#![tactic(auto, unfolding(hub_state::specs::Totals::commands, hub_state::specs::Totals::handed_out, hub_state::specs::Journal::total))]
+
+ghost use Rattle.std.specs.Prelude.{◌≡◌, None, Some, IfOk, length, min, take};
+ghost use Rattle.hub_state.specs.Membership.{sid_of, place_of};
+ghost use Rattle.hub_state.specs.Outboxes.{waiting};
+ghost use Rattle.hub_state.specs.Totals.{is_spent};
+ghost use Rattle.hub_state.specs.Refusals.{or_spent, open_refusal, client_refusal, tell_refusal, attach_refusal, join_refusal, leave_refusal, end_refusal};
+ghost use Rattle.hub.specs.Pass.{DoesCounted, Rises};
+ghost use Rattle.hub_state.specs.declared.socket.Socket.{Socket};
+ghost use Rattle.hub_state.specs.declared.step.What.{What};
+
+use crate::hub::Hub;
+use crate::pass::Pass;
+use hub_state::HubError;
+use recovery::Pid;
+use room_maps::{Room, Sid};
+use sio_wire::Entry;
+use std::alloc::Global;
+use std::sync::ledger::Ledger;
+
+impl<C: Ledger, T: Ledger> Hub<C, T> {
+    /// Opens a client, with no sockets and an empty outbox. Refused as `IdTaken`,
+    /// `TooManyClients`, `Spent`, then for `Memory`. It takes the logarithm of the clients, and
+    /// memory for the whole outbox.
+    pub fn open(
+        &mut self,
+        pass: &mut Pass<C, T>,
+        alloc: Global,
+        client: u128,
+        now: u64,
+    ) -> Result<(), HubError>
+        ensures does { let h = self.old.history in DoesCounted self.old self.new pass.old pass.new now (What.Opened client) (or_spent (open_refusal h.base h.limits h.journal client) (is_spent h.base h.limits h.journal (What.Opened client))) result }
+        ensures rises { Rises self.old self.new pass.old pass.new }
+    {
+        self.state.open(alloc, client, now)?;
+        self.books.count(pass, &self.state, 0);
+        Ok(())
+    }
+
+    /// Connects a client's new socket to a namespace: it is in its own room, and the answer to the
+    /// CONNECT is put. Refused as `UnknownClient`, `UnknownNamespace`, `AlreadyConnected`,
+    /// `IdTaken`, `OutboxFull`, `Spent`, then for `Memory`. It takes the logarithm of the clients
+    /// and sockets, and walks the namespaces and the client's sockets.
+    pub fn attach(
+        &mut self,
+        pass: &mut Pass<C, T>,
+        alloc: Global,
+        client: u128,
+        space: &str,
+        sid: Sid,
+        pid: Pid,
+        now: u64,
+    ) -> Result<(), HubError>
+        ensures does { let h = self.old.history in let socket : Socket = record { client = client; space = place_of h.limits space.now; sid = sid; pid = pid } in DoesCounted self.old self.new pass.old pass.new now (What.Attached socket) (or_spent (attach_refusal h.base h.limits h.journal socket) (is_spent h.base h.limits h.journal (What.Attached socket))) result }
+        ensures rises { Rises self.old self.new pass.old pass.new }
+    {
+        self.state.attach(alloc, client, space, sid, pid, now)?;
+        self.books.count(pass, &self.state, 0);
+        Ok(())
+    }
+
+    /// A socket joins a room. Refused as `UnknownSocket`, `RoomRefused`, `Spent`, then for
+    /// `Memory`. It takes the logarithm of the sockets and of the rooms.
+    pub fn join(
+        &mut self,
+        pass: &mut Pass<C, T>,
+        alloc: Global,
+        sid: Sid,
+        room: Room,
+        now: u64,
+    ) -> Result<(), HubError>
+        ensures does { let h = self.old.history in DoesCounted self.old self.new pass.old pass.new now (What.Joined sid room) (or_spent (join_refusal h.base h.journal sid room) (is_spent h.base h.limits h.journal (What.Joined sid room))) result }
+        ensures rises { Rises self.old self.new pass.old pass.new }
+    {
+        self.state.join(alloc, sid, room, now)?;
+        self.books.count(pass, &self.state, 0);
+        Ok(())
+    }
+
+    /// A socket leaves a room. Refused as `UnknownSocket`, `RoomRefused`, `Spent`, then for
+    /// `Memory`. It takes the logarithm of the sockets and of the rooms.
+    pub fn leave(
+        &mut self,
+        pass: &mut Pass<C, T>,
+        sid: Sid,
+        room: Room,
+        now: u64,
+    ) -> Result<(), HubError>
+        ensures does { let h = self.old.history in DoesCounted self.old self.new pass.old pass.new now (What.Left sid room) (or_spent (leave_refusal h.base h.journal sid room) (is_spent h.base h.limits h.journal (What.Left sid room))) result }
+        ensures rises { Rises self.old self.new pass.old pass.new }
+    {
+        self.state.leave(sid, room, now)?;
+        self.books.count(pass, &self.state, 0);
+        Ok(())
+    }
+
+    /// Ends a socket: it leaves its client and all its rooms, and nothing is saved. Refused as
+    /// `UnknownSocket`, `Spent`, then for `Memory`. It takes the logarithm of the clients and
+    /// sockets, and walks the client's sockets and the socket's rooms.
+    pub fn end(&mut self, pass: &mut Pass<C, T>, sid: Sid, now: u64) -> Result<(), HubError>
+        ensures does { let h = self.old.history in DoesCounted self.old self.new pass.old pass.new now (What.Ended sid) (or_spent (end_refusal h.base h.journal sid) (is_spent h.base h.limits h.journal (What.Ended sid))) result }
+        ensures rises { Rises self.old self.new pass.old pass.new }
+    {
+        self.state.end(sid, now)?;
+        self.books.count(pass, &self.state, 0);
+        Ok(())
+    }
+
+    /// Closes a client: its sockets end, nothing is saved, and what waits is discarded. Refused as
+    /// `UnknownClient`, `Spent`, then for `Memory`. It takes the logarithm of the clients and
+    /// sockets, and walks the client's sockets and their rooms.
+    pub fn close(&mut self, pass: &mut Pass<C, T>, client: u128, now: u64) -> Result<(), HubError>
+        ensures does { let h = self.old.history in DoesCounted self.old self.new pass.old pass.new now (What.Closed client) (or_spent (client_refusal h.base h.journal client) (is_spent h.base h.limits h.journal (What.Closed client))) result }
+        ensures rises { Rises self.old self.new pass.old pass.new }
+    {
+        self.state.close(client, now)?;
+        self.books.count(pass, &self.state, 0);
+        Ok(())
+    }
+
+    /// Puts an entry at the end of a client's outbox. Refused as `UnknownClient`, `OutboxFull`,
+    /// `Spent`, then for `Memory`. It takes the logarithm of the clients.
+    pub fn tell(
+        &mut self,
+        pass: &mut Pass<C, T>,
+        alloc: Global,
+        client: u128,
+        entry: Entry,
+        now: u64,
+    ) -> Result<(), HubError>
+        ensures does { let h = self.old.history in let what = What.Told (record { client = client; entry = entry }) in DoesCounted self.old self.new pass.old pass.new now what (or_spent (tell_refusal h.base h.limits h.journal client entry) (is_spent h.base h.limits h.journal what)) result }
+        ensures rises { Rises self.old self.new pass.old pass.new }
+    {
+        self.state.tell(alloc, client, entry, now)?;
+        self.books.count(pass, &self.state, 0);
+        Ok(())
+    }
+
+    /// Hands out the first `most` entries that wait for a client, or all where fewer wait. Refused
+    /// as `UnknownClient`, `Spent`, then for `Memory`. It takes the logarithm of the clients, and
+    /// copies what it hands out.
+    pub fn take(
+        &mut self,
+        pass: &mut Pass<C, T>,
+        alloc: Global,
+        client: u128,
+        most: usize,
+        now: u64,
+    ) -> Result<Vec<Entry>, HubError>
+        ensures entries { let h = self.old.history in IfOk result (λ entries. entries.items ≡ take most (waiting h.base h.limits h.journal client)) }
+        ensures does { let h = self.old.history in let number = min most (length (waiting h.base h.limits h.journal client)) in DoesCounted self.old self.new pass.old pass.new now (What.Took client number) (or_spent (client_refusal h.base h.journal client) (is_spent h.base h.limits h.journal (What.Took client number))) result }
+        ensures rises { Rises self.old self.new pass.old pass.new }
+    {
+        let entries = self.state.take(alloc, client, most, now)?;
+        self.books.count(pass, &self.state, entries.len() as u64);
+        Ok(entries)
+    }
+}

@@ -1,0 +1,100 @@
+//! Clients that are lost and sessions that are kept, through a hub (Socket.IO server documentation,
+//! "Connection state recovery").
+#![tactic(auto, unfolding(hub_state::specs::Totals::commands, hub_state::specs::Totals::handed_out, hub_state::specs::Journal::total))]
+
+ghost use Rattle.std.specs.Prelude.{◌≡◌, ◌+◌, [], None, IfOk, IfErr, OnOk, OnErr, length};
+ghost use Rattle.hub_state.specs.Totals.{is_spent};
+ghost use Rattle.hub_state.specs.Sessions.{sessions};
+ghost use Rattle.hub_state.specs.Log.{log};
+ghost use Rattle.hub_state.specs.Legal.{IsLegal};
+ghost use Rattle.hub_state.specs.Journal.{moment_at};
+ghost use Rattle.hub_state.specs.Membership.{place_of};
+ghost use Rattle.hub_state.specs.Recovery.{recovery_of};
+ghost use Rattle.hub_state.specs.Refusals.{or_spent, park_refusal, recover_refusal};
+ghost use Rattle.hub.specs.Pass.{DoesCounted, Rises};
+ghost use Rattle.hub_state.specs.Seal.{IsSealed, SaysTheSame};
+ghost use Rattle.hub_state.specs.declared.step.What.{What};
+
+use crate::hub::Hub;
+use crate::pass::Pass;
+use hub_state::{Epoch, HubError, Swept};
+use recovery::Pid;
+use room_maps::Sid;
+use std::alloc::Global;
+use std::sync::ledger::Ledger;
+
+impl<C: Ledger, T: Ledger> Hub<C, T> {
+    /// Parks a client that was lost: the sessions of its sockets are saved with their rooms, its
+    /// sockets end, and what waits for it is discarded. Refused as `UnknownClient`, `SavedFull`
+    /// where the saved sessions leave fewer places than it has sockets, `Spent`, then for `Memory`.
+    /// It takes the logarithm of the clients and, for each of the client's sockets, that of the
+    /// sockets and of the saved sessions, and each of their rooms takes the logarithm of the
+    /// sockets and of the rooms.
+    pub fn park(
+        &mut self,
+        pass: &mut Pass<C, T>,
+        alloc: Global,
+        client: u128,
+        now: u64,
+    ) -> Result<(), HubError>
+        ensures does { let h = self.old.history in DoesCounted self.old self.new pass.old pass.new now (What.Parked client) (or_spent (park_refusal h.base h.limits h.journal client) (is_spent h.base h.limits h.journal (What.Parked client))) result }
+        ensures rises { Rises self.old self.new pass.old pass.new }
+    {
+        self.state.park(alloc, client, now)?;
+        self.books.count(pass, &self.state, 0);
+        Ok(())
+    }
+
+    /// Brings a saved session back at a client, with its rooms: it is saved no more, and the answer to
+    /// the CONNECT and then the log's entries that it missed past the offset that it names are put.
+    /// Refused as `UnknownClient`, `UnknownNamespace`, `AlreadyConnected`, `NotRecoverable`,
+    /// `OutboxFull` where not all of them have a place, `Spent`, then for `Memory`. It takes the
+    /// logarithm of the clients, sockets and saved sessions, and walks the namespaces, the client's
+    /// sockets, the session's rooms, and the log past the offset.
+    pub fn recover(
+        &mut self,
+        pass: &mut Pass<C, T>,
+        alloc: Global,
+        client: u128,
+        space: &str,
+        pid: Pid,
+        offset: u64,
+        now: u64,
+    ) -> Result<Sid, HubError>
+        ensures sid { let h = self.old.history in IfOk result (λ sid. sid ≡ (recovery_of h.base h.limits h.journal client (place_of h.limits space.now) pid offset).socket.sid) }
+        ensures does { let h = self.old.history in let recovery = recovery_of h.base h.limits h.journal client (place_of h.limits space.now) pid offset in DoesCounted self.old self.new pass.old pass.new now (What.Recovered recovery) (or_spent (recover_refusal h.base h.limits h.journal client (place_of h.limits space.now) pid offset (moment_at h now)) (is_spent h.base h.limits h.journal (What.Recovered recovery))) result }
+        ensures rises { Rises self.old self.new pass.old pass.new }
+    {
+        let sid = self.state.recover(alloc, client, space, pid, offset, now)?;
+        self.books.count(pass, &self.state, 0);
+        Ok(sid)
+    }
+
+    /// Drops the entries of the log and the saved sessions that are older than the hub keeps them,
+    /// and says how many. Refused as `Spent`, then for `Memory`. Each that is dropped takes the
+    /// logarithm of the saved sessions, and it looks at one more of both.
+    pub fn sweep(&mut self, pass: &mut Pass<C, T>, now: u64) -> Result<Swept, HubError>
+        ensures does { let h = self.old.history in DoesCounted self.old self.new pass.old pass.new now What.Swept (or_spent None (is_spent h.base h.limits h.journal What.Swept)) result }
+        ensures counts { let h = self.old.history in let g = self.new.history in IfOk result (λ dropped. (length (log h.base h.limits h.journal) ≡ length (log g.base g.limits g.journal) + dropped.log) × (length (sessions h.base h.limits h.journal) ≡ length (sessions g.base g.limits g.journal) + dropped.saved)) }
+        ensures rises { Rises self.old self.new pass.old pass.new }
+    {
+        let swept = self.state.sweep(now)?;
+        self.books.count(pass, &self.state, 0);
+        Ok(swept)
+    }
+
+    /// Makes the present state the base, and hands out the old base with the steps since then. It
+    /// is no command, and says nothing of any pass. Refused for `Memory` alone. It takes time and
+    /// memory for the present state, whose entries are shared, and none for the journal.
+    pub fn seal(&mut self, alloc: Global) -> Result<Epoch, HubError>
+        ensures epoch { IfOk result (λ epoch. epoch ≡ record { base = self.old.history.base; journal = self.old.history.journal }) }
+        ensures legal { IfOk result (λ epoch. IsLegal epoch.base self.old.history.limits epoch.journal) }
+        ensures sealed { OnOk result (IsSealed self.old.history self.new.history) }
+        ensures same { OnOk result (SaysTheSame self.old.history self.new.history) }
+        ensures parts { self.new.rest ≡ self.old.rest }
+        ensures unchanged { OnErr result (self.new ≡ self.old) }
+        ensures memory { IfErr result (λ e. e ≡ HubError.Memory) }
+    {
+        self.state.seal(alloc)
+    }
+}

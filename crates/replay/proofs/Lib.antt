@@ -1,0 +1,11 @@
+pub mod StepsLemmas
+pub mod ClientsLemmas
+pub mod SocketsLemmas
+pub mod RoomsLemmas
+pub mod LogLemmas
+pub mod OutboxesLemmas
+pub mod CountsLemmas
+pub mod OffsetsLemmas
+pub mod MembersLemmas
+pub mod RisingLemmas
+pub mod SessionsLemmas

@@ -1,0 +1,240 @@
+//! Broadcasts, full outboxes, and what is refused.
+
+use super::{A, AMPLE, Answer, B, Limits, Line, OF_A, OF_B, played, played_by_two};
+use hub_state::HubError;
+use room_maps::RoomError;
+
+#[test]
+fn a_say_reaches_the_others(rt: HostRuntime) -> Result<(), HubError> {
+    let lines = [
+        (Line::Totals([8, 2, 0, 2, 0, 0]), Answer::Done),
+        (Line::Say(OF_A, "[\"say\",\"r\",\"hi\"]"), Answer::Done),
+        (
+            Line::Take(B, 64),
+            Answer::Texts(&["2[\"say\",\"r\",\"hi\",\"0000000000000001\"]"]),
+        ),
+        (Line::Take(A, 64), Answer::Texts(&[])),
+    ];
+    let limits = AMPLE;
+    assert!(rt; played_by_two(rt.alloc(), limits, &lines)? == None);
+    Ok(())
+}
+
+#[test]
+fn one_entry_for_two_rooms(rt: HostRuntime) -> Result<(), HubError> {
+    let lines = [
+        (Line::Join(OF_B, "q"), Answer::Done),
+        (Line::Two(OF_A, "[\"two\",\"r\",\"q\",\"x\"]"), Answer::Done),
+        (
+            Line::Take(B, 64),
+            Answer::Texts(&["2[\"two\",\"r\",\"q\",\"x\",\"0000000000000001\"]"]),
+        ),
+        (Line::Take(B, 64), Answer::Texts(&[])),
+    ];
+    let limits = AMPLE;
+    assert!(rt; played_by_two(rt.alloc(), limits, &lines)? == None);
+    Ok(())
+}
+
+#[test]
+fn an_excepted_room_gets_nothing(rt: HostRuntime) -> Result<(), HubError> {
+    let lines = [
+        (Line::Join(OF_B, "q"), Answer::Done),
+        (Line::But(OF_A, "[\"but\",\"r\",\"q\",\"x\"]"), Answer::Done),
+        (Line::Totals([10, 2, 0, 2, 0, 0]), Answer::Done),
+    ];
+    let limits = AMPLE;
+    assert!(rt; played_by_two(rt.alloc(), limits, &lines)? == None);
+    Ok(())
+}
+
+#[test]
+fn a_full_outbox_drops_and_counts(rt: HostRuntime) -> Result<(), HubError> {
+    let lines = [
+        (Line::Say(OF_A, "[\"say\",\"r\",\"1\"]"), Answer::Done),
+        (Line::Say(OF_A, "[\"say\",\"r\",\"2\"]"), Answer::Done),
+        (Line::Say(OF_A, "[\"say\",\"r\",\"3\"]"), Answer::Done),
+        (Line::Say(OF_A, "[\"say\",\"r\",\"4\"]"), Answer::Done),
+        (Line::Say(OF_A, "[\"say\",\"r\",\"5\"]"), Answer::Done),
+        (Line::Totals([13, 6, 1, 2, 0, 4]), Answer::Done),
+        (
+            Line::Take(B, 1),
+            Answer::Texts(&["2[\"say\",\"r\",\"1\",\"0000000000000001\"]"]),
+        ),
+        (Line::Say(OF_A, "[\"say\",\"r\",\"6\"]"), Answer::Done),
+        (Line::Totals([15, 7, 1, 3, 0, 4]), Answer::Done),
+        (
+            Line::Take(B, 64),
+            Answer::Texts(&[
+                "2[\"say\",\"r\",\"2\",\"0000000000000002\"]",
+                "2[\"say\",\"r\",\"3\",\"0000000000000003\"]",
+                "2[\"say\",\"r\",\"4\",\"0000000000000004\"]",
+                "2[\"say\",\"r\",\"6\",\"0000000000000006\"]",
+            ]),
+        ),
+    ];
+    let limits = Limits {
+        capacity: 4,
+        ..AMPLE
+    };
+    assert!(rt; played_by_two(rt.alloc(), limits, &lines)? == None);
+    Ok(())
+}
+
+#[test]
+fn nobody_is_left_in_the_room(rt: HostRuntime) -> Result<(), HubError> {
+    let lines = [
+        (Line::Leave(OF_A, "r"), Answer::Done),
+        (Line::Leave(OF_B, "r"), Answer::Done),
+        (Line::Members("r", 0), Answer::Done),
+        (Line::Say(OF_A, "[\"say\",\"r\",\"x\"]"), Answer::Done),
+        (Line::All("[\"all\",\"y\"]"), Answer::Done),
+        (
+            Line::Take(B, 64),
+            Answer::Texts(&["2[\"all\",\"y\",\"0000000000000002\"]"]),
+        ),
+        (
+            Line::LeaveOwn(OF_B),
+            Answer::Refused(HubError::RoomRefused(RoomError::OwnRoom)),
+        ),
+    ];
+    let limits = AMPLE;
+    assert!(rt; played_by_two(rt.alloc(), limits, &lines)? == None);
+    Ok(())
+}
+
+#[test]
+fn the_greatest_offset_is_the_last(rt: HostRuntime) -> Result<(), HubError> {
+    let lines = [
+        (Line::Say(OF_A, "[\"say\",\"r\",\"1\"]"), Answer::Done),
+        (
+            Line::Take(B, 64),
+            Answer::Texts(&["2[\"say\",\"r\",\"1\",\"ffffffffffffffff\"]"]),
+        ),
+        (
+            Line::Say(OF_A, "[\"say\",\"r\",\"2\"]"),
+            Answer::Refused(HubError::Spent),
+        ),
+        (Line::Quiet(OF_A, "[\"quiet\",\"r\",\"3\"]"), Answer::Done),
+        (
+            Line::Take(B, 64),
+            Answer::Texts(&["2[\"quiet\",\"r\",\"3\"]"]),
+        ),
+    ];
+    let limits = Limits {
+        first_offset: u64::MAX,
+        ..AMPLE
+    };
+    assert!(rt; played_by_two(rt.alloc(), limits, &lines)? == None);
+    Ok(())
+}
+
+#[test]
+fn no_more_clients_than_there_may_be(rt: HostRuntime) -> Result<(), HubError> {
+    let lines = [
+        (Line::Open(A), Answer::Done),
+        (Line::Open(B), Answer::Refused(HubError::TooManyClients)),
+        (Line::Totals([1, 0, 0, 0, 0, 0]), Answer::Done),
+    ];
+    let limits = Limits {
+        clients: 1,
+        ..AMPLE
+    };
+    assert!(rt; played(rt.alloc(), limits, &[], &lines)? == None);
+    Ok(())
+}
+
+#[test]
+fn a_hundred_bytes_wait(rt: HostRuntime) -> Result<(), HubError> {
+    let lines = [
+        (Line::Say(OF_A, "[\"say\",\"r\",\"1\"]"), Answer::Done),
+        (Line::Say(OF_A, "[\"say\",\"r\",\"2\"]"), Answer::Done),
+        (Line::Say(OF_A, "[\"say\",\"r\",\"3\"]"), Answer::Done),
+        (Line::Totals([11, 4, 1, 2, 0, 2]), Answer::Done),
+        (
+            Line::Take(B, 1),
+            Answer::Texts(&["2[\"say\",\"r\",\"1\",\"0000000000000001\"]"]),
+        ),
+        (Line::Say(OF_A, "[\"say\",\"r\",\"4\"]"), Answer::Done),
+        (Line::Totals([13, 5, 1, 3, 0, 2]), Answer::Done),
+        (
+            Line::Take(B, 64),
+            Answer::Texts(&[
+                "2[\"say\",\"r\",\"2\",\"0000000000000002\"]",
+                "2[\"say\",\"r\",\"4\",\"0000000000000004\"]",
+            ]),
+        ),
+    ];
+    let limits = Limits {
+        bytes: 100,
+        ..AMPLE
+    };
+    assert!(rt; played_by_two(rt.alloc(), limits, &lines)? == None);
+    Ok(())
+}
+
+#[test]
+fn three_says_have_105_bytes(rt: HostRuntime) -> Result<(), HubError> {
+    let lines = [
+        (Line::Say(OF_A, "[\"say\",\"r\",\"1\"]"), Answer::Done),
+        (Line::Say(OF_A, "[\"say\",\"r\",\"2\"]"), Answer::Done),
+        (Line::Say(OF_A, "[\"say\",\"r\",\"3\"]"), Answer::Done),
+        (Line::Totals([11, 5, 0, 2, 0, 3]), Answer::Done),
+    ];
+    let limits = Limits {
+        bytes: 105,
+        ..AMPLE
+    };
+    assert!(rt; played_by_two(rt.alloc(), limits, &lines)? == None);
+    Ok(())
+}
+
+#[test]
+fn an_answer_has_84_bytes(rt: HostRuntime) -> Result<(), HubError> {
+    let lines = [
+        (Line::Open(A), Answer::Done),
+        (Line::Attach(A, OF_A), Answer::Refused(HubError::OutboxFull)),
+        (Line::Totals([1, 0, 0, 0, 0, 0]), Answer::Done),
+    ];
+    let limits = Limits { bytes: 83, ..AMPLE };
+    assert!(rt; played(rt.alloc(), limits, &[], &lines)? == None);
+    Ok(())
+}
+
+#[test]
+fn what_waits_is_discarded(rt: HostRuntime) -> Result<(), HubError> {
+    let lines = [
+        (Line::Say(OF_A, "[\"say\",\"r\",\"1\"]"), Answer::Done),
+        (Line::Close(B), Answer::Done),
+        (Line::Totals([10, 3, 0, 2, 1, 0]), Answer::Done),
+        (Line::Say(OF_A, "[\"say\",\"r\",\"2\"]"), Answer::Done),
+        (Line::Members("r", 1), Answer::Done),
+        (Line::Totals([11, 3, 0, 2, 1, 0]), Answer::Done),
+    ];
+    let limits = AMPLE;
+    assert!(rt; played_by_two(rt.alloc(), limits, &lines)? == None);
+    Ok(())
+}
+
+#[test]
+fn no_bytes_are_a_bad_config(rt: HostRuntime) -> Result<(), HubError> {
+    let limits = Limits { bytes: 0, ..AMPLE };
+    let lines = [(Line::Open(A), Answer::Done)];
+    assert!(rt; played(rt.alloc(), limits, &[], &lines) == Err(HubError::BadConfig));
+    Ok(())
+}
+
+#[test]
+fn told_and_ended(rt: HostRuntime) -> Result<(), HubError> {
+    let lines = [
+        (Line::Tell(B, "2[\"t\"]"), Answer::Done),
+        (Line::End(OF_B), Answer::Done),
+        (Line::End(OF_B), Answer::Refused(HubError::UnknownSocket)),
+        (Line::Members("r", 1), Answer::Done),
+        (Line::Take(B, 64), Answer::Texts(&["2[\"t\"]"])),
+        (Line::Totals([11, 3, 0, 3, 0, 0]), Answer::Done),
+    ];
+    let limits = AMPLE;
+    assert!(rt; played_by_two(rt.alloc(), limits, &lines)? == None);
+    Ok(())
+}
