@@ -1,5 +1,6 @@
 //! Passes of one hub: what each has, and what it lacks until the others are absorbed. One growth of
-//! the whole run may be refused, so each second try succeeds.
+//! the whole run may be refused, so each second try succeeds; where the hub itself is refused, another
+//! is made.
 
 ghost use Rattle.std.specs.Prelude.{◌≡◌};
 
@@ -103,10 +104,17 @@ fn has<C: Ledger, T: Ledger>(pass: &Pass<C, T>, commands: u64, taken: u64) -> bo
     pass.commands() == commands && pass.taken() == taken
 }
 
+fn settle_two_once<R: Abort>(rt: &R, alloc: Global) -> Result<(), HubError> {
+    let (commands, taken) = (Blank::new(PARTS), Blank::new(PARTS));
+    settle_two::<Brand, Brand, R>(rt, alloc, commands, taken)
+}
+
 #[test]
 fn two_passes_settle_together(rt: HostRuntime) -> Result<(), HubError> {
-    let (commands, taken) = (Blank::new(PARTS), Blank::new(PARTS));
-    settle_two::<Brand, Brand, _>(&rt, rt.alloc(), commands, taken)
+    match settle_two_once(&rt, rt.alloc()) {
+        Err(HubError::Memory) => settle_two_once(&rt, rt.alloc()),
+        done => done,
+    }
 }
 
 fn settle_two<C: Ledger, T: Ledger, R: Abort>(
@@ -131,10 +139,17 @@ fn settle_two<C: Ledger, T: Ledger, R: Abort>(
     Ok(())
 }
 
+fn take_all_passes_once<R: Abort>(rt: &R, alloc: Global) -> Result<(), HubError> {
+    let (commands, taken) = (Blank::new(PARTS), Blank::new(PARTS));
+    take_all_passes::<Brand, Brand, R>(rt, alloc, commands, taken)
+}
+
 #[test]
 fn passes_run_out(rt: HostRuntime) -> Result<(), HubError> {
-    let (commands, taken) = (Blank::new(PARTS), Blank::new(PARTS));
-    take_all_passes::<Brand, Brand, _>(&rt, rt.alloc(), commands, taken)
+    match take_all_passes_once(&rt, rt.alloc()) {
+        Err(HubError::Memory) => take_all_passes_once(&rt, rt.alloc()),
+        done => done,
+    }
 }
 
 fn take_all_passes<C: Ledger, T: Ledger, R: Abort>(

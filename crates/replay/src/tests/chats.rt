@@ -260,11 +260,10 @@ impl<C: Ledger, T: Ledger> Chat<C, T> {
     /// What a line is answered, after a refused allocation at the second try; or nothing where the
     /// refusal changed something.
     fn answer(&mut self, line: Line) -> Option<Result<Got, HubError>> {
-        let before = self.look();
+        let (before, members) = (self.look(), self.count_members("r"));
         match self.act(line) {
-            Err(HubError::Memory) if self.look() == before => Some(self.act(line)),
-            Err(HubError::Memory) => None,
-            Err(_) if self.look() != before => None,
+            Err(_) if self.look() != before || self.count_members("r") != members => None,
+            Err(HubError::Memory) => Some(self.act(line)),
             got => Some(got),
         }
     }
@@ -423,8 +422,7 @@ fn play<C: Ledger, T: Ledger>(
     Ok(wrong.or(if is_settled { None } else { Some(lines.len()) }))
 }
 
-/// Plays a chat in two parts.
-fn played(
+fn played_once(
     alloc: Global,
     limits: Limits,
     first: &[(Line, Answer)],
@@ -432,6 +430,19 @@ fn played(
 ) -> Result<Option<usize>, HubError> {
     let (commands, taken) = (Blank::new(PARTS), Blank::new(PARTS));
     play::<Brand, Brand>(alloc, limits, commands, taken, first, lines)
+}
+
+/// Plays a chat in two parts, over another hub where memory for the first was refused.
+fn played(
+    alloc: Global,
+    limits: Limits,
+    first: &[(Line, Answer)],
+    lines: &[(Line, Answer)],
+) -> Result<Option<usize>, HubError> {
+    match played_once(alloc, limits, first, lines) {
+        Err(HubError::Memory) => played_once(alloc, limits, first, lines),
+        played => played,
+    }
 }
 
 /// Plays a chat of both clients.
