@@ -41,7 +41,7 @@ impl<C: Ledger, T: Ledger> Hub<C, T> {
     /// Connects a client's new socket to a namespace: it is in its own room, and the answer to the
     /// CONNECT is put. Refused as `UnknownClient`, `UnknownNamespace`, `AlreadyConnected`,
     /// `IdTaken`, `OutboxFull`, `Spent`, then for `Memory`. It takes the logarithm of the clients
-    /// and sockets, and walks the namespaces and the client's sockets.
+    /// and sockets, and walks the namespaces, the client's sockets and the saved sessions.
     pub fn attach(
         &mut self,
         pass: &mut Pass<C, T>,
