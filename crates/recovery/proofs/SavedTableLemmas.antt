@@ -1,9 +1,10 @@
--- Both indexes of a table with one session more or less.
-use Rattle.std.proofs.Common.{◌≡◌, ℕ, ◌<◌, ◌≤◌, ◌==◌, Bool, true, false, not, ◌&&◌, cond, List, [], ◌∷◌, length, map, filter, refl, sym, ap, subst, ◌∙◌, arith, if◌then◌else◌, Option, None, Some}
+-- The indexes of a table with one session more or less.
+use Rattle.std.proofs.Common.{◌≡◌, ℕ, ◌<◌, ◌≤◌, ◌==◌, Bool, true, false, not, ◌&&◌, ◌||◌, cond, List, [], ◌∷◌, length, map, filter, refl, sym, ap, subst, ◌∙◌, arith, if◌then◌else◌, Option, None, Some}
 use Rattle.std.specs.Prelude.{nat_lt}
 use Rattle.std.specs.List.{list_any, find, All, AllByRecursion}
 use Rattle.std.specs.Option.{IfSome}
 use Rattle.std.proofs.lemmas.List.Elements.{All-head, All-tail}
+use Rattle.std.proofs.lemmas.List.Folds.{list_any_none}
 use Rattle.std.proofs.lemmas.Map.Views.{All-values_from_lookup}
 use Rattle.std.proofs.lemmas.Map.Keys.{IsDistinct-from_sorted}
 use Rattle.std.proofs.lemmas.Cmp.{nat_cmp_total, eq_by_cmp_equiv}
@@ -15,7 +16,7 @@ use Rattle.std.specs.Map.{lookup, keys_of, values_of, remove_entry}
 use Rattle.std.specs.BTreeMap.{is_at, insert_entry}
 use Rattle.std.proofs.lemmas.Bool.Decides.{nat_tests}
 use Rattle.recovery.specs.Expiry.{is_outdated}
-use Rattle.recovery.specs.SavedTable.{PlainSaved, IsKeyed, IsTable, loss_cmp, is_lost_at, with_session, is_alive}
+use Rattle.recovery.specs.SavedTable.{PlainSaved, IsKeyed, IsIndex, IsTable, pair_cmp, has_number, with_session, is_alive}
 
 -- ---- tests of keys
 
@@ -48,8 +49,8 @@ is_eq-then Less r = refl
 is_eq-then Equal r = refl
 is_eq-then Greater r = refl
 
-pub at_loss : (t p a q : ℕ) → is_at (loss_cmp (t, p)) (a, q) ≡ ((t == a) && (p == q))
-at_loss t p a q = is_eq-then (nat_cmp t a) (nat_cmp p q) ∙ (λ i. same_key t a i && same_key p q i)
+pub at_pair : (t p a q : ℕ) → is_at (pair_cmp (t, p)) (a, q) ≡ ((t == a) && (p == q))
+at_pair t p a q = is_eq-then (nat_cmp t a) (nat_cmp p q) ∙ (λ i. same_key t a i && same_key p q i)
 
 -- ---- entries by private ids
 
@@ -154,16 +155,13 @@ values_removed (e ∷ es) p keyed rises =
 
 -- ---- one session more or less
 
-pub table_added : (es es' : List (ℕ × PlainSaved)) (ks ks' : List (ℕ × ℕ)) (s : PlainSaved) → IsTable es ks → lookup (is_at (nat_cmp s.pid)) es ≡ None
-    → es' ≡ insert_entry nat_cmp es s.pid s → IsStrictlySortedBy nat_cmp (keys_of es')
-    → ((q : ℕ) → lookup (is_at (nat_cmp q)) es' ≡ cond (is_at (nat_cmp s.pid) q) (Some s) (lookup (is_at (nat_cmp q)) es))
-    → ((q : ℕ × ℕ) → list_any (is_at (loss_cmp q)) ks' ≡ cond (is_at (loss_cmp (s.lost_at, s.pid)) q) true (list_any (is_at (loss_cmp q)) ks))
-    → IsTable es' ks'
-table_added es es' ks ks' s was absent put rises found lost = record {
-  keyed = subst IsKeyed (sym put) (keyed_inserted es s was.keyed);
-  rises = rises;
-  mirror = λ a q. lost (a, q) ∙ (λ i. cond (at_loss s.lost_at s.pid a q i) true (was.mirror a q i)) ∙ both (s.pid == q) a q refl ∙ (λ i. is_lost_at a (cond (sym (same_key s.pid q) i) (Some s) (lookup (is_at (nat_cmp q)) es))) ∙ ap (is_lost_at a) (sym (found q));
-}
+-- an index with the pair of one session more
+index_added : (number : PlainSaved → ℕ) (es es' : List (ℕ × PlainSaved)) (ks ks' : List (ℕ × ℕ)) (p n : ℕ) (s : PlainSaved) → number s ≡ n → IsIndex number es ks → lookup (is_at (nat_cmp p)) es ≡ None
+    → ((q : ℕ) → lookup (is_at (nat_cmp q)) es' ≡ cond (is_at (nat_cmp p) q) (Some s) (lookup (is_at (nat_cmp q)) es))
+    → ((q : ℕ × ℕ) → list_any (is_at (pair_cmp q)) ks' ≡ cond (is_at (pair_cmp (n, p)) q) true (list_any (is_at (pair_cmp q)) ks))
+    → IsIndex number es' ks'
+index_added number es es' ks ks' p n s number_is was absent found noted =
+    λ a q. noted (a, q) ∙ (λ i. cond (at_pair n p a q i) true (was a q i)) ∙ both (p == q) a q refl ∙ (λ i. has_number number a (cond (sym (same_key p q) i) (Some s) (lookup (is_at (nat_cmp q)) es))) ∙ ap (has_number number a) (sym (found q))
   where
     one : (x : Bool) → cond (x && true) true false ≡ x
     one true = refl
@@ -173,22 +171,19 @@ table_added es es' ks ks' s was absent put rises found lost = record {
     none true y = refl
     none false y = refl
 
-    both : (b : Bool) (a q : ℕ) → (s.pid == q) ≡ b → cond ((s.lost_at == a) && b) true (is_lost_at a (lookup (is_at (nat_cmp q)) es)) ≡ is_lost_at a (cond b (Some s) (lookup (is_at (nat_cmp q)) es))
+    both : (b : Bool) (a q : ℕ) → (p == q) ≡ b → cond ((n == a) && b) true (has_number number a (lookup (is_at (nat_cmp q)) es)) ≡ has_number number a (cond b (Some s) (lookup (is_at (nat_cmp q)) es))
     both true a q same =
-        let gone : lookup (is_at (nat_cmp q)) es ≡ None = ap (λ k. lookup (is_at (nat_cmp k)) es) (sym (equal_of s.pid q same)) ∙ absent in
-        ap (λ o. cond ((s.lost_at == a) && true) true (is_lost_at a o)) gone ∙ one (s.lost_at == a)
-    both false a q other = none (s.lost_at == a) (is_lost_at a (lookup (is_at (nat_cmp q)) es))
+        let gone : lookup (is_at (nat_cmp q)) es ≡ None = ap (λ k. lookup (is_at (nat_cmp k)) es) (sym (equal_of p q same)) ∙ absent in
+        ap (λ o. cond ((n == a) && true) true (has_number number a o)) gone ∙ one (n == a) ∙ ap (λ m. m == a) (sym number_is)
+    both false a q other = none (n == a) (has_number number a (lookup (is_at (nat_cmp q)) es))
 
-pub table_removed : (es es' : List (ℕ × PlainSaved)) (ks ks' : List (ℕ × ℕ)) (p : ℕ) (s : PlainSaved) → IsTable es ks → lookup (is_at (nat_cmp p)) es ≡ Some s
-    → es' ≡ remove_entry (is_at (nat_cmp p)) es → IsStrictlySortedBy nat_cmp (keys_of es')
+-- an index without the pair of one session
+index_removed : (number : PlainSaved → ℕ) (es es' : List (ℕ × PlainSaved)) (ks ks' : List (ℕ × ℕ)) (p n : ℕ) (s : PlainSaved) → number s ≡ n → IsIndex number es ks → lookup (is_at (nat_cmp p)) es ≡ Some s
     → ((q : ℕ) → lookup (is_at (nat_cmp q)) es' ≡ cond (is_at (nat_cmp p) q) None (lookup (is_at (nat_cmp q)) es))
-    → ((q : ℕ × ℕ) → list_any (is_at (loss_cmp q)) ks' ≡ cond (is_at (loss_cmp (s.lost_at, p)) q) false (list_any (is_at (loss_cmp q)) ks))
-    → IsTable es' ks'
-table_removed es es' ks ks' p s was present taken rises found lost = record {
-  keyed = subst IsKeyed (sym taken) (keyed_removed es (is_at (nat_cmp p)) was.keyed);
-  rises = rises;
-  mirror = λ a q. lost (a, q) ∙ (λ i. cond (at_loss s.lost_at p a q i) false (was.mirror a q i)) ∙ both (p == q) a q refl ∙ (λ i. is_lost_at a (cond (sym (same_key p q) i) None (lookup (is_at (nat_cmp q)) es))) ∙ ap (is_lost_at a) (sym (found q));
-}
+    → ((q : ℕ × ℕ) → list_any (is_at (pair_cmp q)) ks' ≡ cond (is_at (pair_cmp (n, p)) q) false (list_any (is_at (pair_cmp q)) ks))
+    → IsIndex number es' ks'
+index_removed number es es' ks ks' p n s number_is was present found noted =
+    λ a q. noted (a, q) ∙ (λ i. cond (at_pair n p a q i) false (was a q i)) ∙ both (p == q) a q refl ∙ (λ i. has_number number a (cond (sym (same_key p q) i) None (lookup (is_at (nat_cmp q)) es))) ∙ ap (has_number number a) (sym (found q))
   where
     one : (x : Bool) → cond (x && true) false x ≡ false
     one true = refl
@@ -198,41 +193,74 @@ table_removed es es' ks ks' p s was present taken rises found lost = record {
     none true y = refl
     none false y = refl
 
-    both : (b : Bool) (a q : ℕ) → (p == q) ≡ b → cond ((s.lost_at == a) && b) false (is_lost_at a (lookup (is_at (nat_cmp q)) es)) ≡ is_lost_at a (cond b None (lookup (is_at (nat_cmp q)) es))
+    both : (b : Bool) (a q : ℕ) → (p == q) ≡ b → cond ((n == a) && b) false (has_number number a (lookup (is_at (nat_cmp q)) es)) ≡ has_number number a (cond b None (lookup (is_at (nat_cmp q)) es))
     both true a q same =
         let here : lookup (is_at (nat_cmp q)) es ≡ Some s = ap (λ k. lookup (is_at (nat_cmp k)) es) (sym (equal_of p q same)) ∙ present in
-        ap (λ o. cond ((s.lost_at == a) && true) false (is_lost_at a o)) here ∙ one (s.lost_at == a)
-    both false a q other = none (s.lost_at == a) (is_lost_at a (lookup (is_at (nat_cmp q)) es))
+        ap (λ o. cond ((n == a) && true) false (has_number number a o)) here ∙ ap (λ m. cond ((n == a) && true) false (m == a)) number_is ∙ one (n == a)
+    both false a q other = none (n == a) (has_number number a (lookup (is_at (nat_cmp q)) es))
 
--- the same, where the private id and the moment were read before
-pub table_put : (es es' : List (ℕ × PlainSaved)) (ks ks' : List (ℕ × ℕ)) (s : PlainSaved) (p t : ℕ) → s.pid ≡ p → s.lost_at ≡ t → IsTable es ks → lookup (is_at (nat_cmp s.pid)) es ≡ None
+-- a pair put into an index and taken out again
+pub index_put_back : (number : PlainSaved → ℕ) (es : List (ℕ × PlainSaved)) (ks ks' ks'' : List (ℕ × ℕ)) (p n : ℕ) → IsIndex number es ks → lookup (is_at (nat_cmp p)) es ≡ None
+    → ((q : ℕ × ℕ) → list_any (is_at (pair_cmp q)) ks' ≡ cond (is_at (pair_cmp (n, p)) q) true (list_any (is_at (pair_cmp q)) ks))
+    → ((q : ℕ × ℕ) → list_any (is_at (pair_cmp q)) ks'' ≡ cond (is_at (pair_cmp (n, p)) q) false (list_any (is_at (pair_cmp q)) ks'))
+    → IsIndex number es ks''
+index_put_back number es ks ks' ks'' p n was absent put taken =
+    λ a q. taken (a, q) ∙ (λ i. cond (at_pair n p a q i) false (put (a, q) i)) ∙ (λ i. cond ((n == a) && (p == q)) false (cond (at_pair n p a q i) true (was a q i))) ∙ both (p == q) a q refl
+  where
+    one : (x : Bool) → cond (x && true) false (cond (x && true) true false) ≡ false
+    one true = refl
+    one false = refl
+
+    none : (x y : Bool) → cond (x && false) false (cond (x && false) true y) ≡ y
+    none true y = refl
+    none false y = refl
+
+    both : (b : Bool) (a q : ℕ) → (p == q) ≡ b → cond ((n == a) && b) false (cond ((n == a) && b) true (has_number number a (lookup (is_at (nat_cmp q)) es))) ≡ has_number number a (lookup (is_at (nat_cmp q)) es)
+    both true a q same =
+        let gone : lookup (is_at (nat_cmp q)) es ≡ None = ap (λ k. lookup (is_at (nat_cmp k)) es) (sym (equal_of p q same)) ∙ absent in
+        ap (λ o. cond ((n == a) && true) false (cond ((n == a) && true) true (has_number number a o))) gone ∙ one (n == a) ∙ ap (has_number number a) (sym gone)
+    both false a q other = none (n == a) (has_number number a (lookup (is_at (nat_cmp q)) es))
+
+-- nothing put into an index
+pub index_same : (number : PlainSaved → ℕ) (es : List (ℕ × PlainSaved)) (ks ks' : List (ℕ × ℕ)) → IsIndex number es ks → ks' ≡ ks → IsIndex number es ks'
+index_same number es ks ks' was same = subst (IsIndex number es) (sym same) was
+
+-- a table with one session more, whose numbers were read before
+pub table_put : (es es' : List (ℕ × PlainSaved)) (ks ks' ls ls' : List (ℕ × ℕ)) (s : PlainSaved) (p t n : ℕ) → s.pid ≡ p → s.lost_at ≡ t → s.sid ≡ n → IsTable es ks ls → lookup (is_at (nat_cmp p)) es ≡ None
     → es' ≡ insert_entry nat_cmp es p s → IsStrictlySortedBy nat_cmp (keys_of es')
     → ((q : ℕ) → lookup (is_at (nat_cmp q)) es' ≡ cond (is_at (nat_cmp p) q) (Some s) (lookup (is_at (nat_cmp q)) es))
-    → ((q : ℕ × ℕ) → list_any (is_at (loss_cmp q)) ks' ≡ cond (is_at (loss_cmp (t, p)) q) true (list_any (is_at (loss_cmp q)) ks))
-    → IsTable es' ks'
-table_put es es' ks ks' s p t pid_is lost_is was absent put rises found lost =
-    table_added es es' ks ks' s was absent
-    (put ∙ ap (λ k. insert_entry nat_cmp es k s) (sym pid_is))
-    rises
-    (λ q. found q ∙ ap (λ k. cond (is_at (nat_cmp k) q) (Some s) (lookup (is_at (nat_cmp q)) es)) (sym pid_is))
-    (λ q. lost q ∙ (λ i. cond (is_at (loss_cmp (sym lost_is i, sym pid_is i)) q) true (list_any (is_at (loss_cmp q)) ks)))
+    → ((q : ℕ × ℕ) → list_any (is_at (pair_cmp q)) ks' ≡ cond (is_at (pair_cmp (t, p)) q) true (list_any (is_at (pair_cmp q)) ks))
+    → ((q : ℕ × ℕ) → list_any (is_at (pair_cmp q)) ls' ≡ cond (is_at (pair_cmp (n, p)) q) true (list_any (is_at (pair_cmp q)) ls))
+    → IsTable es' ks' ls'
+table_put es es' ks ks' ls ls' s p t n pid_is lost_is sid_is was absent put rises found lost noted = record {
+  keyed = subst IsKeyed (sym (put ∙ ap (λ k. insert_entry nat_cmp es k s) (sym pid_is))) (keyed_inserted es s was.keyed);
+  rises = rises;
+  losses = index_added (λ x. x.lost_at) es es' ks ks' p t s lost_is was.losses absent found lost;
+  sids = index_added (λ x. x.sid) es es' ls ls' p n s sid_is was.sids absent found noted;
+}
 
-pub table_taken : (es es' : List (ℕ × PlainSaved)) (ks ks' : List (ℕ × ℕ)) (p t : ℕ) (s : PlainSaved) → s.lost_at ≡ t → IsTable es ks → lookup (is_at (nat_cmp p)) es ≡ Some s
+-- a table with one session less, whose numbers were read before
+pub table_taken : (es es' : List (ℕ × PlainSaved)) (ks ks' ls ls' : List (ℕ × ℕ)) (p t n : ℕ) (s : PlainSaved) → s.lost_at ≡ t → s.sid ≡ n → IsTable es ks ls → lookup (is_at (nat_cmp p)) es ≡ Some s
     → es' ≡ remove_entry (is_at (nat_cmp p)) es → IsStrictlySortedBy nat_cmp (keys_of es')
     → ((q : ℕ) → lookup (is_at (nat_cmp q)) es' ≡ cond (is_at (nat_cmp p) q) None (lookup (is_at (nat_cmp q)) es))
-    → ((q : ℕ × ℕ) → list_any (is_at (loss_cmp q)) ks' ≡ cond (is_at (loss_cmp (t, p)) q) false (list_any (is_at (loss_cmp q)) ks))
-    → IsTable es' ks'
-table_taken es es' ks ks' p t s lost_is was present taken rises found lost =
-    table_removed es es' ks ks' p s was present taken rises found
-    (λ q. lost q ∙ ap (λ a. cond (is_at (loss_cmp (a, p)) q) false (list_any (is_at (loss_cmp q)) ks)) (sym lost_is))
+    → ((q : ℕ × ℕ) → list_any (is_at (pair_cmp q)) ks' ≡ cond (is_at (pair_cmp (t, p)) q) false (list_any (is_at (pair_cmp q)) ks))
+    → ((q : ℕ × ℕ) → list_any (is_at (pair_cmp q)) ls' ≡ cond (is_at (pair_cmp (n, p)) q) false (list_any (is_at (pair_cmp q)) ls))
+    → IsTable es' ks' ls'
+table_taken es es' ks ks' ls ls' p t n s lost_is sid_is was present taken rises found lost noted = record {
+  keyed = subst IsKeyed (sym taken) (keyed_removed es (is_at (nat_cmp p)) was.keyed);
+  rises = rises;
+  losses = index_removed (λ x. x.lost_at) es es' ks ks' p t s lost_is was.losses present found lost;
+  sids = index_removed (λ x. x.sid) es es' ls ls' p n s sid_is was.sids present found noted;
+}
 
--- neither index changed
-pub table_same : (es es' : List (ℕ × PlainSaved)) (ks ks' : List (ℕ × ℕ)) → IsTable es ks → es' ≡ es → ks' ≡ ks → IsTable es' ks'
-table_same es es' ks ks' was same_es same_ks = subst (λ xs. IsTable xs ks') (sym same_es) (subst (λ xs. IsTable es xs) (sym same_ks) was)
+-- the sessions are the same again, and so is what the indexes have
+pub table_back : (es es' : List (ℕ × PlainSaved)) (ks ks' ls ls' : List (ℕ × ℕ)) → IsTable es ks ls → es' ≡ es → IsIndex (λ s. s.lost_at) es ks' → IsIndex (λ s. s.sid) es ls' → IsTable es' ks' ls'
+table_back es es' ks ks' ls ls' was same losses sids = subst (λ xs. IsTable xs ks' ls') (sym same) (record { keyed = was.keyed; rises = was.rises; losses = losses; sids = sids })
 
-pub table_empty : (es : List (ℕ × PlainSaved)) (ks : List (ℕ × ℕ)) → es ≡ [] → ks ≡ [] → IsTable es ks
+pub table_empty : (es : List (ℕ × PlainSaved)) (ks ls : List (ℕ × ℕ)) → es ≡ [] → ks ≡ [] → ls ≡ [] → IsTable es ks ls
 unfolding IsKeyed IsStrictlySortedBy
-table_empty es ks no_es no_ks = table_same [] es [] ks (record { keyed = tt; rises = tt; mirror = λ a q. refl }) no_es no_ks
+table_empty es ks ls no_es no_ks no_ls =
+    subst (λ xs. IsTable xs ks ls) (sym no_es) (record { keyed = tt; rises = tt; losses = λ a q. ap (list_any (is_at (pair_cmp (a, q)))) no_ks; sids = λ a q. ap (list_any (is_at (pair_cmp (a, q)))) no_ls })
 
 -- a list with no first element
 pub none_first : (ks : List (ℕ × ℕ)) → (0 < length ks → false ≡ true) → ks ≡ []
@@ -272,7 +300,7 @@ all_kept (x ∷ xs) keep now all =
 alive_later : (keep now t a : ℕ) → is_outdated keep now t ≡ false → t ≤ a → not (is_outdated keep now a) ≡ true
 alive_later keep now t a fresh later = let test : is_outdated keep now a ≡ false = grind (arith, nat_tests, fresh) in ap not test
 
-not_above : (t p a q : ℕ) → is_gt (loss_cmp (t, p) (a, q)) ≡ false → t ≤ a
+not_above : (t p a q : ℕ) → is_gt (pair_cmp (t, p) (a, q)) ≡ false → t ≤ a
 not_above t p a q h = at (nat_lt t a) (t == a) refl refl h
   where
     at : (x y : Bool) → nat_lt t a ≡ x → (t == a) ≡ y → is_gt (ordering_then (cond x Less (cond y Equal Greater)) (nat_cmp p q)) ≡ false → t ≤ a
@@ -281,37 +309,101 @@ not_above t p a q h = at (nat_lt t a) (t == a) refl refl h
     at false false less same h = absurd (cc)
 
 -- where the session that was lost first is alive, all are
-pub all_alive : (es : List (ℕ × PlainSaved)) (ks : List (ℕ × ℕ)) (t p keep now : ℕ) → IsTable es ks → ((q : ℕ × ℕ) → list_any (is_at (loss_cmp q)) ks ≡ true → is_gt (loss_cmp (t, p) q) ≡ false) → is_outdated keep now t ≡ false
+pub all_alive : (es : List (ℕ × PlainSaved)) (ks ls : List (ℕ × ℕ)) (t p keep now : ℕ) → IsTable es ks ls → ((q : ℕ × ℕ) → list_any (is_at (pair_cmp q)) ks ≡ true → is_gt (pair_cmp (t, p) q) ≡ false) → is_outdated keep now t ≡ false
     → filter (is_alive keep now) (values_of es) ≡ values_of es
-all_alive es ks t p keep now is least fresh =
+all_alive es ks ls t p keep now is least fresh =
     all_kept (values_of es) keep now
     (All-values_from_lookup (eq_by_cmp_equiv nat_cmp_total) (λ x. is_alive keep now x ≡ true) es (IsDistinct-from_sorted nat_cmp (keys_of es) is.rises) (λ q. at q (lookup (is_at (nat_cmp q)) es) refl))
   where
     at : (q : ℕ) (o : Option PlainSaved) → lookup (is_at (nat_cmp q)) es ≡ o → IfSome o (λ x. is_alive keep now x ≡ true)
     at q None found = tt
     at q (Some x) found =
-        let here : list_any (is_at (loss_cmp (x.lost_at, q))) ks ≡ true = is.mirror x.lost_at q ∙ ap (is_lost_at x.lost_at) found ∙ (let e : (x.lost_at == x.lost_at) ≡ true = grind (arith, nat_tests) in e) in
+        let here : list_any (is_at (pair_cmp (x.lost_at, q))) ks ≡ true = is.losses x.lost_at q ∙ ap (has_number (λ s. s.lost_at) x.lost_at) found ∙ (let e : (x.lost_at == x.lost_at) ≡ true = grind (arith, nat_tests) in e) in
         alive_later keep now t x.lost_at fresh (not_above t p x.lost_at q (least (x.lost_at, q) here))
 
 -- with no loss there is no session
-pub none_lost : (es : List (ℕ × PlainSaved)) (ks : List (ℕ × ℕ)) → IsTable es ks → ks ≡ [] → es ≡ []
-none_lost [] ks is none = refl
-none_lost (e ∷ es) ks is none =
+pub none_lost : (es : List (ℕ × PlainSaved)) (ks ls : List (ℕ × ℕ)) → IsTable es ks ls → ks ≡ [] → es ≡ []
+none_lost [] ks ls is none = refl
+none_lost (e ∷ es) ks ls is none =
     let found : lookup (is_at (nat_cmp e.0)) (e ∷ es) ≡ Some e.1 = ap (λ b. cond b (Some e.1) (lookup (is_at (nat_cmp e.0)) es)) (self_key e.0) in
-    let here : list_any (is_at (loss_cmp (e.1.lost_at, e.0))) ks ≡ true = is.mirror e.1.lost_at e.0 ∙ ap (is_lost_at e.1.lost_at) found ∙ (let t : (e.1.lost_at == e.1.lost_at) ≡ true = grind (arith, nat_tests) in t) in
-    let gone : list_any (is_at (loss_cmp (e.1.lost_at, e.0))) ks ≡ false = ap (list_any (is_at (loss_cmp (e.1.lost_at, e.0)))) none in
+    let here : list_any (is_at (pair_cmp (e.1.lost_at, e.0))) ks ≡ true = is.losses e.1.lost_at e.0 ∙ ap (has_number (λ s. s.lost_at) e.1.lost_at) found ∙ (let t : (e.1.lost_at == e.1.lost_at) ≡ true = grind (arith, nat_tests) in t) in
+    let gone : list_any (is_at (pair_cmp (e.1.lost_at, e.0))) ks ≡ false = ap (list_any (is_at (pair_cmp (e.1.lost_at, e.0)))) none in
     absurd (cc)
 
 -- the session of a loss
-pub lost_session : (es : List (ℕ × PlainSaved)) (ks : List (ℕ × ℕ)) (t p : ℕ) → IsTable es ks → list_any (is_at (loss_cmp (t, p))) ks ≡ true → (s : PlainSaved) × ((lookup (is_at (nat_cmp p)) es ≡ Some s) × (s.lost_at ≡ t))
-lost_session es ks t p is here = at (lookup (is_at (nat_cmp p)) es) refl
+pub lost_session : (es : List (ℕ × PlainSaved)) (ks ls : List (ℕ × ℕ)) (t p : ℕ) → IsTable es ks ls → list_any (is_at (pair_cmp (t, p))) ks ≡ true → (s : PlainSaved) × ((lookup (is_at (nat_cmp p)) es ≡ Some s) × (s.lost_at ≡ t))
+lost_session es ks ls t p is here = at (lookup (is_at (nat_cmp p)) es) refl
   where
     at : (o : Option PlainSaved) → lookup (is_at (nat_cmp p)) es ≡ o → (s : PlainSaved) × ((o ≡ Some s) × (s.lost_at ≡ t))
-    at None found = absurd (let no : is_lost_at t None ≡ true = ap (is_lost_at t) (sym found) ∙ sym (is.mirror t p) ∙ here in cc)
-    at (Some s) found = (s, (refl, equal_of s.lost_at t (ap (is_lost_at t) (sym found) ∙ sym (is.mirror t p) ∙ here)))
+    at None found = absurd (let no : has_number (λ s. s.lost_at) t None ≡ true = ap (has_number (λ s. s.lost_at) t) (sym found) ∙ sym (is.losses t p) ∙ here in cc)
+    at (Some s) found = (s, (refl, equal_of s.lost_at t (ap (has_number (λ s. s.lost_at) t) (sym found) ∙ sym (is.losses t p) ∙ here)))
 
 -- the private ids rise
 pub pids_rise : (es : List (ℕ × PlainSaved)) → IsKeyed es → map (λ (s : PlainSaved). s.pid) (values_of es) ≡ keys_of es
 unfolding IsKeyed
 pids_rise [] keyed = refl
 pids_rise (e ∷ es) keyed = λ i. keyed.0 i ∷ pids_rise es keyed.1 i
+
+-- ---- sessions of one number
+
+some_found : (number : PlainSaved → ℕ) (n : ℕ) (es : List (ℕ × PlainSaved)) (test : ℕ → Bool) → has_number number n (lookup test es) ≡ true → list_any (λ s. number s == n) (values_of es) ≡ true
+some_found number n [] test has = absurd (cc)
+some_found number n (e ∷ es) test has = at (test e.0) has (some_found number n es test)
+  where
+    or_true : (x : Bool) → (x || true) ≡ true
+    or_true true = refl
+    or_true false = refl
+
+    at : (b : Bool) → has_number number n (cond b (Some e.1) (lookup test es)) ≡ true → (has_number number n (lookup test es) ≡ true → list_any (λ s. number s == n) (values_of es) ≡ true)
+        → ((number e.1 == n) || list_any (λ s. number s == n) (values_of es)) ≡ true
+    at true has rest = ap (λ b. b || list_any (λ s. number s == n) (values_of es)) has
+    at false has rest = ap (λ b. (number e.1 == n) || b) (rest has) ∙ or_true (number e.1 == n)
+
+-- no pair has the number, so no session has it
+none_found : (number : PlainSaved → ℕ) (n : ℕ) (es : List (ℕ × PlainSaved)) (ks : List (ℕ × ℕ)) → IsStrictlySortedBy nat_cmp (keys_of es) → IsIndex number es ks → ((p : ℕ) → list_any (is_at (pair_cmp (n, p))) ks ≡ false)
+    → list_any (λ s. number s == n) (values_of es) ≡ false
+none_found number n es ks rises is none =
+    list_any_none (λ s. number s == n) (values_of es)
+    (All-values_from_lookup (eq_by_cmp_equiv nat_cmp_total) (λ x. (number x == n) ≡ false) es (IsDistinct-from_sorted nat_cmp (keys_of es) rises) (λ q. at q (lookup (is_at (nat_cmp q)) es) refl))
+  where
+    at : (q : ℕ) (o : Option PlainSaved) → lookup (is_at (nat_cmp q)) es ≡ o → IfSome o (λ x. (number x == n) ≡ false)
+    at q None found = tt
+    at q (Some x) found = ap (has_number number n) (sym found) ∙ sym (is n q) ∙ none q
+
+-- 0 is the least second number
+from_zero : (n low p : ℕ) → low ≡ 0 → is_gt (pair_cmp (n, low) (n, p)) ≡ false
+from_zero n low p zero = subst (λ z. is_gt (pair_cmp (n, z) (n, p)) ≡ false) (sym zero) (at (nat_lt n n) (n == n) (nat_lt 0 p) (0 == p) refl refl refl refl)
+  where
+    at : (x y z w : Bool) → nat_lt n n ≡ x → (n == n) ≡ y → nat_lt 0 p ≡ z → (0 == p) ≡ w → is_gt (ordering_then (cond x Less (cond y Equal Greater)) (cond z Less (cond w Equal Greater))) ≡ false
+    at true y z w less same low zero = refl
+    at false true true w less same low zero = refl
+    at false true false true less same low zero = refl
+    at false true false false less same low zero = absurd (let b : p ≤ 0 = grind (arith, nat_tests) in let e : (0 == p) ≡ true = grind (arith, nat_tests, b) in cc)
+    at false false z w less same low zero = absurd (let e : (n == n) ≡ true = grind (arith, nat_tests) in cc)
+
+-- no pair stands from the number on, so no session has it
+pub none_from : (number : PlainSaved → ℕ) (n low : ℕ) → low ≡ 0 → (es : List (ℕ × PlainSaved)) (ks : List (ℕ × ℕ)) → IsStrictlySortedBy nat_cmp (keys_of es) → IsIndex number es ks
+    → ((q : ℕ × ℕ) → is_gt (pair_cmp (n, low) q) ≡ false → list_any (is_at (pair_cmp q)) ks ≡ false)
+    → list_any (λ s. number s == n) (values_of es) ≡ false
+none_from number n low zero es ks rises is none = none_found number n es ks rises is (λ p. none (n, p) (from_zero n low p zero))
+
+-- the first pair from the number on has it where any session has it
+pub first_from : (number : PlainSaved → ℕ) (n low : ℕ) → low ≡ 0 → (es : List (ℕ × PlainSaved)) (ks : List (ℕ × ℕ)) (k : ℕ × ℕ) → IsStrictlySortedBy nat_cmp (keys_of es) → IsIndex number es ks
+    → list_any (is_at (pair_cmp k)) ks ≡ true → is_gt (pair_cmp (n, low) k) ≡ false
+    → ((q : ℕ × ℕ) → is_gt (pair_cmp (n, low) q) ≡ false → list_any (is_at (pair_cmp q)) ks ≡ true → is_gt (pair_cmp k q) ≡ false)
+    → (k.0 == n) ≡ list_any (λ s. number s == n) (values_of es)
+first_from number n low zero es ks k rises is here above least = at (k.0 == n) refl
+  where
+    other : (k.0 == n) ≡ false → (p : ℕ) (b : Bool) → list_any (is_at (pair_cmp (n, p))) ks ≡ b → b ≡ false
+    other differs p false stands = refl
+    other differs p true stands = absurd
+        (let lower : n ≤ k.0 = not_above n low k.0 k.1 above in
+        let upper : k.0 ≤ n = not_above k.0 k.1 n p (least (n, p) (from_zero n low p zero) stands) in
+        let e : k.0 ≡ n = omega (arith, lower, upper) in
+        let same : (k.0 == n) ≡ true = grind (arith, nat_tests, e) in cc)
+
+    at : (b : Bool) → (k.0 == n) ≡ b → b ≡ list_any (λ s. number s == n) (values_of es)
+    at true same =
+        let stands : list_any (is_at (pair_cmp (n, k.1))) ks ≡ true = subst (λ m. list_any (is_at (pair_cmp (m, k.1))) ks ≡ true) (equal_of k.0 n same) here in
+        sym (some_found number n es (is_at (nat_cmp k.1)) (sym (is n k.1) ∙ stands))
+    at false differs = sym (none_found number n es ks rises is (λ p. other differs p (list_any (is_at (pair_cmp (n, p))) ks) refl))

@@ -74,23 +74,28 @@ abbrev pub or_unknown : Option PlainSaved → Result PlainSaved RecoveryError
 or_unknown None = Err UnknownPid
 or_unknown (Some s) = Ok s
 
--- ---- the two indexes
+-- ---- the indexes
 
 -- each session stands under its private id
 unfoldable pub IsKeyed : List (ℕ × PlainSaved) → Type 0
 IsKeyed entries = AllByRecursion (λ e. e.1.pid ≡ e.0) entries
 
--- losses in the order of their moments, those of one moment in the order of private ids
-abbrev pub loss_cmp : ℕ × ℕ → ℕ × ℕ → Ordering
-loss_cmp a b = ordering_then (nat_cmp a.0 b.0) (nat_cmp a.1 b.1)
+-- pairs in the order of their first numbers, those of one first number in the order of the second
+abbrev pub pair_cmp : ℕ × ℕ → ℕ × ℕ → Ordering
+pair_cmp a b = ordering_then (nat_cmp a.0 b.0) (nat_cmp a.1 b.1)
 
--- the session was lost at this moment
-abbrev pub is_lost_at : ℕ → Option PlainSaved → Bool
-is_lost_at at None = false
-is_lost_at at (Some s) = s.lost_at == at
+-- there is a session, and this number of it is n
+abbrev pub has_number : (PlainSaved → ℕ) → ℕ → Option PlainSaved → Bool
+has_number number n None = false
+has_number number n (Some s) = number s == n
 
--- both indexes have the same sessions
-pub record IsTable (by_pid : List (ℕ × PlainSaved)) (by_loss : List (ℕ × ℕ)) : Type 0 where
+-- the pairs are those of this number and the private id of each session
+abbrev pub IsIndex : (PlainSaved → ℕ) → List (ℕ × PlainSaved) → List (ℕ × ℕ) → Type 0
+IsIndex number by_pid pairs = (n pid : ℕ) → list_any (is_at (pair_cmp (n, pid))) pairs ≡ has_number number n (lookup (is_at (nat_cmp pid)) by_pid)
+
+-- all indexes have the same sessions
+pub record IsTable (by_pid : List (ℕ × PlainSaved)) (by_loss by_sid : List (ℕ × ℕ)) : Type 0 where
   pub keyed : IsKeyed by_pid
   pub rises : IsStrictlySortedBy nat_cmp (keys_of by_pid)
-  pub mirror : (at pid : ℕ) → list_any (is_at (loss_cmp (at, pid))) by_loss ≡ is_lost_at at (lookup (is_at (nat_cmp pid)) by_pid)
+  pub losses : IsIndex (λ s. s.lost_at) by_pid by_loss
+  pub sids : IsIndex (λ s. s.sid) by_pid by_sid

@@ -4,6 +4,7 @@
 ghost use Rattle.std.specs.Prelude.{◌≡◌, ℕ, ◌+◌, ◌<◌, ◌≤◌, ◌==◌, if◌then◌else◌, length, [], map, filter, IfOk, IfErr, IfSome, IfNone, IsOkAnd, OnOk, OnErr, OnSome, Some, None, option_copied, is_some};
 ghost use Rattle.std.specs.Bool.{OnTrue, OnFalse};
 ghost use Rattle.std.specs.Ordering.{nat_cmp};
+ghost use Rattle.std.specs.List.{list_any};
 ghost use Rattle.std.specs.List.Sorted.{IsStrictlySortedBy};
 ghost use Rattle.std.specs.Map.{lookup, values_of, remove_entry};
 ghost use Rattle.std.specs.BTreeMap.{is_at, insert_entry, btree_map_len};
@@ -18,14 +19,22 @@ use std::alloc::{AllocError, Global};
 use std::collections::{BTreeMap, BTreeSet};
 use std::marker::Model;
 
-/// The lost sessions, at most as many as a limit. Each moment counts as it is handed in.
+/// The lost sessions, at most as many as a limit. Each moment counts as it is handed in. A look-up
+/// by private id or by session id takes the logarithm of the sessions.
 #[derive(Drop)]
 pub struct SavedTable {
     limit: usize,
-    /// The sessions by their private ids.
+    indexes: Indexes,
+}
+
+/// The sessions by their private ids, and two indexes of them.
+#[derive(Drop)]
+struct Indexes {
     by_pid: BTreeMap<Pid, Saved>,
     /// The moment at which each was lost, and its private id.
     by_loss: BTreeSet<(u64, Pid)>,
+    /// The session id of each, and its private id: two sessions may have one session id.
+    by_sid: BTreeSet<(Sid, Pid)>,
 }
 
 impl Model for SavedTable {
@@ -34,9 +43,9 @@ impl Model for SavedTable {
 
     ghost Value = { TableContents };
 
-    ghost view = { λ t. record { limit = t.limit; sessions = values_of t.by_pid.entries } };
+    ghost view = { λ t. record { limit = t.limit; sessions = values_of t.indexes.by_pid.entries } };
 
-    ghost invariant = { λ t. IsTable t.by_pid.entries t.by_loss.keys };
+    ghost invariant = { λ t. IsTable t.indexes.by_pid.entries t.indexes.by_loss.keys t.indexes.by_sid.keys };
 }
 
 impl SavedTable {
@@ -46,8 +55,11 @@ impl SavedTable {
     {
         SavedTable {
             limit,
-            by_pid: BTreeMap::new(alloc),
-            by_loss: BTreeSet::new(alloc),
+            indexes: Indexes {
+                by_pid: BTreeMap::new(alloc),
+                by_loss: BTreeSet::new(alloc),
+                by_sid: BTreeSet::new(alloc),
+            },
         }
     }
 
@@ -55,21 +67,22 @@ impl SavedTable {
     pub fn len(&self) -> usize
         ensures { result ≡ length self.now.sessions }
     {
-        self.by_pid.len()
+        self.indexes.by_pid.len()
     }
 
-    /// Whether a session with this session id is in the table, outdated or not.
+    /// Whether a session with this session id is in the table, outdated or not. It takes the
+    /// logarithm of the sessions.
     pub fn has_sid(&self, sid: Sid) -> bool
         ensures { result ≡ table.has_sid self.now sid }
     {
-        self.by_pid.values().any(|saved| saved.sid == sid)
+        self.indexes.has_sid(sid)
     }
 
     /// The session with this private id, outdated or not.
     fn look_up(&self, pid: Pid) -> Option<&Saved>
         ensures { option_copied result ≡ session self.now pid }
     {
-        self.by_pid.get(&pid)
+        self.indexes.by_pid.get(&pid)
     }
 
     /// Whether a session with this private id is in the table, outdated or not. It takes the
@@ -111,14 +124,14 @@ impl SavedTable {
         }
     }
 
-    /// Puts a session whose private id is free into both indexes.
+    /// Adds a session whose private id is free.
     fn add(&mut self, saved: Saved) -> Result<(), AllocError>
         requires free { session self.old saved.pid ≡ None }
         ensures saved { OnOk result (self.new ≡ table.saved self.old saved) }
         ensures map { OnOk result ((pid : ℕ) → session self.new pid ≡ (if saved.pid == pid then Some saved else session self.old pid)) }
         ensures unchanged { OnErr result (self.new ≡ self.old) }
     {
-        put(&mut self.by_pid, &mut self.by_loss, saved)?;
+        self.indexes.put(saved)?;
         Ok(())
     }
 
@@ -148,13 +161,13 @@ impl SavedTable {
         }
     }
 
-    /// Takes a session out of both indexes.
+    /// Takes a session out of the table.
     fn take_out(&mut self, pid: Pid) -> Option<Saved>
         ensures answer { result ≡ session self.old pid }
         ensures removed { self.new ≡ table.removed self.old pid }
         ensures unchanged { IfNone result (self.new ≡ self.old) }
     {
-        take(&mut self.by_pid, &mut self.by_loss, pid)
+        self.indexes.take(pid)
     }
 
     /// Drops the sessions that were lost more than `keep` milliseconds before `now`, and says how
@@ -168,12 +181,12 @@ impl SavedTable {
         before - self.len()
     }
 
-    /// Takes all outdated sessions out of both indexes.
+    /// Takes all outdated sessions out of the table.
     fn take_out_outdated(&mut self, keep: u64, now: u64)
         ensures swept { self.new ≡ table_swept self.old keep now }
         ensures fewer { length self.new.sessions ≤ length self.old.sessions }
     {
-        take_outdated(&mut self.by_pid, &mut self.by_loss, keep, now);
+        self.indexes.take_outdated(keep, now);
     }
 
     /// Copies of all sessions, their private ids rising.
@@ -182,93 +195,93 @@ impl SavedTable {
         ensures rises { IsStrictlySortedBy nat_cmp (map (λ (saved : PlainSaved). saved.pid) self.now.sessions) }
         ensures memory { IfErr result (λ error. error ≡ RecoveryError.Memory) }
     {
-        match copy_all(alloc, &self.by_pid) {
+        match copy_all(alloc, &self.indexes.by_pid) {
             Ok(list) => Ok(list),
             Err(AllocError) => Err(RecoveryError::Memory),
         }
     }
 }
 
-/// Puts a session into both indexes. Where the second growth is refused, the first is taken back.
-fn put(
-    by_pid: &mut BTreeMap<Pid, Saved>,
-    by_loss: &mut BTreeSet<(u64, Pid)>,
-    saved: Saved,
-) -> Result<(), AllocError>
-    requires free { lookup (is_at (nat_cmp saved.pid)) by_pid.old.entries ≡ None }
-    requires mirrors { IsTable by_pid.old.entries by_loss.old.keys }
-    ensures entries { OnOk result (by_pid.new.entries ≡ insert_entry nat_cmp by_pid.old.entries saved.pid saved) }
-    ensures map { OnOk result ((pid : ℕ) → lookup (is_at (nat_cmp pid)) by_pid.new.entries ≡ (if is_at (nat_cmp saved.pid) pid then Some saved else lookup (is_at (nat_cmp pid)) by_pid.old.entries)) }
-    ensures mirrors { IsTable by_pid.new.entries by_loss.new.keys }
-    ensures unchanged { OnErr result (by_pid.new.entries ≡ by_pid.old.entries) }
-{
-    let (pid, lost_at) = (saved.pid, saved.lost_at);
-    by_pid.insert(pid, saved)?;
-    match by_loss.insert((lost_at, pid)) {
-        Ok(_) => Ok(()),
-        Err(_) => {
-            by_pid.remove(&pid);
-            Err(AllocError)
+impl Indexes {
+    /// Whether a session has this session id.
+    fn has_sid(&self, sid: Sid) -> bool
+        requires mirrors { IsTable self.now.by_pid.entries self.now.by_loss.keys self.now.by_sid.keys }
+        ensures { result ≡ list_any (λ (saved : PlainSaved). saved.sid == sid) (values_of self.now.by_pid.entries) }
+    {
+        // No private id comes before 0, so the first pair from here on has the session id if any has.
+        match self.by_sid.range((sid, Pid::new(0))..).next() {
+            Some((first, _)) => *first == sid,
+            None => false,
         }
     }
-}
 
-/// Takes a session out of both indexes.
-fn take(
-    by_pid: &mut BTreeMap<Pid, Saved>,
-    by_loss: &mut BTreeSet<(u64, Pid)>,
-    pid: Pid,
-) -> Option<Saved>
-    requires mirrors { IsTable by_pid.old.entries by_loss.old.keys }
-    ensures answer { result ≡ lookup (is_at (nat_cmp pid)) by_pid.old.entries }
-    ensures entries { by_pid.new.entries ≡ remove_entry (is_at (nat_cmp pid)) by_pid.old.entries }
-    ensures unchanged { IfNone result (by_pid.new.entries ≡ by_pid.old.entries) }
-    ensures fewer { OnSome result (btree_map_len by_pid.new < btree_map_len by_pid.old) }
-    ensures mirrors { IsTable by_pid.new.entries by_loss.new.keys }
-{
-    let Some(saved) = by_pid.remove(&pid) else {
-        return None;
-    };
-    by_loss.remove(&(saved.lost_at, pid));
-    Some(saved)
-}
-
-/// Takes the session that was lost first, if it is outdated, and says whether it was.
-fn take_first_outdated(
-    by_pid: &mut BTreeMap<Pid, Saved>,
-    by_loss: &mut BTreeSet<(u64, Pid)>,
-    keep: u64,
-    now: u64,
-) -> bool
-    requires mirrors { IsTable by_pid.old.entries by_loss.old.keys }
-    ensures alive { filter (is_alive keep now) (values_of by_pid.new.entries) ≡ filter (is_alive keep now) (values_of by_pid.old.entries) }
-    ensures fewer { OnTrue result (btree_map_len by_pid.new < btree_map_len by_pid.old) }
-    ensures none_left { OnFalse result (filter (is_alive keep now) (values_of by_pid.new.entries) ≡ values_of by_pid.new.entries) }
-    ensures mirrors { IsTable by_pid.new.entries by_loss.new.keys }
-{
-    let Some(first) = by_loss.first() else {
-        return false;
-    };
-    let (lost_at, pid) = *first;
-    if !is_outdated(lost_at, keep, now) {
-        return false;
+    /// Puts a session in. Where a growth is refused, those before it are taken back.
+    fn put(&mut self, saved: Saved) -> Result<(), AllocError>
+        requires free { lookup (is_at (nat_cmp saved.pid)) self.old.by_pid.entries ≡ None }
+        requires mirrors { IsTable self.old.by_pid.entries self.old.by_loss.keys self.old.by_sid.keys }
+        ensures entries { OnOk result (self.new.by_pid.entries ≡ insert_entry nat_cmp self.old.by_pid.entries saved.pid saved) }
+        ensures map { OnOk result ((pid : ℕ) → lookup (is_at (nat_cmp pid)) self.new.by_pid.entries ≡ (if is_at (nat_cmp saved.pid) pid then Some saved else lookup (is_at (nat_cmp pid)) self.old.by_pid.entries)) }
+        ensures mirrors { IsTable self.new.by_pid.entries self.new.by_loss.keys self.new.by_sid.keys }
+        ensures unchanged { OnErr result (self.new.by_pid.entries ≡ self.old.by_pid.entries) }
+    {
+        let (sid, pid, lost_at) = (saved.sid, saved.pid, saved.lost_at);
+        self.by_pid.insert(pid, saved)?;
+        let Ok(_) = self.by_loss.insert((lost_at, pid)) else {
+            self.by_pid.remove(&pid);
+            return Err(AllocError);
+        };
+        let Ok(_) = self.by_sid.insert((sid, pid)) else {
+            self.by_loss.remove(&(lost_at, pid));
+            self.by_pid.remove(&pid);
+            return Err(AllocError);
+        };
+        Ok(())
     }
-    take(by_pid, by_loss, pid);
-    true
-}
 
-/// Takes all outdated sessions, those lost first before the others.
-fn take_outdated(
-    by_pid: &mut BTreeMap<Pid, Saved>,
-    by_loss: &mut BTreeSet<(u64, Pid)>,
-    keep: u64,
-    now: u64,
-)
-    requires mirrors { IsTable by_pid.old.entries by_loss.old.keys }
-    ensures alive { values_of by_pid.new.entries ≡ filter (is_alive keep now) (values_of by_pid.old.entries) }
-    ensures mirrors { IsTable by_pid.new.entries by_loss.new.keys }
-{
-    'first: while take_first_outdated(by_pid, by_loss, keep, now) {}
+    /// Takes a session out.
+    fn take(&mut self, pid: Pid) -> Option<Saved>
+        requires mirrors { IsTable self.old.by_pid.entries self.old.by_loss.keys self.old.by_sid.keys }
+        ensures answer { result ≡ lookup (is_at (nat_cmp pid)) self.old.by_pid.entries }
+        ensures entries { self.new.by_pid.entries ≡ remove_entry (is_at (nat_cmp pid)) self.old.by_pid.entries }
+        ensures unchanged { IfNone result (self.new.by_pid.entries ≡ self.old.by_pid.entries) }
+        ensures fewer { OnSome result (btree_map_len self.new.by_pid < btree_map_len self.old.by_pid) }
+        ensures mirrors { IsTable self.new.by_pid.entries self.new.by_loss.keys self.new.by_sid.keys }
+    {
+        let Some(saved) = self.by_pid.remove(&pid) else {
+            return None;
+        };
+        self.by_loss.remove(&(saved.lost_at, pid));
+        self.by_sid.remove(&(saved.sid, pid));
+        Some(saved)
+    }
+
+    /// Takes the session that was lost first, if it is outdated, and says whether it was.
+    fn take_first_outdated(&mut self, keep: u64, now: u64) -> bool
+        requires mirrors { IsTable self.old.by_pid.entries self.old.by_loss.keys self.old.by_sid.keys }
+        ensures alive { filter (is_alive keep now) (values_of self.new.by_pid.entries) ≡ filter (is_alive keep now) (values_of self.old.by_pid.entries) }
+        ensures fewer { OnTrue result (btree_map_len self.new.by_pid < btree_map_len self.old.by_pid) }
+        ensures none_left { OnFalse result (filter (is_alive keep now) (values_of self.new.by_pid.entries) ≡ values_of self.new.by_pid.entries) }
+        ensures mirrors { IsTable self.new.by_pid.entries self.new.by_loss.keys self.new.by_sid.keys }
+    {
+        let Some(first) = self.by_loss.first() else {
+            return false;
+        };
+        let (lost_at, pid) = *first;
+        if !is_outdated(lost_at, keep, now) {
+            return false;
+        }
+        self.take(pid);
+        true
+    }
+
+    /// Takes all outdated sessions, those lost first before the others.
+    fn take_outdated(&mut self, keep: u64, now: u64)
+        requires mirrors { IsTable self.old.by_pid.entries self.old.by_loss.keys self.old.by_sid.keys }
+        ensures alive { values_of self.new.by_pid.entries ≡ filter (is_alive keep now) (values_of self.old.by_pid.entries) }
+        ensures mirrors { IsTable self.new.by_pid.entries self.new.by_loss.keys self.new.by_sid.keys }
+    {
+        'first: while self.take_first_outdated(keep, now) {}
+    }
 }
 
 /// Copies of the sessions, in their order.

@@ -178,6 +178,7 @@ fn expect_found(rt: &impl Abort, table: &SavedTable) {
     assert!(rt; table.find(Pid::new(6), 121_000, 120_000).is_ok());
     assert!(rt; table.find(Pid::new(6), 121_001, 120_000).is_err());
     assert!(rt; table.find(Pid::new(6), u64::MAX, u64::MAX).is_ok());
+    assert!(rt; table.has_sid(Sid::new(3)) && !table.has_sid(Sid::new(4)));
 }
 
 /// Whether both sessions are listed, at the second try where the first has no memory and leaves

@@ -9,7 +9,7 @@ abbrev Rise : TableContents → Type 0
 Rise v = IsStrictlySortedBy nat_cmp (map (λ (s : PlainSaved). s.pid) v.sessions)
 
 pub returns-in-Ok-clause-rises : goal.returns-in-Ok-clause-rises
-returns-in-Ok-clause-rises c = subst Rise c.self.view_is (subst (IsStrictlySortedBy nat_cmp) (sym (pids_rise c.self.inside.by_pid.entries c.self.invariant.keyed)) c.self.invariant.rises)
+returns-in-Ok-clause-rises c = subst Rise c.self.view_is (subst (IsStrictlySortedBy nat_cmp) (sym (pids_rise c.self.inside.indexes.by_pid.entries c.self.invariant.keyed)) c.self.invariant.rises)
 
 pub returns-in-Err-clause-rises : goal.returns-in-Err-clause-rises
-returns-in-Err-clause-rises c = subst Rise c.self.view_is (subst (IsStrictlySortedBy nat_cmp) (sym (pids_rise c.self.inside.by_pid.entries c.self.invariant.keyed)) c.self.invariant.rises)
+returns-in-Err-clause-rises c = subst Rise c.self.view_is (subst (IsStrictlySortedBy nat_cmp) (sym (pids_rise c.self.inside.indexes.by_pid.entries c.self.invariant.keyed)) c.self.invariant.rises)

@@ -11,5 +11,5 @@ returns-clause-swept c =
 
 pub returns-clause-fewer : goal.returns-clause-fewer
 returns-clause-fewer c =
-    subst (λ v. length (values_of c.take_outdated.new.by_pid.entries) ≤ length v.sessions) c.self.view_is
-    (subst (λ xs. length xs ≤ length (values_of c.self.inside.by_pid.entries)) (sym c.take_outdated.ensures.alive) (filter_less (is_alive c.args.keep c.args.now) (values_of c.self.inside.by_pid.entries)))
+    subst (λ v. length (values_of c.take_outdated.new.self.by_pid.entries) ≤ length v.sessions) c.self.view_is
+    (subst (λ xs. length xs ≤ length (values_of c.self.inside.indexes.by_pid.entries)) (sym c.take_outdated.ensures.alive) (filter_less (is_alive c.args.keep c.args.now) (values_of c.self.inside.indexes.by_pid.entries)))

@@ -1,9 +1,0 @@
-use Rattle.std.proofs.Common.{sym, ap, ◌∙◌}
-use Rattle.recovery.proofs.SavedTableLemmas.{table_taken}
-use Rattle.recovery.proofs.saved_table.take.Goals as goal
-
-pub returns-clause-mirrors : goal.returns-clause-mirrors
-returns-clause-mirrors c =
-    table_taken c.args.by_pid.now.entries c.remove.new.self.entries c.args.by_loss.now.keys c.remove-2.new.self.keys c.args.pid c.saved.inside.lost_at c.in-Some.saved
-    (sym (ap (λ s. s.lost_at) c.saved.view_is)) c.requires.mirrors (sym c.remove.ensures.value ∙ c.in-Some.is)
-    c.remove.ensures.entries c.remove.ensures.ordered c.remove.ensures.updates.0 c.remove-2.ensures.updates.0
