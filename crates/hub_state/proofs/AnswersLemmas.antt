@@ -1,5 +1,5 @@
 -- The bytes of the answer to a CONNECT.
-use Rattle.std.proofs.Common.{zero, suc, get_or, Option, None, Some, Result, Ok, Err, subst, ◌∷◌, ◌≡◌, ℕ, ◌+◌, Bool, true, false, List, [], ◌++◌, length, refl, sym, ◌∙◌, ap, arith, if◌then◌else◌, length-append}
+use Rattle.std.proofs.Common.{zero, suc, get_or, None, Some, Result, Ok, Err, subst, ◌∷◌, ◌≡◌, ℕ, ◌+◌, Bool, true, false, List, [], ◌++◌, length, refl, sym, ◌∙◌, ap, arith, if◌then◌else◌, length-append}
 use Rattle.std.specs.Prelude.{codes, slice_get, IfOk}
 use Rattle.sio_wire.specs.Entry.{entry_size}
 use Rattle.hub_state.specs.declared.socket.Socket.{Socket}

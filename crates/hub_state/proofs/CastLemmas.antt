@@ -13,7 +13,6 @@ use Rattle.std.proofs.lemmas.List.{map-append}
 use Rattle.std.proofs.lemmas.List.Kept.{IsStrictlySortedBy-filter}
 use Rattle.std.proofs.lemmas.Map.Made.{length-from_same_keys}
 use Rattle.std.proofs.lemmas.Map.Keys.{IsDistinct-from_sorted}
-use Rattle.terms.specs.Listing.{ListsRising}
 use Rattle.sio_wire.specs.declared.entry.Entry.{Entry}
 use Rattle.hub_state.specs.declared.socket.Socket.{Socket}
 use Rattle.hub_state.specs.Plain.{PlainClient, PlainMessage}
@@ -21,7 +20,7 @@ use Rattle.hub_state.specs.Hub.{with_entry}
 use Rattle.hub_state.specs.Membership.{has_id, sid_of}
 use Rattle.hub_state.specs.Legal.{EachTwo, AreApart}
 use Rattle.hub_state.specs.Outboxes.{has_no_place, entries_for}
-use Rattle.hub_state.specs.Casting.{in_space, client_of, is_full_in, message_for, messages_for, missing_of, missing, receiver_of, pair_of, with_entries}
+use Rattle.hub_state.specs.Casting.{in_space, ListsInside, client_of, is_full_in, message_for, messages_for, missing_of, missing, receiver_of, pair_of, with_entries}
 
 -- ---- tests of lists
 
@@ -191,7 +190,8 @@ any-in-space p space (Some k) = on (k.space == space) (p k) refl
 tied : (x : ℕ) (sids : List ℕ) → list_any (λ s. x == s) sids ≡ list_any (eq_by_cmp nat_cmp x) sids
 tied x sids = sym (λ i. list_any (λ s. unsigned_tied x s i) sids)
 
-module _ (ks : List Socket) (apart : EachTwo AreApart ks) (seat : ℕ → Option Socket) (seats : (s : ℕ) → seat s ≡ find (has_id sid_of s) ks) (space : ℕ) (test : ℕ → Bool) (sids : List ℕ) (lists : ListsRising nat_cmp test sids) where
+module _ (ks : List Socket) (apart : EachTwo AreApart ks) (seat : ℕ → Option Socket) (seats : (s : ℕ) → seat s ≡ find (has_id sid_of s) ks) (space : ℕ) (test : ℕ → Bool) (sids : List ℕ)
+    (lists : ListsInside (λ s. list_any (λ (k : Socket). k.sid == s && k.space == space) ks) test sids) where
   abbrev here : List Socket
   here = flat_map (λ s. in_space space (seat s)) sids
 
@@ -201,7 +201,7 @@ module _ (ks : List Socket) (apart : EachTwo AreApart ks) (seat : ℕ → Option
       any-flat p (λ s. in_space space (seat s)) sids
       ∙ (λ i. list_any (λ s. each s i) sids)
       ∙ swap (λ (k : Socket). p k && (k.space == space)) ks sids
-      ∙ (λ i. list_any (λ (k : Socket). turn k i) ks)
+      ∙ any-same (λ (k : Socket). find (has_id sid_of k.sid) ks ≡ Some k) (λ (k : Socket). list_any (λ s. k.sid == s) sids && (p k && (k.space == space))) (λ (k : Socket). p k && (k.space == space && test k.sid)) turn ks (each-found ks apart)
     where
       each : (s : ℕ) → list_any p (in_space space (seat s)) ≡ list_any (λ (k : Socket). k.sid == s && (p k && (k.space == space))) ks
       each s = ap (λ o. list_any p (in_space space o)) (seats s) ∙ any-in-space p space (find (has_id sid_of s) ks) ∙ sym (any-at ks apart s (λ (k : Socket). p k && (k.space == space)))
@@ -214,8 +214,15 @@ module _ (ks : List Socket) (apart : EachTwo AreApart ks) (seat : ℕ → Option
       order false true false = refl
       order false false c = refl
 
-      turn : (k : Socket) → (list_any (λ s. k.sid == s) sids && (p k && (k.space == space))) ≡ (p k && (k.space == space && test k.sid))
-      turn k = rw (tied k.sid sids, lists.exactly k.sid) (order (test k.sid) (p k) (k.space == space))
+      turn : (k : Socket) → find (has_id sid_of k.sid) ks ≡ Some k → (list_any (λ s. k.sid == s) sids && (p k && (k.space == space))) ≡ (p k && (k.space == space && test k.sid))
+      turn k found = on (k.space == space) refl
+        where
+          on : (b : Bool) → (k.space == space) ≡ b → (list_any (λ s. k.sid == s) sids && (p k && b)) ≡ (p k && (b && test k.sid))
+          on true is =
+              let inside : list_any (λ (l : Socket). l.sid == k.sid && l.space == space) ks ≡ true =
+              any-at ks apart k.sid (λ (l : Socket). l.space == space) ∙ ap (λ o. option_map_or (λ (l : Socket). l.space == space) o false) found ∙ is in
+              rw (tied k.sid sids, lists.exactly k.sid inside) (order (test k.sid) (p k) true)
+          on false is = order (list_any (λ s. k.sid == s) sids) (p k) false
 
   in-space-sid : (s : ℕ) (o : Option Socket) → find (has_id sid_of s) ks ≡ o → map sid_of (in_space space o) ≡ (if option_map_or (λ (k : Socket). k.space == space) o false then s ∷ [] else [])
   in-space-sid s None e = refl

@@ -1,11 +1,10 @@
 -- What a broadcast makes of a hub.
-use Rattle.std.proofs.Common.{◌≡◌, ℕ, ◌+◌, ◌-◌, ◌^◌, ◌≤◌, ◌==◌, zero, suc, Bool, true, false, ◌&&◌, not, List, [], ◌∷◌, ◌++◌, length, drop, filter, map, max, refl, sym, ◌∙◌, ap, subst, arith, if◌then◌else◌, Option, None, Some, nat_eq, nat_lt, nat_cmp, append-nil, length-append}
+use Rattle.std.proofs.Common.{◌≡◌, ℕ, ◌+◌, ◌-◌, ◌^◌, ◌≤◌, ◌==◌, zero, suc, Bool, true, false, ◌&&◌, not, List, [], ◌∷◌, ◌++◌, length, drop, filter, map, max, refl, sym, ◌∙◌, ap, subst, arith, if◌then◌else◌, Option, None, Some, nat_eq, nat_lt, append-nil, length-append}
 use Rattle.std.specs.Prelude.{is_some, IfSome}
 use Rattle.std.specs.List.{list_any, find, flat_map, IsDistinct, AllByRecursion}
 use Rattle.std.specs.Option.{option_map, option_map_or}
 use Rattle.std.proofs.lemmas.Bool.{eqb-true}
 use Rattle.std.proofs.lemmas.List.{drop_all}
-use Rattle.terms.specs.Listing.{ListsRising}
 use Rattle.sio_wire.specs.declared.entry.Entry.{Entry}
 use Rattle.room_maps.specs.Membership.{RoomSets}
 use Rattle.room_maps.specs.Addressed as broadcast
@@ -19,7 +18,7 @@ use Rattle.hub_state.specs.declared.step.What.TheVariants.{Cast}
 use Rattle.hub_state.specs.declared.totals.Counts.{Counts}
 use Rattle.hub_state.specs.Plain.{PlainBase, Limits, PlainClient, PlainBroadcast, PlainMessage}
 use Rattle.hub_state.specs.Journal.{moment, total}
-use Rattle.hub_state.specs.Membership.{open_clients, is_open, sockets, sockets_of, sid_of, pid_of, has_id, socket_with, is_space, rooms}
+use Rattle.hub_state.specs.Membership.{open_clients, is_open, sockets, sockets_of, sid_of, pid_of, has_id, socket_with, is_space, is_in_space, rooms}
 use Rattle.hub_state.specs.Sessions.{sessions}
 use Rattle.hub_state.specs.Log.{logged, with_call, log_calls, log, next_number, next}
 use Rattle.hub_state.specs.Outboxes.{put, entries_for, taken_by, placements, waiting, is_addressed, is_full, receivers}
@@ -28,7 +27,7 @@ use Rattle.hub_state.specs.Totals.{is_spent}
 use Rattle.hub_state.specs.Refusals.{cast_refusal}
 use Rattle.hub_state.specs.Legal.{IsLegal, IsSound, RightBroadcast, EachTwo, AreApart, DifferInIds}
 use Rattle.hub_state.specs.Hub.{Fields, Counted, CanCount, client_at}
-use Rattle.hub_state.specs.Casting.{in_space, client_of, is_full_in, messages_for, missing, receiver_of, pair_of, with_entries, with_logged, Tells}
+use Rattle.hub_state.specs.Casting.{in_space, ListsInside, client_of, is_full_in, messages_for, missing, receiver_of, pair_of, with_entries, with_logged, Tells}
 use Rattle.hub_state.proofs.SumsLemmas.{sum-zero}
 use Rattle.hub_state.proofs.MembershipLemmas.{is_open-quiet, clients-quiet, sockets-quiet, sockets_of-quiet, socket_with-quiet}
 use Rattle.hub_state.proofs.OutboxesLemmas.{waiting-step}
@@ -43,7 +42,7 @@ use Rattle.hub_state.proofs.CastLemmas.{any-filter, any-map, any-same, any-at, e
 
 module _ (base : PlainBase) (limits : Limits) (before : List Step) (b : PlainBroadcast) (sound : IsSound base limits before)
     (look : ℕ → Option PlainClient) (clients : (c : ℕ) → look c ≡ client_at base limits before c) (seat : ℕ → Option Socket) (seats : (s : ℕ) → seat s ≡ socket_with sid_of base before s)
-    (sids : List ℕ) (lists : ListsRising nat_cmp (broadcast.is_addressed (rooms base before) b.rooms b.excepted) sids) where
+    (sids : List ℕ) (lists : ListsInside (is_in_space base before b.space) (broadcast.is_addressed (rooms base before) b.rooms b.excepted) sids) where
   abbrev all : List Socket
   all = sockets base before
 

@@ -22,7 +22,7 @@ use Rattle.hub_state.specs.Outboxes.{put, taken_by, waiting}
 use Rattle.hub_state.specs.Totals.{placed_by, is_spent, IsConserved}
 use Rattle.hub_state.specs.Refusals.{or_spent, end_refusal}
 use Rattle.hub_state.specs.Legal.{IsLegal, IsSound, IsAway, EachTwo, AreApart}
-use Rattle.hub_state.specs.Hub.{Fields, Counted, CanCount, client_at, without_sid}
+use Rattle.hub_state.specs.Hub.{Fields, Counted, CanCount, client_at, without_place}
 use Rattle.hub_state.proofs.SumsLemmas.{sum-zero}
 use Rattle.hub_state.proofs.MembershipLemmas.{clients-quiet, is_open-quiet}
 use Rattle.hub_state.proofs.OutboxesLemmas.{waiting-quiet}
@@ -348,6 +348,61 @@ kept-whole p (x ∷ xs) e = on (kept-whole p xs) (p x) e
     on rest true e = cc
     on rest false e = ap (λ l. x ∷ l) (rest e)
 
+-- of a client's sockets, that which has a session id is the one at its place
+unequal : (x y : ℕ) → x ≢ y → (x == y) ≡ false
+unequal x y differ = on (x == y) refl
+  where
+    on : (b : Bool) → (x == y) ≡ b → b ≡ false
+    on true e = absurd (differ (eqb-true x y e))
+    on false e = refl
+
+known-found : (P : Socket → Type 0) (p : Socket → Bool) (k : Socket) (ks : List Socket) → AllByRecursion P ks → find p ks ≡ Some k → P k
+known-found P p k [] h found = cc
+known-found P p k (l ∷ ks) h found = on (known-found P p k ks h.1) (p l) found
+  where
+    on : (find p ks ≡ Some k → P k) → (b : Bool) → (if b then Some l else find p ks) ≡ Some k → P k
+    on rest true e = let same : l ≡ k = cc in subst P same h.0
+    on rest false e = rest e
+
+abbrev IsAlone : ℕ → Socket → Socket → Type 0
+IsAlone s k l = (l.client == k.client) ≡ true → (l.sid == s) ≡ (l.space == k.space)
+
+alone-there : (s : ℕ) (k : Socket) (ks : List Socket) → EachTwo AreApart ks → find (has_id sid_of s) ks ≡ Some k → AllByRecursion (IsAlone s k) ks
+unfolding EachTwo
+alone-there s k [] apart found = tt
+alone-there s k (l ∷ ks) apart found = on (l.sid == s) refl found (alone-there s k ks apart.1)
+  where
+    past : (ms : List Socket) → AllByRecursion (AreApart l) ms → l.sid ≡ s → l ≡ k → AllByRecursion (IsAlone s k) ms
+    past [] h is same = tt
+    past (m ∷ ms) h is same = (
+      (λ of. unequal m.sid s (λ e. h.0.0 (is ∙ sym e)) ∙ sym (unequal m.space k.space (λ e. h.0.2 (ap (λ (j : Socket). j.client) same ∙ sym (eqb-true m.client k.client of)) (ap (λ (j : Socket). j.space) same ∙ sym e)))),
+      past ms h.1 is same,
+    )
+
+    on : (b : Bool) → (l.sid == s) ≡ b → (if b then Some l else find (has_id sid_of s) ks) ≡ Some k
+        → (find (has_id sid_of s) ks ≡ Some k → AllByRecursion (IsAlone s k) ks) → AllByRecursion (IsAlone s k) (l ∷ ks)
+    on true is e rest =
+        let same : l ≡ k = cc in
+        ((λ of. is ∙ sym (eq-eqb l.space k.space (ap (λ (j : Socket). j.space) same))), past ks apart.0 (eqb-true l.sid s is) same)
+    on false is e rest =
+        let differs = known-found (AreApart l) (has_id sid_of s) k ks apart.0 e in
+        ((λ of. is ∙ sym (unequal l.space k.space (differs.2 (eqb-true l.client k.client of)))), rest e)
+
+same-left : (s q : ℕ) (k : Socket) (ks : List Socket) → k.client ≡ q → AllByRecursion (IsAlone s k) ks
+    → filter (λ (l : Socket). not (l.sid == s)) (filter (λ (l : Socket). l.client == q) ks) ≡ filter (λ (l : Socket). not (l.space == k.space)) (filter (λ (l : Socket). l.client == q) ks)
+same-left s q k [] of h = refl
+same-left s q k (l ∷ ks) of h = on (l.client == q) refl (same-left s q k ks of h.1)
+  where
+    on : (b : Bool) → (l.client == q) ≡ b
+        → filter (λ (l : Socket). not (l.sid == s)) (filter (λ (l : Socket). l.client == q) ks) ≡ filter (λ (l : Socket). not (l.space == k.space)) (filter (λ (l : Socket). l.client == q) ks)
+        → filter (λ (l : Socket). not (l.sid == s)) (if b then l ∷ filter (λ (l : Socket). l.client == q) ks else filter (λ (l : Socket). l.client == q) ks)
+        ≡ filter (λ (l : Socket). not (l.space == k.space)) (if b then l ∷ filter (λ (l : Socket). l.client == q) ks else filter (λ (l : Socket). l.client == q) ks)
+    on true e rest =
+        let others : List Socket = filter (λ (l : Socket). not (l.sid == s)) (filter (λ (l : Socket). l.client == q) ks) in
+        ap (λ b. if not b then l ∷ others else others) (h.0 (ap (λ c. l.client == c) of ∙ e))
+        ∙ ap (λ ls. if not (l.space == k.space) then l ∷ ls else ls) rest
+    on false e rest = rest
+
 module _ (base : PlainBase) (limits : Limits) where
   one-ended : (s : ℕ) (k : Socket) (before : List Step) → EachTwo AreApart (sockets base before) → socket_with sid_of base before s ≡ Some k → (ended_by base before (Ended s) ≡ k ∷ []) × ((k.sid == s) ≡ true)
   unfolding socket_with
@@ -365,18 +420,23 @@ module _ (base : PlainBase) (limits : Limits) where
       kept-whole (has_id sid_of s) (filter (λ (l : Socket). l.client == q) (sockets base before))
       (filter-swap (has_id sid_of s) (λ (l : Socket). l.client == q) (sockets base before) ∙ ap (filter (λ (l : Socket). l.client == q)) one ∙ rw other refl)
 
-  ended-at : (s : ℕ) (k : Socket) (at : ℕ) (before : List Step) → IsLegal base limits before → ended_by base before (Ended s) ≡ k ∷ [] → (q : ℕ) (b : Bool) → (k.client == q) ≡ b
-      → client_at base limits (record { at = at; what = Ended s } ∷ before) q ≡ (if b then option_map (without_sid s) (client_at base limits before q) else client_at base limits before q)
+  of-one : (s : ℕ) (k : Socket) (before : List Step) (q : ℕ) → EachTwo AreApart (sockets base before) → socket_with sid_of base before s ≡ Some k → (k.client == q) ≡ true
+      → filter (λ (l : Socket). not (l.sid == s)) (sockets_of base before q) ≡ filter (λ (l : Socket). not (l.space == k.space)) (sockets_of base before q)
+  unfolding sockets_of socket_with
+  of-one s k before q apart found e = same-left s q k (sockets base before) (eqb-true k.client q e) (alone-there s k (sockets base before) apart found)
+
+  ended-at : (s : ℕ) (k : Socket) (at : ℕ) (before : List Step) → IsLegal base limits before → EachTwo AreApart (sockets base before) → socket_with sid_of base before s ≡ Some k → ended_by base before (Ended s) ≡ k ∷ [] → (q : ℕ) (b : Bool) → (k.client == q) ≡ b
+      → client_at base limits (record { at = at; what = Ended s } ∷ before) q ≡ (if b then option_map (without_place k.space) (client_at base limits before q) else client_at base limits before q)
   unfolding put
-  ended-at s k at before legal one q true e =
+  ended-at s k at before legal apart found one q true e =
       let step : Step = record { at = at; what = Ended s } in
-      rw (is_open-quiet base step before refl (λ c. refl) q, of-ended s at before q, waiting-quiet base limits step before legal q refl refl refl) (on (is_open base before q))
+      rw (is_open-quiet base step before refl (λ c. refl) q, of-ended s at before q, of-one s k before q apart found e, waiting-quiet base limits step before legal q refl refl refl) (on (is_open base before q))
     where
-      on : (o : Bool) → (if o then Some (record { sockets = filter (λ (l : Socket). not (l.sid == s)) (sockets_of base before q); outbox = record { waiting = waiting base limits before q; capacity = limits.capacity; bytes = limits.bytes } }) else None)
-          ≡ option_map (without_sid s) (if o then Some (record { sockets = sockets_of base before q; outbox = record { waiting = waiting base limits before q; capacity = limits.capacity; bytes = limits.bytes } }) else None)
+      on : (o : Bool) → (if o then Some (record { sockets = filter (λ (l : Socket). not (l.space == k.space)) (sockets_of base before q); outbox = record { waiting = waiting base limits before q; capacity = limits.capacity; bytes = limits.bytes } }) else None)
+          ≡ option_map (without_place k.space) (if o then Some (record { sockets = sockets_of base before q; outbox = record { waiting = waiting base limits before q; capacity = limits.capacity; bytes = limits.bytes } }) else None)
       on true = refl
       on false = refl
-  ended-at s k at before legal one q false e =
+  ended-at s k at before legal apart found one q false e =
       let step : Step = record { at = at; what = Ended s } in
       rw (is_open-quiet base step before refl (λ c. refl) q, of-ended s at before q, of-another s k before q one e, waiting-quiet base limits step before legal q refl refl refl) refl
 
@@ -392,7 +452,7 @@ module _ (base : PlainBase) (limits : Limits) where
       → IsHub base limits find seat is_pid sets table packets newest counts before
       → None ≡ or_spent (end_refusal base before s) (is_spent base limits before (Ended s))
       → socket_with sid_of base before s ≡ Some k
-      → ((q : ℕ) → find' q ≡ (if k.client == q then option_map (without_sid s) (find q) else find q))
+      → ((q : ℕ) → find' q ≡ (if k.client == q then option_map (without_place k.space) (find q) else find q))
       → ((x : ℕ) → seat' x ≡ (if k.sid == x then None else seat x))
       → ((x : ℕ) → is_pid' x ≡ (if k.pid == x then false else is_pid x))
       → sets' ≡ without_socket sets k.sid → AreConsistent sets'
@@ -411,7 +471,7 @@ module _ (base : PlainBase) (limits : Limits) where
       let agree : AreConsistent (without_socket (rooms base before) s) = subst AreConsistent (change ∙ ap (λ v. without_socket v s) was.0.rooms_are) consistent in
       let flows = flow-quiet base limits step before was.1 allowed was.2.clients_once refl (λ c. refl) (λ c. refl) tt (sum-zero (λ c. taken_by c (Ended s)) (open_clients base before) (λ c e. refl)) in (
         ended-fields base limits step before refl find find' seat seat' is_pid is_pid' sets sets' table table packets newest was.0 was.2.sockets_apart
-            (λ q. clients q ∙ ap (λ o. if k.client == q then option_map (without_sid s) o else o) (was.0.clients q) ∙ sym (ended-at s k (max now newest) before was.1 one.0 q (k.client == q) refl))
+            (λ q. clients q ∙ ap (λ o. if k.client == q then option_map (without_place k.space) o else o) (was.0.clients q) ∙ sym (ended-at s k (max now newest) before was.1 was.2.sockets_apart found one.0 q (k.client == q) refl))
             (k ∷ []) (sym one.0)
             (λ x. seats x ∙ ap (λ b. if b then None else seat x) (sym (or-none (k.sid == x))))
             (λ x. pids x ∙ ap (λ b. if b then false else is_pid x) (sym (or-none (k.pid == x))))

@@ -1,21 +1,18 @@
 -- A hub that has just been made.
-use Rattle.std.proofs.Common.{◌≡◌, ℕ, ◌+◌, ◌<◌, ◌≤◌, ◌^◌, length, Bool, true, false, List, [], refl, sym, ◌∙◌, ap, subst, arith, Option, None, Some, nat_lt}
+use Rattle.std.proofs.Common.{◌≡◌, ℕ, ◌<◌, ◌≤◌, ◌^◌, length, Bool, true, false, [], refl, sym, ◌∙◌, ap, subst, arith, Option, None, Some, nat_lt}
 use Rattle.std.proofs.lemmas.Bool.Decides.{nat_tests}
 use Rattle.std.specs.List.{IsDistinct}
-use Rattle.std.proofs.lemmas.Grind.{common_steps}
-use Rattle.room_maps.specs.Membership.{RoomSets, no_sockets, AreConsistent, rooms_in}
+use Rattle.room_maps.specs.Membership.{RoomSets, no_sockets, AreConsistent}
 use Rattle.room_maps.proofs.MembershipLaws.{is_socket-no_sockets}
-use Rattle.recovery.specs.PacketLog.{LogContents, kept, IsRun, Rises, latest, offset_at}
+use Rattle.recovery.specs.PacketLog.{LogContents, kept, IsRun, Rises, latest}
 use Rattle.recovery.specs.SavedTable.{TableContents}
 use Rattle.hub_state.specs.declared.socket.Socket.{Socket}
-use Rattle.hub_state.specs.declared.totals.Counts.{Counts}
-use Rattle.hub_state.specs.Plain.{Limits, PlainBase, PlainClient}
+use Rattle.hub_state.specs.Plain.{Limits, PlainClient}
 use Rattle.hub_state.specs.Config.{empty_base}
 use Rattle.hub_state.specs.Journal.{moment, total}
-use Rattle.hub_state.specs.Membership.{open_clients, is_open, sockets, sockets_of, socket_with, rooms}
+use Rattle.hub_state.specs.Membership.{open_clients, is_open, sockets, socket_with, rooms}
 use Rattle.hub_state.specs.Sessions.{sessions}
 use Rattle.hub_state.specs.Log.{log_calls, log, next_number, next}
-use Rattle.hub_state.specs.Outboxes.{placements, taken, waiting}
 use Rattle.hub_state.specs.Totals.{commands, placed, dropped, handed_out, discarded, waiting_in_all, IsConserved}
 use Rattle.hub_state.specs.Legal.{EachTwo, IsSound, IsLegal}
 use Rattle.hub_state.specs.Hub.{Fields, Counted, client_at}

@@ -1,9 +1,8 @@
 -- What one more step makes of the fields of a hub.
-use Rattle.std.proofs.Common.{◌≡◌, ◌≢◌, ℕ, ◌+◌, ◌-◌, ◌<◌, ◌≤◌, ◌==◌, Bool, true, false, ◌&&◌, ◌||◌, not, List, [], ◌∷◌, ◌++◌, length, drop, filter, map, max, refl, sym, ◌∙◌, ap, subst, arith, if◌then◌else◌, Option, None, Some, nat_eq, append-nil}
+use Rattle.std.proofs.Common.{◌≡◌, ℕ, ◌+◌, ◌≤◌, ◌==◌, Bool, true, false, ◌||◌, List, [], ◌∷◌, ◌++◌, length, drop, filter, max, refl, sym, ◌∙◌, ap, subst, arith, if◌then◌else◌, Option, None, Some, nat_eq, append-nil}
 use Rattle.std.specs.Prelude.{is_some}
-use Rattle.std.specs.List.{sum_by, list_any, find, IsDistinct, AllByRecursion}
+use Rattle.std.specs.List.{sum_by, find, IsDistinct, AllByRecursion}
 use Rattle.std.specs.Set.{is_member}
-use Rattle.std.proofs.lemmas.Grind.{common_steps}
 use Rattle.std.proofs.lemmas.Bool.{eqb-true, eq-eqb}
 use Rattle.std.proofs.lemmas.Bool.Decides.{nat_tests}
 use Rattle.std.proofs.lemmas.List.Sums.{sum_by-append}
@@ -13,13 +12,12 @@ use Rattle.recovery.specs.PacketLog.{LogContents}
 use Rattle.recovery.specs.SavedTable.{TableContents}
 use Rattle.hub_state.specs.declared.socket.Socket.{Socket}
 use Rattle.hub_state.specs.declared.step.Step.{Step}
-use Rattle.hub_state.specs.declared.step.What.{What}
-use Rattle.hub_state.specs.declared.step.What.TheVariants.{Opened, Attached, Recovered, Joined, Left, Cast, Told, Took, Parked, Ended, Closed, Swept}
-use Rattle.hub_state.specs.Plain.{PlainBase, Limits, PlainClient, PlainOutbox, PlainMessage}
+use Rattle.hub_state.specs.declared.step.What.TheVariants.{Opened, Told, Took}
+use Rattle.hub_state.specs.Plain.{PlainBase, Limits, PlainClient, PlainMessage}
 use Rattle.hub_state.specs.Journal.{moment}
-use Rattle.hub_state.specs.Membership.{opens, closes, open_clients, is_open, connects, ends, sockets, sid_of, pid_of, socket_with, is_connected, sockets_of, rooms, rooms_after, is_space}
+use Rattle.hub_state.specs.Membership.{opens, closes, open_clients, is_open, connects, ends, sockets, sid_of, pid_of, sockets_of, rooms, rooms_after, is_space}
 use Rattle.hub_state.specs.Outboxes.{put, entries_for, begins, taken_by, waiting}
-use Rattle.hub_state.specs.Totals.{handed_out_by, discarded_by, placed_by, is_spent, waiting_in_all}
+use Rattle.hub_state.specs.Totals.{handed_out_by, discarded_by, is_spent, waiting_in_all}
 use Rattle.hub_state.specs.Legal.{IsAllowed, IsLegal, IsSound, EachTwo, AreApart}
 use Rattle.hub_state.specs.Hub.{Fields, client_at, new_client, without_first, with_entry}
 use Rattle.std.specs.Option.{option_map}

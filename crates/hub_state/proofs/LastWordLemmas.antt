@@ -1,8 +1,8 @@
 -- The running set of pairs is what the last words say.
-use Rattle.std.proofs.Common.{◌≡◌, ℕ, ◌==◌, Bool, true, false, ◌&&◌, ◌||◌, not, List, [], ◌∷◌, nat_eq, refl, sym, ◌∙◌, ap, if◌then◌else◌, Option, Some, None, unwrap_or}
+use Rattle.std.proofs.Common.{◌≡◌, ℕ, ◌==◌, Bool, true, false, ◌&&◌, ◌||◌, not, List, [], ◌∷◌, refl, ◌∙◌, ap, if◌then◌else◌, Some, None, unwrap_or}
 use Rattle.std.specs.List.{list_any}
 use Rattle.room_maps.specs.Room.{same_room, own_room}
-use Rattle.room_maps.specs.Membership.{RoomSets, is_in, with_pair, without_pair, with_socket, with_socket_in, without_socket}
+use Rattle.room_maps.specs.Membership.{RoomSets, is_in, without_socket}
 use Rattle.room_maps.proofs.MembershipLaws.{is_in-with_pair, is_in-without_pair, is_in-with_socket, is_in-with_socket_in, is_in-without_socket}
 use Rattle.hub_state.specs.declared.socket.Socket.{Socket}
 use Rattle.hub_state.specs.declared.step.Step.{Step}

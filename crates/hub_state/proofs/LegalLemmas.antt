@@ -1,7 +1,6 @@
 -- What a legal journal says of each of its steps.
 use Rattle.std.proofs.Common.{◌≡◌, List, [], ◌∷◌, ◌++◌, subst}
 use Rattle.hub_state.specs.declared.step.Step.{Step}
-use Rattle.hub_state.specs.declared.step.What.{What}
 use Rattle.hub_state.specs.declared.step.What.TheVariants.{Cast}
 use Rattle.hub_state.specs.Plain.{Limits, PlainBase, PlainBroadcast}
 use Rattle.hub_state.specs.Broadcast.{RightCast}

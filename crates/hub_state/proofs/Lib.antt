@@ -1,3 +1,5 @@
+pub mod SocketIndexLemmas
+pub mod WalkLemmas
 pub mod SumsLemmas
 pub mod MembershipLemmas
 pub mod OutboxesLemmas
@@ -7,10 +9,11 @@ pub mod HubLemmas
 pub mod CountsLemmas
 pub mod CommandLemmas
 pub mod FreshLemmas
+pub mod RetainLemmas
+pub mod SeatsLemmas
 pub mod RoomsLemmas
 pub mod SocketsLemmas
 pub mod AnswersLemmas
-pub mod RetainLemmas
 pub mod EndLemmas
 pub mod CloseLemmas
 pub mod RecoverLemmas
@@ -20,6 +23,7 @@ pub mod LastWordLemmas
 pub mod CastLemmas
 pub mod CastStepLemmas
 pub mod MembersLemmas
+pub mod AimLemmas
 pub mod LegalLemmas
 pub mod ParkLemmas
 pub mod SweepLemmas

@@ -16,7 +16,7 @@ use Rattle.hub_state.specs.Casting.{is_here}
 use Rattle.hub_state.proofs.CastLemmas.{any-at}
 
 -- a number is in what a filter keeps exactly where it is in the list and passes
-contains-filter : (s : ℕ) (p : ℕ → Bool) (xs : List ℕ) → list_any (eq_by_cmp nat_cmp s) (filter p xs) ≡ (p s && list_any (eq_by_cmp nat_cmp s) xs)
+pub contains-filter : (s : ℕ) (p : ℕ → Bool) (xs : List ℕ) → list_any (eq_by_cmp nat_cmp s) (filter p xs) ≡ (p s && list_any (eq_by_cmp nat_cmp s) xs)
 contains-filter s p [] = none (p s)
   where
     none : (b : Bool) → false ≡ (b && false)

@@ -1,14 +1,13 @@
 -- What one more step makes of the clients and the sockets.
-use Rattle.std.proofs.Common.{◌≡◌, ◌≢◌, ℕ, ◌==◌, Bool, true, false, not, ◌&&◌, ◌||◌, List, [], ◌∷◌, ◌++◌, filter, refl, sym, ◌∙◌, ap, nat_eq, append-nil}
-use Rattle.std.specs.List.{list_any, find, IsDistinct, AllByRecursion}
+use Rattle.std.proofs.Common.{◌≡◌, ℕ, ◌==◌, Bool, true, false, not, ◌||◌, List, [], ◌∷◌, ◌++◌, filter, refl, ◌∙◌, ap, nat_eq, append-nil}
+use Rattle.std.specs.List.{find}
 use Rattle.std.specs.Set.{is_member}
 use Rattle.std.proofs.lemmas.List.Folds.{list_any-append}
 use Rattle.hub_state.specs.declared.socket.Socket.{Socket}
 use Rattle.hub_state.specs.declared.step.Step.{Step}
-use Rattle.hub_state.specs.declared.step.What.{What}
-use Rattle.hub_state.specs.declared.step.What.TheVariants.{Opened, Attached, Recovered, Joined, Left, Cast, Told, Took, Parked, Ended, Closed, Swept}
+use Rattle.hub_state.specs.declared.step.What.TheVariants.{Opened}
 use Rattle.hub_state.specs.Plain.{PlainBase}
-use Rattle.hub_state.specs.Membership.{closes, opens, open_clients, is_open, connects, ends, sockets, sid_of, pid_of, has_id, socket_with, is_connected, sockets_of, socket_of}
+use Rattle.hub_state.specs.Membership.{closes, opens, open_clients, is_open, connects, ends, sockets, has_id, socket_with, sockets_of}
 
 pub filter-all : {A : Type 0} (p : A → Bool) (xs : List A) → ((x : A) → p x ≡ true) → filter p xs ≡ xs
 filter-all p [] h = refl

@@ -1,15 +1,15 @@
 -- What one more step makes of what waits for a client.
-use Rattle.std.proofs.Common.{take, zero, suc, add-one, ◌≡◌, ◌≢◌, ℕ, ◌+◌, ◌-◌, ◌<◌, ◌≤◌, ◌==◌, Bool, true, false, List, [], ◌∷◌, ◌++◌, length, drop, refl, sym, ◌∙◌, ap, subst, arith, if◌then◌else◌, append-nil, length-append}
+use Rattle.std.proofs.Common.{take, zero, suc, add-one, ◌≡◌, ℕ, ◌+◌, ◌-◌, ◌≤◌, ◌==◌, Bool, true, false, List, [], ◌∷◌, ◌++◌, length, drop, refl, sym, ◌∙◌, ap, subst, arith, if◌then◌else◌, append-nil, length-append}
 use Rattle.std.proofs.lemmas.List.{drop-append-le, drop-drop, length-drop, map-append}
 use Rattle.std.proofs.lemmas.Bool.{eqb-true}
 use Rattle.std.proofs.lemmas.List.Sums.{sum_by_push, sum_by-cons}
-use Rattle.std.specs.Prelude.{map, Option, Some, slice_get}
+use Rattle.std.specs.Prelude.{map, Some, slice_get}
 use Rattle.std.specs.List.{sum_by}
 use Rattle.sio_wire.specs.Entry.{entry_size}
 use Rattle.sio_wire.specs.declared.entry.Entry.{Entry}
 use Rattle.hub_state.specs.declared.step.Step.{Step}
 use Rattle.hub_state.specs.declared.step.What.{What}
-use Rattle.hub_state.specs.declared.step.What.TheVariants.{Opened, Attached, Recovered, Joined, Left, Cast, Told, Took, Parked, Ended, Closed, Swept}
+use Rattle.hub_state.specs.declared.step.What.TheVariants.{Took}
 use Rattle.hub_state.specs.Plain.{PlainBase, Limits}
 use Rattle.hub_state.specs.Outboxes.{put, entries_for, begins, taken_by, placements, taken, waiting, total_size}
 use Rattle.hub_state.specs.Legal.{IsAllowed, IsLegal}

@@ -173,29 +173,21 @@ not-kept : (ks : List Socket) (ss : List PlainSaved) → AllByRecursion (λ s. i
 not-kept ks [] h = tt
 not-kept ks (s ∷ ss) h = (ap not h.0, not-kept ks ss h.1)
 
-none-first : (p : Socket → Bool) (i : ℕ) (ks : List Socket) → list_any p ks ≡ false → list_any p (take i ks) ≡ false
-none-first p zero ks e = refl
-none-first p (suc i) [] e = refl
-none-first p (suc i) (k ∷ ks) e = let h = split (p k) (list_any p ks) e in rw (h.0) (none-first p i ks h.1)
-  where
-    split : (a b : Bool) → (a || b) ≡ false → (a ≡ false) × (b ≡ false)
-    split true b e = cc
-    split false b e = (refl, e)
+all-first : (P : Socket → Type 0) (i : ℕ) (ks : List Socket) → AllByRecursion P ks → AllByRecursion P (take i ks)
+all-first P zero ks h = tt
+all-first P (suc i) [] h = tt
+all-first P (suc i) (k ∷ ks) h = (h.0, all-first P i ks h.1)
 
-none-of-first : (i : ℕ) (ks : List Socket) (ss : List PlainSaved) → AllByRecursion (λ s. is_of ks s ≡ false) ss → AllByRecursion (λ s. is_of (take i ks) s ≡ false) ss
-none-of-first i ks [] h = tt
-none-of-first i ks (s ∷ ss) h = (none-first (λ (k : Socket). k.pid == s.pid) i ks h.0, none-of-first i ks ss h.1)
-
--- sessions that were saved and taken back leave the table as it was
-pub taken-back : (sets : RoomSets) (at : ℕ) (ks : List Socket) (table : TableContents) → HasNoneOf ks table → without_lost ks (with_lost sets at ks table) ≡ table
-taken-back sets at ks table none =
+-- sessions of the first sockets that were saved leave the table as it was, where those of all are taken out
+taken-back : (sets : RoomSets) (at i : ℕ) (ks : List Socket) (table : TableContents) → HasNoneOf ks table → without_lost ks (with_lost sets at (take i ks) table) ≡ table
+taken-back sets at i ks table none =
     ap (λ ss. record { limit = table.limit; sessions = ss })
-    (dropped-saved (others ks) (map (lost_in sets at) ks) table.sessions (own-of sets at ks ks (found-in pid_of ks))
+    (dropped-saved (others ks) (map (lost_in sets at) (take i ks)) table.sessions
+    (own-of sets at (take i ks) ks (all-first (λ (k : Socket). list_any (has_id pid_of k.pid) ks ≡ true) i ks (found-in pid_of ks)))
     ∙ kept-all (others ks) table.sessions (not-kept ks table.sessions none))
 
-pub taken-back-first : (sets : RoomSets) (at i : ℕ) (ks : List Socket) (table mid new : TableContents) → HasNoneOf ks table → mid ≡ with_lost sets at (take i ks) table → new ≡ without_lost (take i ks) mid → new ≡ table
-taken-back-first sets at i ks table mid new none saved back =
-    back ∙ ap (without_lost (take i ks)) saved ∙ taken-back sets at (take i ks) table (none-of-first i ks table.sessions none)
+pub taken-back-first : (sets : RoomSets) (at i : ℕ) (ks : List Socket) (table mid new : TableContents) → HasNoneOf ks table → mid ≡ with_lost sets at (take i ks) table → new ≡ without_lost ks mid → new ≡ table
+taken-back-first sets at i ks table mid new none saved back = back ∙ ap (without_lost ks) saved ∙ taken-back sets at i ks table none
 
 -- ---- the loops over the client's sockets
 

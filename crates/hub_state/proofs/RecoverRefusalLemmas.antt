@@ -12,7 +12,6 @@ use Rattle.room_maps.specs.Membership.{is_socket, are_too_many}
 use Rattle.recovery.specs.Expiry.{is_outdated}
 use Rattle.recovery.specs.PacketLog.{PlainLogged, IsRun, stands, later_than}
 use Rattle.recovery.specs.SavedTable.{PlainSaved}
-use Rattle.recovery.specs.Missed.{missed}
 use Rattle.hub_state.specs.declared.error.HubError.{HubError}
 use Rattle.hub_state.specs.declared.error.HubError.TheVariants.{Memory, UnknownClient, UnknownNamespace, AlreadyConnected, NotRecoverable, OutboxFull, Spent}
 use Rattle.hub_state.specs.declared.error.RecoveryRefusal.TheVariants.{UnknownPid, Expired, OffsetGone}

@@ -13,7 +13,6 @@ use Rattle.recovery.specs.SavedTable.{PlainSaved, TableContents, removed}
 use Rattle.sio_wire.specs.declared.entry.Entry.{Entry}
 use Rattle.hub_state.specs.declared.socket.Socket.{Socket}
 use Rattle.hub_state.specs.declared.step.Step.{Step}
-use Rattle.hub_state.specs.declared.step.What.{What}
 use Rattle.hub_state.specs.declared.step.What.TheVariants.{Recovered}
 use Rattle.hub_state.specs.declared.totals.Counts.{Counts}
 use Rattle.hub_state.specs.Plain.{PlainBase, Limits, PlainRecovery, PlainClient}

@@ -1,26 +1,23 @@
 -- What joining and leaving a room make of a hub.
-use Rattle.std.proofs.Common.{◌≡◌, ℕ, ◌+◌, ◌≤◌, Bool, true, false, List, [], ◌∷◌, max, refl, sym, ◌∙◌, ap, subst, arith, Option, None, Some}
-use Rattle.std.specs.List.{sum_by}
+use Rattle.std.proofs.Common.{◌≡◌, ℕ, ◌+◌, ◌≤◌, Bool, true, false, List, ◌∷◌, max, refl, sym, ◌∙◌, ap, subst, arith, Option, None, Some}
 use Rattle.room_maps.specs.Membership.{RoomSets, is_socket, AreConsistent, with_pair, without_pair}
 use Rattle.room_maps.specs.Membership as room_maps
 use Rattle.room_maps.specs.declared.error.RoomError.{RoomError}
 use Rattle.room_maps.proofs.MembershipLaws.{is_socket-with_pair, is_socket-without_pair}
 use Rattle.recovery.specs.PacketLog.{LogContents}
 use Rattle.recovery.specs.SavedTable.{TableContents}
-use Rattle.hub_state.specs.declared.error.HubError.{HubError}
 use Rattle.hub_state.specs.declared.socket.Socket.{Socket}
 use Rattle.hub_state.specs.declared.step.Step.{Step}
-use Rattle.hub_state.specs.declared.step.What.{What}
-use Rattle.hub_state.specs.declared.step.What.TheVariants.{Opened, Attached, Recovered, Joined, Left, Cast, Told, Took, Parked, Ended, Closed, Swept}
+use Rattle.hub_state.specs.declared.step.What.TheVariants.{Joined, Left}
 use Rattle.hub_state.specs.declared.totals.Counts.{Counts}
 use Rattle.hub_state.specs.Plain.{PlainBase, Limits, PlainClient}
 use Rattle.hub_state.specs.Journal.{moment}
-use Rattle.hub_state.specs.Membership.{opens, closes, open_clients, is_open, connects, ends, sid_of, is_connected, rooms}
-use Rattle.hub_state.specs.Outboxes.{put, begins, taken_by, entries_for}
-use Rattle.hub_state.specs.Totals.{placed_by, handed_out_by, discarded_by, is_spent}
+use Rattle.hub_state.specs.Membership.{open_clients, sid_of, is_connected, rooms}
+use Rattle.hub_state.specs.Outboxes.{put, taken_by}
+use Rattle.hub_state.specs.Totals.{placed_by, is_spent}
 use Rattle.hub_state.specs.Refusals.{or_spent, room_refusal, join_refusal, leave_refusal}
-use Rattle.hub_state.specs.Legal.{IsAllowed, IsLegal, IsSound}
-use Rattle.hub_state.specs.Hub.{Fields, Counted, CanCount, client_at}
+use Rattle.hub_state.specs.Legal.{IsLegal, IsSound}
+use Rattle.hub_state.specs.Hub.{Counted, CanCount, client_at}
 use Rattle.hub_state.proofs.SumsLemmas.{sum-zero}
 use Rattle.hub_state.proofs.MembershipLemmas.{is_open-quiet, sockets_of-quiet}
 use Rattle.hub_state.proofs.OutboxesLemmas.{waiting-quiet}

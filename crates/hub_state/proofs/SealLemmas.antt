@@ -1,8 +1,7 @@
 -- A base that says what the old base and journal say: all that was so of the hub is so with it and no steps.
-use Rattle.std.proofs.Common.{◌≡◌, ◌≢◌, ℕ, ◌+◌, ◌-◌, ◌^◌, ◌<◌, ◌≤◌, ◌==◌, Bool, true, false, ◌&&◌, ◌||◌, List, [], ◌∷◌, ◌++◌, length, filter, map, reverse, drop, refl, sym, ◌∙◌, ap, subst, arith, if◌then◌else◌, Option, None, Some, nat_eq, nat_lt}
+use Rattle.std.proofs.Common.{◌≡◌, ℕ, ◌+◌, ◌^◌, ◌≤◌, ◌==◌, Bool, true, false, List, [], ◌∷◌, ◌++◌, length, map, reverse, refl, sym, ◌∙◌, ap, subst, arith, if◌then◌else◌, Option, None, Some, nat_eq, nat_lt}
 use Rattle.std.specs.Prelude.{is_some}
 use Rattle.std.specs.List.{list_any, find, flat_map, sum_by, IsDistinct, AllByRecursion}
-use Rattle.std.specs.List.Sorted.{IsStrictlySortedBy}
 use Rattle.std.specs.Option.{option_map_or}
 use Rattle.std.specs.Set.{is_member}
 use Rattle.std.specs.Map.{keys_of, lookup}
@@ -18,18 +17,17 @@ use Rattle.std.proofs.lemmas.List.{length-reverse, reverse-reverse}
 use Rattle.std.proofs.lemmas.Map.Keys.{IsDistinct-from_sorted}
 use Rattle.std.proofs.lemmas.Map.Made.{is_some-lookup}
 use Rattle.terms.specs.Listing.{ListsRising}
-use Rattle.room_maps.specs.Membership.{RoomSets, pair_cmp, is_in, is_socket, AreConsistent, are_too_many}
+use Rattle.room_maps.specs.Membership.{RoomSets, is_socket, AreConsistent, are_too_many}
 use Rattle.room_maps.proofs.OrderLemmas.{pair_cmp_total, pair_cmp-IsAntisymmetric}
-use Rattle.recovery.specs.PacketLog.{PlainLogged, LogContents, Pushed, IsRun, Rises, latest, kept, pushes, number_of, offset_at}
+use Rattle.recovery.specs.PacketLog.{LogContents, Pushed, IsRun, Rises, latest, kept, pushes, number_of, offset_at}
 use Rattle.recovery.specs.SavedTable.{TableContents, PlainSaved}
-use Rattle.sio_wire.specs.declared.entry.Entry.{Entry}
 use Rattle.hub_state.specs.declared.socket.Socket.{Socket}
 use Rattle.hub_state.specs.declared.step.Step.{Step}
 use Rattle.hub_state.specs.declared.totals.Counts.{Counts}
 use Rattle.hub_state.specs.declared.totals.Totals.{Totals}
 use Rattle.hub_state.specs.Plain.{Limits, PlainBase, PlainBaseClient, PlainClient}
-use Rattle.hub_state.specs.Journal.{History, moment, total}
-use Rattle.hub_state.specs.Membership.{open_clients, is_open, base_sockets, sockets, socket_with, sid_of, pid_of, has_id, is_connected, sockets_of, rooms, is_space}
+use Rattle.hub_state.specs.Journal.{moment, total}
+use Rattle.hub_state.specs.Membership.{open_clients, is_open, base_sockets, sockets, socket_with, sid_of, pid_of, has_id, sockets_of, rooms, is_space}
 use Rattle.hub_state.specs.Sessions.{sessions}
 use Rattle.hub_state.specs.Log.{log_calls, log, next_number, next}
 use Rattle.hub_state.specs.Outboxes.{base_waiting, placements, taken, waiting}

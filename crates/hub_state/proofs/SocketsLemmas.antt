@@ -1,9 +1,8 @@
 -- What connecting a socket makes of a hub.
-use Rattle.std.proofs.Common.{◌≡◌, ◌≢◌, ℕ, ◌+◌, ◌<◌, ◌≤◌, ◌==◌, Bool, true, false, ◌&&◌, ◌||◌, not, cond, take, ◌-◌, length-append, List, [], ◌∷◌, ◌++◌, length, filter, map, max, refl, sym, ◌∙◌, ap, subst, arith, if◌then◌else◌, Option, None, Some, nat_eq, append-nil}
+use Rattle.std.proofs.Common.{◌≡◌, ◌≢◌, ℕ, ◌+◌, ◌≤◌, ◌==◌, Bool, true, false, ◌||◌, not, take, ◌-◌, length-append, List, [], ◌∷◌, ◌++◌, length, filter, max, refl, sym, ◌∙◌, ap, subst, arith, if◌then◌else◌, Option, None, Some, nat_eq, append-nil}
 use Rattle.std.specs.Prelude.{is_some}
-use Rattle.std.specs.List.{sum_by, list_any, find, IsDistinct, AllByRecursion}
+use Rattle.std.specs.List.{find, IsDistinct, AllByRecursion}
 use Rattle.std.specs.Option.{option_map, option_or}
-use Rattle.std.proofs.lemmas.Grind.{common_steps}
 use Rattle.std.proofs.Math.Seq.{take-append_seam}
 use Rattle.std.proofs.lemmas.Bool.{eqb-true, eq-eqb}
 use Rattle.std.proofs.lemmas.Bool.Decides.{nat_tests}
@@ -14,22 +13,20 @@ use Rattle.recovery.specs.SavedTable.{TableContents}
 use Rattle.room_maps.specs.Membership as room_maps
 use Rattle.sio_wire.specs.declared.entry.Entry.{Entry}
 use Rattle.terms.specs.Refusal.{first_refusal}
-use Rattle.hub_state.specs.declared.error.HubError.{HubError}
 use Rattle.hub_state.specs.declared.error.HubError.TheVariants.{UnknownClient, UnknownNamespace, AlreadyConnected, IdTaken, OutboxFull}
 use Rattle.hub_state.specs.declared.socket.Socket.{Socket}
 use Rattle.hub_state.specs.declared.step.Step.{Step}
-use Rattle.hub_state.specs.declared.step.What.{What}
-use Rattle.hub_state.specs.declared.step.What.TheVariants.{Opened, Attached, Recovered, Joined, Left, Cast, Told, Took, Parked, Ended, Closed, Swept}
+use Rattle.hub_state.specs.declared.step.What.TheVariants.{Attached}
 use Rattle.hub_state.specs.declared.totals.Counts.{Counts}
 use Rattle.hub_state.specs.Plain.{PlainBase, Limits, PlainClient}
 use Rattle.hub_state.specs.Journal.{moment}
-use Rattle.hub_state.specs.Membership.{opens, closes, open_clients, is_open, connects, ends, sockets, sid_of, pid_of, has_id, socket_with, is_connected, sockets_of, socket_of, is_space, rooms}
+use Rattle.hub_state.specs.Membership.{open_clients, is_open, sockets, sid_of, pid_of, has_id, socket_with, is_connected, sockets_of, socket_of, is_space, rooms}
 use Rattle.hub_state.specs.Sessions.{sessions, is_sid_saved, is_pid_saved}
-use Rattle.hub_state.specs.Outboxes.{put, begins, taken_by, entries_for, waiting, answer, is_full}
+use Rattle.hub_state.specs.Outboxes.{put, taken_by, waiting, answer, is_full}
 use Rattle.hub_state.specs.Totals.{placed_by, is_spent}
 use Rattle.hub_state.specs.Refusals.{or_spent, attach_refusal, is_taken}
-use Rattle.hub_state.specs.Legal.{IsAllowed, IsLegal, IsSound, IsAway, EachTwo, AreApart}
-use Rattle.hub_state.specs.Hub.{Fields, Counted, CanCount, client_at, with_socket, plus_socket, without_last, with_entry}
+use Rattle.hub_state.specs.Legal.{IsLegal, IsSound, IsAway, EachTwo, AreApart}
+use Rattle.hub_state.specs.Hub.{Fields, Counted, CanCount, client_at, with_socket, plus_socket, without_last, with_entry, held_sockets}
 use Rattle.hub_state.proofs.SumsLemmas.{sum-zero}
 use Rattle.hub_state.proofs.MembershipLemmas.{filter-all, is_open-quiet, clients-quiet}
 use Rattle.std.proofs.lemmas.List.Elements.{filter-append}
@@ -298,6 +295,13 @@ module _ (base : PlainBase) (limits : Limits) where
       on false e = sym (ap (find (λ (k : Socket). k.space == space)) (sockets_of-none base limits c before e known))
 
 -- ---- the maps
+
+-- none of the sockets that are held of the client is at the place
+pub free-there : (base : PlainBase) (limits : Limits) (finds : ℕ → Option PlainClient) (before : List Step) (c space : ℕ) → ((q : ℕ) → finds q ≡ client_at base limits before q) → is_open base before c ≡ true
+    → socket_of base before c space ≡ None → find (λ (l : Socket). l.space == space) (held_sockets (finds c)) ≡ None
+unfolding socket_of
+free-there base limits finds before c space are known alone =
+    ap (λ o. find (λ (l : Socket). l.space == space) (held_sockets o)) (are c) ∙ rw known alone
 
 -- a socket more, and then its answer
 pub seated : (find mid new : ℕ → Option PlainClient) (c : ℕ) (k : Socket) (e : Entry)

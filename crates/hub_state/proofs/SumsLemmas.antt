@@ -1,8 +1,7 @@
 -- Sums over the members of a list in which each stands once.
-use Rattle.std.proofs.Common.{◌≡◌, ◌≢◌, ℕ, ◌+◌, ◌-◌, ◌<◌, ◌≤◌, ◌==◌, Bool, true, false, ◌&&◌, ◌||◌, not, List, [], ◌∷◌, ◌++◌, length, filter, refl, sym, ◌∙◌, ap, subst, arith, if◌then◌else◌, nat_eq, cond}
-use Rattle.std.specs.List.{sum_by, list_any, IsDistinct, AllByRecursion}
+use Rattle.std.proofs.Common.{◌≡◌, ℕ, ◌+◌, ◌==◌, Bool, true, false, ◌&&◌, not, List, [], ◌∷◌, filter, refl, sym, ◌∙◌, ap, subst, arith, if◌then◌else◌, nat_eq}
+use Rattle.std.specs.List.{sum_by, IsDistinct, AllByRecursion}
 use Rattle.std.specs.Set.{is_member}
-use Rattle.std.proofs.lemmas.Grind.{common_steps}
 use Rattle.std.proofs.lemmas.Bool.{eqb-true, eq-eqb}
 use Rattle.std.proofs.lemmas.Bool.Decides.{nat_tests}
 use Rattle.std.proofs.lemmas.Cmp.{nat_eq_equiv}

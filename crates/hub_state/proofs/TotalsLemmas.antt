@@ -1,15 +1,10 @@
 -- What one more step makes of the totals: what was put was handed out, was discarded or waits.
-use Rattle.std.proofs.Common.{◌≡◌, ◌≢◌, ℕ, ◌+◌, ◌-◌, ◌<◌, ◌≤◌, ◌==◌, Bool, true, false, ◌&&◌, ◌||◌, not, List, [], ◌∷◌, ◌++◌, length, drop, map, filter, refl, sym, ◌∙◌, ap, subst, arith, if◌then◌else◌, nat_eq, Option, None, Some, length-append}
-use Rattle.std.specs.List.{sum_by, list_any, IsDistinct, AllByRecursion}
+use Rattle.std.proofs.Common.{◌≡◌, ℕ, ◌+◌, ◌==◌, Bool, true, false, ◌||◌, not, List, [], ◌∷◌, length, map, filter, refl, sym, ap, subst, arith, if◌then◌else◌, nat_eq}
+use Rattle.std.specs.List.{sum_by, IsDistinct, AllByRecursion}
 use Rattle.std.specs.Set.{is_member}
-use Rattle.std.proofs.lemmas.Grind.{common_steps}
 use Rattle.std.proofs.lemmas.Bool.{eqb-true, eq-eqb}
-use Rattle.std.proofs.lemmas.Bool.Decides.{nat_tests}
-use Rattle.std.proofs.lemmas.List.Sums.{sum_by-cons, sum_by-append}
 use Rattle.sio_wire.specs.declared.entry.Entry.{Entry}
 use Rattle.hub_state.specs.declared.step.Step.{Step}
-use Rattle.hub_state.specs.declared.step.What.{What}
-use Rattle.hub_state.specs.declared.step.What.TheVariants.{Opened, Attached, Recovered, Joined, Left, Cast, Told, Took, Parked, Ended, Closed, Swept}
 use Rattle.hub_state.specs.Plain.{PlainBase, Limits}
 use Rattle.hub_state.specs.Journal.{total}
 use Rattle.hub_state.specs.Membership.{opens, closes, open_clients, is_open}
@@ -17,8 +12,8 @@ use Rattle.hub_state.specs.Outboxes.{put, entries_for, begins, taken_by, waiting
 use Rattle.hub_state.specs.Totals.{placed_by, dropped_by, handed_out_by, discarded_by, commands, placed, dropped, handed_out, discarded, waiting_in_all, IsConserved}
 use Rattle.hub_state.specs.Legal.{IsAllowed, IsLegal}
 use Rattle.hub_state.proofs.SumsLemmas.{sum-same, sum-plus, sum-zero, sum-without}
-use Rattle.hub_state.proofs.MembershipLemmas.{clients-quiet, clients-opened}
-use Rattle.hub_state.proofs.OutboxesLemmas.{flow, waiting-begins}
+use Rattle.hub_state.proofs.MembershipLemmas.{clients-quiet}
+use Rattle.hub_state.proofs.OutboxesLemmas.{flow}
 
 module _ (base : PlainBase) (limits : Limits) (step : Step) (before : List Step) where
   pub commands-step : commands base (step ∷ before) ≡ commands base before + 1

@@ -1,6 +1,8 @@
 -- What a broadcast that is asked for makes of a hub, and the lists from which it is made.
 use Rattle.std.specs.Prelude.{◌≡◌, ◌⊎◌, ℕ, ◌==◌, Bool, true, false, not, ◌&&◌, List, [], ◌∷◌, ◌++◌, map, length, nat_eq, is_some, Option, None, Some, if◌then◌else◌}
-use Rattle.std.specs.List.{flat_map, IsDistinct, AllByRecursion}
+use Rattle.std.specs.List.{flat_map, list_any, IsDistinct, AllByRecursion}
+use Rattle.std.specs.List.Sorted.{IsStrictlySortedBy}
+use Rattle.std.specs.Ordering.{nat_cmp, eq_by_cmp}
 use Rattle.std.specs.Option.{option_map_or}
 use Rattle.sio_wire.specs.declared.entry.Entry.{Entry}
 use Rattle.hub_state.specs.declared.socket.Socket.{Socket}
@@ -30,6 +32,11 @@ in_space space (Some k) = if k.space == space then k ∷ [] else []
 -- there is a socket, and it is in the namespace
 abbrev pub is_here : ℕ → Option Socket → Bool
 is_here space found = option_map_or (λ (k : Socket). k.space == space) found false
+
+-- the list rises, and of the ids that are inside it has just those that pass the test; it may have others
+pub record ListsInside (inside test : ℕ → Bool) (ids : List ℕ) : Type 0 where
+  pub rises : IsStrictlySortedBy nat_cmp ids
+  pub exactly : (id : ℕ) → inside id ≡ true → list_any (eq_by_cmp nat_cmp id) ids ≡ test id
 
 -- what is held of the client has no place for the entry
 abbrev pub is_full_in : (ℕ → Option PlainClient) → Entry → ℕ → Bool

@@ -1,5 +1,5 @@
 -- With what a hub may be made, and how it begins.
-use Rattle.std.specs.Prelude.{ℕ, ◌==◌, Bool, true, false, not, ◌&&◌, ◌||◌, List, [], ◌∷◌, length, slice_index, nat_lt, bytes_eq, Option, Some, None}
+use Rattle.std.specs.Prelude.{ℕ, ◌==◌, Bool, false, not, ◌&&◌, ◌||◌, List, [], ◌∷◌, length, slice_index, nat_lt, bytes_eq, Option, Some}
 use Rattle.std.specs.List.{list_any}
 use Rattle.terms.specs.Refusal.{first_refusal}
 use Rattle.hub_state.specs.declared.error.HubError.{HubError}

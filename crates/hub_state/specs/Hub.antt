@@ -1,9 +1,5 @@
 -- What a hub keeps: its state is what its base and its journal say.
-use Rattle.std.specs.Prelude.{◌≡◌, ℕ, ◌+◌, ◌<◌, ◌≤◌, ◌^◌, Bool, true, false, List, [], ◌∷◌, ◌++◌, drop, take, length, ◌-◌, ◌==◌, not, filter, reverse, nat_eq, Option, None, Some, Result, Ok, Err, unwrap_or, if◌then◌else◌}
-use Rattle.std.specs.Ordering.{nat_cmp}
-use Rattle.std.specs.List.{IsDistinct, AllByRecursion}
-use Rattle.std.specs.BTreeMap.{get}
-use Rattle.std.specs.BTreeSet as sorted
+use Rattle.std.specs.Prelude.{◌≡◌, ℕ, ◌+◌, ◌<◌, ◌≤◌, Bool, List, [], ◌∷◌, ◌++◌, drop, take, length, ◌-◌, ◌==◌, not, filter, Option, None, Some, Result, Ok, Err, unwrap_or, if◌then◌else◌}
 use Rattle.room_maps.specs.Membership.{RoomSets}
 use Rattle.recovery.specs.PacketLog.{LogContents}
 use Rattle.recovery.specs.SavedTable.{TableContents}
@@ -15,7 +11,7 @@ use Rattle.hub_state.specs.declared.step.Step.{Step}
 use Rattle.hub_state.specs.declared.step.What.{What}
 use Rattle.hub_state.specs.Plain.{Limits, PlainBase, PlainClient}
 use Rattle.hub_state.specs.Journal.{History, moment, with_step}
-use Rattle.hub_state.specs.Membership.{open_clients, is_open, sockets, socket_with, sid_of, pid_of, is_connected, sockets_of, rooms, is_space}
+use Rattle.hub_state.specs.Membership.{is_open, socket_with, sid_of, pid_of, is_connected, sockets_of, rooms}
 use Rattle.hub_state.specs.Sessions.{sessions}
 use Rattle.hub_state.specs.Log.{log, next}
 use Rattle.hub_state.specs.Outboxes.{waiting}
@@ -92,9 +88,9 @@ CanCount counts puts drops takes discards =
     × (counts.taken + takes ≤ 18446744073709551615)
     × (counts.discarded + discards ≤ 18446744073709551615)
 
--- a client without the socket with this session id
-abbrev pub without_sid : ℕ → PlainClient → PlainClient
-without_sid s known = record known { sockets = filter (λ (k : Socket). not (k.sid == s)) known.sockets }
+-- a client without the socket in the namespace at this place
+abbrev pub without_place : ℕ → PlainClient → PlainClient
+without_place p known = record known { sockets = filter (λ (k : Socket). not (k.space == p)) known.sockets }
 
 -- what is held of a client's sockets, and what waits for it, if anything is held of it
 abbrev pub held_sockets : Option PlainClient → List Socket

@@ -6,7 +6,7 @@ use Rattle.room_maps.specs.Membership.{is_in}
 use Rattle.hub_state.specs.declared.socket.Socket.{Socket}
 use Rattle.hub_state.specs.declared.step.Step.{Step}
 use Rattle.hub_state.specs.declared.step.What.{What}
-use Rattle.hub_state.specs.declared.step.What.TheVariants.{Opened, Attached, Recovered, Joined, Left, Cast, Told, Took, Parked, Ended, Closed, Swept}
+use Rattle.hub_state.specs.declared.step.What.TheVariants.{Attached, Recovered, Joined, Left, Parked, Ended, Closed}
 use Rattle.hub_state.specs.Plain.{PlainBase}
 use Rattle.hub_state.specs.Membership.{sockets_of, rooms}
 

@@ -1,8 +1,6 @@
 -- Which journals a hub may have, and what a base may be.
-use Rattle.std.specs.Prelude.{◌≡◌, ◌≢◌, ℕ, ◌≤◌, ◌<◌, ◌==◌, Bool, true, false, min, nat_eq, List, [], ◌∷◌, length, map, is_some, Option, None, Some, IfSome}
+use Rattle.std.specs.Prelude.{◌≡◌, ◌≢◌, ℕ, ◌≤◌, ◌==◌, true, false, nat_eq, List, [], ◌∷◌, length, None, Some, IfSome}
 use Rattle.std.specs.List.{list_any, IsDistinct, AllByRecursion}
-use Rattle.sio_wire.specs.declared.entry.Entry.{Entry}
-use Rattle.sio_wire.specs.Offset.{is_bracket}
 use Rattle.recovery.specs.PacketLog.{IsRun, Rises, latest}
 use Rattle.recovery.specs.SavedTable.{PlainSaved}
 use Rattle.recovery.specs.Missed.{missed}
@@ -13,7 +11,7 @@ use Rattle.hub_state.specs.declared.step.What.{What}
 use Rattle.hub_state.specs.declared.step.What.TheVariants.{Opened, Attached, Recovered, Joined, Left, Cast, Told, Took, Parked, Ended, Closed, Swept}
 use Rattle.hub_state.specs.Plain.{Limits, PlainBase, PlainRecovery, PlainBroadcast}
 use Rattle.hub_state.specs.Journal.{moment}
-use Rattle.hub_state.specs.Membership.{open_clients, is_open, sockets, sid_of, pid_of, is_connected, socket_of, rooms, is_space}
+use Rattle.hub_state.specs.Membership.{open_clients, is_open, sockets, sid_of, is_connected, rooms, is_space}
 use Rattle.hub_state.specs.Sessions.{sessions, session_with}
 use Rattle.hub_state.specs.Log.{log, log_calls, next, next_number}
 use Rattle.hub_state.specs.Outboxes.{waiting}

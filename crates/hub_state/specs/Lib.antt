@@ -1,5 +1,6 @@
 pub mod Plain
 pub mod Config
+pub mod SocketIndex
 pub mod Journal
 pub mod Membership
 pub mod Sessions
@@ -12,6 +13,7 @@ pub mod Refusals
 pub mod Legal
 pub mod Hub
 pub mod Casting
+pub mod Seats
 pub mod Inside
 pub mod LastWord
 pub mod Parking

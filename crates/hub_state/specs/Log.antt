@@ -1,9 +1,9 @@
 -- The log of broadcasts and their offsets (Socket.IO server documentation, "Connection state recovery").
-use Rattle.std.specs.Prelude.{ℕ, ◌+◌, List, [], ◌∷◌, map, reverse, Option, None, Some}
+use Rattle.std.specs.Prelude.{ℕ, List, [], ◌∷◌, map, reverse, Option, None, Some}
 use Rattle.std.specs.Option.{option_map, option_map_or}
 use Rattle.hub_state.specs.declared.step.Step.{Step}
 use Rattle.hub_state.specs.declared.step.What.{What}
-use Rattle.hub_state.specs.declared.step.What.TheVariants.{Opened, Attached, Recovered, Joined, Left, Cast, Told, Took, Parked, Ended, Closed, Swept}
+use Rattle.hub_state.specs.declared.step.What.TheVariants.{Cast, Swept}
 use Rattle.recovery.specs.PacketLog as packets
 use Rattle.recovery.specs.PacketLog.{LogCall, PlainLogged, kept, offset_at, number_of}
 use Rattle.hub_state.specs.Plain.{Limits, PlainBase, PlainBroadcast}

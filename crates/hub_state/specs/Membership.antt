@@ -6,9 +6,9 @@ use Rattle.std.specs.FinSet as set
 use Rattle.hub_state.specs.declared.socket.Socket.{Socket}
 use Rattle.hub_state.specs.declared.step.Step.{Step}
 use Rattle.hub_state.specs.declared.step.What.{What}
-use Rattle.hub_state.specs.declared.step.What.TheVariants.{Opened, Attached, Recovered, Joined, Left, Cast, Told, Took, Parked, Ended, Closed, Swept}
+use Rattle.hub_state.specs.declared.step.What.TheVariants.{Opened, Attached, Recovered, Joined, Left, Parked, Ended, Closed}
 use Rattle.room_maps.specs.Membership.{RoomSets, with_socket, with_socket_in, with_pair, without_pair, without_socket}
-use Rattle.hub_state.specs.Plain.{Limits, PlainBase, PlainBaseClient, PlainRecovery}
+use Rattle.hub_state.specs.Plain.{Limits, PlainBase, PlainBaseClient}
 
 -- ---- namespaces
 

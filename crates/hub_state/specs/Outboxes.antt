@@ -1,17 +1,17 @@
 -- What was put for each client, what was handed out, and what waits.
-use Rattle.std.specs.Prelude.{ℕ, ◌+◌, ◌==◌, Bool, false, not, ◌&&◌, ◌||◌, List, [], ◌∷◌, ◌++◌, length, drop, map, filter, nat_lt, nat_le, get_or, Option, if◌then◌else◌}
+use Rattle.std.specs.Prelude.{ℕ, ◌+◌, ◌==◌, Bool, false, not, ◌&&◌, ◌||◌, List, [], ◌∷◌, ◌++◌, length, drop, map, filter, nat_lt, nat_le, get_or, if◌then◌else◌}
 use Rattle.std.specs.List.{list_any, find, sum_by}
 use Rattle.std.specs.Option.{option_map_or}
 use Rattle.hub_state.specs.declared.socket.Socket.{Socket}
 use Rattle.hub_state.specs.declared.step.Step.{Step}
 use Rattle.hub_state.specs.declared.step.What.{What}
-use Rattle.hub_state.specs.declared.step.What.TheVariants.{Opened, Attached, Recovered, Joined, Left, Cast, Told, Took, Parked, Ended, Closed, Swept}
+use Rattle.hub_state.specs.declared.step.What.TheVariants.{Opened, Attached, Recovered, Cast, Told, Took}
 use Rattle.sio_wire.specs.declared.entry.Entry.{Entry}
 use Rattle.sio_wire.specs.Entry.{entry_size}
 use Rattle.sio_wire.specs.ConnectAnswer.{connected_text}
 use Rattle.room_maps.specs.Addressed as broadcast
 use Rattle.recovery.specs.PacketLog.{PlainLogged}
-use Rattle.hub_state.specs.Plain.{Limits, PlainBase, PlainBaseClient, PlainBroadcast, PlainRecovery, PlainMessage}
+use Rattle.hub_state.specs.Plain.{Limits, PlainBase, PlainBaseClient, PlainBroadcast}
 use Rattle.hub_state.specs.Membership.{sockets, rooms}
 use Rattle.hub_state.specs.Log.{log}
 

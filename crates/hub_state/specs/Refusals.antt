@@ -1,5 +1,5 @@
 -- Why a command is refused: the first of its reasons that holds.
-use Rattle.std.specs.Prelude.{ℕ, ◌+◌, ◌-◌, ◌==◌, Bool, true, false, not, ◌&&◌, ◌||◌, List, [], ◌∷◌, length, is_some, nat_lt, nat_le, Option, None, Some, unwrap_or, if◌then◌else◌}
+use Rattle.std.specs.Prelude.{ℕ, ◌+◌, ◌-◌, ◌==◌, Bool, false, not, ◌||◌, List, [], ◌∷◌, length, is_some, nat_lt, nat_le, Option, None, Some, unwrap_or, if◌then◌else◌}
 use Rattle.std.specs.List.{list_any}
 use Rattle.std.specs.Option.{option_map, option_map_or}
 use Rattle.terms.specs.Refusal.{first_refusal}
@@ -16,7 +16,6 @@ use Rattle.hub_state.specs.declared.error.HubError.TheVariants.{IdTaken, Unknown
 use Rattle.hub_state.specs.declared.error.RecoveryRefusal.TheVariants.{UnknownPid, Expired, OffsetGone}
 use Rattle.hub_state.specs.declared.socket.Socket.{Socket}
 use Rattle.hub_state.specs.declared.step.Step.{Step}
-use Rattle.hub_state.specs.declared.step.What.{What}
 use Rattle.hub_state.specs.Plain.{Limits, PlainBase}
 use Rattle.hub_state.specs.Membership.{is_space, open_clients, is_open, sid_of, pid_of, is_connected, sockets_of, socket_of, rooms}
 use Rattle.hub_state.specs.Sessions.{sessions, session_with, is_sid_saved, is_pid_saved}

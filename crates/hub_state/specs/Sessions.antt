@@ -6,12 +6,12 @@ use Rattle.std.specs.FinMap.{keys, from_entries}
 use Rattle.hub_state.specs.declared.socket.Socket.{Socket}
 use Rattle.hub_state.specs.declared.step.Step.{Step}
 use Rattle.hub_state.specs.declared.step.What.{What}
-use Rattle.hub_state.specs.declared.step.What.TheVariants.{Opened, Attached, Recovered, Joined, Left, Cast, Told, Took, Parked, Ended, Closed, Swept}
+use Rattle.hub_state.specs.declared.step.What.TheVariants.{Recovered, Parked, Swept}
 use Rattle.room_maps.specs.Room.{room_cmp}
 use Rattle.room_maps.specs.Membership.{RoomSets, rooms_in}
 use Rattle.recovery.specs.Expiry.{is_outdated}
 use Rattle.recovery.specs.SavedTable.{PlainSaved, with_session}
-use Rattle.hub_state.specs.Plain.{Limits, PlainBase, PlainRecovery}
+use Rattle.hub_state.specs.Plain.{Limits, PlainBase}
 use Rattle.hub_state.specs.Membership.{sockets_of, rooms}
 
 -- the rooms that a socket is in, each once, rising by their bytes

@@ -3,9 +3,9 @@ use Rattle.std.specs.Prelude.{◌≡◌, ℕ, ◌+◌, Bool, ◌||◌, List, len
 use Rattle.std.specs.List.{sum_by}
 use Rattle.hub_state.specs.declared.step.Step.{Step}
 use Rattle.hub_state.specs.declared.step.What.{What}
-use Rattle.hub_state.specs.declared.step.What.TheVariants.{Opened, Attached, Recovered, Joined, Left, Cast, Told, Took, Parked, Ended, Closed, Swept}
+use Rattle.hub_state.specs.declared.step.What.TheVariants.{Cast, Took, Parked, Closed}
 use Rattle.hub_state.specs.declared.totals.Totals.{Totals}
-use Rattle.hub_state.specs.Plain.{Limits, PlainBase, PlainBroadcast}
+use Rattle.hub_state.specs.Plain.{Limits, PlainBase}
 use Rattle.hub_state.specs.Journal.{total}
 use Rattle.hub_state.specs.Membership.{open_clients}
 use Rattle.hub_state.specs.Outboxes.{put, waiting}

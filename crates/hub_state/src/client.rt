@@ -1,13 +1,13 @@
 //! What a hub holds of a client.
 
 use crate::outbox::Outbox;
-use crate::socket::Socket;
+use crate::sockets::Sockets;
 use std::marker::Model;
 
 /// A client: its sockets, in the order in which they were connected, and what waits for it.
 #[derive(Drop)]
 pub(crate) struct Client {
-    pub(crate) sockets: Vec<Socket>,
+    pub(crate) sockets: Sockets,
     pub(crate) outbox: Outbox,
 }
 
@@ -16,5 +16,5 @@ impl Model for Client {
 
     ghost Value = { PlainClient };
 
-    ghost view = { λ c. record { sockets = c.sockets.items; outbox = c.outbox } };
+    ghost view = { λ c. record { sockets = c.sockets; outbox = c.outbox } };
 }

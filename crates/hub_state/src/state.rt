@@ -37,12 +37,13 @@ use crate::base::Base;
 use crate::client::Client;
 use crate::config::Config;
 use crate::error::HubError;
+use crate::limits::Limits;
 use crate::namespaces::is_bad;
-use crate::socket::Socket;
+use crate::seats::Seats;
 use crate::step::{Step, What};
 use crate::totals::{Counts, Totals};
 use recovery::{PacketLog, Pid, SavedTable};
-use room_maps::{Rooms, Sid};
+use room_maps::Rooms;
 use std::alloc::Global;
 use std::collections::{BTreeMap, BTreeSet};
 use std::marker::Model;
@@ -52,13 +53,13 @@ pub use sweep::Swept;
 /// first: all else is what these say.
 #[derive(Drop)]
 pub struct State {
-    limits: Config,
+    limits: Limits,
     base: Base,
     journal: Vec<Step>,
     /// The moment of the newest step, in milliseconds.
     last: u64,
     clients: BTreeMap<u128, Client>,
-    seats: BTreeMap<Sid, Socket>,
+    seats: Seats,
     pids: BTreeSet<Pid>,
     rooms: Rooms,
     /// The sessions that may come back.
@@ -158,7 +159,8 @@ fn empty_base(alloc: Global, config: &Config) -> Base
 }
 
 impl State {
-    /// A hub with no clients and an empty journal. Refused as `BadConfig`, then for `Memory`.
+    /// A hub with no clients and an empty journal. Refused as `BadConfig`, then for `Memory`. It
+    /// compares each two of the namespaces, and copies their names once.
     pub fn new(alloc: Global, config: Config) -> Result<State, HubError>
         ensures ok { IfOk result (λ state. (config_refusal config ≡ None) × (state ≡ record { base = empty_base config.first_offset; limits = config; journal = [] })) }
         ensures err { IfErr result (λ e. e ≡ unwrap_or (config_refusal config) HubError.Memory) }
@@ -167,17 +169,19 @@ impl State {
             return Err(HubError::BadConfig);
         }
         let log = empty_log(alloc, &config)?;
-        Ok(State::begin(alloc, config, log))
+        let limits = Limits::new(alloc, config)?;
+        Ok(State::begin(alloc, limits, log))
     }
 
     /// A hub with an empty base and an empty log.
-    fn begin(alloc: Global, config: Config, log: PacketLog) -> State
-        requires few { length config.spaces ≤ 65536 }
-        requires log { log ≡ record { limit = config.log; next = Some config.first_offset; last = 0; entries = [] } }
-        ensures { result ≡ record { base = empty_base config.first_offset; limits = config; journal = [] } }
+    fn begin(alloc: Global, limits: Limits, log: PacketLog) -> State
+        requires few { length limits.spaces ≤ 65536 }
+        requires log { log ≡ record { limit = limits.log; next = Some limits.first_offset; last = 0; entries = [] } }
+        ensures { result ≡ record { base = empty_base limits.first_offset; limits = limits; journal = [] } }
     {
-        let base = empty_base(alloc, &config);
-        let saved = empty_table(alloc, &config);
+        let config = limits.config();
+        let base = empty_base(alloc, config);
+        let saved = empty_table(alloc, config);
         let rooms = Rooms::new(alloc);
         rooms.kept_facts();
         let counts = Counts {
@@ -188,12 +192,12 @@ impl State {
             discarded: 0,
         };
         State {
-            limits: config,
+            limits,
             base,
             journal: Vec::new(alloc),
             last: 0,
             clients: BTreeMap::new(alloc),
-            seats: BTreeMap::new(alloc),
+            seats: Seats::new(alloc),
             pids: BTreeSet::new(alloc),
             rooms,
             saved,

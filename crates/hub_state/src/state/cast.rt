@@ -1,22 +1,24 @@
 //! Broadcasts are put into the outboxes of those whom they are for (Socket.IO server
 //! documentation, "Rooms" and "Adapter").
 
-ghost use Rattle.std.specs.Prelude.{◌≡◌, ℕ, ◌==◌, true, false, not, [], ◌∷◌, ◌++◌, map, filter, length, nat_eq, ◌≤◌, ◌<◌, get_or, None, Some, Err, IfSome, IfNone, OnOk, OnErr, IfOk, IfErr, if◌then◌else◌};
+ghost use Rattle.std.specs.Prelude.{◌≡◌, ℕ, ◌==◌, ◌&&◌, true, false, not, [], ◌∷◌, ◌++◌, map, filter, length, nat_eq, ◌≤◌, ◌<◌, get_or, None, Some, Err, IfSome, IfNone, OnOk, OnErr, IfOk, IfErr, if◌then◌else◌};
 ghost use Rattle.std.specs.List.{flat_map, list_any, IsDistinct, AllByRecursion};
 ghost use Rattle.std.specs.Option.{option_map, option_map_or};
 ghost use Rattle.std.specs.Ordering.{nat_cmp};
 ghost use Rattle.std.specs.BTreeMap.{get};
 ghost use Rattle.std.specs.Arc.{arc_value};
 ghost use Rattle.hub_state.specs.Outboxes.{entries_for};
-ghost use Rattle.hub_state.specs.Casting.{in_space, is_full_in, message_for, missing_of, receiver_of, pair_of, with_entries, with_logged, Tells, IsEvent, refusal_of, offset_of, has_no_offset, IsCastOf, IsShortOf, IsCast};
+ghost use Rattle.hub_state.specs.Casting.{in_space, is_here, ListsInside, is_full_in, message_for, missing_of, receiver_of, pair_of, with_entries, with_logged, Tells, IsEvent, refusal_of, offset_of, has_no_offset, IsCastOf, IsShortOf, IsCast};
 ghost use Rattle.hub_state.specs.Casting as casting;
 ghost use Rattle.hub_state.specs.Broadcast.{event_header};
 ghost use Rattle.hub_state.specs.Log.{logged, next};
 ghost use Rattle.hub_state.specs.Membership as membership;
+ghost use Rattle.hub_state.specs.Membership.{is_in_space};
 ghost use Rattle.hub_state.specs.Journal.{moment_at, with_step};
 ghost use Rattle.hub_state.specs.Totals.{is_spent};
 ghost use Rattle.hub_state.specs.Refusals.{cast_refusal};
 ghost use Rattle.hub_state.specs.declared.step.What.{What};
+ghost use Rattle.room_maps.specs.Membership.{is_in};
 ghost use Rattle.room_maps.specs.Addressed.{is_addressed};
 ghost use Rattle.terms.specs.Listing.{ListsRising};
 ghost use Rattle.sio_wire.specs.declared.kind.Kind.{Kind};
@@ -27,12 +29,13 @@ use crate::broadcast::{Cast, CastDone};
 use crate::client::Client;
 use crate::contents::{Broadcast, Message};
 use crate::error::HubError;
+use crate::seats::Seats;
 use crate::socket::Socket;
 use crate::state::deliver::put_entry;
 use crate::state::{State, count, record, reserve};
 use crate::step::What;
 use recovery::{Logged, PacketLog};
-use room_maps::{Room, Sid};
+use room_maps::{Room, Rooms, Sid};
 use sio_wire::{Attachments, Entry, Header, Kind, with_offset, write_header};
 use std::alloc::Global;
 use std::collections::BTreeMap;
@@ -42,14 +45,14 @@ use terms::Text;
 /// Adds the socket with an id, where it is in the namespace at a place.
 fn add_socket(
     sockets: &mut Vec<Socket>,
-    seats: &BTreeMap<Sid, Socket>,
+    seats: &Seats,
     sid: Sid,
     space: u16,
 ) -> Result<(), HubError>
     ensures ok { OnOk result (sockets.new.items ≡ sockets.old.items ++ in_space space (get nat_cmp seats.now sid)) }
     ensures memory { IfErr result (λ e. e ≡ HubError.Memory) }
 {
-    if let Some(socket) = seats.get(&sid) {
+    if let Some(socket) = seats.get(sid) {
         if socket.space == space {
             sockets.push(*socket)?;
         }
@@ -60,7 +63,7 @@ fn add_socket(
 /// Those of the sockets with these ids that are in the namespace at a place, in the same order.
 fn sockets_in(
     alloc: Global,
-    seats: &BTreeMap<Sid, Socket>,
+    seats: &Seats,
     sids: &[Sid],
     space: u16,
 ) -> Result<Vec<Socket>, HubError>
@@ -72,6 +75,36 @@ fn sockets_in(
         add_socket(&mut sockets, seats, *sid, space)?;
     }
     Ok(sockets)
+}
+
+/// Whether the socket is in one of the rooms.
+fn is_in_any(inside: &Rooms, sid: Sid, rooms: &[Room]) -> bool
+    ensures { result ≡ list_any (is_in inside.now sid) rooms.now }
+{
+    rooms.iter().any(|room| inside.is_in(sid, *room))
+}
+
+/// Keeps the sockets that are in none of the rooms.
+fn retain_outside(sids: &mut Vec<Sid>, inside: &Rooms, rooms: &[Room])
+    ensures { sids.new.items ≡ filter (λ s. not (list_any (is_in inside.now s) rooms.now)) sids.old.items }
+{
+    sids.retain(|sid| !is_in_any(inside, *sid, rooms));
+}
+
+/// The sockets in the namespace at a place but those in an excepted room, rising.
+fn everybody_but(
+    alloc: Global,
+    seats: &Seats,
+    inside: &Rooms,
+    space: u16,
+    excepted: &[Room],
+) -> Result<Vec<Sid>, HubError>
+    ensures ok { IfOk result (λ sids. ListsRising nat_cmp (λ s. is_here space (get nat_cmp seats.now s) && not (list_any (is_in inside.now s) excepted.now)) sids.items) }
+    ensures memory { IfErr result (λ e. e ≡ HubError.Memory) }
+{
+    let mut sids = seats.sids_in(alloc, space)?;
+    retain_outside(&mut sids, inside, excepted);
+    Ok(sids)
 }
 
 /// Whether the client's outbox has no place for the entry.
@@ -341,6 +374,33 @@ impl State {
         }
     }
 
+    /// The sockets in the namespace at a place but those in an excepted room.
+    fn everybody(&self, alloc: Global, space: u16, excepted: &[Room]) -> Result<Vec<Sid>, HubError>
+        ensures ok { IfOk result (λ sids. ListsInside (is_in_space self.now.base self.now.journal space) (is_addressed (membership.rooms self.now.base self.now.journal) [] excepted.now) sids.items) }
+        ensures memory { IfErr result (λ e. e ≡ HubError.Memory) }
+    {
+        everybody_but(alloc, &self.seats, &self.rooms, space, excepted)
+    }
+
+    /// For whom a broadcast to the namespace at a place is. Where rooms are named, sockets of other
+    /// namespaces may be among them.
+    fn listeners(
+        &self,
+        alloc: Global,
+        space: u16,
+        rooms: &[Room],
+        excepted: &[Room],
+    ) -> Result<Vec<Sid>, HubError>
+        ensures ok { IfOk result (λ sids. ListsInside (is_in_space self.now.base self.now.journal space) (is_addressed (membership.rooms self.now.base self.now.journal) rooms.now excepted.now) sids.items) }
+        ensures memory { IfErr result (λ e. e ≡ HubError.Memory) }
+    {
+        if rooms.is_empty() {
+            self.everybody(alloc, space, excepted)
+        } else {
+            self.addressees(alloc, rooms, excepted)
+        }
+    }
+
     /// The broadcast with those who miss it, and the messages for the others.
     fn aim(
         &self,
@@ -355,7 +415,7 @@ impl State {
         ensures tells { IfOk result (λ both. Tells self.now.base self.now.limits self.now.journal both.0 both.1.items) }
         ensures memory { IfErr result (λ e. e ≡ HubError.Memory) }
     {
-        let sids = self.addressees(alloc, &rooms, &excepted)?;
+        let sids = self.listeners(alloc, space, &rooms, &excepted)?;
         let sockets = sockets_in(alloc, &self.seats, &sids, space)?;
         let messages = messages_for(alloc, &self.clients, &sockets, &entry)?;
         let dropped = missing(alloc, &self.clients, &sockets, &entry)?;
@@ -444,8 +504,9 @@ impl State {
     /// outbox has no place for it is counted as dropped. Where the cast is logged, the event gets
     /// the next offset as its payload's last element (Socket.IO server documentation, "Connection
     /// state recovery"). Refused as `UnknownNamespace`, `BadPayload`, `Spent`, then for `Memory`,
-    /// which may come in place of `Spent`. It walks the namespaces, the members of the rooms, and
-    /// where none is named all sockets, each with the logarithm and the excepted rooms.
+    /// which may come in place of `Spent`. It takes the logarithm of the namespaces, and walks the
+    /// members of the rooms in all namespaces, or where no room is named the sockets of its
+    /// namespace alone, each with the logarithm and the excepted rooms.
     pub fn cast(&mut self, alloc: Global, cast: Cast, now: u64) -> Result<CastDone, HubError>
         ensures done { IfOk result (λ done. IsCast self.old self.new now cast done) }
         ensures refused { IfSome (refusal_of self.old cast) (λ refusal. result ≡ Err refusal) }

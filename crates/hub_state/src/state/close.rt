@@ -16,19 +16,19 @@ ghost use Rattle.hub_state.specs.declared.step.What.{What};
 
 use crate::client::Client;
 use crate::error::HubError;
-use crate::socket::Socket;
+use crate::seats::Seats;
 use crate::state::end::forget_all;
 use crate::state::{State, count, record, reserve};
 use crate::step::What;
 use recovery::Pid;
-use room_maps::{Rooms, Sid};
+use room_maps::Rooms;
 use std::collections::{BTreeMap, BTreeSet};
 
 /// Forgets a client and its sockets, with their ids and rooms. It says how many entries waited for
 /// the client.
 pub(crate) fn forget_client(
     clients: &mut BTreeMap<u128, Client>,
-    seats: &mut BTreeMap<Sid, Socket>,
+    seats: &mut Seats,
     pids: &mut BTreeSet<Pid>,
     rooms: &mut Rooms,
     client: u128,

@@ -1,6 +1,6 @@
 //! Sockets are connected (Socket.IO protocol 5, "Connection to a namespace").
 
-ghost use Rattle.std.specs.Prelude.{◌≡◌, ℕ, ◌+◌, ◌<◌, ◌≤◌, ◌==◌, ◌||◌, true, false, [], ◌∷◌, ◌++◌, length, OnOk, OnErr, IfOk, IfErr, IfSome, IfNone, None, Some, option_copied, nat_le, nat_lt, position, bytes_eq, get_or, unwrap_or, if◌then◌else◌};
+ghost use Rattle.std.specs.Prelude.{◌≡◌, ℕ, ◌+◌, ◌<◌, ◌≤◌, ◌==◌, ◌||◌, true, false, [], ◌∷◌, ◌++◌, length, OnOk, OnErr, IfOk, IfErr, IfSome, IfNone, None, Some, nat_le, nat_lt, position, bytes_eq, get_or, unwrap_or, if◌then◌else◌};
 ghost use Rattle.std.specs.List.{find};
 ghost use Rattle.std.specs.Option.{option_map};
 ghost use Rattle.std.specs.Ordering.{nat_cmp};
@@ -17,12 +17,13 @@ ghost use Rattle.hub_state.specs.Outboxes as outboxes;
 ghost use Rattle.hub_state.specs.Journal.{with_step};
 ghost use Rattle.hub_state.specs.Totals.{is_spent};
 ghost use Rattle.hub_state.specs.Refusals.{or_spent, attach_refusal, is_taken};
-ghost use Rattle.hub_state.specs.Hub.{Does, plus_socket, without_last};
+ghost use Rattle.hub_state.specs.Hub.{Does, plus_socket, without_last, held_sockets};
 ghost use Rattle.hub_state.specs.declared.socket.Socket.{Socket};
 ghost use Rattle.hub_state.specs.declared.step.What.{What};
 
 use crate::client::Client;
 use crate::error::HubError;
+use crate::seats::Seats;
 use crate::socket::Socket;
 use crate::state::deliver::put_entry;
 use crate::state::{State, count, record, reserve};
@@ -34,42 +35,6 @@ use std::alloc::Global;
 use std::collections::{BTreeMap, BTreeSet};
 use std::sync::Arc;
 use terms::Text;
-
-/// The place of a name in a list.
-fn position_in(names: &[Text], name: &str) -> Option<usize>
-    ensures { result ≡ position (bytes_eq name.now) names.now }
-{
-    names.iter().position(|known| name == known.as_str())
-}
-
-/// The place of a name in a list, or the length of the list where it isn't there.
-fn place_in(names: &[Text], name: &str) -> usize
-    ensures { result ≡ unwrap_or (position (bytes_eq name.now) names.now) (length names.now) }
-{
-    match position_in(names, name) {
-        Some(place) => place,
-        None => names.len(),
-    }
-}
-
-/// The first socket at a place.
-fn find_socket(sockets: &[Socket], place: usize) -> Option<&Socket>
-    ensures { option_copied result ≡ find (λ k. k.space == place) sockets.now }
-{
-    sockets
-        .iter()
-        .find(|socket| usize::from(socket.space) == place)
-}
-
-/// A copy of the first socket at a place.
-fn find_place(sockets: &[Socket], place: usize) -> Option<Socket>
-    ensures { result ≡ find (λ k. k.space == place) sockets.now }
-{
-    match find_socket(sockets, place) {
-        Some(socket) => Some(*socket),
-        None => None,
-    }
-}
 
 /// How many bytes the answer to a CONNECT to this namespace has.
 fn answer_size(name: &str) -> usize
@@ -92,23 +57,24 @@ fn answer_text(alloc: Global, name: &str, sid: Sid, pid: Pid) -> Result<Entry, H
     }
 }
 
-/// Makes a socket known by its session id.
-pub(crate) fn add_seat(seats: &mut BTreeMap<Sid, Socket>, socket: Socket) -> Result<(), HubError>
+/// Makes a socket known by its session id, which is free.
+pub(crate) fn add_seat(seats: &mut Seats, socket: Socket) -> Result<(), HubError>
+    requires { get nat_cmp seats.old socket.sid ≡ None }
     ensures ok { OnOk result ((s : ℕ) → get nat_cmp seats.new s ≡ (if socket.sid == s then Some socket else get nat_cmp seats.old s)) }
     ensures err { OnErr result ((s : ℕ) → get nat_cmp seats.new s ≡ get nat_cmp seats.old s) }
     ensures memory { IfErr result (λ e. e ≡ HubError.Memory) }
 {
-    match seats.insert(socket.sid, socket) {
-        Ok(_) => Ok(()),
+    match seats.insert(socket) {
+        Ok(()) => Ok(()),
         Err(_) => Err(HubError::Memory),
     }
 }
 
 /// Forgets the socket with a session id.
-pub(crate) fn drop_seat(seats: &mut BTreeMap<Sid, Socket>, sid: Sid)
+pub(crate) fn drop_seat(seats: &mut Seats, sid: Sid)
     ensures { (s : ℕ) → get nat_cmp seats.new s ≡ (if sid == s then None else get nat_cmp seats.old s) }
 {
-    seats.remove(&sid);
+    seats.remove(sid);
 }
 
 /// Makes a socket known by its private id.
@@ -133,7 +99,7 @@ pub(crate) fn drop_pid(pids: &mut BTreeSet<Pid>, pid: Pid)
 /// Makes a socket known by both its ids, in its own room.
 fn enter(
     alloc: Global,
-    seats: &mut BTreeMap<Sid, Socket>,
+    seats: &mut Seats,
     pids: &mut BTreeSet<Pid>,
     rooms: &mut Rooms,
     socket: Socket,
@@ -162,12 +128,13 @@ fn enter(
     Ok(())
 }
 
-/// Gives a client a socket more.
+/// Gives a client a socket more, where it has none at the socket's place.
 pub(crate) fn add_socket(
     clients: &mut BTreeMap<u128, Client>,
     client: u128,
     socket: Socket,
 ) -> Result<(), HubError>
+    requires { find (λ (k : Socket). k.space == socket.space) (held_sockets (get nat_cmp clients.old client)) ≡ None }
     ensures ok { OnOk result ((q : ℕ) → get nat_cmp clients.new q ≡ (if client == q then option_map (plus_socket socket) (get nat_cmp clients.old q) else get nat_cmp clients.old q)) }
     ensures err { OnErr result ((q : ℕ) → get nat_cmp clients.new q ≡ get nat_cmp clients.old q) }
     ensures memory { IfErr result (λ e. e ≡ HubError.Memory) }
@@ -194,11 +161,10 @@ pub(crate) fn drop_socket(clients: &mut BTreeMap<u128, Client>, client: u128)
 
 impl State {
     /// The place of a namespace in the hub's list, or the length of the list where it isn't there.
-    #[tactic(auto, unfolding(crate::specs::Membership::place_of))]
     pub(crate) fn place_of(&self, space: &str) -> usize
         ensures { result ≡ place_of self.now.limits space.now }
     {
-        place_in(&self.limits.spaces, space)
+        self.limits.place_of(space)
     }
 
     /// The namespaces.
@@ -206,7 +172,7 @@ impl State {
         ensures names { result.now ≡ self.now.limits.spaces }
         ensures few { length self.now.limits.spaces ≤ 65536 }
     {
-        &self.limits.spaces
+        &self.limits.config().spaces
     }
 
     /// Whether a socket with this private id is connected.
@@ -221,7 +187,7 @@ impl State {
         ensures { result ≡ (if is_open self.now.base self.now.journal client then find (λ k. k.space == place) (sockets_of self.now.base self.now.journal client) else None) }
     {
         match self.clients.get(&client) {
-            Some(known) => find_place(&known.sockets, place),
+            Some(known) => known.sockets.at(place),
             None => None,
         }
     }
@@ -235,7 +201,7 @@ impl State {
     }
 
     /// The session id of a client's socket in a namespace, or `None` where it has none there. It
-    /// takes the logarithm of the clients, and walks the namespaces and the client's sockets.
+    /// takes the logarithm of the clients, of the namespaces and of the client's sockets.
     pub fn socket_of(&self, client: u128, space: &str) -> Option<Sid>
         ensures { result ≡ option_map sid_of (socket_of self.now.base self.now.journal client (place_of self.now.limits space.now)) }
     {
@@ -342,8 +308,8 @@ impl State {
 
     /// Connects a client's new socket to a namespace: it is in its own room, and the answer to the
     /// CONNECT is put. Refused as `UnknownClient`, `UnknownNamespace`, `AlreadyConnected`,
-    /// `IdTaken`, `OutboxFull`, `Spent`, then for `Memory`. It takes the logarithm of the clients
-    /// and sockets, and walks the namespaces, the client's sockets and the saved sessions.
+    /// `IdTaken`, `OutboxFull`, `Spent`, then for `Memory`. It takes the logarithm of the clients,
+    /// sockets, namespaces and saved sessions.
     pub fn attach(
         &mut self,
         alloc: Global,

@@ -1,6 +1,6 @@
 //! Sockets are ended.
 
-ghost use Rattle.std.specs.Prelude.{◌≡◌, ℕ, ◌==◌, true, false, not, filter, IfOk, IfErr, None, Some, if◌then◌else◌};
+ghost use Rattle.std.specs.Prelude.{◌≡◌, ℕ, ◌==◌, true, false, IfOk, IfErr, None, Some, if◌then◌else◌};
 ghost use Rattle.std.specs.List.{list_any, AllByRecursion};
 ghost use Rattle.std.specs.Option.{option_map};
 ghost use Rattle.std.specs.Ordering.{nat_cmp};
@@ -11,13 +11,15 @@ ghost use Rattle.hub_state.specs.Membership.{socket_with, sid_of, without_socket
 ghost use Rattle.hub_state.specs.Totals.{is_spent};
 ghost use Rattle.hub_state.specs.Refusals.{or_spent, end_refusal};
 ghost use Rattle.hub_state.specs.Legal.{EachTwo, AreApart};
-ghost use Rattle.hub_state.specs.Hub.{Does, without_sid};
+ghost use Rattle.hub_state.specs.Hub.{Does, without_place};
 ghost use Rattle.hub_state.specs.declared.socket.Socket.{Socket};
 ghost use Rattle.hub_state.specs.declared.step.What.{What};
 
 use crate::client::Client;
 use crate::error::HubError;
+use crate::seats::Seats;
 use crate::socket::Socket;
+use crate::sockets::Sockets;
 use crate::state::connect::{drop_pid, drop_seat};
 use crate::state::{State, count, record, reserve};
 use crate::step::What;
@@ -25,20 +27,13 @@ use recovery::Pid;
 use room_maps::{Rooms, Sid};
 use std::collections::{BTreeMap, BTreeSet};
 
-/// Takes a socket out of its client's list.
-fn drop_from(clients: &mut BTreeMap<u128, Client>, client: u128, sid: Sid)
-    ensures { (q : ℕ) → get nat_cmp clients.new q ≡ (if client == q then option_map (without_sid sid) (get nat_cmp clients.old q) else get nat_cmp clients.old q) }
+/// Takes the socket at a place out of its client's list.
+fn drop_from(clients: &mut BTreeMap<u128, Client>, client: u128, place: usize)
+    ensures { (q : ℕ) → get nat_cmp clients.new q ≡ (if client == q then option_map (without_place place) (get nat_cmp clients.old q) else get nat_cmp clients.old q) }
 {
     if let Some(known) = clients.get_mut(&client) {
-        retain_others(&mut known.sockets, sid);
+        known.sockets.remove(place);
     }
-}
-
-/// Keeps the sockets that have another session id.
-fn retain_others(sockets: &mut Vec<Socket>, sid: Sid)
-    ensures { sockets.new.items ≡ filter (λ (k : Socket). not (k.sid == sid)) sockets.old.items }
-{
-    sockets.retain(|socket| socket.sid != sid);
 }
 
 /// Ends a known socket in the rooms.
@@ -50,12 +45,7 @@ fn end_in(rooms: &mut Rooms, sid: Sid)
 }
 
 /// Forgets a socket's ids, and ends it in the rooms.
-fn forget(
-    seats: &mut BTreeMap<Sid, Socket>,
-    pids: &mut BTreeSet<Pid>,
-    rooms: &mut Rooms,
-    socket: Socket,
-)
+fn forget(seats: &mut Seats, pids: &mut BTreeSet<Pid>, rooms: &mut Rooms, socket: Socket)
     requires { room_maps.is_socket rooms.old socket.sid ≡ true }
     ensures seats { (s : ℕ) → get nat_cmp seats.new s ≡ (if socket.sid == s then None else get nat_cmp seats.old s) }
     ensures pids { (p : ℕ) → sorted.contains nat_cmp pids.new p ≡ (if socket.pid == p then false else sorted.contains nat_cmp pids.old p) }
@@ -68,10 +58,10 @@ fn forget(
 
 /// Forgets the ids of sockets that are apart, and ends these in the rooms.
 pub(crate) fn forget_all(
-    seats: &mut BTreeMap<Sid, Socket>,
+    seats: &mut Seats,
     pids: &mut BTreeSet<Pid>,
     rooms: &mut Rooms,
-    sockets: &[Socket],
+    sockets: &Sockets,
 )
     requires known { AllByRecursion (λ (k : Socket). room_maps.is_socket rooms.old k.sid ≡ true) sockets.now }
     requires apart { EachTwo AreApart sockets.now }
@@ -79,7 +69,7 @@ pub(crate) fn forget_all(
     ensures pids { (p : ℕ) → sorted.contains nat_cmp pids.new p ≡ (if list_any (λ (k : Socket). k.pid == p) sockets.now then false else sorted.contains nat_cmp pids.old p) }
     ensures rooms { rooms.new ≡ without_sockets rooms.old sockets.now }
 {
-    for socket in sockets {
+    for socket in sockets.values() {
         forget(seats, pids, rooms, *socket);
     }
 }
@@ -89,7 +79,7 @@ impl State {
     fn socket_with(&self, sid: Sid) -> Option<Socket>
         ensures { result ≡ socket_with sid_of self.now.base self.now.journal sid }
     {
-        match self.seats.get(&sid) {
+        match self.seats.get(sid) {
             Some(socket) => Some(*socket),
             None => None,
         }
@@ -112,14 +102,13 @@ impl State {
 
     /// Ends a socket: it leaves its client and all its rooms, and nothing is saved. Refused as
     /// `UnknownSocket`, `Spent`, then for `Memory`. It takes the logarithm of the clients and
-    /// sockets, walks the client's sockets, and each of the socket's rooms takes the logarithm of
-    /// the sockets and of the rooms.
+    /// sockets, and each of the socket's rooms takes the logarithm of the sockets and of the rooms.
     pub fn end(&mut self, sid: Sid, now: u64) -> Result<(), HubError>
         ensures { Does self.old self.new now (What.Ended sid) (or_spent (end_refusal self.old.base self.old.journal sid) (is_spent self.old.base self.old.limits self.old.journal (What.Ended sid))) result }
     {
         let socket = self.ending(sid)?;
         reserve(&mut self.journal)?;
-        drop_from(&mut self.clients, socket.client, sid);
+        drop_from(&mut self.clients, socket.client, usize::from(socket.space));
         forget(&mut self.seats, &mut self.pids, &mut self.rooms, socket);
         self.rooms.kept_facts();
         count(&mut self.counts, 0, 0, 0, 0);

@@ -38,7 +38,7 @@ impl State {
     pub fn is_connected(&self, sid: Sid) -> bool
         ensures { result ≡ is_connected sid_of self.now.base self.now.journal sid }
     {
-        self.seats.contains_key(&sid)
+        self.seats.contains_key(sid)
     }
 
     /// How many entries wait for a client, or `None` where it isn't open.

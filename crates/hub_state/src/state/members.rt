@@ -9,29 +9,23 @@ ghost use Rattle.hub_state.specs.Membership.{place_of, is_space, is_in_space, ro
 ghost use Rattle.hub_state.specs.Casting.{is_here};
 
 use crate::error::HubError;
-use crate::socket::Socket;
+use crate::seats::Seats;
 use crate::state::State;
 use room_maps::{Room, Sid};
 use std::alloc::Global;
-use std::collections::BTreeMap;
 
 /// Whether the socket with this id is in the namespace at a place.
-fn is_here(seats: &BTreeMap<Sid, Socket>, sid: Sid, place: usize) -> bool
+fn is_here(seats: &Seats, sid: Sid, place: usize) -> bool
     ensures { result ≡ is_here place (get nat_cmp seats.now sid) }
 {
-    match seats.get(&sid) {
+    match seats.get(sid) {
         Some(socket) => usize::from(socket.space) == place,
         None => false,
     }
 }
 
 /// Those of the sockets with these ids that are in the namespace at a place, in the same order.
-fn keep_here(
-    alloc: Global,
-    seats: &BTreeMap<Sid, Socket>,
-    sids: &[Sid],
-    place: usize,
-) -> Result<Vec<Sid>, HubError>
+fn keep_here(alloc: Global, seats: &Seats, sids: &[Sid], place: usize) -> Result<Vec<Sid>, HubError>
     ensures ok { IfOk result (λ kept. kept.items ≡ filter (λ s. is_here place (get nat_cmp seats.now s)) sids.now) }
     ensures memory { IfErr result (λ e. e ≡ HubError.Memory) }
 {
@@ -66,8 +60,8 @@ impl State {
     }
 
     /// The connected sockets of a namespace that are in a room, rising by their ids. Refused as
-    /// `UnknownNamespace`, then for `Memory`. It walks the namespaces and the room's members of
-    /// all namespaces, each with the logarithm.
+    /// `UnknownNamespace`, then for `Memory`. It takes the logarithm of the namespaces, and
+    /// walks the room's members of all namespaces, each with the logarithm.
     pub fn members(&self, alloc: Global, space: &str, room: Room) -> Result<Vec<Sid>, HubError>
         ensures members { IfOk result (λ sids. ListsRising nat_cmp (λ s. is_in_space self.now.base self.now.journal (place_of self.now.limits space.now) s && is_in (rooms self.now.base self.now.journal) s room) sids.items) }
         ensures refused { is_space self.now.limits (place_of self.now.limits space.now) ≡ false → result ≡ Err HubError.UnknownNamespace }

@@ -13,6 +13,7 @@ ghost use Rattle.hub_state.specs.declared.step.What.{What};
 use crate::client::Client;
 use crate::error::HubError;
 use crate::outbox::Outbox;
+use crate::sockets::Sockets;
 use crate::state::{State, count, record, reserve};
 use crate::step::What;
 use std::alloc::Global;
@@ -25,7 +26,7 @@ fn empty_client(alloc: Global, capacity: usize, bytes: usize) -> Result<Client, 
 {
     let outbox = Outbox::new(alloc, capacity, bytes)?;
     Ok(Client {
-        sockets: Vec::new(alloc),
+        sockets: Sockets::new(alloc),
         outbox,
     })
 }
@@ -51,7 +52,7 @@ impl State {
     fn most_clients(&self) -> usize
         ensures { result ≡ self.now.limits.clients }
     {
-        self.limits.clients
+        self.limits.config().clients
     }
 
     /// A client with no sockets, for which nothing waits.
@@ -59,7 +60,8 @@ impl State {
         ensures ok { IfOk result (λ client. client ≡ new_client self.now.limits) }
         ensures memory { IfErr result (λ e. e ≡ HubError.Memory) }
     {
-        empty_client(alloc, self.limits.capacity, self.limits.bytes)
+        let config = self.limits.config();
+        empty_client(alloc, config.capacity, config.bytes)
     }
 
     /// Whether there are as many clients as there may be.

@@ -16,7 +16,9 @@ ghost use Rattle.hub_state.specs.declared.step.What.{What};
 use crate::client::Client;
 use crate::error::HubError;
 use crate::socket::Socket;
+use crate::sockets::Sockets;
 use crate::state::close::forget_client;
+use crate::state::recover::take_session;
 use crate::state::{State, count, record, reserve};
 use crate::step::What;
 use recovery::{Saved, SavedTable};
@@ -60,12 +62,12 @@ fn save_one(
     }
 }
 
-/// Takes the sessions of sockets out of the table.
-fn take_back(saved: &mut SavedTable, sockets: &[Socket])
+/// Takes the sessions of sockets out of the table, as far as it has them.
+fn take_back(saved: &mut SavedTable, sockets: &Sockets)
     ensures { saved.new ≡ without_lost sockets.now saved.old }
 {
-    for socket in sockets {
-        let _taken = saved.remove(socket.pid);
+    for socket in sockets.values() {
+        take_session(saved, socket.pid);
     }
 }
 
@@ -75,7 +77,7 @@ fn save_all(
     saved: &mut SavedTable,
     rooms: &Rooms,
     alloc: Global,
-    sockets: &[Socket],
+    sockets: &Sockets,
     at: u64,
 ) -> Result<(), HubError>
     requires { HasNoneOf sockets.now saved.old }
@@ -83,9 +85,9 @@ fn save_all(
     ensures unchanged { OnErr result (saved.new ≡ saved.old) }
     ensures memory { IfErr result (λ e. e ≡ HubError.Memory) }
 {
-    for (index, socket) in sockets.iter().enumerate() {
+    for socket in sockets.values() {
         if let Err(refusal) = save_one(saved, rooms, alloc, *socket, at) {
-            take_back(saved, &sockets[..index]);
+            take_back(saved, sockets);
             return Err(refusal);
         }
     }
@@ -127,7 +129,7 @@ impl State {
     fn free_places(&self) -> usize
         ensures { result ≡ self.now.limits.saved - length (sessions self.now.base self.now.limits self.now.journal) }
     {
-        self.limits.saved.saturating_sub(self.saved.len())
+        self.limits.config().saved.saturating_sub(self.saved.len())
     }
 
     fn park_refusal(&self, client: u128) -> Option<HubError>

@@ -30,6 +30,7 @@ use crate::client::Client;
 use crate::contents::Recovery;
 use crate::error::{HubError, RecoveryRefusal};
 use crate::outbox::{Outbox, room_after};
+use crate::seats::Seats;
 use crate::socket::Socket;
 use crate::state::connect::{add_pid, add_seat, add_socket, drop_pid, drop_seat, drop_socket};
 use crate::state::{State, count, record, reserve};
@@ -137,7 +138,7 @@ fn enter_rooms(alloc: Global, rooms: &mut Rooms, sid: Sid, names: &[Room]) -> Re
 /// Makes a socket known by both its ids, in these rooms.
 fn enter_again(
     alloc: Global,
-    seats: &mut BTreeMap<Sid, Socket>,
+    seats: &mut Seats,
     pids: &mut BTreeSet<Pid>,
     rooms: &mut Rooms,
     socket: Socket,
@@ -200,7 +201,7 @@ fn number_of(entries: &[Arc<Entry>]) -> usize
 }
 
 /// Takes a session out of the saved ones.
-fn take_session(saved: &mut SavedTable, pid: Pid)
+pub(crate) fn take_session(saved: &mut SavedTable, pid: Pid)
     ensures { saved.new ≡ removed saved.old pid }
 {
     let _session = saved.remove(pid);
@@ -229,7 +230,8 @@ impl State {
     fn is_session_outdated(&self, pid: Pid, at: u64) -> bool
         ensures { IfSome (session_with pid (sessions self.now.base self.now.limits self.now.journal)) (λ session. result ≡ is_outdated self.now.limits.keep at session.lost_at) }
     {
-        self.saved.find(pid, at, self.limits.keep).is_err()
+        let keep = self.limits.config().keep;
+        self.saved.find(pid, at, keep).is_err()
     }
 
     /// The broadcasts of the log past this offset, in two pieces, or `None` where it isn't there.
@@ -270,8 +272,9 @@ impl State {
         let waits = self.waiting(client)?;
         let used = self.waiting_bytes(client)?;
         let size = self.answer_size(place);
-        let places = left_of(self.limits.capacity, waits, 1)?;
-        let bytes = left_of(self.limits.bytes, used, size)?;
+        let config = self.limits.config();
+        let places = left_of(config.capacity, waits, 1)?;
+        let bytes = left_of(config.bytes, used, size)?;
         Some((places, bytes))
     }
 
@@ -498,9 +501,9 @@ impl State {
     /// it has missed past this offset, whose data is shared with the log. It gives the session id.
     /// Refused as `UnknownClient`, `UnknownNamespace`, `AlreadyConnected`, `NotRecoverable` with
     /// `UnknownPid`, `Expired` or `OffsetGone`, `OutboxFull`, `Spent`, then for `Memory`. It takes
-    /// the logarithm of the clients, sockets and saved sessions, walks the namespaces, the client's
-    /// sockets and what the log has past the offset, and each of the session's rooms takes the
-    /// logarithm of the sockets and of the rooms.
+    /// the logarithm of the clients, sockets, namespaces and saved sessions, walks what the log has
+    /// past the offset, and each of the session's rooms takes the logarithm of the sockets and of
+    /// the rooms.
     pub fn recover(
         &mut self,
         alloc: Global,

@@ -16,7 +16,7 @@ use crate::base::{Base, BaseClient};
 use crate::client::Client;
 use crate::epoch::Epoch;
 use crate::error::HubError;
-use crate::socket::Socket;
+use crate::sockets::Sockets;
 use crate::state::State;
 use recovery::{Logged, Pid, Saved};
 use room_maps::{Room, Sid};
@@ -25,13 +25,14 @@ use std::collections::BTreeMap;
 use std::mem::replace;
 
 /// The namespace, the session id and the private session id of each of the sockets.
-fn socket_ids(alloc: Global, sockets: &[Socket]) -> Result<Vec<(u16, Sid, Pid)>, AllocError>
+fn socket_ids(alloc: Global, sockets: &Sockets) -> Result<Vec<(u16, Sid, Pid)>, AllocError>
     ensures { IfOk result (λ ids. ids.items ≡ map ids_of sockets.now) }
 {
-    sockets
-        .iter()
-        .map(|socket| (socket.space, socket.sid, socket.pid))
-        .collect(alloc)
+    let mut ids = Vec::with_capacity(alloc, sockets.len())?;
+    for socket in sockets.values() {
+        ids.push((socket.space, socket.sid, socket.pid))?;
+    }
+    Ok(ids)
 }
 
 /// A client as a base has it. It shares the entries that wait.

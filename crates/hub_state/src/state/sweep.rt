@@ -11,8 +11,8 @@ ghost use Rattle.hub_state.specs.Refusals.{or_spent};
 ghost use Rattle.hub_state.specs.Hub.{Does};
 ghost use Rattle.hub_state.specs.declared.step.What.{What};
 
-use crate::config::Config;
 use crate::error::HubError;
+use crate::limits::Limits;
 use crate::state::{State, count, record, reserve};
 use crate::step::What;
 use recovery::{PacketLog, SavedTable};
@@ -27,15 +27,16 @@ pub struct Swept {
 }
 
 /// Drops what is outdated at a moment.
-fn drop_outdated(log: &mut PacketLog, saved: &mut SavedTable, limits: &Config, at: u64) -> Swept
+fn drop_outdated(log: &mut PacketLog, saved: &mut SavedTable, limits: &Limits, at: u64) -> Swept
     ensures log { log.new ≡ swept log.old limits.now.keep (max log.old.last at) }
     ensures saved { saved.new ≡ table_swept saved.old limits.now.keep at }
     ensures log_count { length log.new.entries + result.log ≡ length log.old.entries }
     ensures saved_count { length saved.new.sessions + result.saved ≡ length saved.old.sessions }
 {
+    let keep = limits.config().keep;
     Swept {
-        log: log.sweep(at, limits.keep),
-        saved: saved.sweep(at, limits.keep),
+        log: log.sweep(at, keep),
+        saved: saved.sweep(at, keep),
     }
 }
 

@@ -1,4 +1,3 @@
-use Rattle.std.proofs.Common.{rules, arith}
 use Rattle.std.specs.Arc.{arc_value}
 use Rattle.hub_state.proofs.OutboxesLemmas.{popped_fits, popped_room}
 use Rattle.hub_state.proofs.outbox.Outbox.pop.Goals as goal

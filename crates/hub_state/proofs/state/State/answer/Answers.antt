@@ -1,6 +1,4 @@
-use Rattle.std.proofs.Common.{◌≡◌, ◌∙◌, ap, [], subst}
-use Rattle.std.specs.Prelude.{IfOk}
-use Rattle.sio_wire.specs.declared.entry.Entry.{Entry}
+use Rattle.std.proofs.Common.{◌∙◌, ap, []}
 use Rattle.sio_wire.specs.ConnectAnswer.{connected_text}
 use Rattle.hub_state.proofs.AnswersLemmas.{answer_is, if_ok_for}
 use Rattle.hub_state.proofs.state.State.answer.Goals as goal

@@ -1,4 +1,3 @@
-use Rattle.std.proofs.Common.{◌≡◌}
 use Rattle.hub_state.proofs.state.State.attach.Goals as goal
 
 pub returns : goal.returns

@@ -1,5 +1,6 @@
 use Rattle.std.proofs.Common.{rules, ◌≡◌, ◌≤◌, ◌+◌, ◌||◌, ◌==◌, ◌∙◌, sym, ap, subst, map, length, max, ℕ, false, reverse, None, Some, if◌then◌else◌}
 use Rattle.std.specs.Prelude.{is_some, IfSome}
+use Rattle.std.specs.List.{find}
 use Rattle.std.specs.Option.{option_map}
 use Rattle.std.specs.Ordering.{nat_cmp}
 use Rattle.std.specs.BTreeMap.{get}
@@ -19,9 +20,10 @@ use Rattle.hub_state.specs.Totals.{is_spent}
 use Rattle.hub_state.specs.Journal.{History, moment}
 use Rattle.hub_state.specs.declared.step.What.TheVariants.{Recovered}
 use Rattle.hub_state.specs.Legal.{RightRecovery}
-use Rattle.hub_state.specs.Hub.{plus_socket}
+use Rattle.hub_state.specs.Hub.{plus_socket, held_sockets}
 use Rattle.hub_state.proofs.CountsLemmas.{unrefused}
-use Rattle.hub_state.proofs.RecoverRefusalLemmas.{may-return, place-right, entries-right, placed_recovered, can_recover}
+use Rattle.hub_state.proofs.SocketsLemmas.{free-there}
+use Rattle.hub_state.proofs.RecoverRefusalLemmas.{may-recover, may-return, place-right, entries-right, placed_recovered, can_recover}
 use Rattle.hub_state.proofs.RecoverStepLemmas.{recovered, returned, places-fit, bytes-fit}
 use Rattle.hub_state.proofs.state.State.bring_back.Goals as goal
 
@@ -39,6 +41,20 @@ count-requires c =
     = subst (λ (h : History). None ≡ or_spent (recover_refusal h.base h.limits h.journal r.socket.client r.socket.space r.socket.pid r.offset (max c.args.now (moment h.base h.journal))) (is_spent h.base h.limits h.journal (Recovered r))) (sym c.self.view_is) c.requires.accepted in
     can_recover base limits journal c.self.inside.counts c.self.invariant.3 c.self.invariant.2 r at _ accepted
     (placed_recovered base limits journal r (map arc_value c.args.puts.items) (told ∙ entries-right base limits journal r right) ∙ length-map c.args.puts.items arc_value ∙ sym number)
+
+pub add_socket-requires : goal.add_socket-requires
+add_socket-requires c =
+    let base = c.self.inside.base in
+    let limits = c.self.inside.limits in
+    let journal = reverse c.self.inside.journal.items in
+    let r = c.args.recovery in
+    let at = max c.args.now (moment base journal) in
+    let accepted : None ≡ or_spent (recover_refusal base limits journal r.socket.client r.socket.space r.socket.pid r.offset at) (is_spent base limits journal (Recovered r))
+    = subst (λ (h : History). None ≡ or_spent (recover_refusal h.base h.limits h.journal r.socket.client r.socket.space r.socket.pid r.offset (max c.args.now (moment h.base h.journal))) (is_spent h.base h.limits h.journal (Recovered r))) (sym c.self.view_is) c.requires.accepted in
+    let may = may-recover base limits journal r.socket.client r.socket.space r.socket.pid r.offset at (unrefused (recover_refusal base limits journal r.socket.client r.socket.space r.socket.pid r.offset at) (is_spent base limits journal (Recovered r)) accepted) in
+    let clients = get nat_cmp c.self.inside.clients in
+    subst (λ (k : Socket). find (λ (l : Socket). l.space == k.space) (held_sockets (clients k.client)) ≡ None) (sym c.socket_in-same.ensures)
+    (free-there base limits clients journal r.socket.client r.socket.space c.self.invariant.0.clients may.known may.alone)
 
 pub enter_again-entered-requires-clause-free : goal.enter_again-entered-requires-clause-free
 enter_again-entered-requires-clause-free c =

@@ -1,12 +1,19 @@
-use Rattle.std.proofs.Common.{rules, reverse}
+use Rattle.std.proofs.Common.{rules, ◌≡◌, ◌==◌, ℕ, subst, reverse, if◌then◌else◌}
+use Rattle.std.specs.Option.{option_map}
+use Rattle.std.specs.Ordering.{nat_cmp}
+use Rattle.std.specs.BTreeMap.{get}
+use Rattle.hub_state.specs.Hub.{without_place}
 use Rattle.hub_state.proofs.EndLemmas.{ended, can_end, one-known}
 use Rattle.hub_state.proofs.state.State.end.Goals as goal
 
 pub invariant_of-self-2 : goal.invariant_of-self-2
 invariant_of-self-2 c =
     let found = rw (← c.self.view_is) at c.in_ok-socket.ensures.socket in
+    let find = get nat_cmp c.self.inside.clients in
+    let dropped : (q : ℕ) → get nat_cmp c.drop_from.new.clients q ≡ (if c.in_ok-socket.socket.client == q then option_map (without_place c.in_ok-socket.socket.space) (find q) else find q)
+    = subst (λ p. (q : ℕ) → get nat_cmp c.drop_from.new.clients q ≡ (if c.in_ok-socket.socket.client == q then option_map (without_place p) (find q) else find q)) c.from.ensures c.drop_from.ensures in
     rw (c.record.ensures.journal, c.record.ensures.last, c.reserve.ensures.items, c.count.ensures)
-    (ended _ _ c.args.sid c.in_ok-socket.socket c.args.now _ _ _ _ _ _ _ _ _ _ _ _ _ c.self.invariant (search rules) found c.drop_from.ensures c.forget.ensures.seats c.forget.ensures.pids c.forget.ensures.rooms c.kept_facts.ensures)
+    (ended _ _ c.args.sid c.in_ok-socket.socket c.args.now _ _ _ _ _ _ _ _ _ _ _ _ _ c.self.invariant (search rules) found dropped c.forget.ensures.seats c.forget.ensures.pids c.forget.ensures.rooms c.kept_facts.ensures)
 
 pub count-requires : goal.count-requires
 count-requires c = can_end _ _ _ _ c.self.invariant.3 c.self.invariant.2 c.args.sid (search rules)

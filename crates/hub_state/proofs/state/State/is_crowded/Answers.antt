@@ -1,4 +1,4 @@
-use Rattle.std.proofs.Common.{rules, nat_le, ap}
+use Rattle.std.proofs.Common.{rules}
 use Rattle.hub_state.proofs.CountsLemmas.{clients_counted}
 use Rattle.hub_state.proofs.state.State.is_crowded.Goals as goal
 

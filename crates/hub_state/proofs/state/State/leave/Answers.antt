@@ -1,4 +1,4 @@
-use Rattle.std.proofs.Common.{rules, refl, None, ◌≡◌, reverse, arith, ◌∙◌, sym}
+use Rattle.std.proofs.Common.{rules, reverse}
 use Rattle.hub_state.proofs.RoomsLemmas.{left, can_leave, may_leave}
 use Rattle.hub_state.proofs.state.State.leave.Goals as goal
 

@@ -1,4 +1,4 @@
-use Rattle.std.proofs.Common.{rules, refl, None, ◌≡◌, reverse, arith, ◌∙◌, sym}
+use Rattle.std.proofs.Common.{rules}
 use Rattle.hub_state.proofs.CommandLemmas.{opened, can_open}
 use Rattle.hub_state.proofs.state.State.open.Goals as goal
 

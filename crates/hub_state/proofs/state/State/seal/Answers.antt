@@ -1,6 +1,6 @@
-use Rattle.std.proofs.Common.{◌≡◌, sym, subst}
+use Rattle.std.proofs.Common.{sym, subst}
 use Rattle.hub_state.specs.Journal.{History}
-use Rattle.hub_state.specs.Seal.{LeadsTo, SaysTheSame}
+use Rattle.hub_state.specs.Seal.{LeadsTo}
 use Rattle.recovery.specs.PacketLog.{IsRun, number_of}
 use Rattle.hub_state.specs.Log.{log, next}
 use Rattle.hub_state.proofs.SealLemmas.{sealed, says-same}

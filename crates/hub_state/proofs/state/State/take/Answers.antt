@@ -1,5 +1,4 @@
-use Rattle.std.proofs.Common.{rules, sym, ◌∙◌, arith, refl, None, ◌≡◌, reverse, true, length, ◌≤◌, ◌+◌, min}
-use Rattle.hub_state.specs.declared.step.What.TheVariants.{Took}
+use Rattle.std.proofs.Common.{rules, arith}
 use Rattle.hub_state.proofs.CommandLemmas.{took, can_take}
 use Rattle.hub_state.proofs.state.State.take.Goals as goal
 

@@ -1,4 +1,4 @@
-use Rattle.std.proofs.Common.{rules, sym, ◌∙◌, arith, refl, None, ◌≡◌, ap}
+use Rattle.std.proofs.Common.{rules}
 use Rattle.hub_state.proofs.CommandLemmas.{told, can_tell}
 use Rattle.hub_state.proofs.state.State.tell.Goals as goal
 

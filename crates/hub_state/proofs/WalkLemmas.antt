@@ -1,0 +1,23 @@
+-- A walk over the sockets of a client.
+use Rattle.std.proofs.Common.{◌≡◌, ◌<◌, Bor, List, length, take, sym, ◌∙◌, ap, Option, None, Some}
+use Rattle.std.specs.Prelude.{slice_index_or}
+use Rattle.std.specs.Iterator.{Yields}
+use Rattle.std.specs.Map.Iter.{TakesFirst, deref}
+use Rattle.std.proofs.Math.Seq.{take-length}
+use Rattle.std.proofs.lemmas.Option.{get_or_from_slice_get}
+use Rattle.std.proofs.lemmas.Map.Iter.{iter_turn, iter_end}
+use Rattle.hub_state.specs.declared.socket.Socket.{Socket}
+
+-- the next socket
+pub turn : (all : List Socket) (xs : List (Bor Socket)) (s t u : List Socket) (r : Option (Bor Socket)) → s ≡ all → Yields (TakesFirst (deref {X = Socket})) s xs t → (x : Bor Socket) → r ≡ Some x → TakesFirst (deref {X = Socket}) t r u
+    → (length xs < length all) × (x.now ≡ slice_index_or all (length xs) x.now)
+turn all xs s t u r start y x is step =
+    let at = iter_turn (deref {X = Socket}) all xs s t u r start y x is step in
+    (at.0, sym (get_or_from_slice_get all (length xs) x.now x.now at.1))
+
+-- no socket is left
+pub whole : (all : List Socket) (xs : List (Bor Socket)) (s t u : List Socket) (r : Option (Bor Socket)) → s ≡ all → Yields (TakesFirst (deref {X = Socket})) s xs t → r ≡ None → TakesFirst (deref {X = Socket}) t r u
+    → take (length xs) all ≡ all
+whole all xs s t u r start y is step =
+    let at = iter_end (deref {X = Socket}) all xs s t u r start y is step in
+    ap (λ n. take n all) at.1 ∙ take-length all

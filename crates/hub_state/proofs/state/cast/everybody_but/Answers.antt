@@ -1,0 +1,5 @@
+use Rattle.hub_state.proofs.AimLemmas.{kept}
+use Rattle.hub_state.proofs.state.cast.everybody_but.Goals as goal
+
+pub returns-clause-ok : goal.returns-clause-ok
+returns-clause-ok c = rw (c.retain_outside.ensures) (kept _ _ _ c.in_ok-sids.ensures)
