@@ -45,7 +45,8 @@ impl<C: Ledger, T: Ledger> Model for Hub<C, T> {
 
 impl<C: Ledger, T: Ledger> Hub<C, T> {
     /// A hub with no clients and an empty journal, and its first pass. Each blank is a ledger cut
-    /// into 65,536 parts, of which a pass takes one. Refused as `BadConfig`, then for `Memory`.
+    /// into 65,536 parts, of which a pass takes one. Refused as `BadConfig`, then for `Memory`. It
+    /// compares each two of the namespaces, and copies their names once.
     #[tactic(auto, unfolding(hub_state::specs::Totals::commands, hub_state::specs::Totals::handed_out, hub_state::specs::Journal::total))]
     pub fn new(
         alloc: Global,

@@ -18,8 +18,9 @@ impl<C: Ledger, T: Ledger> Hub<C, T> {
     /// outbox has no place for it is counted as dropped. Where the cast is logged, the event gets
     /// the next offset as its payload's last element (Socket.IO server documentation, "Connection
     /// state recovery"). Refused as `UnknownNamespace`, `BadPayload`, `Spent`, then for `Memory`,
-    /// which may come in place of `Spent`. It walks the namespaces, the members of the rooms, and
-    /// where none is named all sockets, each with the logarithm and the excepted rooms.
+    /// which may come in place of `Spent`. It takes the logarithm of the namespaces, and walks the
+    /// members of the rooms in all namespaces, or where no room is named the sockets of its
+    /// namespace alone, each with the logarithm and the excepted rooms.
     pub fn cast(
         &mut self,
         pass: &mut Pass<C, T>,

@@ -40,8 +40,8 @@ impl<C: Ledger, T: Ledger> Hub<C, T> {
 
     /// Connects a client's new socket to a namespace: it is in its own room, and the answer to the
     /// CONNECT is put. Refused as `UnknownClient`, `UnknownNamespace`, `AlreadyConnected`,
-    /// `IdTaken`, `OutboxFull`, `Spent`, then for `Memory`. It takes the logarithm of the clients
-    /// and sockets, and walks the namespaces, the client's sockets and the saved sessions.
+    /// `IdTaken`, `OutboxFull`, `Spent`, then for `Memory`. It takes the logarithm of the clients,
+    /// sockets, namespaces and saved sessions.
     pub fn attach(
         &mut self,
         pass: &mut Pass<C, T>,
@@ -97,7 +97,7 @@ impl<C: Ledger, T: Ledger> Hub<C, T> {
 
     /// Ends a socket: it leaves its client and all its rooms, and nothing is saved. Refused as
     /// `UnknownSocket`, `Spent`, then for `Memory`. It takes the logarithm of the clients and
-    /// sockets, and walks the client's sockets and the socket's rooms.
+    /// sockets, and walks the socket's rooms.
     pub fn end(&mut self, pass: &mut Pass<C, T>, sid: Sid, now: u64) -> Result<(), HubError>
         ensures does { let h = self.old.history in DoesCounted self.old self.new pass.old pass.new now (What.Ended sid) (or_spent (end_refusal h.base h.journal sid) (is_spent h.base h.limits h.journal (What.Ended sid))) result }
         ensures rises { Rises self.old self.new pass.old pass.new }

@@ -87,7 +87,7 @@ impl<C: Ledger, T: Ledger> Hub<C, T> {
     }
 
     /// The session id of a client's socket in a namespace, or `None` where it has none there. It
-    /// takes the logarithm of the clients, and walks the namespaces and the client's sockets.
+    /// takes the logarithm of the clients, of the namespaces and of the client's sockets.
     pub fn socket_of(&self, client: u128, space: &str) -> Option<Sid>
         ensures { result ≡ option_map sid_of (socket_of self.now.history.base self.now.history.journal client (place_of self.now.history.limits space.now)) }
     {
@@ -125,8 +125,8 @@ impl<C: Ledger, T: Ledger> Hub<C, T> {
     }
 
     /// The connected sockets of a namespace that are in a room, rising by their ids. Refused as
-    /// `UnknownNamespace`, then for `Memory`. It walks the namespaces and the room's members of
-    /// all namespaces, each with the logarithm.
+    /// `UnknownNamespace`, then for `Memory`. It takes the logarithm of the namespaces, and
+    /// walks the room's members of all namespaces, each with the logarithm.
     pub fn members(&self, alloc: Global, space: &str, room: Room) -> Result<Vec<Sid>, HubError>
         ensures members { let h = self.now.history in IfOk result (λ sids. ListsRising nat_cmp (λ s. is_in_space h.base h.journal (place_of h.limits space.now) s && is_in (rooms h.base h.journal) s room) sids.items) }
         ensures refused { let h = self.now.history in is_space h.limits (place_of h.limits space.now) ≡ false → result ≡ Err HubError.UnknownNamespace }

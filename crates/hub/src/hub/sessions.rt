@@ -49,8 +49,8 @@ impl<C: Ledger, T: Ledger> Hub<C, T> {
     /// the CONNECT and then the log's entries that it missed past the offset that it names are put.
     /// Refused as `UnknownClient`, `UnknownNamespace`, `AlreadyConnected`, `NotRecoverable`,
     /// `OutboxFull` where not all of them have a place, `Spent`, then for `Memory`. It takes the
-    /// logarithm of the clients, sockets and saved sessions, and walks the namespaces, the client's
-    /// sockets, the session's rooms, and the log past the offset.
+    /// logarithm of the clients, sockets, namespaces and saved sessions, and walks the session's
+    /// rooms, and the log past the offset.
     pub fn recover(
         &mut self,
         pass: &mut Pass<C, T>,
