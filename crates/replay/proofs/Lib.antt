@@ -7,5 +7,4 @@ pub mod OutboxesLemmas
 pub mod CountsLemmas
 pub mod OffsetsLemmas
 pub mod MembersLemmas
-pub mod RisingLemmas
 pub mod SessionsLemmas

@@ -1,6 +1,6 @@
 -- What one more step adds to the number of the next offset.
-use Rattle.std.proofs.Common.{◌≡◌, ℕ, ◌+◌, ◌<◌, ◌≤◌, List, [], length, take, get_or, reverse, sym, Option, Some, None, arith}
-use Rattle.std.specs.Option.{option_map_or}
+use Rattle.std.proofs.Common.{◌≡◌, ℕ, ◌+◌, ◌<◌, ◌≤◌, List, [], length, take, get_or, reverse, sym, refl, true, false, Option, Some, None, arith}
+use Rattle.std.specs.Option.{is_some, option_map_or}
 use Rattle.recovery.specs.PacketLog.{number_of}
 use Rattle.hub_state.specs.declared.step.Step.{Step}
 use Rattle.hub_state.specs.declared.step.What.{What}
@@ -35,3 +35,11 @@ at_most_one (Parked c) = omega arith
 at_most_one (Ended s) = omega arith
 at_most_one (Closed c) = omega arith
 at_most_one Swept = omega arith
+
+pub one_used : (offset : Option ℕ) → is_some offset ≡ true → ◌≡◌ {A = ℕ} 1 (option_map_or (λ _. 1) offset 0)
+one_used (Some n) is = refl
+one_used None is = cc
+
+pub none_used : (offset : Option ℕ) → is_some offset ≡ false → ◌≡◌ {A = ℕ} 0 (option_map_or (λ _. 1) offset 0)
+none_used (Some n) is = cc
+none_used None is = refl

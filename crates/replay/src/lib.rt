@@ -1,5 +1,10 @@
 //! What the definitions say of a hub, computed from a base and the steps since then, by walking
-//! the steps. The contract of each function is the definition; the code is plain and slow.
+//! the steps. The contract of each function is the definition; the code is plain and slow: a
+//! function walks the steps once, or for each of them all that came before it. The only error is a
+//! refused allocation.
+//!
+//! Steps come with the oldest first. The definitions have them with the newest first, and so they
+//! are reversed in the contracts.
 #![tactic(auto)]
 
 mod clients;

@@ -149,6 +149,7 @@ fn calls(
     Ok(calls)
 }
 
+/// Whether the call is a push.
 fn is_push(call: &Call) -> bool
     ensures { result ≡ lists.is_push call.now }
 {

@@ -10,7 +10,7 @@ ghost use Rattle.hub_state.specs.Membership as membership;
 ghost use Rattle.replay.specs.Rooms.{is_here};
 
 use crate::room_pairs::rooms;
-use crate::socket_list::sockets;
+use crate::socket_list::{sockets, stands_in};
 use hub_state::{Base, Socket, Step};
 use room_maps::{Room, Sid};
 use std::alloc::{AllocError, Global};
@@ -19,9 +19,14 @@ use std::alloc::{AllocError, Global};
 fn is_here(sockets: &[Socket], place: u16, sid: Sid) -> bool
     ensures { result ≡ is_here sockets.now place sid }
 {
-    sockets
-        .iter()
-        .any(|socket| socket.sid == sid && socket.space == place)
+    sockets.iter().any(|socket| stands_in(socket, place, sid))
+}
+
+/// Whether the pair has this room, and its socket is in the namespace at this place.
+fn is_chosen(sockets: &[Socket], pair: &(Sid, Room), place: u16, room: Room) -> bool
+    ensures { result ≡ (same_room pair.now.1 room && is_here sockets.now place pair.now.0) }
+{
+    pair.1 == room && is_here(sockets, place, pair.0)
 }
 
 /// The session ids of the pairs with this room, where the socket is in the namespace at this place.
@@ -36,7 +41,7 @@ fn chosen(
 {
     pairs
         .iter()
-        .filter(|pair| pair.1 == room && is_here(sockets, place, pair.0))
+        .filter(|pair| is_chosen(sockets, pair, place, room))
         .map(|pair| pair.0)
         .collect(alloc)
 }

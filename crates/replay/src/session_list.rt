@@ -125,11 +125,18 @@ fn save_all(
     Ok(())
 }
 
+/// Whether the session has another private id.
+fn is_other(session: &Saved, pid: Pid) -> bool
+    ensures { result ≡ not (session.now.pid == pid) }
+{
+    session.pid != pid
+}
+
 /// Takes the session with this private id out.
 fn take_out(sessions: &mut Vec<Saved>, pid: Pid)
     ensures { sessions.new.items ≡ filter (λ (s : PlainSaved). not (s.pid == pid)) sessions.old.items }
 {
-    sessions.retain(|session| session.pid != pid);
+    sessions.retain(|session| is_other(session, pid));
 }
 
 /// Drops the sessions that are outdated at a moment.

@@ -77,6 +77,13 @@ pub fn sockets(alloc: Global, base: &Base, steps: &[Step]) -> Result<Vec<Socket>
     Ok(sockets)
 }
 
+/// Whether the socket is one of the client's.
+fn is_of(socket: &Socket, client: u128) -> bool
+    ensures { result ≡ (socket.now.client == client) }
+{
+    socket.client == client
+}
+
 /// The sockets of a client.
 #[tactic(auto, unfolding(hub_state::specs::Membership::sockets_of))]
 pub fn sockets_of(
@@ -91,15 +98,22 @@ pub fn sockets_of(
     sockets
         .iter()
         .copied()
-        .filter(|socket| socket.client == client)
+        .filter(|socket| is_of(socket, client))
         .collect(alloc)
+}
+
+/// Whether the socket has this session id.
+fn has_sid(socket: &Socket, sid: Sid) -> bool
+    ensures { result ≡ membership.has_id membership.sid_of sid socket.now }
+{
+    socket.sid == sid
 }
 
 /// The first socket with this session id.
 fn find_sid(sockets: &[Socket], sid: Sid) -> Option<&Socket>
     ensures { option_copied result ≡ find (membership.has_id membership.sid_of sid) sockets.now }
 {
-    sockets.iter().find(|socket| socket.sid == sid)
+    sockets.iter().find(|socket| has_sid(socket, sid))
 }
 
 /// Whether a socket with this session id is connected.
@@ -116,6 +130,13 @@ pub fn is_connected(
     Ok(find_sid(&sockets, sid).is_some())
 }
 
+/// Whether the socket has this session id and is in the namespace at this place.
+pub(crate) fn stands_in(socket: &Socket, place: u16, sid: Sid) -> bool
+    ensures { result ≡ (socket.now.sid == sid && socket.now.space == place) }
+{
+    has_sid(socket, sid) && socket.space == place
+}
+
 /// Whether the connected socket with this session id is in the namespace at this place.
 pub fn is_in_space(
     alloc: Global,
@@ -127,9 +148,5 @@ pub fn is_in_space(
     ensures { IfOk result (λ inside. inside ≡ membership.is_in_space base.now (reverse steps.now) space sid) }
 {
     let sockets = sockets(alloc, base, steps)?;
-    Ok(
-        sockets
-            .iter()
-            .any(|socket| socket.sid == sid && socket.space == space),
-    )
+    Ok(sockets.iter().any(|socket| stands_in(socket, space, sid)))
 }
