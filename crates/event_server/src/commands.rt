@@ -3,11 +3,11 @@
 ghost use Rattle.std.specs.Prelude.{◌≡◌, ◌≢◌, ◌⊎◌, Err, IsOkAnd, MatchResult};
 ghost use Rattle.std.specs.Process.{exit_status};
 ghost use Rattle.clap.specs.Words.{kind_of};
-ghost use Rattle.event_server.specs.declared.faults.RunError.TheVariants.{Memory, Writing};
+ghost use Rattle.script.specs.declared.faults.RunError.TheVariants.{Memory, Writing};
 
-use crate::faults::RunError;
 use clap::error::ErrorKind;
 use clap::{Command, Error};
+use script::RunError;
 use std::alloc::{AllocError, Global};
 use std::convert::AsStr;
 use std::process::ExitCode;

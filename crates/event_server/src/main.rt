@@ -1,19 +1,10 @@
 //! A Socket.IO server as a program: `event_server script` serves the clients of a script.
 #![tactic(auto)]
 
-mod cause;
 mod commands;
-mod faults;
-mod first;
-mod line;
-mod printing;
-mod relay;
-mod script;
-mod script_line;
-mod waiting;
 
 use commands::Task;
-use faults::RunError;
+use script::{RunError, run_script};
 use std::io;
 use std::io::BufWriter;
 use std::process::ExitCode;
@@ -38,7 +29,7 @@ fn run<R: Env + Input + Print + Eprint + AllocGlobal>(rt: &R) -> Result<ExitCode
             let mut writer = BufWriter::new(rt.alloc(), io::writer(rt)).map_err(
                 |_| RunError::Memory,
             )?;
-            script::run_script(rt.alloc(), &mut reader, &mut writer)?;
+            run_script(rt.alloc(), &mut reader, &mut writer)?;
             Ok(ExitCode::SUCCESS)
         }
         Err(refused) => commands::tell(rt, &refused),

@@ -1,6 +1,0 @@
-pub mod FirstLemmas
-pub mod LineLemmas
-pub mod RunLemmas
-pub mod ScriptLineLemmas
-pub mod WaitingLemmas
-pub mod WholeLemmas

@@ -1,0 +1,2 @@
+pub mod ScriptLine
+pub mod Printing
