@@ -1,0 +1,46 @@
+//! The faults that end a run.
+
+use hub_state::HubError;
+use std::alloc::AllocError;
+use thiserror::Error;
+
+/// Why a run ended before all its lines were printed.
+#[derive(Clone, Copy, Debug, PartialEq, Eq, Error)]
+pub enum Fault {
+    /// The arguments are neither none nor two numbers that are large enough.
+    #[error("bad arguments")]
+    Arguments,
+    /// An allocation was refused.
+    #[error("out of memory")]
+    Memory,
+    /// The hub refused a command that it has to accept.
+    #[error("the hub refused a command: {0:?}")]
+    Refused(HubError),
+    /// A broadcast found no place in an outbox that was emptied in time.
+    #[error("a broadcast was dropped")]
+    Dropped,
+    /// The hub's counts aren't those of its only pass.
+    #[error("the pass lacks a command")]
+    Unsettled,
+    /// The clock could not be read.
+    #[error("the clock could not be read")]
+    Clock,
+    /// A line could not be written.
+    #[error("device fault while writing")]
+    Writing,
+}
+
+impl From<HubError> for Fault {
+    fn from(refusal: HubError) -> Fault {
+        match refusal {
+            HubError::Memory => Fault::Memory,
+            refusal => Fault::Refused(refusal),
+        }
+    }
+}
+
+impl From<AllocError> for Fault {
+    fn from(_refused: AllocError) -> Fault {
+        Fault::Memory
+    }
+}

@@ -1,0 +1,118 @@
+//! The lines that are printed.
+
+use crate::fault::Fault;
+use crate::figures::{Measured, Scale, Task};
+use crate::{figures, gauge};
+use std::rt::{Clock, Files};
+use std::{fmt, io};
+
+/// All that is measured by the clock.
+const TASKS: [Task; 10] = [
+    Task::Casts(1),
+    Task::Casts(16),
+    Task::Casts(256),
+    Task::LoggedCasts(1),
+    Task::LoggedCasts(16),
+    Task::LoggedCasts(256),
+    Task::Moves,
+    Task::Parks,
+    Task::Recoveries,
+    Task::Seal,
+];
+
+/// How much the run without arguments does.
+const SMALL: Scale = Scale {
+    sockets: 300,
+    casts: 10,
+};
+
+/// A number that may not be known.
+#[derive(Clone, Copy)]
+struct Figure(Option<u64>);
+
+impl fmt::Display for Figure {
+    fn fmt<W: fmt::Write>(&self, f: &mut fmt::Formatter<W>) -> fmt::Result {
+        match self.0 {
+            Some(number) => write!(f, "{number}"),
+            None => f.write_str("not known"),
+        }
+    }
+}
+
+/// Prints the counts of a small run of each task. With 300 sockets, each opened, connected and taken
+/// of its answer to CONNECT, they follow from what is done:
+///
+/// - a room of M, ten casts: 900 + M joins + 10 casts + M takes; 300 + 10 M are placed and taken;
+/// - joins and leaves: 900 + 600; 300 are placed and taken;
+/// - parks: 300 each opened, connected, joined and parked, and a sweep: 1,201; the 300 answers that
+///   were placed are discarded, and 300 sessions were saved;
+/// - recoveries: 1,200 as before, 1,024 casts into the log, which find nobody, and 300 each opened,
+///   recovered and taken: 3,124; each session that comes back has 65 placed and taken, so 19,800
+///   were placed, 19,500 taken and 300 discarded;
+/// - a seal: 900 + 64 casts to all; 300 + 64 * 300 were placed, 300 taken, the others wait. It hands
+///   out the 64 steps since the seal before them.
+pub fn print_counts<R: Clock + Print + AllocGlobal>(rt: &R) -> Result<(), Fault> {
+    for task in TASKS {
+        print_count(rt, task)?;
+    }
+    Ok(())
+}
+
+fn print_count<R: Clock + Print + AllocGlobal>(rt: &R, task: Task) -> Result<(), Fault> {
+    let (measured, totals) = figures::measure(rt, rt.alloc(), task, SMALL)?;
+    let (counted, number) = (task.counted(), measured.number);
+    let (commands, placed, taken) = (totals.commands, totals.placed, totals.taken);
+    let (discarded, waiting) = (totals.discarded, totals.waiting);
+    written(println!(rt;
+        "{task}: {counted} {number}, commands {commands}, placed {placed}, taken {taken}, discarded {discarded}, waiting {waiting}"
+    ))
+}
+
+/// Prints what each task costs. Memory comes first, while the process has had no other hub.
+pub fn print_figures<R: Clock + Files + Print + AllocGlobal>(
+    rt: &R,
+    scale: Scale,
+) -> Result<(), Fault> {
+    print_memory(rt, scale.sockets)?;
+    for task in TASKS {
+        print_figure(rt, task, scale)?;
+    }
+    Ok(())
+}
+
+fn print_memory<R: Files + Print + AllocGlobal>(rt: &R, clients: u64) -> Result<(), Fault> {
+    let bytes = Figure(figures::measure_memory(rt, clients)?);
+    written(println!(rt; "memory: {bytes} bytes an open client with a socket"))
+}
+
+fn print_figure<R: Clock + Print + AllocGlobal>(
+    rt: &R,
+    task: Task,
+    scale: Scale,
+) -> Result<(), Fault> {
+    let (measured, _totals) = figures::measure(rt, rt.alloc(), task, scale)?;
+    match task {
+        Task::Seal => print_time(rt, task, measured),
+        _ => print_rate(rt, task, measured),
+    }
+}
+
+fn print_rate<R: Print>(rt: &R, task: Task, measured: Measured) -> Result<(), Fault> {
+    let rate = Figure(gauge::per_second(measured.number, measured.time));
+    let counted = task.counted();
+    written(println!(rt; "{task}: {rate} {counted} a second"))
+}
+
+fn print_time<R: Print>(rt: &R, task: Task, measured: Measured) -> Result<(), Fault> {
+    let microseconds = measured.time.as_micros();
+    let (whole, rest) = (microseconds / 1000, microseconds % 1000);
+    written(println!(rt; "{task}: {whole}.{rest:03} ms"))
+}
+
+/// What came of printing a line.
+fn written(printed: io::Result<()>) -> Result<(), Fault> {
+    match printed {
+        Ok(()) => Ok(()),
+        Err(_) => Err(Fault::Writing),
+    }
+}
