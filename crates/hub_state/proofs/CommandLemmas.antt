@@ -1,5 +1,5 @@
 -- What each command makes of a hub: the step that it writes leaves the fields what the history says.
-use Rattle.std.proofs.Common.{◌≡◌, ℕ, ◌+◌, ◌≤◌, ◌==◌, Bool, true, false, List, ◌∷◌, length, max, refl, ◌∙◌, ap, arith, if◌then◌else◌, Option, None, Some, nat_le}
+use Rattle.std.proofs.Common.{min, ◌≡◌, ℕ, ◌+◌, ◌≤◌, ◌==◌, Bool, true, false, List, ◌∷◌, length, max, refl, ◌∙◌, ap, arith, if◌then◌else◌, Option, None, Some, nat_le}
 use Rattle.room_maps.specs.Membership.{RoomSets}
 use Rattle.recovery.specs.PacketLog.{LogContents}
 use Rattle.recovery.specs.SavedTable.{TableContents}
@@ -58,33 +58,33 @@ module _ (base : PlainBase) (limits : Limits) where
   can_open before counts was sound c accepted =
       can base limits before counts was sound.conserved (Opened c) 0 0 0 0 (puts_opened before c) refl refl refl (unspent (open_refusal base limits before c) (is_spent base limits before (Opened c)) accepted)
 
-  pub puts_took : (before : List Step) (c n : ℕ) → placed_by base limits before (Took c n) ≡ 0
+  pub puts_took : (before : List Step) (c m n : ℕ) → placed_by base limits before (Took c m n) ≡ 0
   unfolding put
-  puts_took before c n = refl
+  puts_took before c m n = refl
 
   known_open : (c : ℕ) (before : List Step) → client_refusal base before c ≡ None → is_open base before c ≡ true
   known_open c before e = grind (arith, e)
 
-  pub took : (c n now newest : ℕ) (find find' : ℕ → Option PlainClient) (seat : ℕ → Option Socket) (is_pid : ℕ → Bool) (sets : RoomSets) (table : TableContents) (packets : LogContents) (counts : Counts) (before : List Step)
+  pub took : (c m n now newest : ℕ) (find find' : ℕ → Option PlainClient) (seat : ℕ → Option Socket) (is_pid : ℕ → Bool) (sets : RoomSets) (table : TableContents) (packets : LogContents) (counts : Counts) (before : List Step)
       → IsHub base limits find seat is_pid sets table packets newest counts before
-      → None ≡ or_spent (client_refusal base before c) (is_spent base limits before (Took c n))
-      → n ≤ length (waiting base limits before c)
+      → None ≡ or_spent (client_refusal base before c) (is_spent base limits before (Took c m n))
+      → n ≡ min m (length (waiting base limits before c))
       → ((q : ℕ) → find' q ≡ (if c == q then option_map (without_first n) (find q) else find q))
-      → IsHub base limits find' seat is_pid sets table packets (max now newest) (record { commands = counts.commands + 1; placed = counts.placed + 0; dropped = counts.dropped + 0; taken = counts.taken + n; discarded = counts.discarded + 0 }) (record { at = max now newest; what = Took c n } ∷ before)
-  took c n now newest find find' seat is_pid sets table packets counts before was accepted within takes =
-      let step : Step = record { at = max now newest; what = Took c n } in
+      → IsHub base limits find' seat is_pid sets table packets (max now newest) (record { commands = counts.commands + 1; placed = counts.placed + 0; dropped = counts.dropped + 0; taken = counts.taken + n; discarded = counts.discarded + 0 }) (record { at = max now newest; what = Took c m n } ∷ before)
+  took c m n now newest find find' seat is_pid sets table packets counts before was accepted within takes =
+      let step : Step = record { at = max now newest; what = Took c m n } in
       let late : moment base before ≤ max now newest = rw (← was.0.last) (omega arith) in
-      let free = unrefused (client_refusal base before c) (is_spent base limits before (Took c n)) accepted in
-      let room = unspent (client_refusal base before c) (is_spent base limits before (Took c n)) accepted in (
-        took-fields base limits c n now newest before find find' seat is_pid sets table packets was.0 was.1 takes,
+      let free = unrefused (client_refusal base before c) (is_spent base limits before (Took c m n)) accepted in
+      let room = unspent (client_refusal base before c) (is_spent base limits before (Took c m n)) accepted in (
+        took-fields base limits c m n now newest before find find' seat is_pid sets table packets was.0 was.1 takes,
         legal-step base limits step before (free, within) room late was.1,
-        took-sound base limits c n (max now newest) before was.1 (free, within) was.2 late (known_open c before free),
-        counted base limits before counts was.3 was.2.conserved step 0 0 n 0 (puts_took before c n) refl refl refl,
+        took-sound base limits c m n (max now newest) before was.1 (free, within) was.2 late (known_open c before free),
+        counted base limits before counts was.3 was.2.conserved step 0 0 n 0 (puts_took before c m n) refl refl refl,
       )
 
-  pub can_take : (before : List Step) (counts : Counts) → Counted base limits counts before → IsSound base limits before → (c n : ℕ) → None ≡ or_spent (client_refusal base before c) (is_spent base limits before (Took c n)) → CanCount counts 0 0 n 0
-  can_take before counts was sound c n accepted =
-      can base limits before counts was sound.conserved (Took c n) 0 0 n 0 (puts_took before c n) refl refl refl (unspent (client_refusal base before c) (is_spent base limits before (Took c n)) accepted)
+  pub can_take : (before : List Step) (counts : Counts) → Counted base limits counts before → IsSound base limits before → (c m n : ℕ) → None ≡ or_spent (client_refusal base before c) (is_spent base limits before (Took c m n)) → CanCount counts 0 0 n 0
+  can_take before counts was sound c m n accepted =
+      can base limits before counts was sound.conserved (Took c m n) 0 0 n 0 (puts_took before c m n) refl refl refl (unspent (client_refusal base before c) (is_spent base limits before (Took c m n)) accepted)
 
   pub puts_told : (before : List Step) (m : PlainMessage) → placed_by base limits before (Told m) ≡ 1
   unfolding put

@@ -208,33 +208,33 @@ module _ (base : PlainBase) (limits : Limits) where
   client_at-step step before legal none stay unconnected unended q begun =
       rw (is_open-quiet base step before none stay q, sockets_of-quiet base step before unconnected unended q, waiting-step base limits step before legal q begun) refl
 
-  took-at : (d n at : ℕ) (before : List Step) → IsLegal base limits before → (q : ℕ) (b : Bool) → (d == q) ≡ b
-      → client_at base limits (record { at = at; what = Took d n } ∷ before) q ≡ (if b then option_map (without_first n) (client_at base limits before q) else client_at base limits before q)
+  took-at : (d m n at : ℕ) (before : List Step) → IsLegal base limits before → (q : ℕ) (b : Bool) → (d == q) ≡ b
+      → client_at base limits (record { at = at; what = Took d m n } ∷ before) q ≡ (if b then option_map (without_first n) (client_at base limits before q) else client_at base limits before q)
   unfolding put
-  took-at d n at before legal q true e =
-      client_at-step (record { at = at; what = Took d n }) before legal refl (λ c. refl) refl (λ k. refl) q refl
+  took-at d m n at before legal q true e =
+      client_at-step (record { at = at; what = Took d m n }) before legal refl (λ c. refl) refl (λ k. refl) q refl
       ∙ rw (e, append-nil) (on (is_open base before q))
     where
       on : (o : Bool) → (if o then Some (record { sockets = sockets_of base before q; outbox = record { waiting = drop n (waiting base limits before q); capacity = limits.capacity; bytes = limits.bytes } }) else None)
           ≡ option_map (without_first n) (if o then Some (record { sockets = sockets_of base before q; outbox = record { waiting = waiting base limits before q; capacity = limits.capacity; bytes = limits.bytes } }) else None)
       on true = refl
       on false = refl
-  took-at d n at before legal q false e =
-      client_at-step (record { at = at; what = Took d n }) before legal refl (λ c. refl) refl (λ k. refl) q refl ∙ rw (e, append-nil) refl
+  took-at d m n at before legal q false e =
+      client_at-step (record { at = at; what = Took d m n }) before legal refl (λ c. refl) refl (λ k. refl) q refl ∙ rw (e, append-nil) refl
 
-  pub took-fields : (d n now newest : ℕ) (before : List Step) (find find' : ℕ → Option PlainClient) (seat : ℕ → Option Socket) (is_pid : ℕ → Bool) (sets : RoomSets) (table : TableContents) (packets : LogContents)
+  pub took-fields : (d m n now newest : ℕ) (before : List Step) (find find' : ℕ → Option PlainClient) (seat : ℕ → Option Socket) (is_pid : ℕ → Bool) (sets : RoomSets) (table : TableContents) (packets : LogContents)
       → Fields base limits find seat is_pid sets table packets newest before → IsLegal base limits before
       → ((q : ℕ) → find' q ≡ (if d == q then option_map (without_first n) (find q) else find q))
-      → Fields base limits find' seat is_pid sets table packets (max now newest) (record { at = max now newest; what = Took d n } ∷ before)
-  took-fields d n now newest before find find' seat is_pid sets table packets was legal takes =
-      fields-quiet (record { at = max now newest; what = Took d n }) before find find' seat is_pid sets sets table packets newest was refl (λ k. refl) (record { same_sessions = refl; no_call = refl; unused = refl }) (omega arith) refl
-      (λ q. takes q ∙ ap (λ o. if d == q then option_map (without_first n) o else o) (was.clients q) ∙ sym (took-at d n (max now newest) before legal q (d == q) refl))
+      → Fields base limits find' seat is_pid sets table packets (max now newest) (record { at = max now newest; what = Took d m n } ∷ before)
+  took-fields d m n now newest before find find' seat is_pid sets table packets was legal takes =
+      fields-quiet (record { at = max now newest; what = Took d m n }) before find find' seat is_pid sets sets table packets newest was refl (λ k. refl) (record { same_sessions = refl; no_call = refl; unused = refl }) (omega arith) refl
+      (λ q. takes q ∙ ap (λ o. if d == q then option_map (without_first n) o else o) (was.clients q) ∙ sym (took-at d m n (max now newest) before legal q (d == q) refl))
 
-  pub took-sound : (d n at : ℕ) (before : List Step) → IsLegal base limits before → IsAllowed base limits before (record { at = at; what = Took d n }) (Took d n) → IsSound base limits before → moment base before ≤ at → is_open base before d ≡ true
-      → IsSound base limits (record { at = at; what = Took d n } ∷ before)
+  pub took-sound : (d m n at : ℕ) (before : List Step) → IsLegal base limits before → IsAllowed base limits before (record { at = at; what = Took d m n }) (Took d m n) → IsSound base limits before → moment base before ≤ at → is_open base before d ≡ true
+      → IsSound base limits (record { at = at; what = Took d m n } ∷ before)
   unfolding put is_open
-  took-sound d n at before legal allowed was late known =
-      sound-quiet (record { at = at; what = Took d n }) before legal allowed was late refl (λ c. refl) refl (λ k. refl) (λ c. refl) (record { same_sessions = refl; no_call = refl; unused = refl }) (λ s. refl) was.rooms_agree tt
+  took-sound d m n at before legal allowed was late known =
+      sound-quiet (record { at = at; what = Took d m n }) before legal allowed was late refl (λ c. refl) refl (λ k. refl) (λ c. refl) (record { same_sessions = refl; no_call = refl; unused = refl }) (λ s. refl) was.rooms_agree tt
       (one_of d n (open_clients base before) was.clients_once known) refl
 
   told-at : (m : PlainMessage) (at : ℕ) (before : List Step) → IsLegal base limits before → (q : ℕ) (b : Bool) → (m.client == q) ≡ b

@@ -48,7 +48,7 @@ after base before sets (Closed c) s room = is_in-without_sockets (sockets_of bas
 after base before sets (Opened c) s room = refl
 after base before sets (Cast b) s room = refl
 after base before sets (Told m) s room = refl
-after base before sets (Took c n) s room = refl
+after base before sets (Took c m n) s room = refl
 after base before sets Swept s room = refl
 
 pub last-words : (base : PlainBase) (journal : List Step) (s : ℕ) (room : List ℕ) → is_in (rooms base journal) s room ≡ is_last_in base journal s room

@@ -21,10 +21,10 @@ taken-after t n ps more h k = let e : length (drop t ps) ≡ length ps - t = len
 module _ (base : PlainBase) (limits : Limits) where
   -- what an accepted step takes of a client waits there
   pub taken_by-fits : (c : ℕ) (step : Step) (before : List Step) (what : What) → IsAllowed base limits before step what → taken_by c what ≤ length (waiting base limits before c)
-  taken_by-fits c step before (Took d n) h = took (d == c) refl
+  taken_by-fits c step before (Took d m n) h = took (d == c) refl
     where
       took : (b : Bool) → (d == c) ≡ b → (if b then n else 0) ≤ length (waiting base limits before c)
-      took true e = let same : d ≡ c = eqb-true d c e in subst (λ x. n ≤ length (waiting base limits before x)) same h.1
+      took true e = let same : d ≡ c = eqb-true d c e in subst (λ x. n ≤ length (waiting base limits before x)) same (omega (arith, h.1))
       took false e = omega arith
   taken_by-fits c step before _ h = omega arith
 

@@ -372,6 +372,7 @@ module _ (base : PlainBase) (limits : Limits) (journal : List Step) (after : Pla
 
   pub says-same : SaysTheSame (record { base = base; limits = limits; journal = journal }) (record { base = after; limits = limits; journal = [] })
   says-same = record {
+    same_moment = moment-same;
     same_open = open-same;
     same_sockets = of-same;
     same_by_sid = by-sid;

@@ -11,7 +11,7 @@ use Rattle.std.specs.Cmp.{nat_cmp_total, tied_itself, eq_by_cmp_equiv}
 use Rattle.std.proofs.lemmas.Bool.Decides.{nat_tests}
 use Rattle.std.proofs.lemmas.List.Elements.{All-head, All-tail}
 use Rattle.std.proofs.lemmas.Map.Keys.{IsDistinct-from_sorted}
-use Rattle.hub_state.specs.SocketIndex.{is_serial, is_placed, IsIndex}
+use Rattle.hub_state.specs.Sockets.{is_serial, is_placed, IsIndex}
 use Rattle.hub_state.specs.declared.socket.Socket.{Socket}
 
 -- ---- tests of keys

@@ -1,4 +1,4 @@
--- Every addressee gets a broadcast once, or is counted as dropped.
+-- Every addressee gets a broadcast once, or is counted as dropped (Socket.IO server documentation, "Rooms" and "Adapter").
 use Rattle.std.specs.Prelude.{◌≡◌, ℕ, ◌==◌, Bool, true, false, ◌&&◌, List, [], ◌∷◌, ◌++◌, nat_eq, get_or, length, Option, None, if◌then◌else◌}
 use Rattle.std.specs.List.{list_any, IsDistinct}
 use Rattle.hub_state.specs.declared.step.Step.{Step}

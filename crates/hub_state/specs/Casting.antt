@@ -1,5 +1,5 @@
 -- What a broadcast that is asked for makes of a hub, and the lists from which it is made.
-use Rattle.std.specs.Prelude.{◌≡◌, ◌⊎◌, ℕ, ◌==◌, Bool, true, false, not, ◌&&◌, List, [], ◌∷◌, ◌++◌, map, length, nat_eq, is_some, Option, None, Some, if◌then◌else◌}
+use Rattle.std.specs.Prelude.{◌≡◌, ◌⊎◌, ℕ, ◌==◌, Bool, true, false, not, ◌&&◌, List, [], ◌∷◌, ◌++◌, map, length, nat_eq, is_some, Option, None, Some, Result, Ok, Err, if◌then◌else◌}
 use Rattle.std.specs.List.{flat_map, list_any, IsDistinct, AllByRecursion}
 use Rattle.std.specs.List.Sorted.{IsStrictlySortedBy}
 use Rattle.std.specs.Ordering.{nat_cmp, eq_by_cmp}
@@ -127,13 +127,26 @@ IsSpentBy h c =
 abbrev pub IsShortOf : History → PlainCast → HubError → Type 0
 IsShortOf h c e = (e ≡ Memory) ⊎ ((e ≡ Spent) × IsSpentBy h c)
 
--- the cast was done: the journal has one step more, a broadcast that is what the cast asks for, and the answer has its
--- offset, how many entries it put, and how many sockets miss it
+-- the cast was done: the journal has one step more, a broadcast that is what the cast asks for and reaches whom it is
+-- for, by which no count passes the greatest u64; the answer has its offset, how many entries it put, and how many
+-- sockets miss it
 pub record IsCast (before after : History) (now : ℕ) (c : PlainCast) (done : CastDone) : Type 0 where
   pub b : PlainBroadcast
   pub asked : IsCastOf before c b
   pub numbered : has_no_offset before c.logged ≡ false
+  pub right : (at : ℕ) → RightCast before.base before.limits before.journal (record { at = at; what = Cast b }) b
+  pub unspent : is_spent before.base before.limits before.journal (Cast b) ≡ false
   pub step : after ≡ with_step before now (Cast b)
   pub offset : done.offset ≡ b.offset
   pub placed : done.placed ≡ length (put before.base before.limits before.journal (Cast b))
   pub dropped : done.dropped ≡ length b.dropped
+
+-- the cast wasn't done: the error is its refusal, and where there is none want of memory or of a count
+abbrev pub IsCastError : History → PlainCast → Option HubError → HubError → Type 0
+IsCastError h c (Some refusal) e = e ≡ refusal
+IsCastError h c None e = IsShortOf h c e
+
+-- the cast was answered: where it was accepted, nothing spoke against it, and it was done; else nothing changed
+abbrev pub CastDoes : (before after : History) → ℕ → PlainCast → Result CastDone HubError → Type 0
+CastDoes before after now c (Ok done) = (refusal_of before c ≡ None) × IsCast before after now c done
+CastDoes before after now c (Err e) = IsCastError before c (refusal_of before c) e × (after ≡ before)

@@ -1,5 +1,5 @@
 -- Which journals a hub may have, and what a base may be.
-use Rattle.std.specs.Prelude.{◌≡◌, ◌≢◌, ℕ, ◌≤◌, ◌==◌, true, false, nat_eq, List, [], ◌∷◌, length, None, Some, IfSome}
+use Rattle.std.specs.Prelude.{◌≡◌, ◌≢◌, ℕ, ◌≤◌, ◌==◌, min, true, false, nat_eq, List, [], ◌∷◌, length, None, Some, IfSome}
 use Rattle.std.specs.List.{list_any, IsDistinct, AllByRecursion}
 use Rattle.recovery.specs.PacketLog.{IsRun, Rises, latest}
 use Rattle.recovery.specs.SavedTable.{PlainSaved}
@@ -43,7 +43,7 @@ IsAllowed base limits before step (Joined s room) = join_refusal base before s r
 IsAllowed base limits before step (Left s room) = leave_refusal base before s room ≡ None
 IsAllowed base limits before step (Cast b) = RightBroadcast base limits before step b
 IsAllowed base limits before step (Told m) = tell_refusal base limits before m.client m.entry ≡ None
-IsAllowed base limits before step (Took c n) = (client_refusal base before c ≡ None) × (n ≤ length (waiting base limits before c))
+IsAllowed base limits before step (Took c most n) = (client_refusal base before c ≡ None) × (n ≡ min most (length (waiting base limits before c)))
 IsAllowed base limits before step (Parked c) = park_refusal base limits before c ≡ None
 IsAllowed base limits before step (Ended s) = end_refusal base before s ≡ None
 IsAllowed base limits before step (Closed c) = client_refusal base before c ≡ None

@@ -1,6 +1,6 @@
 pub mod Plain
 pub mod Config
-pub mod SocketIndex
+pub mod Sockets
 pub mod Journal
 pub mod Membership
 pub mod Sessions

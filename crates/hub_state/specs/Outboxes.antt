@@ -1,4 +1,5 @@
--- What was put for each client, what was handed out, and what waits.
+-- What was put for each client, what was handed out, and what waits (Socket.IO server documentation, "Rooms" and
+-- "Adapter"; that an outbox has an end is this server's own).
 use Rattle.std.specs.Prelude.{ℕ, ◌+◌, ◌==◌, Bool, false, not, ◌&&◌, ◌||◌, List, [], ◌∷◌, ◌++◌, length, drop, map, filter, nat_lt, nat_le, get_or, if◌then◌else◌}
 use Rattle.std.specs.List.{list_any, find, sum_by}
 use Rattle.std.specs.Option.{option_map_or}
@@ -55,7 +56,7 @@ begins c _ = false
 
 -- how many entries a step hands out to the client
 abbrev pub taken_by : ℕ → What → ℕ
-taken_by c (Took d n) = if d == c then n else 0
+taken_by c (Took d most n) = if d == c then n else 0
 taken_by c _ = 0
 
 -- what waits for the client at the base

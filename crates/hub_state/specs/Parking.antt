@@ -1,4 +1,5 @@
--- What is saved of sockets that are lost, read from the rooms as they are kept.
+-- What is saved of sockets that are lost, read from the rooms as they are kept (Socket.IO server documentation, "Connection
+-- state recovery").
 use Rattle.std.specs.Prelude.{◌≡◌, ℕ, ◌==◌, Bool, false, not, List, map, filter}
 use Rattle.std.specs.List.{list_any, AllByRecursion}
 use Rattle.room_maps.specs.Membership.{RoomSets}

@@ -1,4 +1,5 @@
--- What a session that comes back brings with it, and what it gets.
+-- What a session that comes back brings with it, and what it gets (Socket.IO server documentation, "Connection state
+-- recovery").
 use Rattle.std.specs.Prelude.{ℕ, List, [], ◌++◌, map, filter, unwrap_or}
 use Rattle.sio_wire.specs.declared.entry.Entry.{Entry}
 use Rattle.recovery.specs.PacketLog.{PlainLogged}

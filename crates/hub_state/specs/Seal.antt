@@ -52,9 +52,10 @@ pub record IsSealed (before after : History) : Type 0 where
   pub no_steps : after.journal ≡ []
   pub leads : LeadsTo before.base before.limits before.journal after.base
 
--- both histories say the same of each client, socket and room, of what waits for open clients, of the log, the saved
--- sessions and the totals
+-- both histories say the same of the moment, of each client, socket and room, of what waits for open clients, of the log,
+-- the saved sessions and the totals
 pub record SaysTheSame (before after : History) : Type 0 where
+  pub same_moment : moment after.base after.journal ≡ moment before.base before.journal
   pub same_open : (c : ℕ) → is_open after.base after.journal c ≡ is_open before.base before.journal c
   pub same_sockets : (c : ℕ) → sockets_of after.base after.journal c ≡ sockets_of before.base before.journal c
   pub same_by_sid : (s : ℕ) → socket_with sid_of after.base after.journal s ≡ socket_with sid_of before.base before.journal s

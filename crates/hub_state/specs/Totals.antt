@@ -19,7 +19,7 @@ dropped_by (Cast b) = length b.dropped
 dropped_by _ = 0
 
 abbrev pub handed_out_by : What → ℕ
-handed_out_by (Took c n) = n
+handed_out_by (Took c most n) = n
 handed_out_by _ = 0
 
 abbrev pub discarded_by : PlainBase → Limits → List Step → What → ℕ

@@ -19,7 +19,7 @@ pub struct Broadcast {
     pub offset: Option<u64>,
     /// What is sent, shared with the outboxes.
     pub entry: Arc<Entry>,
-    /// The sockets that miss it, rising, since their clients' outboxes have no place for it.
+    /// The sockets that miss it, each once, since their clients' outboxes have no place for it.
     pub dropped: Vec<Sid>,
 }
 

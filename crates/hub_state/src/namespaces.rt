@@ -32,14 +32,18 @@ fn is_among(name: &str, names: &[Text]) -> bool
     names.iter().any(|other| name == other.as_str())
 }
 
-/// Whether some name stands twice.
+/// Whether some name stands twice. It compares each two.
 fn has_repeat(names: &[Text]) -> bool
     ensures { result ≡ rules.has_repeat names.now }
 {
-    match names.split_first() {
-        Some((name, others)) => is_among(name.as_str(), others) || has_repeat(others),
-        None => false,
+    let mut rest = names;
+    while let Some((name, others)) = rest.split_first() {
+        if is_among(name.as_str(), others) {
+            return true;
+        }
+        rest = others;
     }
+    false
 }
 
 /// Whether some name is none of a namespace.

@@ -5,7 +5,7 @@ ghost use Rattle.std.specs.List.{find, All};
 ghost use Rattle.std.specs.Ordering.{nat_cmp};
 ghost use Rattle.std.specs.Map.{lookup, keys_of, values_of};
 ghost use Rattle.std.specs.BTreeMap.{is_at};
-ghost use Rattle.hub_state.specs.SocketIndex.{IsIndex};
+ghost use Rattle.hub_state.specs.Sockets.{IsIndex};
 ghost use Rattle.hub_state.specs.declared.socket.Socket.{Socket};
 
 use crate::socket::Socket;
@@ -28,7 +28,7 @@ impl Model for Sockets {
     ghost use Rattle.std.specs.Prelude.{List};
     ghost use Rattle.std.specs.Map.{values_of};
     ghost use Rattle.hub_state.specs.declared.socket.Socket.{Socket};
-    ghost use Rattle.hub_state.specs.SocketIndex.{IsIndex};
+    ghost use Rattle.hub_state.specs.Sockets.{IsIndex};
 
     ghost Value = { List Socket };
 

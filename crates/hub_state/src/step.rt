@@ -29,8 +29,8 @@ pub enum What {
     Cast(Broadcast),
     /// One client was told something.
     Told(Message),
-    /// This many entries were handed out to the client.
-    Took(u128, usize),
+    /// A client asked for so many entries at the most, and this number was handed out.
+    Took(u128, usize, usize),
     /// A client was lost, and its sockets' sessions were saved.
     Parked(u128),
     /// A socket was ended.

@@ -8,7 +8,7 @@ ghost use Rattle.std.specs.Ordering.{nat_cmp};
 ghost use Rattle.std.specs.BTreeMap.{get};
 ghost use Rattle.std.specs.Arc.{arc_value};
 ghost use Rattle.hub_state.specs.Outboxes.{entries_for};
-ghost use Rattle.hub_state.specs.Casting.{in_space, is_here, ListsInside, is_full_in, message_for, missing_of, receiver_of, pair_of, with_entries, with_logged, Tells, IsEvent, refusal_of, offset_of, has_no_offset, IsCastOf, IsShortOf, IsCast};
+ghost use Rattle.hub_state.specs.Casting.{in_space, is_here, ListsInside, is_full_in, message_for, missing_of, receiver_of, pair_of, with_entries, with_logged, Tells, IsEvent, refusal_of, offset_of, has_no_offset, IsCastOf, IsShortOf, CastDoes};
 ghost use Rattle.hub_state.specs.Casting as casting;
 ghost use Rattle.hub_state.specs.Broadcast.{event_header};
 ghost use Rattle.hub_state.specs.Log.{logged, next};
@@ -508,10 +508,7 @@ impl State {
     /// members of the rooms in all namespaces, or where no room is named the sockets of its
     /// namespace alone, each with the logarithm and the excepted rooms.
     pub fn cast(&mut self, alloc: Global, cast: Cast, now: u64) -> Result<CastDone, HubError>
-        ensures done { IfOk result (λ done. IsCast self.old self.new now cast done) }
-        ensures refused { IfSome (refusal_of self.old cast) (λ refusal. result ≡ Err refusal) }
-        ensures short { refusal_of self.old cast ≡ None → IfErr result (IsShortOf self.old cast) }
-        ensures unchanged { OnErr result (self.new ≡ self.old) }
+        ensures does { CastDoes self.old self.new now cast result }
     {
         let (broadcast, messages) = self.make(alloc, cast)?;
         if self.cast_is_spent(&broadcast, &messages) {

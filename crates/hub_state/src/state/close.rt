@@ -22,6 +22,7 @@ use crate::state::{State, count, record, reserve};
 use crate::step::What;
 use recovery::Pid;
 use room_maps::Rooms;
+use std::alloc::Global;
 use std::collections::{BTreeMap, BTreeSet};
 
 /// Forgets a client and its sockets, with their ids and rooms. It says how many entries waited for
@@ -65,7 +66,7 @@ impl State {
     /// discarded. Refused as `UnknownClient`, `Spent`, then for `Memory`. It takes the logarithm of
     /// the clients and, for each of the client's sockets, that of the sockets, and each of their
     /// rooms takes the logarithm of the sockets and of the rooms.
-    pub fn close(&mut self, client: u128, now: u64) -> Result<(), HubError>
+    pub fn close(&mut self, _alloc: Global, client: u128, now: u64) -> Result<(), HubError>
         ensures { Does self.old self.new now (What.Closed client) (or_spent (client_refusal self.old.base self.old.journal client) (is_spent self.old.base self.old.limits self.old.journal (What.Closed client))) result }
     {
         if let Some(refusal) = self.close_refusal(client) {

@@ -102,8 +102,8 @@ impl State {
     /// How many entries a `take` hands out, or why it is refused.
     fn takes(&self, client: u128, most: usize) -> Result<usize, HubError>
         ensures number { IfOk result (λ number. number ≡ min most (length (waiting self.now.base self.now.limits self.now.journal client))) }
-        ensures accepted { IfOk result (λ number. or_spent (client_refusal self.now.base self.now.journal client) (is_spent self.now.base self.now.limits self.now.journal (What.Took client number)) ≡ None) }
-        ensures refused { IfErr result (λ refusal. or_spent (client_refusal self.now.base self.now.journal client) (is_spent self.now.base self.now.limits self.now.journal (What.Took client (min most (length (waiting self.now.base self.now.limits self.now.journal client))))) ≡ Some refusal) }
+        ensures accepted { IfOk result (λ number. or_spent (client_refusal self.now.base self.now.journal client) (is_spent self.now.base self.now.limits self.now.journal (What.Took client most number)) ≡ None) }
+        ensures refused { IfErr result (λ refusal. or_spent (client_refusal self.now.base self.now.journal client) (is_spent self.now.base self.now.limits self.now.journal (What.Took client most (min most (length (waiting self.now.base self.now.limits self.now.journal client))))) ≡ Some refusal) }
     {
         self.facts();
         let Some(waits) = self.waiting(client) else {
@@ -139,7 +139,7 @@ impl State {
         now: u64,
     ) -> Result<Vec<Entry>, HubError>
         ensures entries { IfOk result (λ entries. entries.items ≡ take most (waiting self.old.base self.old.limits self.old.journal client)) }
-        ensures does { let number = min most (length (waiting self.old.base self.old.limits self.old.journal client)) in Does self.old self.new now (What.Took client number) (or_spent (client_refusal self.old.base self.old.journal client) (is_spent self.old.base self.old.limits self.old.journal (What.Took client number))) result }
+        ensures does { let number = min most (length (waiting self.old.base self.old.limits self.old.journal client)) in Does self.old self.new now (What.Took client most number) (or_spent (client_refusal self.old.base self.old.journal client) (is_spent self.old.base self.old.limits self.old.journal (What.Took client most number))) result }
     {
         let number = self.takes(client, most)?;
         let entries = self.copies(alloc, client, number)?;
@@ -150,7 +150,7 @@ impl State {
             &mut self.journal,
             &mut self.last,
             now,
-            What::Took(client, number),
+            What::Took(client, most, number),
         );
         Ok(entries)
     }

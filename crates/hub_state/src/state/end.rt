@@ -25,6 +25,7 @@ use crate::state::{State, count, record, reserve};
 use crate::step::What;
 use recovery::Pid;
 use room_maps::{Rooms, Sid};
+use std::alloc::Global;
 use std::collections::{BTreeMap, BTreeSet};
 
 /// Takes the socket at a place out of its client's list.
@@ -103,7 +104,7 @@ impl State {
     /// Ends a socket: it leaves its client and all its rooms, and nothing is saved. Refused as
     /// `UnknownSocket`, `Spent`, then for `Memory`. It takes the logarithm of the clients and
     /// sockets, and each of the socket's rooms takes the logarithm of the sockets and of the rooms.
-    pub fn end(&mut self, sid: Sid, now: u64) -> Result<(), HubError>
+    pub fn end(&mut self, _alloc: Global, sid: Sid, now: u64) -> Result<(), HubError>
         ensures { Does self.old self.new now (What.Ended sid) (or_spent (end_refusal self.old.base self.old.journal sid) (is_spent self.old.base self.old.limits self.old.journal (What.Ended sid))) result }
     {
         let socket = self.ending(sid)?;

@@ -86,7 +86,7 @@ impl State {
 
     /// A socket leaves a room. Refused as `UnknownSocket`, `RoomRefused`, `Spent`, then for
     /// `Memory`. It takes the logarithm of the sockets and of the rooms.
-    pub fn leave(&mut self, sid: Sid, room: Room, now: u64) -> Result<(), HubError>
+    pub fn leave(&mut self, _alloc: Global, sid: Sid, room: Room, now: u64) -> Result<(), HubError>
         ensures { Does self.old self.new now (What.Left sid room) (or_spent (leave_refusal self.old.base self.old.journal sid room) (is_spent self.old.base self.old.limits self.old.journal (What.Left sid room))) result }
     {
         if let Some(refusal) = self.leave_refusal(sid, room) {

@@ -16,6 +16,7 @@ use crate::limits::Limits;
 use crate::state::{State, count, record, reserve};
 use crate::step::What;
 use recovery::{PacketLog, SavedTable};
+use std::alloc::Global;
 
 /// How much a sweep dropped.
 #[derive(Clone, Copy, Debug, PartialEq, Eq)]
@@ -50,7 +51,7 @@ impl State {
     /// Drops the entries of the log and the saved sessions that are older than the hub keeps them,
     /// and says how many. Refused as `Spent`, then for `Memory`. Each that is dropped takes the
     /// logarithm of the saved sessions, and it looks at one more of both.
-    pub fn sweep(&mut self, now: u64) -> Result<Swept, HubError>
+    pub fn sweep(&mut self, _alloc: Global, now: u64) -> Result<Swept, HubError>
         ensures does { Does self.old self.new now What.Swept (or_spent None (is_spent self.old.base self.old.limits self.old.journal What.Swept)) result }
         ensures counts { IfOk result (λ dropped. (length (log self.old.base self.old.limits self.old.journal) ≡ length (log self.new.base self.new.limits self.new.journal) + dropped.log) × (length (sessions self.old.base self.old.limits self.old.journal) ≡ length (sessions self.new.base self.new.limits self.new.journal) + dropped.saved)) }
     {

@@ -1,4 +1,4 @@
-use Rattle.std.proofs.Common.{rules, arith}
+use Rattle.std.proofs.Common.{rules}
 use Rattle.hub_state.proofs.CommandLemmas.{took, can_take}
 use Rattle.hub_state.proofs.state.State.take.Goals as goal
 
@@ -6,7 +6,7 @@ pub invariant_of-self-2 : goal.invariant_of-self-2
 invariant_of-self-2 c =
     let number = rw (← c.self.view_is) at c.in_ok-number.ensures.number in
     rw (c.record.ensures.journal, c.record.ensures.last, c.reserve.ensures.items, c.count.ensures)
-    (took _ _ c.args.client c.in_ok-number.number c.args.now _ _ _ _ _ _ _ _ _ _ c.self.invariant (search rules) (omega (arith, number)) c.hand_out.ensures)
+    (took _ _ c.args.client c.args.most c.in_ok-number.number c.args.now _ _ _ _ _ _ _ _ _ _ c.self.invariant (search rules) number c.hand_out.ensures)
 
 pub count-requires : goal.count-requires
-count-requires c = can_take _ _ _ _ c.self.invariant.3 c.self.invariant.2 c.args.client c.in_ok-number.number (search rules)
+count-requires c = can_take _ _ _ _ c.self.invariant.3 c.self.invariant.2 c.args.client c.args.most c.in_ok-number.number (search rules)

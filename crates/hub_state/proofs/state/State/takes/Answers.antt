@@ -11,7 +11,7 @@ returns-in-Some-count_refusal-clause-refused c =
     let known : is_open c.args.self.now.base c.args.self.now.journal c.args.client ≡ true = some_open _ _ _ c.in-Some.ensures in
     let within = waits-within c.args.self.now.base c.args.self.now.limits c.args.self.now.journal c.args.client c.facts.ensures.clients_once known in
     let number = min c.args.most (length (waiting c.args.self.now.base c.args.self.now.limits c.args.self.now.journal c.args.client)) in
-    let s = c.count_refusal.ensures (Took c.args.client number) (puts_took _ _ _ c.args.client number) refl (omega (arith, within)) in
+    let s = c.count_refusal.ensures (Took c.args.client c.args.most number) (puts_took _ _ _ c.args.client c.args.most number) refl (omega (arith, within)) in
     search (rules, s, known)
 
 pub returns-in-None-clause-accepted : goal.returns-in-None-clause-accepted
@@ -19,5 +19,5 @@ returns-in-None-clause-accepted c =
     let known : is_open c.args.self.now.base c.args.self.now.journal c.args.client ≡ true = some_open _ _ _ c.in-Some.ensures in
     let waits = some_if _ _ _ c.in-Some.ensures in
     let within = waits-within c.args.self.now.base c.args.self.now.limits c.args.self.now.journal c.args.client c.facts.ensures.clients_once known in
-    let s = c.count_refusal.ensures (Took c.args.client c.min-number.result) (puts_took _ _ _ c.args.client c.min-number.result) refl (omega (arith, within, waits, c.min-number.ensures)) in
+    let s = c.count_refusal.ensures (Took c.args.client c.args.most c.min-number.result) (puts_took _ _ _ c.args.client c.args.most c.min-number.result) refl (omega (arith, within, waits, c.min-number.ensures)) in
     search (rules, s, known)

@@ -1,5 +1,0 @@
-use Rattle.std.proofs.Common.{length}
-use Rattle.hub_state.proofs.namespaces.+has_repeat.Given as goal
-
-abbrev pub decreases-has_repeat : goal.decreases-has_repeat
-decreases-has_repeat l = length l.names.now
