@@ -195,7 +195,7 @@ fn measure_moves<C: Ledger, T: Ledger, R: Clock>(
     fill(alloc, hub, pass, sockets)?;
     let start = gauge::now(rt)?;
     hall::join_all(alloc, hub, pass, sockets)?;
-    hall::leave_all(hub, pass, sockets)?;
+    hall::leave_all(alloc, hub, pass, sockets)?;
     let time = gauge::since(rt, start)?;
     let number = sockets.saturating_mul(2);
     Ok(Measured { number, time })
@@ -226,7 +226,7 @@ fn measure_parks<C: Ledger, T: Ledger, R: Clock>(
     let start = gauge::now(rt)?;
     hall::park_all(alloc, hub, pass, sockets)?;
     let time = gauge::since(rt, start)?;
-    let number = hall::count_saved(hub, pass)?;
+    let number = hall::count_saved(alloc, hub, pass)?;
     Ok(Measured { number, time })
 }
 

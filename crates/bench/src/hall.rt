@@ -73,7 +73,7 @@ fn open<C: Ledger, T: Ledger>(
     pass: &mut Pass<C, T>,
     number: u64,
 ) -> Result<(), HubError> {
-    hub.open(pass, alloc, u128::from(number), NOW)
+    hub.open(alloc, pass, u128::from(number), NOW)
 }
 
 /// Opens the clients below a number.
@@ -96,7 +96,7 @@ fn attach<C: Ledger, T: Ledger>(
     number: u64,
 ) -> Result<(), HubError> {
     let id = u128::from(number);
-    hub.attach(pass, alloc, id, "/", Sid::new(id), Pid::new(id), NOW)
+    hub.attach(alloc, pass, id, "/", Sid::new(id), Pid::new(id), NOW)
 }
 
 /// Connects the sockets below a number, whose answers to CONNECT wait then.
@@ -119,7 +119,7 @@ fn take<C: Ledger, T: Ledger>(
     pass: &mut Pass<C, T>,
     number: u64,
 ) -> Result<(), HubError> {
-    let _entries = hub.take(pass, alloc, u128::from(number), CAPACITY, NOW)?;
+    let _entries = hub.take(alloc, pass, u128::from(number), CAPACITY, NOW)?;
     Ok(())
 }
 
@@ -143,7 +143,7 @@ fn join<C: Ledger, T: Ledger>(
     number: u64,
 ) -> Result<(), HubError> {
     let sid = Sid::new(u128::from(number));
-    hub.join(pass, alloc, sid, room(ROOM), NOW)
+    hub.join(alloc, pass, sid, room(ROOM), NOW)
 }
 
 /// The sockets below a number join the room.
@@ -160,22 +160,24 @@ pub fn join_all<C: Ledger, T: Ledger>(
 }
 
 fn leave<C: Ledger, T: Ledger>(
+    alloc: Global,
     hub: &mut Hub<C, T>,
     pass: &mut Pass<C, T>,
     number: u64,
 ) -> Result<(), HubError> {
     let sid = Sid::new(u128::from(number));
-    hub.leave(pass, sid, room(ROOM), NOW)
+    hub.leave(alloc, pass, sid, room(ROOM), NOW)
 }
 
 /// The sockets below a number leave the room.
 pub fn leave_all<C: Ledger, T: Ledger>(
+    alloc: Global,
     hub: &mut Hub<C, T>,
     pass: &mut Pass<C, T>,
     sockets: u64,
 ) -> Result<(), HubError> {
     for number in 0..sockets {
-        leave(hub, pass, number)?;
+        leave(alloc, hub, pass, number)?;
     }
     Ok(())
 }
@@ -186,7 +188,7 @@ fn park<C: Ledger, T: Ledger>(
     pass: &mut Pass<C, T>,
     number: u64,
 ) -> Result<(), HubError> {
-    hub.park(pass, alloc, u128::from(number), NOW)
+    hub.park(alloc, pass, u128::from(number), NOW)
 }
 
 /// The clients below a number are lost.
@@ -210,7 +212,7 @@ fn recover<C: Ledger, T: Ledger>(
     number: u64,
 ) -> Result<(), HubError> {
     let id = u128::from(number);
-    let _sid = hub.recover(pass, alloc, id, "/", Pid::new(id), 1, NOW)?;
+    let _sid = hub.recover(alloc, pass, id, "/", Pid::new(id), 1, NOW)?;
     Ok(())
 }
 
@@ -229,10 +231,11 @@ pub fn recover_all<C: Ledger, T: Ledger>(
 
 /// Drops all that the hub keeps of the past, and says how many sessions these were.
 pub fn count_saved<C: Ledger, T: Ledger>(
+    alloc: Global,
     hub: &mut Hub<C, T>,
     pass: &mut Pass<C, T>,
 ) -> Result<u64, HubError> {
-    Ok(hub.sweep(pass, LATE)?.saved as u64)
+    Ok(hub.sweep(alloc, pass, LATE)?.saved as u64)
 }
 
 /// Makes the present state the base.
@@ -280,7 +283,7 @@ fn cast<C: Ledger, T: Ledger>(
     logged: bool,
 ) -> Result<(), HubError> {
     let event = news(alloc, rooms, logged)?;
-    let _done = hub.cast(pass, alloc, event, NOW)?;
+    let _done = hub.cast(alloc, pass, event, NOW)?;
     Ok(())
 }
 

@@ -4,6 +4,9 @@ use Rattle.hub_state.specs.declared.error.HubError.{HubError}
 use Rattle.hub_state.specs.declared.error.HubError.TheVariants.{Memory}
 use Rattle.hub_state.specs.declared.step.What.{What}
 use Rattle.hub_state.specs.Journal.{History, with_step}
+use Rattle.hub_state.specs.Plain.{PlainCast}
+use Rattle.hub_state.specs.Casting.{refusal_of, IsCast, IsCastError}
+use Rattle.hub_state.specs.declared.broadcast.CastDone.{CastDone}
 use Rattle.hub_state.specs.Totals as totals
 use Rattle.hub_state.specs.Totals.{handed_out, handed_out_by}
 
@@ -53,6 +56,13 @@ DoesCounted before after old new now what refusal (Ok x) =
     (refusal ≡ None) × (after ≡ record before { history = with_step before.history now what }) × (new ≡ with_command what old)
 DoesCounted before after old new now what refusal (Err e) =
     (e ≡ unwrap_or refusal Memory) × (after ≡ before) × (new ≡ old)
+
+-- the cast was answered as `CastDoes` says; where it was accepted, its pass counts it, and else both hub and pass are
+-- as before
+abbrev pub CastDoesCounted : (before after : PlainHub) → (old new : PlainPass) → ℕ → PlainCast → Result CastDone HubError → Type 0
+CastDoesCounted before after old new now c (Ok done) =
+    (refusal_of before.history c ≡ None) × IsCast before.history after.history now c done × (after.rest ≡ before.rest) × (new ≡ record old { commands = old.commands + 1 })
+CastDoesCounted before after old new now c (Err e) = IsCastError before.history c (refusal_of before.history c) e × (after ≡ before) × (new ≡ old)
 
 -- the pass rises by as much as the hub's totals
 pub record Rises (before after : PlainHub) (old new : PlainPass) : Type 0 where

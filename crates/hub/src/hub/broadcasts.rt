@@ -1,10 +1,7 @@
 //! Broadcasts through a hub, and whom they may reach.
 #![tactic(auto, unfolding(hub_state::specs::Totals::commands, hub_state::specs::Totals::handed_out, hub_state::specs::Journal::total))]
 
-ghost use Rattle.std.specs.Prelude.{◌≡◌, ◌+◌, ◌&&◌, None, Err, IfSome, IfNone, IfOk, IfErr, OnOk, OnErr};
-ghost use Rattle.std.specs.Ordering.{nat_cmp};
-ghost use Rattle.hub_state.specs.Casting.{refusal_of, IsShortOf, IsCast};
-ghost use Rattle.hub.specs.Pass.{Rises};
+ghost use Rattle.hub.specs.Pass.{CastDoesCounted, Rises};
 
 use crate::hub::Hub;
 use crate::pass::Pass;
@@ -23,16 +20,12 @@ impl<C: Ledger, T: Ledger> Hub<C, T> {
     /// namespace alone, each with the logarithm and the excepted rooms.
     pub fn cast(
         &mut self,
-        pass: &mut Pass<C, T>,
         alloc: Global,
+        pass: &mut Pass<C, T>,
         cast: Cast,
         now: u64,
     ) -> Result<CastDone, HubError>
-        ensures done { IfOk result (λ done. IsCast self.old.history self.new.history now cast done) }
-        ensures counted { OnOk result ((self.new.rest ≡ self.old.rest) × (pass.new ≡ record pass.old { commands = pass.old.commands + 1 })) }
-        ensures refused { IfSome (refusal_of self.old.history cast) (λ refusal. result ≡ Err refusal) }
-        ensures short { refusal_of self.old.history cast ≡ None → IfErr result (IsShortOf self.old.history cast) }
-        ensures unchanged { OnErr result ((self.new ≡ self.old) × (pass.new ≡ pass.old)) }
+        ensures does { CastDoesCounted self.old self.new pass.old pass.new now cast result }
         ensures rises { Rises self.old self.new pass.old pass.new }
     {
         let done = self.state.cast(alloc, cast, now)?;

@@ -25,8 +25,8 @@ impl<C: Ledger, T: Ledger> Hub<C, T> {
     /// memory for the whole outbox.
     pub fn open(
         &mut self,
-        pass: &mut Pass<C, T>,
         alloc: Global,
+        pass: &mut Pass<C, T>,
         client: u128,
         now: u64,
     ) -> Result<(), HubError>
@@ -44,8 +44,8 @@ impl<C: Ledger, T: Ledger> Hub<C, T> {
     /// sockets, namespaces and saved sessions.
     pub fn attach(
         &mut self,
-        pass: &mut Pass<C, T>,
         alloc: Global,
+        pass: &mut Pass<C, T>,
         client: u128,
         space: &str,
         sid: Sid,
@@ -64,8 +64,8 @@ impl<C: Ledger, T: Ledger> Hub<C, T> {
     /// `Memory`. It takes the logarithm of the sockets and of the rooms.
     pub fn join(
         &mut self,
-        pass: &mut Pass<C, T>,
         alloc: Global,
+        pass: &mut Pass<C, T>,
         sid: Sid,
         room: Room,
         now: u64,
@@ -82,6 +82,7 @@ impl<C: Ledger, T: Ledger> Hub<C, T> {
     /// `Memory`. It takes the logarithm of the sockets and of the rooms.
     pub fn leave(
         &mut self,
+        alloc: Global,
         pass: &mut Pass<C, T>,
         sid: Sid,
         room: Room,
@@ -90,7 +91,7 @@ impl<C: Ledger, T: Ledger> Hub<C, T> {
         ensures does { let h = self.old.history in DoesCounted self.old self.new pass.old pass.new now (What.Left sid room) (or_spent (leave_refusal h.base h.journal sid room) (is_spent h.base h.limits h.journal (What.Left sid room))) result }
         ensures rises { Rises self.old self.new pass.old pass.new }
     {
-        self.state.leave(sid, room, now)?;
+        self.state.leave(alloc, sid, room, now)?;
         self.books.count(pass, &self.state, 0);
         Ok(())
     }
@@ -98,11 +99,17 @@ impl<C: Ledger, T: Ledger> Hub<C, T> {
     /// Ends a socket: it leaves its client and all its rooms, and nothing is saved. Refused as
     /// `UnknownSocket`, `Spent`, then for `Memory`. It takes the logarithm of the clients and
     /// sockets, and walks the socket's rooms.
-    pub fn end(&mut self, pass: &mut Pass<C, T>, sid: Sid, now: u64) -> Result<(), HubError>
+    pub fn end(
+        &mut self,
+        alloc: Global,
+        pass: &mut Pass<C, T>,
+        sid: Sid,
+        now: u64,
+    ) -> Result<(), HubError>
         ensures does { let h = self.old.history in DoesCounted self.old self.new pass.old pass.new now (What.Ended sid) (or_spent (end_refusal h.base h.journal sid) (is_spent h.base h.limits h.journal (What.Ended sid))) result }
         ensures rises { Rises self.old self.new pass.old pass.new }
     {
-        self.state.end(sid, now)?;
+        self.state.end(alloc, sid, now)?;
         self.books.count(pass, &self.state, 0);
         Ok(())
     }
@@ -110,11 +117,17 @@ impl<C: Ledger, T: Ledger> Hub<C, T> {
     /// Closes a client: its sockets end, nothing is saved, and what waits is discarded. Refused as
     /// `UnknownClient`, `Spent`, then for `Memory`. It takes the logarithm of the clients and
     /// sockets, and walks the client's sockets and their rooms.
-    pub fn close(&mut self, pass: &mut Pass<C, T>, client: u128, now: u64) -> Result<(), HubError>
+    pub fn close(
+        &mut self,
+        alloc: Global,
+        pass: &mut Pass<C, T>,
+        client: u128,
+        now: u64,
+    ) -> Result<(), HubError>
         ensures does { let h = self.old.history in DoesCounted self.old self.new pass.old pass.new now (What.Closed client) (or_spent (client_refusal h.base h.journal client) (is_spent h.base h.limits h.journal (What.Closed client))) result }
         ensures rises { Rises self.old self.new pass.old pass.new }
     {
-        self.state.close(client, now)?;
+        self.state.close(alloc, client, now)?;
         self.books.count(pass, &self.state, 0);
         Ok(())
     }
@@ -123,8 +136,8 @@ impl<C: Ledger, T: Ledger> Hub<C, T> {
     /// `Spent`, then for `Memory`. It takes the logarithm of the clients.
     pub fn tell(
         &mut self,
-        pass: &mut Pass<C, T>,
         alloc: Global,
+        pass: &mut Pass<C, T>,
         client: u128,
         entry: Entry,
         now: u64,
@@ -142,14 +155,14 @@ impl<C: Ledger, T: Ledger> Hub<C, T> {
     /// copies what it hands out.
     pub fn take(
         &mut self,
-        pass: &mut Pass<C, T>,
         alloc: Global,
+        pass: &mut Pass<C, T>,
         client: u128,
         most: usize,
         now: u64,
     ) -> Result<Vec<Entry>, HubError>
         ensures entries { let h = self.old.history in IfOk result (λ entries. entries.items ≡ take most (waiting h.base h.limits h.journal client)) }
-        ensures does { let h = self.old.history in let number = min most (length (waiting h.base h.limits h.journal client)) in DoesCounted self.old self.new pass.old pass.new now (What.Took client number) (or_spent (client_refusal h.base h.journal client) (is_spent h.base h.limits h.journal (What.Took client number))) result }
+        ensures does { let h = self.old.history in let number = min most (length (waiting h.base h.limits h.journal client)) in DoesCounted self.old self.new pass.old pass.new now (What.Took client most number) (or_spent (client_refusal h.base h.journal client) (is_spent h.base h.limits h.journal (What.Took client most number))) result }
         ensures rises { Rises self.old self.new pass.old pass.new }
     {
         let entries = self.state.take(alloc, client, most, now)?;

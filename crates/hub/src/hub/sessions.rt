@@ -32,8 +32,8 @@ impl<C: Ledger, T: Ledger> Hub<C, T> {
     /// sockets and of the rooms.
     pub fn park(
         &mut self,
-        pass: &mut Pass<C, T>,
         alloc: Global,
+        pass: &mut Pass<C, T>,
         client: u128,
         now: u64,
     ) -> Result<(), HubError>
@@ -53,8 +53,8 @@ impl<C: Ledger, T: Ledger> Hub<C, T> {
     /// rooms, and the log past the offset.
     pub fn recover(
         &mut self,
-        pass: &mut Pass<C, T>,
         alloc: Global,
+        pass: &mut Pass<C, T>,
         client: u128,
         space: &str,
         pid: Pid,
@@ -73,12 +73,17 @@ impl<C: Ledger, T: Ledger> Hub<C, T> {
     /// Drops the entries of the log and the saved sessions that are older than the hub keeps them,
     /// and says how many. Refused as `Spent`, then for `Memory`. Each that is dropped takes the
     /// logarithm of the saved sessions, and it looks at one more of both.
-    pub fn sweep(&mut self, pass: &mut Pass<C, T>, now: u64) -> Result<Swept, HubError>
+    pub fn sweep(
+        &mut self,
+        alloc: Global,
+        pass: &mut Pass<C, T>,
+        now: u64,
+    ) -> Result<Swept, HubError>
         ensures does { let h = self.old.history in DoesCounted self.old self.new pass.old pass.new now What.Swept (or_spent None (is_spent h.base h.limits h.journal What.Swept)) result }
         ensures counts { let h = self.old.history in let g = self.new.history in IfOk result (λ dropped. (length (log h.base h.limits h.journal) ≡ length (log g.base g.limits g.journal) + dropped.log) × (length (sessions h.base h.limits h.journal) ≡ length (sessions g.base g.limits g.journal) + dropped.saved)) }
         ensures rises { Rises self.old self.new pass.old pass.new }
     {
-        let swept = self.state.sweep(now)?;
+        let swept = self.state.sweep(alloc, now)?;
         self.books.count(pass, &self.state, 0);
         Ok(swept)
     }

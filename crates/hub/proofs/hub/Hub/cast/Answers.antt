@@ -1,17 +1,18 @@
+use Rattle.std.proofs.Common.{rules}
 use Rattle.hub.proofs.CountingLemmas.{totals-step, books-step, rises-step}
 use Rattle.hub.proofs.hub.Hub.cast.Goals as goal
 
 pub count-requires-clause-commands : goal.count-requires-clause-commands
-count-requires-clause-commands g c = (totals-step c.self.inside.state _ _ c.self.inside.books c.in_ok-done.ensures.done.step c.self.invariant).0
+count-requires-clause-commands g c = (totals-step c.self.inside.state _ _ c.self.inside.books c.in_ok-done.ensures.does.1.step c.self.invariant).0
 
 pub count-requires-clause-taken : goal.count-requires-clause-taken
-count-requires-clause-taken g c = (totals-step c.self.inside.state _ _ c.self.inside.books c.in_ok-done.ensures.done.step c.self.invariant).1
+count-requires-clause-taken g c = (totals-step c.self.inside.state _ _ c.self.inside.books c.in_ok-done.ensures.does.1.step c.self.invariant).1
 
 pub invariant_of-self-2 : goal.invariant_of-self-2
-invariant_of-self-2 g c = books-step c.self.inside.state _ _ c.self.inside.books _ c.in_ok-done.ensures.done.step c.self.invariant c.count.ensures.books
+invariant_of-self-2 g c = books-step c.self.inside.state _ _ c.self.inside.books _ c.in_ok-done.ensures.does.1.step c.self.invariant c.count.ensures.books
 
-pub returns-clause-done : goal.returns-clause-done
-returns-clause-done g c = rw (← c.self.view_is) c.in_ok-done.ensures.done
+pub returns-clause-does : goal.returns-clause-does
+returns-clause-does g c = rw (← c.self.view_is) (c.in_ok-done.ensures.does.0, c.in_ok-done.ensures.does.1, search (rules, c.count.ensures.books), search (rules, c.count.ensures.pass))
 
 pub returns-clause-rises : goal.returns-clause-rises
-returns-clause-rises g c = rw (← c.self.view_is) (rises-step _ _ _ _ _ c.in_ok-done.ensures.done.step c.count.ensures.pass)
+returns-clause-rises g c = rw (← c.self.view_is) (rises-step _ _ _ _ _ c.in_ok-done.ensures.does.1.step c.count.ensures.pass)
