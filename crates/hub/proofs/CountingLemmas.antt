@@ -1,5 +1,5 @@
 -- How a command that the state accepted is counted: the totals after its step, and what books and pass have then.
-use Rattle.std.proofs.Common.{◌≡◌, ℕ, ◌+◌, ◌∷◌, List, length, refl, arith, sym}
+use Rattle.std.proofs.Common.{◌≡◌, ℕ, ◌+◌, ◌∷◌, List, refl, arith, sym}
 use Rattle.hub_state.specs.declared.step.Step.{Step}
 use Rattle.hub_state.specs.Plain.{PlainBase}
 use Rattle.hub_state.specs.Journal.{History, total}

@@ -9,6 +9,3 @@ mod pass;
 
 pub use hub::Hub;
 pub use pass::{NotAll, Pass};
-
-#[cfg(test)]
-mod tests;

@@ -1,5 +1,5 @@
 -- What one more step does to the log, and which of its entries survive.
-use Rattle.std.proofs.Common.{◌≡◌, ℕ, ◌+◌, ◌<◌, ◌≤◌, Bool, true, false, not, ◌&&◌, if◌then◌else◌, List, [], ◌∷◌, ◌++◌, map, length, take, drop, get_or, reverse, refl, sym, ◌∙◌, ap, suc, add-one, append-nil, arith, ◌-◌}
+use Rattle.std.proofs.Common.{◌≡◌, ℕ, ◌+◌, ◌<◌, ◌≤◌, Bool, not, ◌&&◌, if◌then◌else◌, List, [], ◌∷◌, ◌++◌, map, length, take, drop, get_or, reverse, refl, sym, ◌∙◌, ap, suc, add-one, append-nil, arith, ◌-◌}
 use Rattle.std.specs.Prelude.{count_by, nat_lt}
 use Rattle.std.specs.List.{list_any}
 use Rattle.std.proofs.Math.Seq.{drop-cons}
@@ -9,7 +9,7 @@ use Rattle.std.proofs.lemmas.List.Recursion.{is_count_by}
 use Rattle.hub_state.specs.declared.step.Step.{Step}
 use Rattle.hub_state.specs.Plain.{PlainBase, Limits}
 use Rattle.hub_state.specs.Log.{log_call, with_call, log_calls}
-use Rattle.recovery.specs.PacketLog.{LogCall, PlainLogged, Pushed, Swept, pushes, drops, survives, kept}
+use Rattle.recovery.specs.PacketLog.{LogCall, PlainLogged, Pushed, Swept, pushes, drops, kept}
 use Rattle.replay.specs.Log.{is_push, survivors}
 use Rattle.replay.proofs.StepsLemmas.{newest_first}
 

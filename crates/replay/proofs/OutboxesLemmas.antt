@@ -1,7 +1,7 @@
 -- Whom a broadcast reaches, by the lists, and what one more step makes of what was put and handed out.
-use Rattle.std.proofs.Common.{◌≡◌, ℕ, ◌+◌, ◌-◌, ◌<◌, ◌≤◌, ◌==◌, min, Bool, true, false, ◌&&◌, not, if◌then◌else◌, List, [], ◌∷◌, ◌++◌, map, filter, length, take, drop, get_or, reverse, refl, sym, ◌∙◌, ap, append_assoc, arith}
+use Rattle.std.proofs.Common.{◌≡◌, ℕ, ◌+◌, ◌-◌, ◌<◌, ◌≤◌, ◌==◌, min, Bool, true, false, ◌&&◌, not, if◌then◌else◌, List, [], ◌∷◌, ◌++◌, map, filter, length, take, drop, get_or, reverse, sym, ◌∙◌, ap, append_assoc, arith}
 use Rattle.std.specs.List.{list_any}
-use Rattle.std.proofs.lemmas.List.{map-append, take_more, drop_min}
+use Rattle.std.proofs.lemmas.List.{map-append, drop_min}
 use Rattle.std.proofs.lemmas.List.Elements.{filter-append}
 use Rattle.sio_wire.specs.declared.entry.Entry.{Entry}
 use Rattle.recovery.specs.PacketLog.{PlainLogged}

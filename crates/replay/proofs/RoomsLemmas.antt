@@ -134,7 +134,7 @@ module _ (base : PlainBase) (before : List Step) where
   is_socket-after (Opened c) v s = stays (is_socket v s)
   is_socket-after (Cast b) v s = stays (is_socket v s)
   is_socket-after (Told m) v s = stays (is_socket v s)
-  is_socket-after (Took c n) v s = stays (is_socket v s)
+  is_socket-after (Took c m n) v s = stays (is_socket v s)
   is_socket-after Swept v s = stays (is_socket v s)
 
   back : (t : ℕ) (own : List ℕ) (rooms : List (List ℕ)) (s : ℕ) (w : List ℕ)
@@ -165,7 +165,7 @@ module _ (base : PlainBase) (before : List Step) where
   is_in-after (Opened c) v s w = stays (is_in v s w)
   is_in-after (Cast b) v s w = stays (is_in v s w)
   is_in-after (Told m) v s w = stays (is_in v s w)
-  is_in-after (Took c n) v s w = stays (is_in v s w)
+  is_in-after (Took c m n) v s w = stays (is_in v s w)
   is_in-after Swept v s w = stays (is_in v s w)
 
 -- ---- one more step

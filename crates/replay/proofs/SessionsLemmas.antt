@@ -1,5 +1,5 @@
 -- What one more step makes of the saved sessions.
-use Rattle.std.proofs.Common.{◌≡◌, ℕ, ◌+◌, ◌<◌, ◌≤◌, ◌==◌, Bool, true, false, ◌&&◌, not, List, [], ◌∷◌, ◌++◌, map, filter, length, take, drop, get_or, reverse, refl, sym, ◌∙◌, ap, subst, nat_lt, nat_eq, nat_cmp, position, unwrap_or, suc, cond, arith, Option, Some, None, if◌then◌else◌, IsPermutation}
+use Rattle.std.proofs.Common.{◌≡◌, ℕ, ◌+◌, ◌<◌, ◌≤◌, ◌==◌, Bool, true, false, ◌&&◌, not, List, [], ◌∷◌, ◌++◌, map, filter, length, take, get_or, reverse, refl, sym, ◌∙◌, ap, subst, nat_lt, position, unwrap_or, suc, cond, arith, Some, None, if◌then◌else◌, IsPermutation}
 use Rattle.std.specs.List.{list_any, insert, dedup, position_or_len}
 use Rattle.std.proofs.lemmas.Bool.Decides.{nat_tests}
 use Rattle.std.proofs.lemmas.List.{map-append}
@@ -9,18 +9,16 @@ use Rattle.std.specs.Cmp.Lexicographic.{nat_list_cmp_total}
 use Rattle.std.proofs.lemmas.List.Kept.{IsStrictlySortedBy-dedup}
 use Rattle.std.proofs.lemmas.List.Sorted.{list_any-IsPermutation}
 use Rattle.terms.specs.Listing.{ListsRising}
-use Rattle.room_maps.specs.Room.{room_cmp, same_room}
+use Rattle.room_maps.specs.Room.{room_cmp}
 use Rattle.room_maps.specs.Membership.{RoomSets, is_in}
 use Rattle.room_maps.proofs.AddressedLemmas.{list_any-dedup}
-use Rattle.room_maps.proofs.BooleanLemmas.{and_comm}
-use Rattle.room_maps.proofs.OrderLemmas.{list_any-map, list_any-filter, room_tied, same_room-cmp}
+use Rattle.room_maps.proofs.OrderLemmas.{list_any-map, list_any-filter, room_tied}
 use Rattle.recovery.specs.SavedTable.{PlainSaved, with_session}
 use Rattle.hub_state.specs.declared.socket.Socket.{Socket}
 use Rattle.hub_state.specs.declared.step.Step.{Step}
 use Rattle.hub_state.specs.Plain.{PlainBase, Limits}
-use Rattle.hub_state.specs.Membership.{rooms}
-use Rattle.hub_state.specs.Sessions.{lost_session, with_sessions, sessions, sessions_after}
-use Rattle.replay.specs.Rooms.{is_pair_listed, ListsPairs}
+use Rattle.hub_state.specs.Sessions.{with_sessions, sessions, sessions_after}
+use Rattle.replay.specs.Rooms.{ListsPairs}
 use Rattle.replay.proofs.RoomsLemmas.{room_eq-cmp}
 use Rattle.replay.proofs.StepsLemmas.{newest_first, taken-next}
 

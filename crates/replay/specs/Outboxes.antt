@@ -1,5 +1,5 @@
 -- For whom a broadcast is, by lists of sockets and of their rooms.
-use Rattle.std.specs.Prelude.{ℕ, ◌==◌, Bool, ◌&&◌, not, List, filter}
+use Rattle.std.specs.Prelude.{ℕ, ◌==◌, Bool, ◌&&◌, not, List}
 use Rattle.std.specs.List.{list_any}
 use Rattle.hub_state.specs.declared.socket.Socket.{Socket}
 use Rattle.hub_state.specs.Plain.{PlainBroadcast}

@@ -4,8 +4,8 @@ use Rattle.std.specs.List.{list_any}
 use Rattle.hub_state.specs.declared.socket.Socket.{Socket}
 use Rattle.hub_state.specs.declared.step.Step.{Step}
 use Rattle.hub_state.specs.declared.step.What.{What}
-use Rattle.hub_state.specs.declared.step.What.TheVariants.{Opened, Attached, Recovered, Joined, Left, Cast, Told, Took, Parked, Ended, Closed, Swept}
-use Rattle.hub_state.specs.Plain.{PlainBase, PlainRecovery}
+use Rattle.hub_state.specs.declared.step.What.TheVariants.{Attached, Recovered, Joined, Left, Parked, Ended, Closed}
+use Rattle.hub_state.specs.Plain.{PlainBase}
 use Rattle.hub_state.specs.Membership.{sockets_of}
 use Rattle.room_maps.specs.Room.{same_room, own_room}
 use Rattle.room_maps.specs.Membership.{RoomSets, is_socket, is_in}

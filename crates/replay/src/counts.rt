@@ -34,7 +34,7 @@ fn handed_out_by(what: &What) -> usize
     ensures { result ≡ definitions.handed_out_by what.now }
 {
     match what {
-        What::Took(_, number) => *number,
+        What::Took(_, _, number) => *number,
         _ => 0,
     }
 }

@@ -26,6 +26,3 @@ pub use outboxes::{put, waiting};
 pub use room_pairs::{room_sockets, rooms};
 pub use session_list::sessions;
 pub use socket_list::{is_connected, is_in_space, sockets, sockets_of};
-
-#[cfg(test)]
-mod tests;

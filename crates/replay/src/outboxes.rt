@@ -344,7 +344,7 @@ fn taken_by(what: &What, client: u128) -> usize
     ensures { result ≡ definitions.taken_by client what.now }
 {
     match what {
-        What::Took(other, number) => { if *other == client { *number } else { 0 } }
+        What::Took(other, _, number) => { if *other == client { *number } else { 0 } }
         _ => 0,
     }
 }

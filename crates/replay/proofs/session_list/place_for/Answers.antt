@@ -1,4 +1,4 @@
-use Rattle.std.proofs.Common.{◌≡◌, ◌≤◌, ◌∙◌, ap, sym, subst, length, nat_lt, unwrap_or}
+use Rattle.std.proofs.Common.{◌≤◌, ◌∙◌, ap, sym, subst, length, nat_lt, unwrap_or}
 use Rattle.recovery.specs.SavedTable.{PlainSaved}
 use Rattle.replay.proofs.SessionsLemmas.{place-within, place-found}
 use Rattle.replay.proofs.session_list.place_for.Goals as goal

@@ -1,7 +1,6 @@
 use Rattle.std.proofs.Common.{rules, reverse}
 use Rattle.std.specs.Cmp.Rules.{comparing}
 use Rattle.std.proofs.lemmas.List.Filters.{dedup_is}
-use Rattle.room_maps.proofs.OrderLemmas.{same_room-cmp}
 use Rattle.hub_state.specs.Membership as membership
 use Rattle.replay.proofs.SessionsLemmas.{rooms-by, rooms-sorted}
 use Rattle.replay.proofs.session_list.rooms_of.Goals as goal

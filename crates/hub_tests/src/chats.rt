@@ -3,11 +3,14 @@
 
 ghost use Rattle.std.specs.Prelude.{◌≡◌};
 
+mod attachments;
 mod broadcasts;
+mod lookups;
 mod sessions;
 
+use crate::made::{AMPLE, Limits, PARTS, new_hub};
 use hub::{Hub, Pass};
-use hub_state::{Cast, Config, HubError, Swept, Totals};
+use hub_state::{Base, Cast, CastDone, HubError, Step, Swept, Totals, What};
 use recovery::Pid;
 use room_maps::{Room, Sid};
 use sio_wire::{Attachments, Entry};
@@ -15,9 +18,7 @@ use std::alloc::Global;
 use std::marker::Brand;
 use std::process::Abort;
 use std::sync::ledger::{Blank, Ledger};
-use terms::Text;
-
-const PARTS: u64 = 65_536;
+use terms::{Bytes, Text};
 
 /// The clients, and the session ids of their sockets. A private id is the next number.
 const A: u128 = 1;
@@ -30,7 +31,11 @@ const OF_B: u128 = 5;
 
 const C: u128 = 7;
 
+const OF_C: u128 = 8;
+
 const D: u128 = 8;
+
+const OF_D: u128 = 9;
 /// The private id of B's socket.
 const PID_B: u128 = 6;
 
@@ -54,7 +59,11 @@ enum Line {
     Elsewhere(&'static str),
     /// To everybody.
     All(&'static str),
+    /// The socket says this with attachments to the others in a room.
+    Show(u128, &'static str, &'static [&'static [u8]]),
     Tell(u128, &'static str),
+    /// The client is told this with attachments.
+    Hand(u128, &'static str, &'static [&'static [u8]]),
     Take(u128, usize),
     End(u128),
     Close(u128),
@@ -67,8 +76,32 @@ enum Line {
     At(u64),
     /// The counts: commands, placed, dropped, taken, discarded, waiting.
     Totals([u64; 6]),
-    /// How many members a room has.
-    Members(&'static str, usize),
+    /// The members of a room.
+    Members(&'static str, &'static [u128]),
+    See(Sight),
+}
+
+/// What else is seen of the hub.
+#[derive(Clone, Copy)]
+enum Sight {
+    /// Whether a client is open.
+    Open(u128, bool),
+    /// Whether a socket is connected.
+    Connected(u128, bool),
+    /// The session id of a client's socket in a namespace.
+    Socket(u128, &'static str, Option<u128>),
+    /// How many entries wait for a client, and how many bytes they have.
+    Waiting(u128, Option<(usize, usize)>),
+    /// The text of an entry that waits for a client.
+    Front(u128, usize, Option<&'static str>),
+    /// The next offset.
+    Next(Option<u64>),
+    /// What the steps are.
+    Steps(&'static [&'static str]),
+    /// The clients of the base, how many broadcasts its log has, and how many sessions it saves.
+    Base(&'static [u128], usize, usize),
+    /// How many commands the pass has, and how many entries they handed out.
+    Pass(u64, u64),
 }
 
 /// How it is answered.
@@ -76,7 +109,12 @@ enum Line {
 enum Answer {
     Done,
     Refused(HubError),
+    /// The offset, how many outboxes got it and how many sockets miss it.
+    Cast(Option<u64>, u64, u64),
+    /// The entries' texts. They have no attachments.
     Texts(&'static [&'static str]),
+    /// The text of the one entry, and its attachments.
+    Shown(&'static str, &'static [&'static [u8]]),
     /// The session id that came back.
     Back(u128),
     /// How many of the log's entries and of the saved sessions were dropped.
@@ -89,6 +127,7 @@ enum Answer {
 #[derive(Drop)]
 enum Got {
     Done,
+    Cast(CastDone),
     Entries(Vec<Entry>),
     Sid(Sid),
     Swept(Swept),
@@ -108,8 +147,9 @@ struct Chat<C: Ledger, T: Ledger> {
 struct Look {
     totals: Totals,
     steps: usize,
-    waiting: (Option<usize>, Option<usize>),
-    connected: (bool, bool),
+    waiting: [Option<usize>; 4],
+    waiting_bytes: [Option<usize>; 4],
+    connected: [bool; 4],
     commands: u64,
     taken: u64,
 }
@@ -121,7 +161,22 @@ fn room(name: &str) -> Room {
     }
 }
 
-/// A broadcast of an event with these texts.
+fn attachments_of(alloc: Global, parts: &[&[u8]]) -> Result<Attachments, HubError> {
+    let mut attachments = Attachments::new(alloc);
+    for part in parts {
+        attachments.push(Bytes::copy_of(alloc, part)?)?;
+    }
+    Ok(attachments)
+}
+
+fn entry(alloc: Global, text: &str, parts: &[&[u8]]) -> Result<Entry, HubError> {
+    Ok(Entry {
+        text: Text::copy_of(alloc, text)?,
+        attachments: attachments_of(alloc, parts)?,
+    })
+}
+
+/// A broadcast of an event.
 fn broadcast(
     alloc: Global,
     rooms: &[Room],
@@ -141,14 +196,28 @@ fn broadcast(
 
 impl<C: Ledger, T: Ledger> Chat<C, T> {
     fn look(&self) -> Look {
+        let hub = &self.hub;
         Look {
-            totals: self.hub.totals(),
-            steps: self.hub.steps().len(),
-            waiting: (self.hub.waiting(A), self.hub.waiting(B)),
-            connected: (
-                self.hub.is_connected(Sid::new(OF_A)),
-                self.hub.is_connected(Sid::new(OF_B)),
-            ),
+            totals: hub.totals(),
+            steps: hub.steps().len(),
+            waiting: [
+                hub.waiting(A),
+                hub.waiting(B),
+                hub.waiting(C),
+                hub.waiting(D),
+            ],
+            waiting_bytes: [
+                hub.waiting_bytes(A),
+                hub.waiting_bytes(B),
+                hub.waiting_bytes(C),
+                hub.waiting_bytes(D),
+            ],
+            connected: [
+                hub.is_connected(Sid::new(OF_A)),
+                hub.is_connected(Sid::new(OF_B)),
+                hub.is_connected(Sid::new(OF_C)),
+                hub.is_connected(Sid::new(OF_D)),
+            ],
             commands: self.pass.commands(),
             taken: self.pass.taken(),
         }
@@ -160,10 +229,10 @@ impl<C: Ledger, T: Ledger> Chat<C, T> {
         excepted: &[Room],
         logged: bool,
         payload: &str,
-    ) -> Result<(), HubError> {
+    ) -> Result<Got, HubError> {
         let cast = broadcast(self.alloc, rooms, excepted, logged, payload)?;
-        self.hub.cast(&mut self.pass, self.alloc, cast, self.now)?;
-        Ok(())
+        let done = self.hub.cast(self.alloc, &mut self.pass, cast, self.now)?;
+        Ok(Got::Cast(done))
     }
 
     /// Does a line.
@@ -171,13 +240,16 @@ impl<C: Ledger, T: Ledger> Chat<C, T> {
         match line {
             Line::Take(client, most) => Ok(Got::Entries(self.take(client, most)?)),
             Line::Recover(client, pid, offset) => self.recover(client, pid, offset),
-            Line::Sweep => Ok(Got::Swept(self.hub.sweep(&mut self.pass, self.now)?)),
+            Line::Sweep => Ok(Got::Swept(self.hub.sweep(self.alloc, &mut self.pass, self.now)?)),
             Line::Seal => Ok(Got::Sealed(self.hub.seal(self.alloc)?.steps.len())),
             Line::At(now) => {
                 self.now = now;
                 Ok(Got::Done)
             }
-            Line::Open(_) | Line::Park(_) | Line::Close(_) | Line::Tell(_, _) => self.serve(line),
+            Line::Open(_) | Line::Park(_) | Line::Close(_) => self.serve(line),
+            Line::Tell(client, text) => self.tell(client, text, &[]),
+            Line::Hand(client, text, parts) => self.tell(client, text, parts),
+            Line::Show(sid, text, parts) => self.show(sid, text, parts),
             Line::Attach(_, _) | Line::End(_) => self.connect(line),
             Line::Join(_, _) | Line::Leave(_, _) | Line::LeaveOwn(_) => self.move_in(line),
             said => self.say(said),
@@ -186,31 +258,40 @@ impl<C: Ledger, T: Ledger> Chat<C, T> {
 
     fn take(&mut self, client: u128, most: usize) -> Result<Vec<Entry>, HubError> {
         self.hub
-            .take(&mut self.pass, self.alloc, client, most, self.now)
+            .take(self.alloc, &mut self.pass, client, most, self.now)
     }
 
     fn recover(&mut self, client: u128, pid: u128, offset: u64) -> Result<Got, HubError> {
         let (pass, pid) = (&mut self.pass, Pid::new(pid));
         let sid = self
             .hub
-            .recover(pass, self.alloc, client, "/", pid, offset, self.now)?;
+            .recover(self.alloc, pass, client, "/", pid, offset, self.now)?;
         Ok(Got::Sid(sid))
+    }
+
+    fn tell(&mut self, client: u128, text: &str, parts: &[&[u8]]) -> Result<Got, HubError> {
+        let entry = entry(self.alloc, text, parts)?;
+        self.hub
+            .tell(self.alloc, &mut self.pass, client, entry, self.now)?;
+        Ok(Got::Done)
+    }
+
+    /// Says something with attachments to the others in a room.
+    fn show(&mut self, sid: u128, text: &str, parts: &[&[u8]]) -> Result<Got, HubError> {
+        let own = Room::own(Sid::new(sid));
+        let mut cast = broadcast(self.alloc, &[room("r")], &[own], true, text)?;
+        cast.attachments = attachments_of(self.alloc, parts)?;
+        let done = self.hub.cast(self.alloc, &mut self.pass, cast, self.now)?;
+        Ok(Got::Cast(done))
     }
 
     /// Does a line of a client.
     fn serve(&mut self, line: Line) -> Result<Got, HubError> {
         let (hub, pass, alloc, now) = (&mut self.hub, &mut self.pass, self.alloc, self.now);
         match line {
-            Line::Open(client) => hub.open(pass, alloc, client, now)?,
-            Line::Park(client) => hub.park(pass, alloc, client, now)?,
-            Line::Close(client) => hub.close(pass, client, now)?,
-            Line::Tell(client, text) => {
-                let entry = Entry {
-                    text: Text::copy_of(alloc, text)?,
-                    attachments: Attachments::new(alloc),
-                };
-                hub.tell(pass, alloc, client, entry, now)?
-            }
+            Line::Open(client) => hub.open(alloc, pass, client, now)?,
+            Line::Park(client) => hub.park(alloc, pass, client, now)?,
+            Line::Close(client) => hub.close(alloc, pass, client, now)?,
             _ => {}
         }
         Ok(Got::Done)
@@ -222,9 +303,9 @@ impl<C: Ledger, T: Ledger> Chat<C, T> {
         match line {
             Line::Attach(client, sid) => {
                 let pid = Pid::new(sid.saturating_add(1));
-                hub.attach(pass, alloc, client, "/", Sid::new(sid), pid, now)?
+                hub.attach(alloc, pass, client, "/", Sid::new(sid), pid, now)?
             }
-            Line::End(sid) => hub.end(pass, Sid::new(sid), now)?,
+            Line::End(sid) => hub.end(alloc, pass, Sid::new(sid), now)?,
             _ => {}
         }
         Ok(Got::Done)
@@ -234,9 +315,15 @@ impl<C: Ledger, T: Ledger> Chat<C, T> {
     fn move_in(&mut self, line: Line) -> Result<Got, HubError> {
         let (hub, pass, alloc, now) = (&mut self.hub, &mut self.pass, self.alloc, self.now);
         match line {
-            Line::Join(sid, name) => hub.join(pass, alloc, Sid::new(sid), room(name), now)?,
-            Line::Leave(sid, name) => hub.leave(pass, Sid::new(sid), room(name), now)?,
-            Line::LeaveOwn(sid) => hub.leave(pass, Sid::new(sid), Room::own(Sid::new(sid)), now)?,
+            Line::Join(sid, name) => hub.join(alloc, pass, Sid::new(sid), room(name), now)?,
+            Line::Leave(sid, name) => hub.leave(alloc, pass, Sid::new(sid), room(name), now)?,
+            Line::LeaveOwn(sid) => hub.leave(
+                alloc,
+                pass,
+                Sid::new(sid),
+                Room::own(Sid::new(sid)),
+                now,
+            )?,
             _ => {}
         }
         Ok(Got::Done)
@@ -246,15 +333,14 @@ impl<C: Ledger, T: Ledger> Chat<C, T> {
     fn say(&mut self, line: Line) -> Result<Got, HubError> {
         let (r, q) = (room("r"), room("q"));
         match line {
-            Line::Say(sid, text) => self.cast(&[r], &[Room::own(Sid::new(sid))], true, text)?,
-            Line::Quiet(sid, text) => self.cast(&[r], &[Room::own(Sid::new(sid))], false, text)?,
-            Line::Two(sid, text) => self.cast(&[r, q], &[Room::own(Sid::new(sid))], true, text)?,
-            Line::But(sid, text) => self.cast(&[r], &[q, Room::own(Sid::new(sid))], true, text)?,
-            Line::Elsewhere(text) => self.cast(&[room("z")], &[], true, text)?,
-            Line::All(text) => self.cast(&[], &[], true, text)?,
-            _ => {}
+            Line::Say(sid, text) => self.cast(&[r], &[Room::own(Sid::new(sid))], true, text),
+            Line::Quiet(sid, text) => self.cast(&[r], &[Room::own(Sid::new(sid))], false, text),
+            Line::Two(sid, text) => self.cast(&[r, q], &[Room::own(Sid::new(sid))], true, text),
+            Line::But(sid, text) => self.cast(&[r], &[q, Room::own(Sid::new(sid))], true, text),
+            Line::Elsewhere(text) => self.cast(&[room("z")], &[], true, text),
+            Line::All(text) => self.cast(&[], &[], true, text),
+            _ => Ok(Got::Done),
         }
-        Ok(Got::Done)
     }
 
     /// What a line is answered, after a refused allocation at the second try; or nothing where the
@@ -272,7 +358,8 @@ impl<C: Ledger, T: Ledger> Chat<C, T> {
     fn is_answered(&mut self, line: Line, answer: Answer) -> bool {
         match line {
             Line::Totals(counts) => self.has_totals(counts),
-            Line::Members(name, count) => self.count_members(name) == Ok(count),
+            Line::Members(name, ids) => self.are_members(name, ids),
+            Line::See(sight) => self.sees(sight),
             command => match self.answer(command) {
                 Some(got) => is_due(&got, answer),
                 None => false,
@@ -310,9 +397,54 @@ impl<C: Ledger, T: Ledger> Chat<C, T> {
             }
     }
 
+    /// Whether the hub is seen so.
+    fn sees(&mut self, sight: Sight) -> bool {
+        let hub = &self.hub;
+        match sight {
+            Sight::Open(client, is_open) => hub.is_open(client) == is_open,
+            Sight::Connected(sid, connected) => hub.is_connected(Sid::new(sid)) == connected,
+            Sight::Socket(client, space, sid) => {
+                hub.socket_of(client, space) == sid.map(|id| Sid::new(id))
+            }
+            Sight::Waiting(client, waits) => {
+                hub.waiting(client).zip(hub.waiting_bytes(client)) == waits
+            }
+            Sight::Front(client, index, text) => {
+                hub.front(client, index).map(|entry| entry.text.as_str()) == text
+            }
+            Sight::Next(offset) => hub.next_offset() == offset,
+            Sight::Steps(names) => are_steps(hub.steps(), names),
+            Sight::Base(clients, log, saved) => is_base(hub.base(), clients, log, saved),
+            Sight::Pass(commands, taken) => self.has_passed(commands, taken),
+        }
+    }
+
+    /// Whether the pass has these counts, also after an audit.
+    fn has_passed(&mut self, commands: u64, taken: u64) -> bool {
+        let before = (self.pass.commands(), self.pass.taken());
+        self.hub.audit(&mut self.pass);
+        let after = (self.pass.commands(), self.pass.taken());
+        before == (commands, taken) && after == before
+    }
+
+    fn are_members(&self, name: &str, ids: &[u128]) -> bool {
+        let members = match self.members(name) {
+            Err(HubError::Memory) => self.members(name),
+            members => members,
+        };
+        match members {
+            Ok(sids) => are_sids(&sids, ids),
+            Err(_) => false,
+        }
+    }
+
+    fn members(&self, name: &str) -> Result<Vec<Sid>, HubError> {
+        self.hub.members(self.alloc, "/", room(name))
+    }
+
     fn count_members(&self, name: &str) -> Result<usize, HubError> {
-        match self.hub.members(self.alloc, "/", room(name)) {
-            Err(HubError::Memory) => { Ok(self.hub.members(self.alloc, "/", room(name))?.len()) }
+        match self.members(name) {
+            Err(HubError::Memory) => Ok(self.members(name)?.len()),
             members => Ok(members?.len()),
         }
     }
@@ -322,7 +454,16 @@ impl<C: Ledger, T: Ledger> Chat<C, T> {
 fn is_due(got: &Result<Got, HubError>, answer: Answer) -> bool {
     match (got, answer) {
         (Ok(Got::Done), Answer::Done) => true,
+        (Ok(Got::Cast(done)), Answer::Cast(offset, placed, dropped)) => {
+            *done
+                == CastDone {
+                    offset,
+                    placed,
+                    dropped,
+                }
+        }
         (Ok(Got::Entries(entries)), Answer::Texts(texts)) => have_texts(entries, texts),
+        (Ok(Got::Entries(entries)), Answer::Shown(text, parts)) => is_shown(entries, text, parts),
         (Ok(Got::Sid(sid)), Answer::Back(due)) => *sid == Sid::new(due),
         (Ok(Got::Swept(swept)), Answer::Swept(log, saved)) => {
             swept.log == log && swept.saved == saved
@@ -336,63 +477,67 @@ fn is_due(got: &Result<Got, HubError>, answer: Answer) -> bool {
 fn have_texts(entries: &[Entry], texts: &[&str]) -> bool {
     let mut same = entries.len() == texts.len();
     for (entry, text) in entries.iter().zip(texts.iter()) {
-        same = same && entry.text.as_str() == *text;
+        same = same && entry.text.as_str() == *text && entry.attachments.is_empty();
     }
     same
 }
 
-/// What differs between the hubs of the chats.
-#[derive(Clone, Copy)]
-struct Limits {
-    clients: usize,
-    capacity: usize,
-    bytes: usize,
-    log: usize,
-    saved: usize,
-    first_offset: u64,
-    /// Whether the journal is sealed after each line.
-    sealed: bool,
+/// Whether there is one entry, with this text and these attachments.
+fn is_shown(entries: &[Entry], text: &str, parts: &[&[u8]]) -> bool {
+    match entries {
+        [entry] => entry.text.as_str() == text && are_parts(entry.attachments.as_slice(), parts),
+        _ => false,
+    }
 }
 
-const AMPLE: Limits = Limits {
-    clients: 1024,
-    capacity: 64,
-    bytes: 8_388_608,
-    log: 1024,
-    saved: 4096,
-    first_offset: 1,
-    sealed: false,
-};
-
-fn config_once(alloc: Global, limits: Limits) -> Result<Config, HubError> {
-    let mut spaces = Vec::new(alloc);
-    spaces.push(Text::copy_of(alloc, "/")?)?;
-    Ok(Config {
-        clients: limits.clients,
-        capacity: limits.capacity,
-        bytes: limits.bytes,
-        log: limits.log,
-        saved: limits.saved,
-        keep: 120_000,
-        first_offset: limits.first_offset,
-        spaces,
-    })
+fn are_parts(attachments: &[Bytes], parts: &[&[u8]]) -> bool {
+    let mut same = attachments.len() == parts.len();
+    for (attachment, part) in attachments.iter().zip(parts.iter()) {
+        same = same && attachment.as_slice() == *part;
+    }
+    same
 }
 
-fn new_hub<C: Ledger, T: Ledger>(
-    alloc: Global,
-    limits: Limits,
-    commands: Blank,
-    taken: Blank,
-) -> Result<(Hub<C, T>, Pass<C, T>), HubError>
-    requires commands { (commands.name ≡ C.name) × (commands.parts ≡ C.parts) × (commands.parts ≡ 65536) }
-    requires taken { (taken.name ≡ T.name) × (taken.parts ≡ T.parts) × (taken.parts ≡ 65536) }
-{
-    let config = match config_once(alloc, limits) {
-        Ok(config) => config,
-        Err(_) => config_once(alloc, limits)?,
-    };
-    Hub::new(alloc, config, commands, taken)
+fn are_sids(sids: &[Sid], ids: &[u128]) -> bool {
+    let mut same = sids.len() == ids.len();
+    for (sid, id) in sids.iter().zip(ids.iter()) {
+        same = same && *sid == Sid::new(*id);
+    }
+    same
+}
+
+fn name_of(step: &Step) -> &'static str {
+    match step.what {
+        What::Opened(_) => "opened",
+        What::Attached(_) => "attached",
+        What::Recovered(_) => "recovered",
+        What::Joined(_, _) => "joined",
+        What::Left(_, _) => "left",
+        What::Cast(_) => "cast",
+        What::Told(_) => "told",
+        What::Took(_, _, _) => "took",
+        What::Parked(_) => "parked",
+        What::Ended(_) => "ended",
+        What::Closed(_) => "closed",
+        What::Swept => "swept",
+    }
+}
+
+fn are_steps(steps: &[Step], names: &[&str]) -> bool {
+    let mut same = steps.len() == names.len();
+    for (step, name) in steps.iter().zip(names.iter()) {
+        same = same && name_of(step) == *name;
+    }
+    same
+}
+
+/// Whether a base has these clients, and so many logged broadcasts and saved sessions.
+fn is_base(base: &Base, clients: &[u128], log: usize, saved: usize) -> bool {
+    let mut same = base.clients.len() == clients.len();
+    for (client, id) in base.clients.iter().zip(clients.iter()) {
+        same = same && client.client == *id;
+    }
+    same && base.log.len() == log && base.saved.len() == saved
 }
 
 /// Plays a chat, and says which line was answered otherwise.
@@ -454,11 +599,31 @@ fn played_by_two(
     played(alloc, limits, &BOTH, lines)
 }
 
+/// Plays a chat of both clients, and then once more with a seal after each line.
+fn played_over_seals(
+    alloc: Global,
+    limits: Limits,
+    lines: &[(Line, Answer)],
+) -> Result<Option<usize>, HubError> {
+    let wrong = played_by_two(alloc, limits, lines)?;
+    let limits = Limits {
+        sealed: true,
+        ..limits
+    };
+    Ok(wrong.or(played_by_two(alloc, limits, lines)?))
+}
+
 const CONNECTED_A: &str =
     "0{\"sid\":\"00000000000000000000000000000003\",\"pid\":\"00000000000000000000000000000004\"}";
 
 const CONNECTED_B: &str =
     "0{\"sid\":\"00000000000000000000000000000005\",\"pid\":\"00000000000000000000000000000006\"}";
+
+const CONNECTED_C: &str =
+    "0{\"sid\":\"00000000000000000000000000000008\",\"pid\":\"00000000000000000000000000000009\"}";
+
+const CONNECTED_D: &str =
+    "0{\"sid\":\"00000000000000000000000000000009\",\"pid\":\"0000000000000000000000000000000a\"}";
 
 /// Both clients are connected, are in the room `r`, and took the answers to their CONNECT.
 const BOTH: [(Line, Answer); 8] = [

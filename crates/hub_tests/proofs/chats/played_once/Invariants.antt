@@ -1,5 +1,5 @@
 -- Each blank's own name and parts are those of its ledger.
-use Rattle.replay.proofs.tests.chats.played_once.Given as goal
+use Rattle.hub_tests.proofs.chats.played_once.Given as goal
 
 abbrev pub ghosts-play-C-Ledger : goal.ghosts-play-C-Ledger
 ghosts-play-C-Ledger g = record { name = g.commands.name; parts = g.commands.parts }

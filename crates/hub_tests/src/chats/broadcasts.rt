@@ -8,7 +8,10 @@ use room_maps::RoomError;
 fn a_say_reaches_the_others(rt: HostRuntime) -> Result<(), HubError> {
     let lines = [
         (Line::Totals([8, 2, 0, 2, 0, 0]), Answer::Done),
-        (Line::Say(OF_A, "[\"say\",\"r\",\"hi\"]"), Answer::Done),
+        (
+            Line::Say(OF_A, "[\"say\",\"r\",\"hi\"]"),
+            Answer::Cast(Some(1), 1, 0),
+        ),
         (
             Line::Take(B, 64),
             Answer::Texts(&["2[\"say\",\"r\",\"hi\",\"0000000000000001\"]"]),
@@ -24,7 +27,10 @@ fn a_say_reaches_the_others(rt: HostRuntime) -> Result<(), HubError> {
 fn one_entry_for_two_rooms(rt: HostRuntime) -> Result<(), HubError> {
     let lines = [
         (Line::Join(OF_B, "q"), Answer::Done),
-        (Line::Two(OF_A, "[\"two\",\"r\",\"q\",\"x\"]"), Answer::Done),
+        (
+            Line::Two(OF_A, "[\"two\",\"r\",\"q\",\"x\"]"),
+            Answer::Cast(Some(1), 1, 0),
+        ),
         (
             Line::Take(B, 64),
             Answer::Texts(&["2[\"two\",\"r\",\"q\",\"x\",\"0000000000000001\"]"]),
@@ -40,8 +46,13 @@ fn one_entry_for_two_rooms(rt: HostRuntime) -> Result<(), HubError> {
 fn an_excepted_room_gets_nothing(rt: HostRuntime) -> Result<(), HubError> {
     let lines = [
         (Line::Join(OF_B, "q"), Answer::Done),
-        (Line::But(OF_A, "[\"but\",\"r\",\"q\",\"x\"]"), Answer::Done),
+        (
+            Line::But(OF_A, "[\"but\",\"r\",\"q\",\"x\"]"),
+            Answer::Cast(Some(1), 0, 0),
+        ),
         (Line::Totals([10, 2, 0, 2, 0, 0]), Answer::Done),
+        (Line::Take(B, 64), Answer::Texts(&[])),
+        (Line::Totals([11, 2, 0, 2, 0, 0]), Answer::Done),
     ];
     let limits = AMPLE;
     assert!(rt; played_by_two(rt.alloc(), limits, &lines)? == None);
@@ -51,17 +62,35 @@ fn an_excepted_room_gets_nothing(rt: HostRuntime) -> Result<(), HubError> {
 #[test]
 fn a_full_outbox_drops_and_counts(rt: HostRuntime) -> Result<(), HubError> {
     let lines = [
-        (Line::Say(OF_A, "[\"say\",\"r\",\"1\"]"), Answer::Done),
-        (Line::Say(OF_A, "[\"say\",\"r\",\"2\"]"), Answer::Done),
-        (Line::Say(OF_A, "[\"say\",\"r\",\"3\"]"), Answer::Done),
-        (Line::Say(OF_A, "[\"say\",\"r\",\"4\"]"), Answer::Done),
-        (Line::Say(OF_A, "[\"say\",\"r\",\"5\"]"), Answer::Done),
+        (
+            Line::Say(OF_A, "[\"say\",\"r\",\"1\"]"),
+            Answer::Cast(Some(1), 1, 0),
+        ),
+        (
+            Line::Say(OF_A, "[\"say\",\"r\",\"2\"]"),
+            Answer::Cast(Some(2), 1, 0),
+        ),
+        (
+            Line::Say(OF_A, "[\"say\",\"r\",\"3\"]"),
+            Answer::Cast(Some(3), 1, 0),
+        ),
+        (
+            Line::Say(OF_A, "[\"say\",\"r\",\"4\"]"),
+            Answer::Cast(Some(4), 1, 0),
+        ),
+        (
+            Line::Say(OF_A, "[\"say\",\"r\",\"5\"]"),
+            Answer::Cast(Some(5), 0, 1),
+        ),
         (Line::Totals([13, 6, 1, 2, 0, 4]), Answer::Done),
         (
             Line::Take(B, 1),
             Answer::Texts(&["2[\"say\",\"r\",\"1\",\"0000000000000001\"]"]),
         ),
-        (Line::Say(OF_A, "[\"say\",\"r\",\"6\"]"), Answer::Done),
+        (
+            Line::Say(OF_A, "[\"say\",\"r\",\"6\"]"),
+            Answer::Cast(Some(6), 1, 0),
+        ),
         (Line::Totals([15, 7, 1, 3, 0, 4]), Answer::Done),
         (
             Line::Take(B, 64),
@@ -86,9 +115,12 @@ fn nobody_is_left_in_the_room(rt: HostRuntime) -> Result<(), HubError> {
     let lines = [
         (Line::Leave(OF_A, "r"), Answer::Done),
         (Line::Leave(OF_B, "r"), Answer::Done),
-        (Line::Members("r", 0), Answer::Done),
-        (Line::Say(OF_A, "[\"say\",\"r\",\"x\"]"), Answer::Done),
-        (Line::All("[\"all\",\"y\"]"), Answer::Done),
+        (Line::Members("r", &[]), Answer::Done),
+        (
+            Line::Say(OF_A, "[\"say\",\"r\",\"x\"]"),
+            Answer::Cast(Some(1), 0, 0),
+        ),
+        (Line::All("[\"all\",\"y\"]"), Answer::Cast(Some(2), 2, 0)),
         (
             Line::Take(B, 64),
             Answer::Texts(&["2[\"all\",\"y\",\"0000000000000002\"]"]),
@@ -106,7 +138,10 @@ fn nobody_is_left_in_the_room(rt: HostRuntime) -> Result<(), HubError> {
 #[test]
 fn the_greatest_offset_is_the_last(rt: HostRuntime) -> Result<(), HubError> {
     let lines = [
-        (Line::Say(OF_A, "[\"say\",\"r\",\"1\"]"), Answer::Done),
+        (
+            Line::Say(OF_A, "[\"say\",\"r\",\"1\"]"),
+            Answer::Cast(Some(u64::MAX), 1, 0),
+        ),
         (
             Line::Take(B, 64),
             Answer::Texts(&["2[\"say\",\"r\",\"1\",\"ffffffffffffffff\"]"]),
@@ -115,7 +150,10 @@ fn the_greatest_offset_is_the_last(rt: HostRuntime) -> Result<(), HubError> {
             Line::Say(OF_A, "[\"say\",\"r\",\"2\"]"),
             Answer::Refused(HubError::Spent),
         ),
-        (Line::Quiet(OF_A, "[\"quiet\",\"r\",\"3\"]"), Answer::Done),
+        (
+            Line::Quiet(OF_A, "[\"quiet\",\"r\",\"3\"]"),
+            Answer::Cast(None, 1, 0),
+        ),
         (
             Line::Take(B, 64),
             Answer::Texts(&["2[\"quiet\",\"r\",\"3\"]"]),
@@ -147,15 +185,27 @@ fn no_more_clients_than_there_may_be(rt: HostRuntime) -> Result<(), HubError> {
 #[test]
 fn a_hundred_bytes_wait(rt: HostRuntime) -> Result<(), HubError> {
     let lines = [
-        (Line::Say(OF_A, "[\"say\",\"r\",\"1\"]"), Answer::Done),
-        (Line::Say(OF_A, "[\"say\",\"r\",\"2\"]"), Answer::Done),
-        (Line::Say(OF_A, "[\"say\",\"r\",\"3\"]"), Answer::Done),
+        (
+            Line::Say(OF_A, "[\"say\",\"r\",\"1\"]"),
+            Answer::Cast(Some(1), 1, 0),
+        ),
+        (
+            Line::Say(OF_A, "[\"say\",\"r\",\"2\"]"),
+            Answer::Cast(Some(2), 1, 0),
+        ),
+        (
+            Line::Say(OF_A, "[\"say\",\"r\",\"3\"]"),
+            Answer::Cast(Some(3), 0, 1),
+        ),
         (Line::Totals([11, 4, 1, 2, 0, 2]), Answer::Done),
         (
             Line::Take(B, 1),
             Answer::Texts(&["2[\"say\",\"r\",\"1\",\"0000000000000001\"]"]),
         ),
-        (Line::Say(OF_A, "[\"say\",\"r\",\"4\"]"), Answer::Done),
+        (
+            Line::Say(OF_A, "[\"say\",\"r\",\"4\"]"),
+            Answer::Cast(Some(4), 1, 0),
+        ),
         (Line::Totals([13, 5, 1, 3, 0, 2]), Answer::Done),
         (
             Line::Take(B, 64),
@@ -176,10 +226,27 @@ fn a_hundred_bytes_wait(rt: HostRuntime) -> Result<(), HubError> {
 #[test]
 fn three_says_have_105_bytes(rt: HostRuntime) -> Result<(), HubError> {
     let lines = [
-        (Line::Say(OF_A, "[\"say\",\"r\",\"1\"]"), Answer::Done),
-        (Line::Say(OF_A, "[\"say\",\"r\",\"2\"]"), Answer::Done),
-        (Line::Say(OF_A, "[\"say\",\"r\",\"3\"]"), Answer::Done),
+        (
+            Line::Say(OF_A, "[\"say\",\"r\",\"1\"]"),
+            Answer::Cast(Some(1), 1, 0),
+        ),
+        (
+            Line::Say(OF_A, "[\"say\",\"r\",\"2\"]"),
+            Answer::Cast(Some(2), 1, 0),
+        ),
+        (
+            Line::Say(OF_A, "[\"say\",\"r\",\"3\"]"),
+            Answer::Cast(Some(3), 1, 0),
+        ),
         (Line::Totals([11, 5, 0, 2, 0, 3]), Answer::Done),
+        (
+            Line::Take(B, 64),
+            Answer::Texts(&[
+                "2[\"say\",\"r\",\"1\",\"0000000000000001\"]",
+                "2[\"say\",\"r\",\"2\",\"0000000000000002\"]",
+                "2[\"say\",\"r\",\"3\",\"0000000000000003\"]",
+            ]),
+        ),
     ];
     let limits = Limits {
         bytes: 105,
@@ -204,11 +271,17 @@ fn an_answer_has_84_bytes(rt: HostRuntime) -> Result<(), HubError> {
 #[test]
 fn what_waits_is_discarded(rt: HostRuntime) -> Result<(), HubError> {
     let lines = [
-        (Line::Say(OF_A, "[\"say\",\"r\",\"1\"]"), Answer::Done),
+        (
+            Line::Say(OF_A, "[\"say\",\"r\",\"1\"]"),
+            Answer::Cast(Some(1), 1, 0),
+        ),
         (Line::Close(B), Answer::Done),
         (Line::Totals([10, 3, 0, 2, 1, 0]), Answer::Done),
-        (Line::Say(OF_A, "[\"say\",\"r\",\"2\"]"), Answer::Done),
-        (Line::Members("r", 1), Answer::Done),
+        (
+            Line::Say(OF_A, "[\"say\",\"r\",\"2\"]"),
+            Answer::Cast(Some(2), 0, 0),
+        ),
+        (Line::Members("r", &[OF_A]), Answer::Done),
         (Line::Totals([11, 3, 0, 2, 1, 0]), Answer::Done),
     ];
     let limits = AMPLE;
@@ -230,7 +303,7 @@ fn told_and_ended(rt: HostRuntime) -> Result<(), HubError> {
         (Line::Tell(B, "2[\"t\"]"), Answer::Done),
         (Line::End(OF_B), Answer::Done),
         (Line::End(OF_B), Answer::Refused(HubError::UnknownSocket)),
-        (Line::Members("r", 1), Answer::Done),
+        (Line::Members("r", &[OF_A]), Answer::Done),
         (Line::Take(B, 64), Answer::Texts(&["2[\"t\"]"])),
         (Line::Totals([11, 3, 0, 3, 0, 0]), Answer::Done),
     ];

@@ -1,0 +1,152 @@
+//! A hub and the slow program say the same of random commands.
+
+ghost use Rattle.std.specs.Prelude.{◌≡◌};
+
+mod agreement;
+mod entries;
+mod random;
+mod run;
+mod tally;
+
+use crate::made::PARTS;
+use agreement::agree;
+use entries::{are_same_broadcasts, are_same_sessions};
+use hub::Hub;
+use hub_state::{Config, HubError};
+use random::Random;
+use replay::{log, sessions};
+use run::Run;
+use std::alloc::Global;
+use std::marker::Brand;
+use std::sync::ledger::{Blank, Ledger};
+use tally::{NOTHING, Tally};
+use terms::Text;
+
+fn config(alloc: Global) -> Result<Config, HubError> {
+    let mut spaces = Vec::new(alloc);
+    spaces.push(Text::copy_of(alloc, "/")?)?;
+    spaces.push(Text::copy_of(alloc, "/a")?)?;
+    Ok(Config {
+        clients: 3,
+        capacity: 3,
+        bytes: 250,
+        log: 4,
+        saved: 2,
+        keep: 40,
+        first_offset: 1,
+        spaces,
+    })
+}
+
+/// Seals the hub, and says whether its new base has the sessions and the log that the slow program
+/// computed before.
+fn seals_once<C: Ledger, T: Ledger>(run: &mut Run<C, T>) -> Result<bool, HubError> {
+    let (alloc, config, hub) = (run.alloc, &run.config, &mut run.hub);
+    let saved = sessions(alloc, hub.base(), config, hub.steps())?;
+    let broadcasts = log(alloc, hub.base(), config, hub.steps())?;
+    hub.seal(alloc)?;
+    let base = hub.base();
+    Ok(
+        are_same_sessions(&base.saved, &saved)
+            && are_same_broadcasts(&base.log, &broadcasts)
+            && hub.steps().is_empty(),
+    )
+}
+
+fn seals<C: Ledger, T: Ledger>(run: &mut Run<C, T>) -> Result<bool, HubError> {
+    match seals_once(run) {
+        Err(HubError::Memory) => seals_once(run),
+        sealed => sealed,
+    }
+}
+
+/// Makes a hundred commands over moments that jump and go back, and says whether the slow program
+/// said the same after each 20. The hub is sealed then too, or after 80 where epochs are long.
+fn goes_on<C: Ledger, T: Ledger>(run: &mut Run<C, T>, are_long: bool) -> Result<bool, HubError> {
+    for count in 1..101u64 {
+        run.now = run.random.moment(count);
+        if !run.command()? || (count % 20 == 0 && !agree(run)?) {
+            return Ok(false);
+        }
+        let is_end = count % 80 == 0 || (count % 20 == 0 && !are_long);
+        if is_end && !seals(run)? {
+            return Ok(false);
+        }
+    }
+    Ok(run.hub.settle(&mut run.pass) == Ok(run.hub.totals()))
+}
+
+/// A new hub that gets the random commands of a seed.
+fn begun<C: Ledger, T: Ledger>(
+    alloc: Global,
+    seed: u64,
+    tally: Tally,
+    commands: Blank,
+    taken: Blank,
+) -> Result<Run<C, T>, HubError>
+    requires commands { (commands.name ≡ C.name) × (commands.parts ≡ C.parts) × (commands.parts ≡ 65536) }
+    requires taken { (taken.name ≡ T.name) × (taken.parts ≡ T.parts) × (taken.parts ≡ 65536) }
+{
+    let limits = config(alloc)?;
+    let (hub, pass) = Hub::<C, T>::new(alloc, config(alloc)?, commands, taken)?;
+    Ok(Run {
+        alloc,
+        config: limits,
+        hub,
+        pass,
+        random: Random { state: seed },
+        now: 0,
+        tally,
+    })
+}
+
+/// A history of random commands: what came up in it and before, or nothing where the hub and the
+/// slow program once said something else of it, or a command that was refused changed it.
+fn history<C: Ledger, T: Ledger>(
+    alloc: Global,
+    seed: u64,
+    tally: Tally,
+    commands: Blank,
+    taken: Blank,
+) -> Result<Option<Tally>, HubError>
+    requires commands { (commands.name ≡ C.name) × (commands.parts ≡ C.parts) × (commands.parts ≡ 65536) }
+    requires taken { (taken.name ≡ T.name) × (taken.parts ≡ T.parts) × (taken.parts ≡ 65536) }
+{
+    let mut run = begun::<C, T>(alloc, seed, tally, commands, taken)?;
+    let is_told_alike = goes_on(&mut run, seed % 2 == 1)?;
+    Ok(if is_told_alike { Some(run.tally) } else { None })
+}
+
+fn told_once(alloc: Global, seed: u64, tally: Tally) -> Result<Option<Tally>, HubError> {
+    let (commands, taken) = (Blank::new(PARTS), Blank::new(PARTS));
+    history::<Brand, Brand>(alloc, seed, tally, commands, taken)
+}
+
+/// The same, with another hub where memory for the first was refused.
+fn told(alloc: Global, seed: u64, tally: Tally) -> Result<Option<Tally>, HubError> {
+    match told_once(alloc, seed, tally) {
+        Err(HubError::Memory) => told_once(alloc, seed, tally),
+        told => told,
+    }
+}
+
+#[test]
+fn one_history_is_told_alike(rt: HostRuntime) -> Result<(), HubError> {
+    assert!(rt; told(rt.alloc(), 1, NOTHING)?.is_some());
+    Ok(())
+}
+
+#[test]
+fn hub_and_slow_program_agree(rt: HostRuntime) -> Result<(), HubError> {
+    let mut tally = NOTHING;
+    for seed in 0..240u64 {
+        let raised = told(rt.alloc(), seed, tally)?;
+        assert!(rt; raised.is_some(), "at the seed {seed}");
+        tally = raised.unwrap_or(tally);
+    }
+    assert!(rt;
+        tally.accepted > 8_000 && tally.recovered > 30 && tally.has_all(),
+        "{tally:?}"
+    );
+    Ok(())
+}

@@ -1,0 +1,122 @@
+//! Numbers, ids, texts and broadcasts that look random.
+
+use hub_state::{Cast, HubError};
+use room_maps::{Room, Sid};
+use sio_wire::{Attachments, Entry};
+use std::alloc::Global;
+use terms::{Bytes, Text};
+
+/// Numbers that look random: a linear congruential generator, of which the upper bits are used.
+#[derive(Clone, Copy)]
+pub(super) struct Random {
+    pub(super) state: u64,
+}
+
+impl Random {
+    /// A number below `bound`.
+    pub(super) fn below(&mut self, bound: u64) -> u64 {
+        self.state = self
+            .state
+            .wrapping_mul(6_364_136_223_846_793_005)
+            .wrapping_add(1_442_695_040_888_963_407);
+        match (self.state >> 33).checked_rem(bound) {
+            Some(number) => number,
+            None => 0,
+        }
+    }
+
+    /// A moment about the one that is due after so many commands, and sometimes far past it.
+    pub(super) fn moment(&mut self, count: u64) -> u64 {
+        let leap = if self.below(24) == 0 { 60 } else { 0 };
+        count
+            .saturating_mul(2)
+            .saturating_add(self.below(20))
+            .saturating_add(leap)
+    }
+
+    pub(super) fn id(&mut self) -> u128 {
+        u128::from(self.below(5))
+    }
+
+    pub(super) fn sid(&mut self) -> Sid {
+        Sid::new(self.id())
+    }
+
+    pub(super) fn space(&mut self) -> &'static str {
+        match self.below(8) {
+            0 => "/none",
+            1 | 2 | 3 => "/a",
+            _ => "/",
+        }
+    }
+
+    pub(super) fn room(&mut self) -> Room {
+        let name = match self.below(3) {
+            0 => "r",
+            1 => "s",
+            _ => return Room::own(self.sid()),
+        };
+        match Room::read(name) {
+            Some(room) => room,
+            None => Room::own(Sid::new(0)),
+        }
+    }
+
+    /// No room, one or two.
+    fn rooms(&mut self, alloc: Global) -> Result<Vec<Room>, HubError> {
+        let mut rooms = Vec::new(alloc);
+        for _more in 0..self.below(3) {
+            rooms.push(self.room())?;
+        }
+        Ok(rooms)
+    }
+
+    /// Often none, and else one.
+    fn attachments(&mut self, alloc: Global) -> Result<Attachments, HubError> {
+        let mut attachments = Attachments::new(alloc);
+        if self.below(4) == 0 {
+            attachments.push(Bytes::copy_of(alloc, &[1, 2, 3])?)?;
+        }
+        Ok(attachments)
+    }
+
+    fn text(&mut self) -> &'static str {
+        match self.below(3) {
+            0 => "",
+            1 => "2[\"a\"]",
+            _ => "2[\"a\",\"a long one that fills an outbox\"]",
+        }
+    }
+
+    pub(super) fn entry(&mut self, alloc: Global) -> Result<Entry, HubError> {
+        Ok(Entry {
+            text: Text::copy_of(alloc, self.text())?,
+            attachments: self.attachments(alloc)?,
+        })
+    }
+
+    /// An event's array, or a text that is none and has no bracket.
+    fn payload(&mut self) -> &'static str {
+        match self.below(8) {
+            0 => "a",
+            1 | 2 => "[\"a long one that fills an outbox\"]",
+            _ => "[\"a\"]",
+        }
+    }
+
+    /// A broadcast, often to no room and with no excepted one.
+    pub(super) fn cast(&mut self, alloc: Global) -> Result<Cast, HubError> {
+        let excepted = match self.below(2) {
+            0 => Vec::new(alloc),
+            _ => self.rooms(alloc)?,
+        };
+        Ok(Cast {
+            space: Text::copy_of(alloc, self.space())?,
+            rooms: self.rooms(alloc)?,
+            excepted,
+            logged: self.below(2) == 0,
+            payload: Text::copy_of(alloc, self.payload())?,
+            attachments: self.attachments(alloc)?,
+        })
+    }
+}
