@@ -1,5 +1,5 @@
 -- No moment that a clock holds is later than its last one.
-use Rattle.std.proofs.Common.{◌≡◌, ℕ, ◌≤◌, max, List, [], ◌∷◌, Option, None, Some, arith, sym, ◌∙◌, ap, subst}
+use Rattle.std.proofs.Common.{◌≡◌, ℕ, ◌≤◌, max, List, [], ◌∷◌, Option, None, Some, arith, sym, ◌∙◌, subst}
 use Rattle.std.specs.Prelude.{IfSome}
 use Rattle.session_clock.specs.declared.timing.Due.TheVariants.{Nothing, SendPing, PingTimeout, ConnectTimeout}
 use Rattle.session_clock.specs.History.{Opening, Call, Ticked, Ponged, Joined, Probed, Upgraded, ProbeLost, moment}

@@ -1,6 +1,6 @@
 -- A history one call longer.
-use Rattle.std.proofs.Common.{List, ◌∷◌}
-use Rattle.session_clock.specs.History.{Opening, Call}
+use Rattle.std.proofs.Common.{◌∷◌}
+use Rattle.session_clock.specs.History.{Call}
 use Rattle.session_clock.specs.Contents.{Contents}
 use Rattle.session_clock.specs.Clock.{LeadsTo, ForEachHistory, HasHistory}
 

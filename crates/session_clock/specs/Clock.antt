@@ -1,7 +1,7 @@
 -- Which histories lead to what a clock holds.
-use Rattle.std.specs.Prelude.{ℕ, ◌≡◌, List, [], ◌∷◌, is_some, None}
+use Rattle.std.specs.Prelude.{◌≡◌, List, [], ◌∷◌, is_some, None}
 use Rattle.session_clock.specs.declared.transport.ClockState.{ClockState}
-use Rattle.session_clock.specs.History.{Opening, Call, Ticked, Ponged, Joined, Probed, Upgraded, ProbeLost, moment, was_joined}
+use Rattle.session_clock.specs.History.{Opening, Call, Ticked, Probed, Upgraded, ProbeLost, moment, was_joined}
 use Rattle.session_clock.specs.Heartbeat.{awaited_ping, interval_start, due}
 use Rattle.session_clock.specs.Upgrade.{transport, probe_refusal, unprobed_refusal}
 use Rattle.session_clock.specs.Contents.{Contents}

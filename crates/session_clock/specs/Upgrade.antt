@@ -1,5 +1,5 @@
 -- The transport after a history (Engine.IO protocol 4, "Upgrade").
-use Rattle.std.specs.Prelude.{Bool, if◌then◌else◌, List, [], ◌∷◌, Option, None, Some}
+use Rattle.std.specs.Prelude.{if◌then◌else◌, List, [], ◌∷◌, Option, None, Some}
 use Rattle.session_clock.specs.declared.transport.Transport.{Transport}
 use Rattle.session_clock.specs.declared.transport.Transport.TheVariants.{Polling, Probing, Socket}
 use Rattle.session_clock.specs.declared.error.ClockError.{ClockError}

@@ -1,5 +1,5 @@
 -- No record separator stands in a header's payload.
-use Rattle.std.proofs.Common.{◌≡◌, ◌≢◌, ℕ, [], List, Option, Some, None}
+use Rattle.std.proofs.Common.{◌≢◌, ℕ, List, Option, Some, None}
 use Rattle.std.specs.List.{All, Contains}
 use Rattle.std.proofs.lemmas.List.{get_or_default}
 use Rattle.std.proofs.lemmas.List.Elements.{All-nil}
