@@ -8,5 +8,3 @@ mod error;
 pub use book::AckBook;
 pub use error::AckError;
 
-#[cfg(test)]
-mod tests;

@@ -17,5 +17,3 @@ pub use payload::{
     whole_data_is_written, write_payload,
 };
 
-#[cfg(test)]
-mod tests;

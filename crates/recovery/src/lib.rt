@@ -15,5 +15,3 @@ pub use packet_log::PacketLog;
 pub use saved_session::{Pid, Saved};
 pub use saved_table::SavedTable;
 
-#[cfg(test)]
-mod tests;

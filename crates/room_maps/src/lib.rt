@@ -14,5 +14,3 @@ pub use room::Room;
 pub use rooms::Rooms;
 pub use sid::Sid;
 
-#[cfg(test)]
-mod tests;

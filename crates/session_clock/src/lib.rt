@@ -12,5 +12,3 @@ pub use error::ClockError;
 pub use timing::{Due, Timing};
 pub use transport::{ClockState, Transport};
 
-#[cfg(test)]
-mod tests;

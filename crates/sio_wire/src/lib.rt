@@ -26,5 +26,3 @@ pub use kind::Kind;
 pub use offset::{read_offset, with_offset};
 pub use resume::{Resume, resume_of};
 
-#[cfg(test)]
-mod tests;

@@ -12,5 +12,3 @@ pub use bytes::Bytes;
 pub use hexadecimal::{digits_differ, read_digits, write_digits};
 pub use text::Text;
 
-#[cfg(test)]
-mod tests;

@@ -1,4 +1,4 @@
-use crate::{
+use sio_wire::{
     Assembler, Attachments, Entry, Header, Kind, Resume, SioError, SioPacket, connected_text,
     names, read_header, read_offset, refused_text, resume_of, with_offset, write_header,
 };

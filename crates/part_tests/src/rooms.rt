@@ -1,4 +1,4 @@
-use super::*;
+use room_maps::{Room, RoomError, Rooms, Sid};
 use std::alloc::Global;
 use std::process::Abort;
 

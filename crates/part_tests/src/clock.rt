@@ -1,4 +1,4 @@
-use super::*;
+use session_clock::{Clock, ClockError, ClockState, Due, Timing, Transport};
 
 const DEFAULTS: Timing = Timing {
     ping_interval: 25_000,

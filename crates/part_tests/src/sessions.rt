@@ -2,7 +2,7 @@
 //! refused growth changes nothing. `rt try --test --fail-alloc N` refuses one growth of the whole
 //! run, so each second try succeeds.
 
-use super::*;
+use recovery::{Logged, PacketLog, Pid, RecoveryError, Saved, SavedTable};
 use room_maps::{Room, Sid};
 use sio_wire::{Attachments, Entry};
 use std::alloc::Global;

@@ -1,4 +1,4 @@
-use super::*;
+use terms::write_digits;
 
 #[test]
 fn digits_of_numbers(rt: HostRuntime) {

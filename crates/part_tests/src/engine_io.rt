@@ -1,4 +1,4 @@
-use crate::{
+use eio_wire::{
     Numbers, Packet, WireError, id_text, open_text, read_id, read_packet, read_payload,
     write_packet, write_payload,
 };

@@ -1,4 +1,4 @@
-use super::*;
+use ack_book::{AckBook, AckError};
 use std::alloc::Global;
 use std::process::Abort;
 
