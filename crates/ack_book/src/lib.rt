@@ -7,4 +7,3 @@ mod error;
 
 pub use book::AckBook;
 pub use error::AckError;
-

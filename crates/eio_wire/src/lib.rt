@@ -16,4 +16,3 @@ pub use payload::{
     faults_of_texts, one_fault, one_payload, payloads_or_refusals, read_payload,
     whole_data_is_written, write_payload,
 };
-

@@ -14,4 +14,3 @@ pub use logged::Logged;
 pub use packet_log::PacketLog;
 pub use saved_session::{Pid, Saved};
 pub use saved_table::SavedTable;
-

@@ -13,4 +13,3 @@ pub use error::RoomError;
 pub use room::Room;
 pub use rooms::Rooms;
 pub use sid::Sid;
-

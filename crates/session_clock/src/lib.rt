@@ -11,4 +11,3 @@ pub use clock::Clock;
 pub use error::ClockError;
 pub use timing::{Due, Timing};
 pub use transport::{ClockState, Transport};
-

@@ -25,4 +25,3 @@ pub use header::{Header, header_faults, header_texts, read_header, write_header}
 pub use kind::Kind;
 pub use offset::{read_offset, with_offset};
 pub use resume::{Resume, resume_of};
-

@@ -11,4 +11,3 @@ pub use ascii::ascii_text;
 pub use bytes::Bytes;
 pub use hexadecimal::{digits_differ, read_digits, write_digits};
 pub use text::Text;
-
