@@ -12,6 +12,12 @@ and_comm true false = refl
 and_comm false true = refl
 and_comm false false = refl
 
+pub or_comm : (b c : Bool) → (b || c) ≡ (c || b)
+or_comm true true = refl
+or_comm true false = refl
+or_comm false true = refl
+or_comm false false = refl
+
 pub both_true : (b c : Bool) → b ≡ true → c ≡ true → (b && c) ≡ true
 both_true b c e f = ap (λ x. x && c) e ∙ f
 

@@ -1,5 +1,6 @@
 pub mod BooleanLemmas
 pub mod OrderLemmas
+pub mod ListLemmas
 pub mod RoomLemmas
 pub mod LinksLemmas
 pub mod MembershipLemmas
@@ -7,3 +8,4 @@ pub mod MembershipLaws
 pub mod MirrorLemmas
 pub mod AddressedLemmas
 pub mod PairsLemmas
+pub mod TogetherLemmas

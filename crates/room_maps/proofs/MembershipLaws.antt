@@ -7,7 +7,7 @@ use Rattle.std.specs.Cmp.Lexicographic.{nat_list_eq_equiv}
 use Rattle.std.proofs.lemmas.Bool.{eqb-true}
 use Rattle.std.specs.FinSet.{contains-empty}
 use Rattle.room_maps.specs.Room.{room_cmp, same_room, own_room}
-use Rattle.room_maps.specs.Membership.{RoomSets, pair_cmp, is_socket, is_in, no_sockets, with_pair, without_pair, with_socket, with_socket_in, without_socket}
+use Rattle.room_maps.specs.Membership.{RoomSets, pair_cmp, is_socket, is_in, no_sockets, is_named, with_pair, without_pair, with_members, without_members, with_socket, with_socket_in, without_socket}
 use Rattle.room_maps.proofs.BooleanLemmas.{same_bool}
 use Rattle.room_maps.proofs.OrderLemmas.{nat_tied, nat_itself, same_room-cmp}
 use Rattle.room_maps.proofs.MembershipLemmas as by_order
@@ -23,6 +23,9 @@ nat_eq-cmp s q =
 
 same_pair : (s : ℕ) (r : List ℕ) (q : ℕ) (w : List ℕ) → (eq_by_cmp nat_cmp s q && eq_by_cmp room_cmp r w) ≡ (nat_eq s q && same_room r w)
 same_pair s r q w i = nat_eq-cmp s q i && same_room-cmp r w i
+
+same_pairs : (sids : List ℕ) (r : List ℕ) (q : ℕ) (w : List ℕ) → (is_named sids q && eq_by_cmp room_cmp r w) ≡ (list_any (nat_eq q) sids && same_room r w)
+same_pairs sids r q w i = list_any (λ s. nat_eq-cmp q s i) sids && same_room-cmp r w i
 
 pub is_socket-no_sockets : (q : ℕ) → is_socket no_sockets q ≡ false
 is_socket-no_sockets q = contains-empty nat_cmp q
@@ -41,6 +44,22 @@ is_socket-without_pair v s r q = refl
 
 pub is_in-without_pair : (v : RoomSets) (s : ℕ) (r : List ℕ) (q : ℕ) (w : List ℕ) → is_in (without_pair v s r) q w ≡ (not (nat_eq s q && same_room r w) && is_in v q w)
 is_in-without_pair v s r q w = by_order.is_in-without_pair v s r q w ∙ ap (λ b. not b && is_in v q w) (same_pair s r q w)
+
+-- a socket is named where it is one of these
+pub named-is : (sids : List ℕ) (q : ℕ) → is_named sids q ≡ list_any (nat_eq q) sids
+named-is sids q = ap (λ p. list_any p sids) (λ i s. nat_eq-cmp q s i)
+
+pub is_socket-with_members : (v : RoomSets) (sids : List ℕ) (r : List ℕ) (q : ℕ) → is_socket (with_members v sids r) q ≡ is_socket v q
+is_socket-with_members v sids r q = refl
+
+pub is_in-with_members : (v : RoomSets) (sids : List ℕ) (r : List ℕ) (q : ℕ) (w : List ℕ) → is_in (with_members v sids r) q w ≡ ((list_any (nat_eq q) sids && same_room r w) || is_in v q w)
+is_in-with_members v sids r q w = by_order.is_in-with_members v sids r q w ∙ ap (λ b. b || is_in v q w) (same_pairs sids r q w)
+
+pub is_socket-without_members : (v : RoomSets) (sids : List ℕ) (r : List ℕ) (q : ℕ) → is_socket (without_members v sids r) q ≡ is_socket v q
+is_socket-without_members v sids r q = refl
+
+pub is_in-without_members : (v : RoomSets) (sids : List ℕ) (r : List ℕ) (q : ℕ) (w : List ℕ) → is_in (without_members v sids r) q w ≡ (not (list_any (nat_eq q) sids && same_room r w) && is_in v q w)
+is_in-without_members v sids r q w = by_order.is_in-without_members v sids r q w ∙ ap (λ b. not b && is_in v q w) (same_pairs sids r q w)
 
 pub is_socket-with_socket : (v : RoomSets) (s q : ℕ) → is_socket (with_socket v s) q ≡ (nat_eq s q || is_socket v q)
 is_socket-with_socket v s q = by_order.is_socket-with_socket v s q ∙ ap (λ b. b || is_socket v q) (nat_eq-cmp s q)

@@ -5,13 +5,20 @@ use Rattle.std.specs.Cmp.{nat_cmp_total, eq_by_cmp_equiv}
 use Rattle.std.specs.Cmp.Lexicographic.{nat_list_cmp_total}
 use Rattle.std.specs.List.{filter, list_any}
 use Rattle.std.specs.FinSet as set
-use Rattle.std.specs.FinSet.{nat_cmp-IsAntisymmetric, contains-empty, contains-insert, contains-remove, contains-from_list, contains-retain, contains-union, contains-items, len-empty, len-insert, len-remove, same_set}
+use Rattle.std.specs.FinSet.{nat_cmp-IsAntisymmetric, contains-empty, contains-insert, contains-remove, contains-from_list, contains-retain, contains-union, contains-difference, contains-items, len-empty, len-insert, len-remove, same_set}
 use Rattle.std.proofs.lemmas.Bool.Decides.{nat_tests}
 use Rattle.std.proofs.lemmas.List.Folds.{list_any-append}
 use Rattle.room_maps.specs.Room.{room_cmp, own_room}
-use Rattle.room_maps.specs.Membership.{pair_cmp, RoomSets, is_socket, is_in, rooms_in, no_sockets, with_pair, without_pair, with_pairs, with_socket, with_socket_in, without_socket, is_full, are_too_many, HasFewRooms, AreConsistent}
-use Rattle.room_maps.proofs.BooleanLemmas.{and_comm, same_bool, taken_back_bool, added_again_bool}
+use Rattle.room_maps.specs.Membership.{pair_cmp, RoomSets, is_socket, is_in, is_named, rooms_in, pairs_with, no_sockets, with_pair, without_pair, with_pairs, with_members, without_members, with_socket, with_socket_in, without_socket, is_full, are_too_many, HasFewRooms, AreConsistent}
+use Rattle.room_maps.proofs.BooleanLemmas.{and_comm, or_comm, same_bool, taken_back_bool, added_again_bool}
 use Rattle.room_maps.proofs.OrderLemmas.{pair_cmp_total, room_cmp-IsAntisymmetric, pair_cmp-IsAntisymmetric, then-eq, nat_tied, room_tied, pair_tied, nat_itself, eq-pair, list_any-map, list_any-and, list_any-filter}
+
+-- two are the same that hold the same sockets and the same pairs
+pub same_sets : (v n : RoomSets) → ((q : ℕ) → is_socket v q ≡ is_socket n q) → ((q : ℕ) (w : List ℕ) → is_in v q w ≡ is_in n q w) → v ≡ n
+same_sets v n sockets pairs i = record {
+  sockets = same_set nat_cmp_total nat_cmp-IsAntisymmetric v.sockets n.sockets sockets i;
+  pairs = same_set pair_cmp_total pair_cmp-IsAntisymmetric v.pairs n.pairs (λ q. pairs q.0 q.1) i;
+}
 
 -- ---- who is in which room after each change
 
@@ -31,12 +38,27 @@ is_in-with_pairs v s rooms q w =
     ∙ list_any-and (eq_by_cmp nat_cmp q s) (eq_by_cmp room_cmp w) rooms
     ∙ ap (λ b. b && list_any (eq_by_cmp room_cmp w) rooms) ((eq_by_cmp_equiv nat_cmp_total).symm q s))
     ∙ or_comm (is_in v q w) (eq_by_cmp nat_cmp s q && list_any (eq_by_cmp room_cmp w) rooms)
-  where
-    or_comm : (b c : Bool) → (b || c) ≡ (c || b)
-    or_comm true true = refl
-    or_comm true false = refl
-    or_comm false true = refl
-    or_comm false false = refl
+
+contains-pairs_with : (sids : List ℕ) (r : List ℕ) (q : ℕ) (w : List ℕ) → set.contains (pairs_with sids r) (q, w) ≡ (is_named sids q && eq_by_cmp room_cmp r w)
+contains-pairs_with sids r q w =
+    contains-from_list pair_cmp_total (map (λ s. (s, r)) sids) (q, w)
+    ∙ list_any-map (eq_by_cmp pair_cmp (q, w)) (λ s. (s, r)) sids
+    ∙ ap (λ p. list_any p sids) (λ i s. (then-eq (nat_cmp q s) (room_cmp w r) ∙ and_comm (eq_by_cmp nat_cmp q s) (eq_by_cmp room_cmp w r)) i)
+    ∙ list_any-and (eq_by_cmp room_cmp w r) (eq_by_cmp nat_cmp q) sids
+    ∙ and_comm (eq_by_cmp room_cmp w r) (is_named sids q)
+    ∙ ap (λ b. is_named sids q && b) ((eq_by_cmp_equiv nat_list_cmp_total).symm w r)
+
+pub is_in-with_members : (v : RoomSets) (sids : List ℕ) (r : List ℕ) (q : ℕ) (w : List ℕ) → is_in (with_members v sids r) q w ≡ ((is_named sids q && eq_by_cmp room_cmp r w) || is_in v q w)
+is_in-with_members v sids r q w =
+    contains-union pair_cmp_total v.pairs (pairs_with sids r) (q, w)
+    ∙ ap (λ b. is_in v q w || b) (contains-pairs_with sids r q w)
+    ∙ or_comm (is_in v q w) (is_named sids q && eq_by_cmp room_cmp r w)
+
+pub is_in-without_members : (v : RoomSets) (sids : List ℕ) (r : List ℕ) (q : ℕ) (w : List ℕ) → is_in (without_members v sids r) q w ≡ (not (is_named sids q && eq_by_cmp room_cmp r w) && is_in v q w)
+is_in-without_members v sids r q w =
+    contains-difference pair_cmp_total v.pairs (pairs_with sids r) (q, w)
+    ∙ ap (λ b. is_in v q w && not b) (contains-pairs_with sids r q w)
+    ∙ and_comm (is_in v q w) (not (is_named sids q && eq_by_cmp room_cmp r w))
 
 pub is_in-without_socket : (v : RoomSets) (s : ℕ) (q : ℕ) (w : List ℕ) → is_in (without_socket v s) q w ≡ (not (eq_by_cmp nat_cmp s q) && is_in v q w)
 is_in-without_socket v s q w =
@@ -107,27 +129,30 @@ few_with_pair v s r few room q =
       | false ↦ λ e. few_of_same v (with_pair v s r) q few (λ w. is_in-with_pair v s r q w ∙ ap (λ b. (b && eq_by_cmp room_cmp r w) || is_in v q w) e)
     ] refl
 
-pub few_without_pair : (v : RoomSets) (s : ℕ) (r : List ℕ) → HasFewRooms v → HasFewRooms (without_pair v s r)
-few_without_pair v s r few q =
-    elim (eq_by_cmp nat_cmp s q) as (λ b. eq_by_cmp nat_cmp s q ≡ b → set.len (rooms_in (without_pair v s r) q) ≤ 256) [
-      | true ↦ λ e.
-          (let count : set.len (rooms_in (without_pair v s r) q) ≡ cond (set.contains (rooms_in v q) r) (set.len (rooms_in v q) - 1) (set.len (rooms_in v q)) =
-          ap set.len
-          (rooms_are (without_pair v s r) q (set.remove (rooms_in v q) r)
-          (λ w. is_in-without_pair v s r q w
-          ∙ ap (λ b. not (b && eq_by_cmp room_cmp r w) && is_in v q w) e
-          ∙ ap (λ b. not b && is_in v q w) ((eq_by_cmp_equiv nat_list_cmp_total).symm r w)
-          ∙ ap (λ b. not (eq_by_cmp room_cmp w r) && b) (sym (contains-rooms_in v q w))
-          ∙ sym (contains-remove nat_list_cmp_total (rooms_in v q) r w)))
-          ∙ len-remove nat_list_cmp_total (rooms_in v q) r in
-          let bound = no_more (set.contains (rooms_in v q) r) (set.len (rooms_in v q)) (few q) in
-          omega (arith, count, bound))
-      | false ↦ λ e. few_of_same v (without_pair v s r) q few (λ w. is_in-without_pair v s r q w ∙ ap (λ b. not (b && eq_by_cmp room_cmp r w) && is_in v q w) e)
-    ] refl
+-- one who is in no more rooms, but perhaps in one less
+few_of_less : (v n : RoomSets) (q : ℕ) (r : List ℕ) (less : Bool) → HasFewRooms v → ((w : List ℕ) → is_in n q w ≡ (not (less && eq_by_cmp room_cmp r w) && is_in v q w)) → set.len (rooms_in n q) ≤ 256
+few_of_less v n q r false few h = few_of_same v n q few h
+few_of_less v n q r true few h =
+    let count : set.len (rooms_in n q) ≡ cond (set.contains (rooms_in v q) r) (set.len (rooms_in v q) - 1) (set.len (rooms_in v q)) =
+    ap set.len
+    (rooms_are n q (set.remove (rooms_in v q) r)
+    (λ w. h w
+    ∙ ap (λ b. not b && is_in v q w) ((eq_by_cmp_equiv nat_list_cmp_total).symm r w)
+    ∙ ap (λ b. not (eq_by_cmp room_cmp w r) && b) (sym (contains-rooms_in v q w))
+    ∙ sym (contains-remove nat_list_cmp_total (rooms_in v q) r w)))
+    ∙ len-remove nat_list_cmp_total (rooms_in v q) r in
+    let bound = no_more (set.contains (rooms_in v q) r) (set.len (rooms_in v q)) (few q) in
+    omega (arith, count, bound)
   where
     no_more : (b : Bool) (n : ℕ) → n ≤ 256 → cond b (n - 1) n ≤ 256
     no_more true n h = omega arith
     no_more false n h = omega arith
+
+pub few_without_pair : (v : RoomSets) (s : ℕ) (r : List ℕ) → HasFewRooms v → HasFewRooms (without_pair v s r)
+few_without_pair v s r few q = few_of_less v (without_pair v s r) q r (eq_by_cmp nat_cmp s q) few (is_in-without_pair v s r q)
+
+pub few_without_members : (v : RoomSets) (sids : List ℕ) (r : List ℕ) → HasFewRooms v → HasFewRooms (without_members v sids r)
+few_without_members v sids r few q = few_of_less v (without_members v sids r) q r (is_named sids q) few (is_in-without_members v sids r q)
 
 pub few_without_socket : (v : RoomSets) (s : ℕ) → HasFewRooms v → HasFewRooms (without_socket v s)
 few_without_socket v s few q =

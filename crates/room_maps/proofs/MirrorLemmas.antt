@@ -13,12 +13,12 @@ use Rattle.std.specs.BTreeMap as tree
 use Rattle.std.proofs.lemmas.Map.Made.{is_some-lookup}
 use Rattle.room_maps.specs.Room.{room_cmp, same_room, own_room}
 use Rattle.room_maps.specs.Links.{is_linked, is_in_some, HasNoEmptySet, IsUnchanged, AddsLink}
-use Rattle.room_maps.specs.Membership.{pair_cmp, RoomSets, rooms_in, with_pair, with_socket, without_pair, without_socket, no_sockets, HasFewRooms, AreConsistent}
-use Rattle.room_maps.specs.Mirror.{SocketMap, RoomMap, rooms_at, pairs_at, sockets_of, pairs_of, sets_of, Mirror}
+use Rattle.room_maps.specs.Membership.{pair_cmp, RoomSets, is_named, rooms_in, with_pair, with_socket, without_pair, without_members, without_socket, no_sockets, HasFewRooms, AreConsistent}
+use Rattle.room_maps.specs.Mirror.{SocketMap, RoomMap, rooms_at, pairs_at, sockets_of, pairs_of, sets_of, Mirror, IsMirrored}
 use Rattle.room_maps.proofs.BooleanLemmas.{or_right, and_comm, both_true, right, left, not_both, same_bool}
 use Rattle.room_maps.proofs.OrderLemmas.{pair_cmp_total, room_cmp-IsAntisymmetric, pair_cmp-IsAntisymmetric, then-eq, nat_tied, room_tied, nat_itself, room_itself, eq-pair, same_room-cmp, list_any-map, list_any-and, list_any-flat_map, list_any-at, len-from_sorted}
 use Rattle.room_maps.proofs.LinksLemmas.{linked_key, filled_by, some_link, keys_of_links, none_linked}
-use Rattle.room_maps.proofs.MembershipLemmas.{contains-rooms_in}
+use Rattle.room_maps.proofs.MembershipLemmas.{contains-rooms_in, is_in-without_members}
 
 any_room : (r : List ℕ) (o : Option (BTreeSet (List ℕ))) → list_any (eq_by_cmp room_cmp r) (rooms_at o) ≡ is_in_some room_cmp o r
 any_room r None = refl
@@ -209,44 +209,82 @@ mirror_unchanged a n b m h ua ub filled =
     (λ s known. ua.0 s (own_room s) ∙ own_link a b h s (sym (ua.1 s) ∙ known))
     filled
 
-module _ (a n : SocketMap) (b : RoomMap) (s : ℕ) (r : List ℕ) (h : Mirror a b (pairs_of a))
-    (removes : (q : ℕ) (w : List ℕ) → is_linked nat_cmp room_cmp n q w ≡ (not (eq_by_cmp nat_cmp s q && eq_by_cmp room_cmp r w) && is_linked nat_cmp room_cmp a q w))
-    (apart : same_room (own_room s) r ≡ false)
+-- ---- the sockets that pass a test leave a room, which isn't their own one
+
+module _ (a n : SocketMap) (b : RoomMap) (test : ℕ → Bool) (r : List ℕ) (h : Mirror a b (pairs_of a))
+    (removes : (q : ℕ) (w : List ℕ) → is_linked nat_cmp room_cmp n q w ≡ (not (test q && eq_by_cmp room_cmp r w) && is_linked nat_cmp room_cmp a q w))
+    (apart : (q : ℕ) → test q ≡ true → same_room (own_room q) r ≡ false)
     (fn : HasNoEmptySet nat_cmp n) where
   was_key : (q : ℕ) → is_some (tree.get nat_cmp n q) ≡ true → is_some (tree.get nat_cmp a q) ≡ true
   was_key q here =
       let l = some_link room_cmp nat_list_cmp_total (tree.get nat_cmp n q) (fn q) here in
       linked_key room_cmp (tree.get nat_cmp a q) l.0
-      (right (not (eq_by_cmp nat_cmp s q && eq_by_cmp room_cmp r l.0)) (is_linked nat_cmp room_cmp a q l.0) (sym (removes q l.0) ∙ l.1))
+      (right (not (test q && eq_by_cmp room_cmp r l.0)) (is_linked nat_cmp room_cmp a q l.0) (sym (removes q l.0) ∙ l.1))
 
   -- a socket is still in its own room
   own_stays : (q : ℕ) → is_some (tree.get nat_cmp a q) ≡ true → is_linked nat_cmp room_cmp n q (own_room q) ≡ true
   own_stays q was =
       removes q (own_room q)
-      ∙ both_true (not (eq_by_cmp nat_cmp s q && eq_by_cmp room_cmp r (own_room q))) (is_linked nat_cmp room_cmp a q (own_room q))
-      (not_both (eq_by_cmp nat_cmp s q) (eq_by_cmp room_cmp r (own_room q))
-      (λ e. ap (λ k. eq_by_cmp room_cmp r (own_room k)) (sym (nat_tied s q e)) ∙ (eq_by_cmp_equiv nat_list_cmp_total).symm r (own_room s) ∙ same_room-cmp (own_room s) r ∙ apart))
+      ∙ both_true (not (test q && eq_by_cmp room_cmp r (own_room q))) (is_linked nat_cmp room_cmp a q (own_room q))
+      (not_both (test q) (eq_by_cmp room_cmp r (own_room q)) (λ e. (eq_by_cmp_equiv nat_list_cmp_total).symm r (own_room q) ∙ same_room-cmp (own_room q) r ∙ apart q e))
       (own_link a b h q was)
 
+  sockets_stay : sockets_of n ≡ sockets_of a
+  sockets_stay =
+      sockets_same a n
+      (λ q. same_bool (is_some (tree.get nat_cmp n q)) (is_some (tree.get nat_cmp a q)) (was_key q) (λ was. linked_key room_cmp (tree.get nat_cmp n q) (own_room q) (own_stays q was)))
+
+  mirror_left : (m : RoomMap)
+      → ((w : List ℕ) (q : ℕ) → is_linked room_cmp nat_cmp m w q ≡ (not (eq_by_cmp room_cmp r w && test q) && is_linked room_cmp nat_cmp b w q))
+      → HasNoEmptySet room_cmp m
+      → Mirror n m (pairs_of n)
+  mirror_left m other fm =
+      mirror n m
+      (λ q w. other w q
+      ∙ ap (λ x. not x && is_linked room_cmp nat_cmp b w q) (and_comm (eq_by_cmp room_cmp r w) (test q))
+      ∙ ap (λ x. not (test q && eq_by_cmp room_cmp r w) && x) (mirrored a b h q w)
+      ∙ sym (removes q w))
+      (λ q here. own_stays q (was_key q here))
+      fm
+
+-- one socket leaves a room
+module _ (a n : SocketMap) (b : RoomMap) (s : ℕ) (r : List ℕ) (h : Mirror a b (pairs_of a))
+    (removes : (q : ℕ) (w : List ℕ) → is_linked nat_cmp room_cmp n q w ≡ (not (eq_by_cmp nat_cmp s q && eq_by_cmp room_cmp r w) && is_linked nat_cmp room_cmp a q w))
+    (apart : same_room (own_room s) r ≡ false)
+    (fn : HasNoEmptySet nat_cmp n) where
+  apart_from : (q : ℕ) → eq_by_cmp nat_cmp s q ≡ true → same_room (own_room q) r ≡ false
+  apart_from q e = ap (λ k. same_room (own_room k) r) (sym (nat_tied s q e)) ∙ apart
+
   pub sets_without_pair : sets_of n ≡ without_pair (sets_of a) s r
-  sets_without_pair i = record {
-    sockets = sockets_same a n
-        (λ q. same_bool (is_some (tree.get nat_cmp n q)) (is_some (tree.get nat_cmp a q)) (was_key q) (λ was. linked_key room_cmp (tree.get nat_cmp n q) (own_room q) (own_stays q was))) i;
-    pairs = pairs_removed a n s r removes i;
-  }
+  sets_without_pair i = record { sockets = sockets_stay a n b (eq_by_cmp nat_cmp s) r h removes apart_from fn i; pairs = pairs_removed a n s r removes i }
 
   pub mirror_without_pair : (m : RoomMap)
       → ((w : List ℕ) (q : ℕ) → is_linked room_cmp nat_cmp m w q ≡ (not (eq_by_cmp room_cmp r w && eq_by_cmp nat_cmp s q) && is_linked room_cmp nat_cmp b w q))
       → HasNoEmptySet room_cmp m
       → Mirror n m (pairs_of n)
-  mirror_without_pair m other fm =
-      mirror n m
-      (λ q w. other w q
-      ∙ ap (λ x. not x && is_linked room_cmp nat_cmp b w q) (and_comm (eq_by_cmp room_cmp r w) (eq_by_cmp nat_cmp s q))
-      ∙ ap (λ x. not (eq_by_cmp nat_cmp s q && eq_by_cmp room_cmp r w) && x) (mirrored a b h q w)
-      ∙ sym (removes q w))
-      (λ q here. own_stays q (was_key q here))
-      fm
+  mirror_without_pair = mirror_left a n b (eq_by_cmp nat_cmp s) r h removes apart_from fn
+
+-- several sockets leave a room
+module _ (a n : SocketMap) (b : RoomMap) (sids : List ℕ) (r : List ℕ) (h : Mirror a b (pairs_of a))
+    (removes : (q : ℕ) (w : List ℕ) → is_linked nat_cmp room_cmp n q w ≡ (not (is_named sids q && eq_by_cmp room_cmp r w) && is_linked nat_cmp room_cmp a q w))
+    (apart : (q : ℕ) → is_named sids q ≡ true → same_room (own_room q) r ≡ false)
+    (fn : HasNoEmptySet nat_cmp n) where
+  pub sets_without_members : sets_of n ≡ without_members (sets_of a) sids r
+  sets_without_members i = record {
+    sockets = sockets_stay a n b (is_named sids) r h removes apart fn i;
+    pairs =
+        same_set pair_cmp_total pair_cmp-IsAntisymmetric (pairs_of n) (without_members (sets_of a) sids r).pairs
+        (λ q. contains-pairs_of n q.0 q.1
+        ∙ removes q.0 q.1
+        ∙ ap (λ b. not (is_named sids q.0 && eq_by_cmp room_cmp r q.1) && b) (sym (contains-pairs_of a q.0 q.1))
+        ∙ sym (is_in-without_members (sets_of a) sids r q.0 q.1)) i;
+  }
+
+  pub mirror_without_members : (m : RoomMap)
+      → ((w : List ℕ) (q : ℕ) → is_linked room_cmp nat_cmp m w q ≡ (not (eq_by_cmp room_cmp r w && is_named sids q) && is_linked room_cmp nat_cmp b w q))
+      → HasNoEmptySet room_cmp m
+      → Mirror n m (pairs_of n)
+  mirror_without_members = mirror_left a n b (is_named sids) r h removes apart fn
 
 -- ---- a socket ends
 
@@ -354,4 +392,11 @@ consistent_of a b h few = record {
   own_rooms = λ s known. h.own_rooms s (sym (contains-sockets_of a s) ∙ known);
   known = known_of a;
   few_rooms = few;
+}
+
+pub mirrored_of : (a : SocketMap) (b : RoomMap) → Mirror a b (pairs_of a) → IsMirrored (sets_of a) a b
+mirrored_of a b h = record {
+  sockets = λ s. sym (contains-sockets_of a s);
+  pairs = h;
+  no_empty_socket = filled_sockets a b h;
 }

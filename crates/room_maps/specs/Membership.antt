@@ -1,10 +1,10 @@
 -- Which sockets there are and which rooms they are in (Socket.IO server documentation, "Rooms" and "Adapter").
-use Rattle.std.specs.Prelude.{◌≡◌, ℕ, Bool, true, ◌≤◌, not, List, [], ◌∷◌, map, nat_le, nat_lt, Option, refl}
+use Rattle.std.specs.Prelude.{◌≡◌, ℕ, Bool, true, ◌≤◌, ◌&&◌, not, List, [], ◌∷◌, map, nat_le, nat_lt, Option, refl}
 use Rattle.room_maps.specs.declared.error.RoomError.{RoomError}
 use Rattle.room_maps.specs.declared.error.RoomError.TheVariants.{UnknownSocket, AlreadyIn, NotIn, OwnRoom, TooManyRooms, SidTaken}
 use Rattle.std.specs.declared.cmp.Ordering.{Ordering}
 use Rattle.std.specs.Ordering.{nat_cmp, on, then_cmp, eq_by_cmp}
-use Rattle.std.specs.List.{filter}
+use Rattle.std.specs.List.{filter, list_any}
 use Rattle.std.specs.FinSet as set
 use Rattle.std.specs.Coded.{Coded, code_by, coded×, coded_ℕ, coded_list}
 use Rattle.terms.specs.Refusal.{first_refusal}
@@ -32,6 +32,14 @@ is_in sets sid room = set.contains sets.pairs (sid, room)
 unfoldable pub rooms_in : RoomSets → ℕ → set.FinSet room_cmp
 rooms_in sets sid = set.from_list (map (λ p. p.1) (filter (λ p. eq_by_cmp nat_cmp sid p.0) (set.items sets.pairs)))
 
+-- whether the socket is one of these
+abbrev pub is_named : List ℕ → ℕ → Bool
+is_named sids sid = list_any (eq_by_cmp nat_cmp sid) sids
+
+-- the pairs of these sockets and the room
+abbrev pub pairs_with : List ℕ → List ℕ → set.FinSet pair_cmp
+pairs_with sids room = set.from_list (map (λ sid. (sid, room)) sids)
+
 -- ---- the changes
 
 abbrev pub no_sockets : RoomSets
@@ -46,6 +54,14 @@ without_pair sets sid room = record { sockets = sets.sockets; pairs = set.remove
 -- the socket is in these rooms too
 abbrev pub with_pairs : RoomSets → ℕ → List (List ℕ) → RoomSets
 with_pairs sets sid rooms = record { sockets = sets.sockets; pairs = set.union sets.pairs (set.from_list (map (λ room. (sid, room)) rooms)) }
+
+-- these sockets are in the room too
+abbrev pub with_members : RoomSets → List ℕ → List ℕ → RoomSets
+with_members sets sids room = record { sockets = sets.sockets; pairs = set.union sets.pairs (pairs_with sids room) }
+
+-- these sockets aren't in the room
+abbrev pub without_members : RoomSets → List ℕ → List ℕ → RoomSets
+without_members sets sids room = record { sockets = sets.sockets; pairs = set.difference sets.pairs (pairs_with sids room) }
 
 -- a new socket is in its own room
 abbrev pub with_socket : RoomSets → ℕ → RoomSets
@@ -83,6 +99,26 @@ join_refusal sets sid room =
 abbrev pub leave_refusal : RoomSets → ℕ → List ℕ → Option RoomError
 leave_refusal sets sid room =
     first_refusal ((not (is_socket sets sid), UnknownSocket) ∷ (same_room (own_room sid) room, OwnRoom) ∷ (not (is_in sets sid room), NotIn) ∷ [])
+
+-- one of these isn't a socket
+abbrev pub has_unknown : RoomSets → List ℕ → Bool
+has_unknown sets sids = list_any (λ sid. not (is_socket sets sid)) sids
+
+-- one of these isn't in the room, and has no place for it
+abbrev pub has_full : RoomSets → List ℕ → List ℕ → Bool
+has_full sets sids room = list_any (λ sid. not (is_in sets sid room) && is_full sets sid) sids
+
+-- the room is the own one of one of these
+abbrev pub has_own_room : List ℕ → List ℕ → Bool
+has_own_room sids room = list_any (λ sid. same_room (own_room sid) room) sids
+
+abbrev pub join_all_refusal : RoomSets → List ℕ → List ℕ → Option RoomError
+join_all_refusal sets sids room =
+    first_refusal ((has_unknown sets sids, UnknownSocket) ∷ (has_full sets sids room, TooManyRooms) ∷ [])
+
+abbrev pub leave_all_refusal : RoomSets → List ℕ → List ℕ → Option RoomError
+leave_all_refusal sets sids room =
+    first_refusal ((has_unknown sets sids, UnknownSocket) ∷ (has_own_room sids room, OwnRoom) ∷ [])
 
 -- of `end` and of `rooms_of`
 abbrev pub unknown_refusal : RoomSets → ℕ → Option RoomError

@@ -9,7 +9,7 @@ use Rattle.std.specs.BTreeMap as tree
 use Rattle.std.specs.BTreeSet.{BTreeSet}
 use Rattle.room_maps.specs.Room.{room_cmp, own_room}
 use Rattle.room_maps.specs.Links.{is_linked, HasNoEmptySet}
-use Rattle.room_maps.specs.Membership.{pair_cmp, RoomSets}
+use Rattle.room_maps.specs.Membership.{pair_cmp, RoomSets, is_socket}
 
 abbrev pub SocketMap : Type 0
 SocketMap = BTreeMap ℕ (BTreeSet (List ℕ))
@@ -51,3 +51,10 @@ pub record Mirror (a : SocketMap) (b : RoomMap) (pairs : set.FinSet pair_cmp) : 
   pub rooms_side : (sid : ℕ) (room : List ℕ) → is_linked room_cmp nat_cmp b room sid ≡ set.contains pairs (sid, room)
   pub own_rooms : (sid : ℕ) → is_some (tree.get nat_cmp a sid) ≡ true → set.contains pairs (sid, own_room sid) ≡ true
   pub no_empty_room : HasNoEmptySet room_cmp b
+
+-- a map of sockets and a map of rooms are these sets: the keys of the first are just these sockets, both hold
+-- just these pairs, each socket is in its own room, and neither map keeps an empty set
+pub record IsMirrored (sets : RoomSets) (of_socket : SocketMap) (of_room : RoomMap) : Type 0 where
+  pub sockets : (sid : ℕ) → is_some (tree.get nat_cmp of_socket sid) ≡ is_socket sets sid
+  pub pairs : Mirror of_socket of_room sets.pairs
+  pub no_empty_socket : HasNoEmptySet nat_cmp of_socket

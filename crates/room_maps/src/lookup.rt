@@ -116,10 +116,17 @@ pub(crate) fn members_but(
 ) -> Result<Vec<Sid>, AllocError>
     ensures { IfOk result (λ sids. ListsRising nat_cmp (λ sid. list_any (λ room. is_linked room_cmp nat_cmp by_room.now room sid) rooms.now && not (list_any (is_linked nat_cmp room_cmp by_socket.now sid) excepted.now)) sids.items) }
 {
-    let mut sids = all_members(alloc, by_socket, by_room, rooms, excepted)?;
+    let sids = all_members(alloc, by_socket, by_room, rooms, excepted)?;
+    Ok(rising(sids))
+}
+
+/// The sockets, rising, each once.
+pub(crate) fn rising(mut sids: Vec<Sid>) -> Vec<Sid>
+    ensures { ListsRising nat_cmp (λ sid. list_any (eq_by_cmp nat_cmp sid) sids.items) result.items }
+{
     sids.sort_unstable();
     sids.dedup();
-    Ok(sids)
+    sids
 }
 
 /// Adds a socket's pairs, its rooms rising.

@@ -11,6 +11,9 @@ ghost use Rattle.room_maps.specs.Links.{is_linked, HasNoEmptySet, IsUnchanged, A
 ghost use Rattle.room_maps.specs.Membership.{pair_cmp, no_sockets, is_socket, is_in, rooms_in, is_full, with_pair, without_pair, with_pairs, with_socket, with_socket_in, without_socket, enter_refusal, enter_all_refusal, join_refusal, leave_refusal, unknown_refusal, AreConsistent};
 ghost use Rattle.room_maps.specs.Membership as membership;
 ghost use Rattle.room_maps.specs.Addressed.{is_addressed};
+ghost use Rattle.room_maps.specs.Mirror.{IsMirrored};
+
+mod together;
 
 use crate::error::RoomError;
 use crate::room::Room;
@@ -313,6 +316,19 @@ impl Rooms {
         ensures { AreConsistent self.now }
     {
         let _ = &self.by_socket;
+    }
+
+    /// The two maps themselves: the rooms of each socket, and the sockets of each room (Socket.IO
+    /// server documentation, "Rooms", "Implementation details"). It has no effect.
+    pub fn mirrors(
+        &self,
+    ) -> (
+        &BTreeMap<Sid, BTreeSet<Room>>,
+        &BTreeMap<Room, BTreeSet<Sid>>,
+    )
+        ensures { IsMirrored self.now result.0.now result.1.now }
+    {
+        (&self.by_socket, &self.by_room)
     }
 
     fn add_socket(&mut self, alloc: Global, sid: Sid) -> Result<(), AllocError>

@@ -1,17 +1,9 @@
-use Rattle.std.proofs.Common.{◌≡◌, ◌≤◌, ◌+◌, ℕ, ◌<◌, List, [], ◌∷◌, ◌++◌, suc, take, drop, get_or, length, sym, ap, ◌∙◌, subst, add-one, drop-cons}
-use Rattle.std.proofs.Math.Seq.{take-suc}
-use Rattle.std.proofs.lemmas.List.{take-append-drop}
+use Rattle.std.proofs.Common.{◌≤◌, suc, take, drop, sym, ap, ◌∙◌, subst}
 use Rattle.std.specs.FinSet as set
 use Rattle.room_maps.specs.Membership.{is_in, is_full, rooms_in, with_pair, with_pairs, without_socket}
+use Rattle.room_maps.proofs.ListLemmas.{parts_at, take_one_more}
 use Rattle.room_maps.proofs.MembershipLemmas.{with_pairs-none, with_pairs-more, place_for, without_socket-with_pairs}
 use Rattle.room_maps.proofs.rooms.Rooms.add_rooms.Goals as goal
-
--- a list is what stands before a place, what stands there, and the rest
-parts_at : {A : Type 0} (xs : List A) (i : ℕ) (x : A) → i < length xs → x ≡ get_or xs i x → xs ≡ take i xs ++ x ∷ drop (suc i) xs
-parts_at xs i x h is = sym (take-append-drop i xs) ∙ ap (λ ys. take i xs ++ ys) (drop-cons xs i x h ∙ ap (λ y. y ∷ drop (suc i) xs) (sym is))
-
-one_more : {A : Type 0} (xs : List A) (i : ℕ) (x : A) → i < length xs → x ≡ get_or xs i x → take (i + 1) xs ≡ take i xs ++ x ∷ []
-one_more xs i x h is = ap (λ n. take n xs) (add-one i) ∙ take-suc xs i x h ∙ ap (λ y. take i xs ++ y ∷ []) (sym is)
 
 pub loop-room-init : goal.loop-room-init
 loop-room-init c = sym (with_pairs-none c.args.self.now c.args.sid)
@@ -37,7 +29,7 @@ loop-room-preserved c =
     c.in_ok-add_missing.ensures.ok
     ∙ ap (λ v. with_pair v c.args.sid c.room-item.result) c.loop-room.invariant
     ∙ sym (with_pairs-more c.args.self.now c.args.sid (take i c.args.rooms.now) c.room-item.result)
-    ∙ ap (λ xs. with_pairs c.args.self.now c.args.sid xs) (sym (one_more c.args.rooms.now i c.room-item.result c.loop-room-test.true c.room-item.is))
+    ∙ ap (λ xs. with_pairs c.args.self.now c.args.sid xs) (sym (take_one_more c.args.rooms.now i c.room-item.result c.loop-room-test.true c.room-item.is))
 
 pub returns-clause-others : goal.returns-clause-others
 returns-clause-others c =

@@ -1,0 +1,226 @@
+//! Several sockets join a room, or leave it: all of them, or none (Socket.IO server documentation,
+//! "Rooms").
+
+ghost use Rattle.std.specs.Prelude.{◌≡◌, ◌&&◌, ℕ, IfOk, IfErr, IfSome, OnOk, OnErr, None, true, false, not};
+ghost use Rattle.std.specs.Ordering.{nat_cmp};
+ghost use Rattle.terms.specs.Listing.{ListsRising};
+ghost use Rattle.room_maps.specs.Room.{same_room, own_room};
+ghost use Rattle.room_maps.specs.Membership.{is_socket, is_in, is_full, is_named, with_members, without_members, join_all_refusal, leave_all_refusal};
+ghost use Rattle.room_maps.specs.Membership as membership;
+
+use crate::error::RoomError;
+use crate::room::Room;
+use crate::rooms::{MOST_ROOMS, Rooms};
+use crate::sid::Sid;
+use crate::{links, lookup};
+use std::alloc::{AllocError, Global};
+
+/// Whether the room is the own one of one of these.
+fn has_own_room(sids: &[Sid], room: Room) -> bool
+    ensures { result ≡ membership.has_own_room sids.now room }
+{
+    sids.iter().any(|sid| Room::own(*sid) == room)
+}
+
+impl Rooms {
+    /// Whether one of these isn't a socket.
+    fn has_unknown(&self, sids: &[Sid]) -> bool
+        ensures { result ≡ membership.has_unknown self.now sids.now }
+    {
+        sids.iter().any(|sid| !self.is_socket(*sid))
+    }
+
+    /// Whether the socket is in as many rooms as it may be.
+    fn is_full(&self, sid: Sid) -> bool
+        ensures { result ≡ is_full self.now sid }
+    {
+        self.room_count(sid) >= MOST_ROOMS
+    }
+
+    /// Whether one of these isn't in the room, and has no place for it.
+    fn has_full(&self, sids: &[Sid], room: Room) -> bool
+        ensures { result ≡ membership.has_full self.now sids.now room }
+    {
+        sids.iter()
+            .any(|sid| !self.is_in(*sid, room) && self.is_full(*sid))
+    }
+
+    /// Why a `join_all` of the sockets would be refused, but for `Memory`. Each socket takes the
+    /// logarithm.
+    pub fn join_all_refusal(&self, sids: &[Sid], room: Room) -> Option<RoomError>
+        ensures { result ≡ join_all_refusal self.now sids.now room }
+    {
+        if self.has_unknown(sids) {
+            Some(RoomError::UnknownSocket)
+        } else if self.has_full(sids, room) {
+            Some(RoomError::TooManyRooms)
+        } else {
+            None
+        }
+    }
+
+    /// Why a `leave_all` of the sockets would be refused, but for `Memory`. Each socket takes the
+    /// logarithm.
+    pub fn leave_all_refusal(&self, sids: &[Sid], room: Room) -> Option<RoomError>
+        ensures { result ≡ leave_all_refusal self.now sids.now room }
+    {
+        if self.has_unknown(sids) {
+            Some(RoomError::UnknownSocket)
+        } else if has_own_room(sids, room) {
+            Some(RoomError::OwnRoom)
+        } else {
+            None
+        }
+    }
+
+    /// The sockets are in the room too, all of them or none. One that is in it already stays, and
+    /// one that is named twice counts once. It answers those that weren't in it, rising by their
+    /// ids. Refused where one of them is unknown, as `UnknownSocket`, where one that isn't in the
+    /// room has no place for it, as `TooManyRooms`, then for `Memory`. Each socket takes the
+    /// logarithm, and that of their number.
+    pub fn join_all(
+        &mut self,
+        alloc: Global,
+        sids: &[Sid],
+        room: Room,
+    ) -> Result<Vec<Sid>, RoomError>
+        ensures refused { IfSome (join_all_refusal self.old sids.now room) (λ e. result ≡ Err e) }
+        ensures memory_alone { join_all_refusal self.old sids.now room ≡ None → IfErr result (λ e. e ≡ RoomError.Memory) }
+        ensures joined { OnOk result (self.new ≡ with_members self.old sids.now room) }
+        ensures changed { IfOk result (λ changed. ListsRising nat_cmp (λ sid. is_named sids.now sid && not (is_in self.old sid room)) changed.items) }
+        ensures unchanged { OnErr result (self.new ≡ self.old) }
+    {
+        if let Some(refusal) = self.join_all_refusal(sids, room) {
+            return Err(refusal);
+        }
+        match self.add_outsiders(alloc, sids, room) {
+            Ok(joined) => Ok(joined),
+            Err(AllocError) => Err(RoomError::Memory),
+        }
+    }
+
+    /// The sockets aren't in the room any more, all of them or none. One that isn't in it stays as
+    /// it is, and one that is named twice counts once. It answers those that were in it, rising by
+    /// their ids. Refused where one of them is unknown, as `UnknownSocket`, where the room is the
+    /// own one of one of them, as `OwnRoom`, then for `Memory`, which only the answer takes. Each
+    /// socket takes the logarithm, and that of their number.
+    pub fn leave_all(
+        &mut self,
+        alloc: Global,
+        sids: &[Sid],
+        room: Room,
+    ) -> Result<Vec<Sid>, RoomError>
+        ensures refused { IfSome (leave_all_refusal self.old sids.now room) (λ e. result ≡ Err e) }
+        ensures memory_alone { leave_all_refusal self.old sids.now room ≡ None → IfErr result (λ e. e ≡ RoomError.Memory) }
+        ensures left { OnOk result (self.new ≡ without_members self.old sids.now room) }
+        ensures changed { IfOk result (λ changed. ListsRising nat_cmp (λ sid. is_named sids.now sid && is_in self.old sid room) changed.items) }
+        ensures unchanged { OnErr result (self.new ≡ self.old) }
+    {
+        if let Some(refusal) = self.leave_all_refusal(sids, room) {
+            return Err(refusal);
+        }
+        match self.take_insiders(alloc, sids, room) {
+            Ok(left) => Ok(left),
+            Err(AllocError) => Err(RoomError::Memory),
+        }
+    }
+
+    /// Those of the sockets that aren't in the room, rising.
+    fn outsiders(&self, alloc: Global, sids: &[Sid], room: Room) -> Result<Vec<Sid>, AllocError>
+        ensures { IfOk result (λ outside. ListsRising nat_cmp (λ sid. is_named sids.now sid && not (is_in self.now sid room)) outside.items) }
+    {
+        let outside = sids
+            .iter()
+            .copied()
+            .filter(|sid| !self.is_in(*sid, room))
+            .collect(alloc)?;
+        Ok(lookup::rising(outside))
+    }
+
+    /// Those of the sockets that are in the room, rising.
+    fn insiders(&self, alloc: Global, sids: &[Sid], room: Room) -> Result<Vec<Sid>, AllocError>
+        ensures { IfOk result (λ inside. ListsRising nat_cmp (λ sid. is_named sids.now sid && is_in self.now sid room) inside.items) }
+    {
+        let inside = sids
+            .iter()
+            .copied()
+            .filter(|sid| self.is_in(*sid, room))
+            .collect(alloc)?;
+        Ok(lookup::rising(inside))
+    }
+
+    /// Adds those of the sockets that aren't in the room, and answers them.
+    fn add_outsiders(
+        &mut self,
+        alloc: Global,
+        sids: &[Sid],
+        room: Room,
+    ) -> Result<Vec<Sid>, AllocError>
+        requires { join_all_refusal self.old sids.now room ≡ None }
+        ensures ok { OnOk result (self.new ≡ with_members self.old sids.now room) }
+        ensures changed { IfOk result (λ changed. ListsRising nat_cmp (λ sid. is_named sids.now sid && not (is_in self.old sid room)) changed.items) }
+        ensures err { OnErr result (self.new ≡ self.old) }
+    {
+        let outside = self.outsiders(alloc, sids, room)?;
+        self.add_members(alloc, &outside, room)?;
+        Ok(outside)
+    }
+
+    /// Takes those of the sockets that are in the room out of it, and answers them.
+    fn take_insiders(
+        &mut self,
+        alloc: Global,
+        sids: &[Sid],
+        room: Room,
+    ) -> Result<Vec<Sid>, AllocError>
+        requires { leave_all_refusal self.old sids.now room ≡ None }
+        ensures ok { OnOk result (self.new ≡ without_members self.old sids.now room) }
+        ensures changed { IfOk result (λ changed. ListsRising nat_cmp (λ sid. is_named sids.now sid && is_in self.old sid room) changed.items) }
+        ensures err { OnErr result (self.new ≡ self.old) }
+    {
+        let inside = self.insiders(alloc, sids, room)?;
+        self.take_members(&inside, room);
+        Ok(inside)
+    }
+
+    /// Adds sockets that aren't in the room. Where a growth is refused, all are taken out again,
+    /// which takes no memory.
+    fn add_members(&mut self, alloc: Global, sids: &[Sid], room: Room) -> Result<(), AllocError>
+        requires known { (sid : ℕ) → is_named sids.now sid ≡ true → is_socket self.old sid ≡ true }
+        requires absent { (sid : ℕ) → is_named sids.now sid ≡ true → is_in self.old sid room ≡ false }
+        requires few { (sid : ℕ) → is_named sids.now sid ≡ true → is_full self.old sid ≡ false }
+        ensures ok { OnOk result (self.new ≡ with_members self.old sids.now room) }
+        ensures err { OnErr result (self.new ≡ self.old) }
+    {
+        self.kept_facts();
+        match self.add_each(alloc, sids, room) {
+            Ok(()) => Ok(()),
+            Err(AllocError) => {
+                self.take_members(sids, room);
+                Err(AllocError)
+            }
+        }
+    }
+
+    /// Adds the sockets. Where a growth is refused, those before it stay.
+    fn add_each(&mut self, alloc: Global, sids: &[Sid], room: Room) -> Result<(), AllocError>
+        requires known { (sid : ℕ) → is_named sids.now sid ≡ true → is_socket self.old sid ≡ true }
+        requires few { (sid : ℕ) → is_named sids.now sid ≡ true → is_full self.old sid ≡ false }
+        ensures ok { OnOk result (self.new ≡ with_members self.old sids.now room) }
+        ensures others { without_members self.new sids.now room ≡ without_members self.old sids.now room }
+    {
+        for sid in sids {
+            self.add_missing(alloc, *sid, room)?;
+        }
+        Ok(())
+    }
+
+    /// Takes the sockets out of the room, which takes no memory.
+    fn take_members(&mut self, sids: &[Sid], room: Room)
+        requires { (sid : ℕ) → is_named sids.now sid ≡ true → same_room (own_room sid) room ≡ false }
+        ensures { self.new ≡ without_members self.old sids.now room }
+    {
+        links::unlink_keys(&mut self.by_socket, sids, &room);
+        links::unlink_values(&mut self.by_room, &room, sids);
+    }
+}
