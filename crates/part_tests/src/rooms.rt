@@ -58,6 +58,47 @@ fn are_addressees(
     }
 }
 
+/// Sockets 1 to 3, each in its own room.
+fn three_sockets(alloc: Global) -> Rooms {
+    let mut rooms = one_socket(alloc);
+    for sid in [Sid::new(2), Sid::new(3)] {
+        if rooms.enter(alloc, sid).is_err() {
+            rooms.enter(alloc, sid).is_ok();
+        }
+    }
+    rooms
+}
+
+/// Who is in a room before a call on many sockets, and whom the call answers.
+#[derive(Drop)]
+struct Change<'a> {
+    room: Room,
+    members: &'a [Sid],
+    answer: &'a [Sid],
+}
+
+/// Whether the sockets join as told. Where the first try has no memory, nothing has changed, and
+/// the second one answers.
+fn join_together(rooms: &mut Rooms, alloc: Global, sids: &[Sid], change: Change<'_>) -> bool {
+    match rooms.join_all(alloc, sids, change.room) {
+        Err(RoomError::Memory) => {
+            are_members(rooms, alloc, change.room, change.members)
+                && is_list(rooms.join_all(alloc, sids, change.room), change.answer)
+        }
+        answer => is_list(answer, change.answer),
+    }
+}
+
+fn leave_together(rooms: &mut Rooms, alloc: Global, sids: &[Sid], change: Change<'_>) -> bool {
+    match rooms.leave_all(alloc, sids, change.room) {
+        Err(RoomError::Memory) => {
+            are_members(rooms, alloc, change.room, change.members)
+                && is_list(rooms.leave_all(alloc, sids, change.room), change.answer)
+        }
+        answer => is_list(answer, change.answer),
+    }
+}
+
 #[test]
 fn names_of_rooms(rt: HostRuntime) {
     assert!(rt; Room::read("").is_some());
@@ -158,11 +199,138 @@ fn expect_addressed(
     assert!(rt; are_addressees(rooms, alloc, &[r, Room::own(one)], &[q], &[one]));
 }
 
+#[test]
+fn many_sockets(rt: HostRuntime) {
+    let mut rooms = three_sockets(rt.alloc());
+    expect_joined_together(&rt, &mut rooms, room("r"));
+    expect_mirrored(&rt, &rooms, room("r"), room("q"));
+    expect_left_together(&rt, &mut rooms, room("r"));
+    expect_refused_together(&rt, &mut rooms, room("r"));
+}
+
+fn expect_joined_together(rt: &(impl Abort + AllocGlobal), rooms: &mut Rooms, r: Room) {
+    let alloc = rt.alloc();
+    let (one, two, three) = (Sid::new(1), Sid::new(2), Sid::new(3));
+    let rows: [(&[Sid], &[Sid], &[Sid]); 5] = [
+        (&[], &[], &[]),
+        (&[three, one, three], &[], &[one, three]),
+        (&[one], &[one, three], &[]),
+        (&[three, two, one], &[one, three], &[two]),
+        (&[], &[one, two, three], &[]),
+    ];
+    for (sids, members, answer) in rows {
+        let change = Change {
+            room: r,
+            members,
+            answer,
+        };
+        assert!(rt; join_together(rooms, alloc, sids, change));
+    }
+    assert!(rt; are_members(rooms, alloc, r, &[one, two, three]));
+    assert!(rt; are_rooms_of(rooms, alloc, two, &[Room::own(two), r]));
+}
+
+/// Both maps have the three sockets in `r`, and nobody in `q`.
+fn expect_mirrored(rt: &impl Abort, rooms: &Rooms, r: Room, q: Room) {
+    let (of_socket, of_room) = rooms.mirrors();
+    assert_eq!(rt; of_socket.len(), 3);
+    assert_eq!(rt; of_room.len(), 4);
+    assert!(rt; of_room.get(&q).is_none());
+    for sid in [Sid::new(1), Sid::new(2), Sid::new(3)] {
+        assert!(rt;
+            of_socket
+                .get(&sid)
+                .is_some_and(|inside| inside.contains(&r))
+        );
+        assert!(rt;
+            of_room
+                .get(&r)
+                .is_some_and(|members| members.contains(&sid))
+        );
+    }
+}
+
+fn expect_left_together(rt: &(impl Abort + AllocGlobal), rooms: &mut Rooms, r: Room) {
+    let alloc = rt.alloc();
+    let (one, two, three) = (Sid::new(1), Sid::new(2), Sid::new(3));
+    let rows: [(&[Sid], &[Sid], &[Sid]); 4] = [
+        (&[], &[one, two, three], &[]),
+        (&[two, one, two], &[one, two, three], &[one, two]),
+        (&[one, three], &[three], &[three]),
+        (&[one, two, three], &[], &[]),
+    ];
+    for (sids, members, answer) in rows {
+        let change = Change {
+            room: r,
+            members,
+            answer,
+        };
+        assert!(rt; leave_together(rooms, alloc, sids, change));
+    }
+    assert!(rt; are_members(rooms, alloc, r, &[]));
+    assert!(rt; are_rooms_of(rooms, alloc, two, &[Room::own(two)]));
+}
+
+/// Nobody is in `r`, and there is no socket 9.
+fn expect_refused_together(rt: &(impl Abort + AllocGlobal), rooms: &mut Rooms, r: Room) {
+    let alloc = rt.alloc();
+    let (one, two, nine) = (Sid::new(1), Sid::new(2), Sid::new(9));
+    let own = Room::own(one);
+    assert!(rt;
+        refuses(
+            rooms.join_all(alloc, &[one, nine], r),
+            RoomError::UnknownSocket
+        )
+    );
+    assert!(rt;
+        refuses(
+            rooms.leave_all(alloc, &[nine, one], r),
+            RoomError::UnknownSocket
+        )
+    );
+    assert!(rt; refuses(rooms.leave_all(alloc, &[two, one], own), RoomError::OwnRoom));
+    assert!(rt;
+        refuses(
+            rooms.leave_all(alloc, &[one, nine], own),
+            RoomError::UnknownSocket
+        )
+    );
+    assert!(rt; are_members(rooms, alloc, r, &[]));
+    expect_guests(rt, rooms, own);
+}
+
+fn refuses(answer: Result<Vec<Sid>, RoomError>, want: RoomError) -> bool {
+    match answer {
+        Ok(_) => false,
+        Err(error) => error == want,
+    }
+}
+
+/// Socket 1's own room is one that others join and leave.
+fn expect_guests(rt: &(impl Abort + AllocGlobal), rooms: &mut Rooms, own: Room) {
+    let alloc = rt.alloc();
+    let (one, two) = (Sid::new(1), Sid::new(2));
+    let joined = Change {
+        room: own,
+        members: &[one],
+        answer: &[two],
+    };
+    assert!(rt; join_together(rooms, alloc, &[two, one], joined));
+    let left = Change {
+        room: own,
+        members: &[one, two],
+        answer: &[two],
+    };
+    assert!(rt; leave_together(rooms, alloc, &[two], left));
+    assert!(rt; are_members(rooms, alloc, own, &[one]));
+}
+
 // Its name puts it behind the other tests, since it allocates some hundred times.
 #[test]
 fn too_many_rooms(rt: HostRuntime) {
-    let mut rooms = one_socket(rt.alloc());
+    let mut rooms = three_sockets(rt.alloc());
     expect_full(&rt, &mut rooms, Sid::new(1));
+    expect_full_together(&rt, &mut rooms, room("r"));
 }
 
 fn expect_full(rt: &(impl Abort + AllocGlobal), rooms: &mut Rooms, one: Sid) {
@@ -177,6 +345,38 @@ fn expect_full(rt: &(impl Abort + AllocGlobal), rooms: &mut Rooms, one: Sid) {
         rooms.join(alloc, one, room("r")),
         Err(RoomError::TooManyRooms)
     );
-    assert_eq!(rt; rooms.leave(one, Room::own(Sid::new(1000))), Ok(()));
-    assert!(rt; !rooms.is_in(one, Room::own(Sid::new(1000))));
+}
+
+/// Socket 1 is full, and in the own room of 1000, socket 2 isn't, and there is no socket 9.
+fn expect_full_together(rt: &(impl Abort + AllocGlobal), rooms: &mut Rooms, r: Room) {
+    let alloc = rt.alloc();
+    let (one, two, nine) = (Sid::new(1), Sid::new(2), Sid::new(9));
+    let inside = Room::own(Sid::new(1000));
+    assert!(rt;
+        refuses(
+            rooms.join_all(alloc, &[two, one], r),
+            RoomError::TooManyRooms
+        )
+    );
+    assert!(rt;
+        refuses(
+            rooms.join_all(alloc, &[one, nine], r),
+            RoomError::UnknownSocket
+        )
+    );
+    assert!(rt; are_members(rooms, alloc, r, &[]));
+    let joined = Change {
+        room: inside,
+        members: &[one],
+        answer: &[two],
+    };
+    assert!(rt; join_together(rooms, alloc, &[one, two], joined));
+    assert_eq!(rt; rooms.leave(one, inside), Ok(()));
+    assert!(rt; !rooms.is_in(one, inside));
+    let last = Change {
+        room: r,
+        members: &[],
+        answer: &[one, two],
+    };
+    assert!(rt; join_together(rooms, alloc, &[two, one], last));
 }

@@ -1,6 +1,7 @@
 use sio_wire::{
     Assembler, Attachments, Entry, Header, Kind, Resume, SioError, SioPacket, connected_text,
-    names, read_header, read_offset, refused_text, resume_of, with_offset, write_header,
+    disconnect_text, names, read_header, read_offset, refused_text, resume_of, with_offset,
+    write_header,
 };
 use std::alloc::{AllocError, Global};
 use std::process::Abort;
@@ -52,6 +53,13 @@ fn connected(alloc: Global, space: &str, sid: u128, pid: u128) -> Result<String,
 fn refused(alloc: Global, space: &str, message: &str) -> Result<String, SioError> {
     match refused_text(alloc, space, message) {
         Err(SioError::Memory) => refused_text(alloc, space, message),
+        answer => answer,
+    }
+}
+
+fn ended(alloc: Global, space: &str) -> Result<String, SioError> {
+    match disconnect_text(alloc, space) {
+        Err(SioError::Memory) => disconnect_text(alloc, space),
         answer => answer,
     }
 }
@@ -248,6 +256,15 @@ fn answer_to_a_connect(rt: HostRuntime) -> Result<(), SioError> {
 fn refusal_of_a_connect(rt: HostRuntime) -> Result<(), SioError> {
     let text = refused(rt.alloc(), "/", "\"no\"")?;
     assert_eq!(rt; text.as_str(), "4{\"message\":\"\\\"no\\\"\"}");
+    Ok(())
+}
+
+#[test]
+fn end_of_a_socket(rt: HostRuntime) -> Result<(), SioError> {
+    let text = ended(rt.alloc(), "/")?;
+    assert_eq!(rt; text.as_str(), "1");
+    let text = ended(rt.alloc(), "/admin")?;
+    assert_eq!(rt; text.as_str(), "1/admin,");
     Ok(())
 }
 

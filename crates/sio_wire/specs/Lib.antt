@@ -8,4 +8,5 @@ pub mod Entry
 pub mod Frames
 pub mod Offset
 pub mod ConnectAnswer
+pub mod Disconnect
 pub mod JsonFields

@@ -4,6 +4,7 @@
 
 mod assembler;
 mod connect_answer;
+mod disconnect;
 mod entry;
 mod error;
 mod event_names;
@@ -18,6 +19,7 @@ mod tree;
 
 pub use assembler::{Assembler, Progress, frames_cut_once};
 pub use connect_answer::{connected_text, refused_text};
+pub use disconnect::disconnect_text;
 pub use entry::{Attachments, Entry, SioPacket};
 pub use error::SioError;
 pub use event_names::names;
