@@ -1,7 +1,9 @@
 //! A session that was lost and may come back.
 
 ghost use Rattle.std.specs.Prelude.{◌≡◌, IfOk};
+ghost use Rattle.recovery.specs.Expiry as expiry;
 
+use crate::expiry::is_outdated;
 use room_maps::{Room, Sid};
 use std::alloc::{AllocError, Global};
 use std::marker::Model;
@@ -62,6 +64,13 @@ impl Model for Saved {
 }
 
 impl Saved {
+    /// Whether it was lost more than `keep` milliseconds before `now`.
+    pub fn is_outdated(&self, keep: u64, now: u64) -> bool
+        ensures { result ≡ expiry.is_outdated keep now self.now.lost_at }
+    {
+        is_outdated(self.lost_at, keep, now)
+    }
+
     /// A copy.
     pub(crate) fn copy(&self, alloc: Global) -> Result<Saved, AllocError>
         ensures { IfOk result (λ copy. copy ≡ self.now) }

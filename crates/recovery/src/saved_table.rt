@@ -78,8 +78,8 @@ impl SavedTable {
         self.indexes.has_sid(sid)
     }
 
-    /// The session with this private id, outdated or not.
-    fn look_up(&self, pid: Pid) -> Option<&Saved>
+    /// The session with this private id, outdated or not. It takes the logarithm of the sessions.
+    pub fn look_up(&self, pid: Pid) -> Option<&Saved>
         ensures { option_copied result ≡ session self.now pid }
     {
         self.indexes.by_pid.get(&pid)
@@ -143,7 +143,7 @@ impl SavedTable {
         let Some(saved) = self.look_up(pid) else {
             return Err(RecoveryError::UnknownPid);
         };
-        if is_outdated(saved.lost_at, keep, now) {
+        if saved.is_outdated(keep, now) {
             return Err(RecoveryError::Expired);
         }
         Ok(saved)
