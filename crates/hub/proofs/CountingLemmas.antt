@@ -1,9 +1,9 @@
 -- How a command that the state accepted is counted: the totals after its step, and what books and pass have then.
 use Rattle.std.proofs.Common.{◌≡◌, ℕ, ◌+◌, ◌∷◌, List, refl, arith, sym}
-use Rattle.hub_state.specs.declared.step.Step.{Step}
-use Rattle.hub_state.specs.Plain.{PlainBase}
-use Rattle.hub_state.specs.Journal.{History, total}
-use Rattle.hub_state.specs.Totals.{commands, handed_out, handed_out_by}
+use Rattle.journal.specs.declared.step.Step.{Step}
+use Rattle.journal.specs.Plain.{PlainBase}
+use Rattle.journal.specs.Journal.{History, total}
+use Rattle.journal.specs.Totals.{commands, handed_out, handed_out_by}
 use Rattle.hub.specs.Pass.{PlainBooks, PlainHub, PlainPass, Rises, with_command}
 
 -- the history with this step

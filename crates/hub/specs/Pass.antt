@@ -1,14 +1,13 @@
 -- What a pass has counted, and how a hub counts each command together with the pass that it came with.
-use Rattle.std.specs.Prelude.{◌≡◌, ℕ, ◌+◌, ◌≤◌, Option, None, Result, Ok, Err, unwrap_or}
-use Rattle.hub_state.specs.declared.error.HubError.{HubError}
-use Rattle.hub_state.specs.declared.error.HubError.TheVariants.{Memory}
-use Rattle.hub_state.specs.declared.step.What.{What}
-use Rattle.hub_state.specs.Journal.{History, with_step}
-use Rattle.hub_state.specs.Plain.{PlainCast}
-use Rattle.hub_state.specs.Casting.{refusal_of, IsCast, IsCastError}
-use Rattle.hub_state.specs.declared.broadcast.CastDone.{CastDone}
-use Rattle.hub_state.specs.Totals as totals
-use Rattle.hub_state.specs.Totals.{handed_out, handed_out_by}
+use Rattle.std.specs.Prelude.{◌≡◌, ℕ, ◌+◌, ◌≤◌, None, Result, Ok, Err}
+use Rattle.journal.specs.declared.error.HubError.{HubError}
+use Rattle.journal.specs.declared.step.What.{What}
+use Rattle.journal.specs.Journal.{History, moment_at, with_step}
+use Rattle.journal.specs.Command.{refusal, is_found_late, IsErrorOf}
+use Rattle.journal.specs.Plain.{PlainCast, PlainCastDone}
+use Rattle.journal.specs.Casting.{refusal_of, IsCast, IsCastError}
+use Rattle.journal.specs.Totals as totals
+use Rattle.journal.specs.Totals.{handed_out, handed_out_by}
 
 -- a total, and how many parts of its ledger no holder was given
 pub record PlainCounter : Type 0 where
@@ -51,15 +50,15 @@ with_command what pass = record pass { commands = pass.commands + 1; taken = pas
 
 -- the command that makes this step was answered as `Does` says; where it was accepted, its pass counts it, and else
 -- both hub and pass are as before
-abbrev pub DoesCounted : {X : Type 0} → (before after : PlainHub) → (old new : PlainPass) → ℕ → What → Option HubError → Result X HubError → Type 0
-DoesCounted before after old new now what refusal (Ok x) =
-    (refusal ≡ None) × (after ≡ record before { history = with_step before.history now what }) × (new ≡ with_command what old)
-DoesCounted before after old new now what refusal (Err e) =
-    (e ≡ unwrap_or refusal Memory) × (after ≡ before) × (new ≡ old)
+abbrev pub DoesCounted : {X : Type 0} → (before after : PlainHub) → (old new : PlainPass) → ℕ → What → Result X HubError → Type 0
+DoesCounted before after old new now what (Ok x) =
+    (refusal before.history (moment_at before.history now) what ≡ None) × (after ≡ record before { history = with_step before.history now what }) × (new ≡ with_command what old)
+DoesCounted before after old new now what (Err e) =
+    IsErrorOf (is_found_late before.history.limits what) (refusal before.history (moment_at before.history now) what) e × (after ≡ before) × (new ≡ old)
 
 -- the cast was answered as `CastDoes` says; where it was accepted, its pass counts it, and else both hub and pass are
 -- as before
-abbrev pub CastDoesCounted : (before after : PlainHub) → (old new : PlainPass) → ℕ → PlainCast → Result CastDone HubError → Type 0
+abbrev pub CastDoesCounted : (before after : PlainHub) → (old new : PlainPass) → ℕ → PlainCast → Result PlainCastDone HubError → Type 0
 CastDoesCounted before after old new now c (Ok done) =
     (refusal_of before.history c ≡ None) × IsCast before.history after.history now c done × (after.rest ≡ before.rest) × (new ≡ record old { commands = old.commands + 1 })
 CastDoesCounted before after old new now c (Err e) = IsCastError before.history c (refusal_of before.history c) e × (after ≡ before) × (new ≡ old)

@@ -2,12 +2,13 @@
 //! passes.
 
 ghost use Rattle.std.specs.Prelude.{◌≡◌, ℕ, ◌+◌, ◌-◌, ◌≤◌, ◌<◌, IfOk, IfErr, OnOk, OnErr};
-ghost use Rattle.hub_state.specs.Totals as totals;
-ghost use Rattle.hub_state.specs.Totals.{handed_out};
+ghost use Rattle.journal.specs.Totals as totals;
+ghost use Rattle.journal.specs.Totals.{handed_out};
 
 use crate::count::Counter;
 use crate::pass::{NotAll, Pass};
-use hub_state::{HubError, State, Totals};
+use hub_state::State;
+use journal::{HubError, Totals};
 use std::marker::Model;
 use std::sync::ledger::{Blank, Ledger};
 

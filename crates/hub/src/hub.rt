@@ -1,18 +1,19 @@
 //! A hub that many threads use: each counts what it has had accepted in a pass of its own.
 
 ghost use Rattle.std.specs.Prelude.{◌≡◌, ℕ, ◌+◌, ◌-◌, ◌≤◌, ◌<◌, [], IsOk, IfOk, IfErr, OnOk, OnErr, unwrap_or};
-ghost use Rattle.hub_state.specs.Config.{config_refusal, empty_base};
-ghost use Rattle.hub_state.specs.Totals as counted;
+ghost use Rattle.journal.specs.Config.{config_refusal, empty_base};
+ghost use Rattle.journal.specs.Totals as counted;
 ghost use Rattle.hub.specs.Pass.{commands_of, taken_of, AtLeast};
 
 mod broadcasts;
 mod commands;
-mod lookups;
+mod many;
 mod sessions;
 
 use crate::books::Books;
 use crate::pass::{NotAll, Pass};
-use hub_state::{Config, HubError, State, Totals};
+use hub_state::State;
+use journal::{Config, HubError, Totals};
 use std::alloc::Global;
 use std::marker::Model;
 use std::sync::ledger::{Blank, Ledger};
@@ -32,8 +33,8 @@ pub struct Hub<C: Ledger, T: Ledger> {
 
 impl<C: Ledger, T: Ledger> Model for Hub<C, T> {
     ghost use Rattle.std.specs.Prelude.{◌≡◌};
-    ghost use Rattle.hub_state.specs.Totals as totals;
-    ghost use Rattle.hub_state.specs.Totals.{handed_out};
+    ghost use Rattle.journal.specs.Totals as totals;
+    ghost use Rattle.journal.specs.Totals.{handed_out};
     ghost use Rattle.hub.specs.Pass.{PlainHub};
 
     ghost Value = { PlainHub };
@@ -44,10 +45,17 @@ impl<C: Ledger, T: Ledger> Model for Hub<C, T> {
 }
 
 impl<C: Ledger, T: Ledger> Hub<C, T> {
+    /// The state, of which all can be asked that a hub tells.
+    pub fn state(&self) -> &State
+        ensures { result.now ≡ self.now.history }
+    {
+        &self.state
+    }
+
     /// A hub with no clients and an empty journal, and its first pass. Each blank is a ledger cut
     /// into 65,536 parts, of which a pass takes one. Refused as `BadConfig`, then for `Memory`. It
     /// compares each two of the namespaces, and copies their names once.
-    #[tactic(auto, unfolding(hub_state::specs::Totals::commands, hub_state::specs::Totals::handed_out, hub_state::specs::Journal::total))]
+    #[tactic(auto, unfolding(journal::specs::Totals::commands, journal::specs::Totals::handed_out, journal::specs::Journal::total))]
     pub fn new(
         alloc: Global,
         config: Config,

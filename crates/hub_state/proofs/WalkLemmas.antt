@@ -6,7 +6,7 @@ use Rattle.std.specs.Map.Iter.{TakesFirst, deref}
 use Rattle.std.proofs.Math.Seq.{take-length}
 use Rattle.std.proofs.lemmas.Option.{get_or_from_slice_get}
 use Rattle.std.proofs.lemmas.Map.Iter.{iter_turn, iter_end}
-use Rattle.hub_state.specs.declared.socket.Socket.{Socket}
+use Rattle.journal.specs.declared.socket.Socket.{Socket}
 
 -- the next socket
 pub turn : (all : List Socket) (xs : List (Bor Socket)) (s t u : List Socket) (r : Option (Bor Socket)) → s ≡ all → Yields (TakesFirst (deref {X = Socket})) s xs t → (x : Bor Socket) → r ≡ Some x → TakesFirst (deref {X = Socket}) t r u

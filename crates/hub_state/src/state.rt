@@ -2,28 +2,30 @@
 
 ghost use Rattle.std.specs.Prelude.{◌≡◌, ℕ, ◌+◌, ◌<◌, ◌≤◌, ◌||◌, true, false, max, List, [], ◌∷◌, ◌++◌, length, reverse, vec_len, vec_capacity, nat_eq, OnOk, IfOk, IfErr, None, Some, unwrap_or};
 ghost use Rattle.std.specs.List.{IsDistinct, AllByRecursion};
-ghost use Rattle.hub_state.specs.Config.{config_refusal, empty_base};
+ghost use Rattle.journal.specs.Config.{config_refusal, empty_base};
 ghost use Rattle.room_maps.specs.Membership as room_maps;
-ghost use Rattle.hub_state.specs.Journal.{moment};
-ghost use Rattle.hub_state.specs.Membership.{open_clients, is_open, sockets, is_connected, sid_of, is_space, rooms};
-ghost use Rattle.hub_state.specs.Sessions.{sessions};
-ghost use Rattle.hub_state.specs.Log.{log, log_calls, next_number};
-ghost use Rattle.hub_state.specs.Totals as counted;
-ghost use Rattle.hub_state.specs.Totals.{IsConserved, is_past, is_spent, placed_by, dropped_by, handed_out_by, discarded_by, waiting_in_all};
-ghost use Rattle.hub_state.specs.Refusals.{or_spent};
-ghost use Rattle.hub_state.specs.Legal.{IsLegal, EachTwo, AreApart, IsAway, DifferInIds};
+ghost use Rattle.journal.specs.Journal.{moment};
+ghost use Rattle.journal.specs.Membership.{open_clients, is_open, sockets, is_connected, sid_of, is_space, rooms};
+ghost use Rattle.journal.specs.Sessions.{sessions};
+ghost use Rattle.journal.specs.Log.{log, log_calls, next_number};
+ghost use Rattle.journal.specs.Totals as counted;
+ghost use Rattle.journal.specs.Totals.{IsConserved, is_past, is_spent, placed_by, dropped_by, handed_out_by, discarded_by, waiting_in_all};
+ghost use Rattle.journal.specs.Refusals.{or_spent};
+ghost use Rattle.journal.specs.Legal.{IsLegal, IsSound};
 ghost use Rattle.recovery.specs.PacketLog.{IsRun, Rises, latest};
-ghost use Rattle.hub_state.specs.Hub.{CanCount};
-ghost use Rattle.hub_state.specs.Plain.{PlainBroadcast};
-ghost use Rattle.hub_state.specs.Broadcast.{RightCast};
-ghost use Rattle.hub_state.specs.declared.step.Step.{Step};
-ghost use Rattle.hub_state.specs.declared.step.What.{What};
+ghost use Rattle.journal.specs.Fields.{CanCount};
+ghost use Rattle.journal.specs.Plain.{PlainBroadcast};
+ghost use Rattle.journal.specs.Broadcast.{RightCast};
+ghost use Rattle.journal.specs.declared.step.Step.{Step};
+ghost use Rattle.journal.specs.declared.step.What.{What};
 
 mod cast;
 mod close;
 mod connect;
 mod deliver;
+mod dismiss;
 mod end;
+mod gather;
 mod look;
 mod members;
 mod open;
@@ -33,21 +35,13 @@ mod rooms;
 mod seal;
 mod sweep;
 
-use crate::base::Base;
-use crate::client::Client;
-use crate::config::Config;
-use crate::error::HubError;
-use crate::limits::Limits;
-use crate::namespaces::is_bad;
-use crate::seats::Seats;
-use crate::step::{Step, What};
-use crate::totals::{Counts, Totals};
+use hub_parts::{Client, Limits, Seats, Steps};
+use journal::{Base, Config, Counts, HubError, Step, Totals, What};
 use recovery::{PacketLog, Pid, SavedTable};
 use room_maps::Rooms;
 use std::alloc::Global;
 use std::collections::{BTreeMap, BTreeSet};
 use std::marker::Model;
-pub use sweep::Swept;
 
 /// What a hub holds. In a contract it is its base, its limits and its journal, the newest step
 /// first: all else is what these say.
@@ -55,7 +49,7 @@ pub use sweep::Swept;
 pub struct State {
     limits: Limits,
     base: Base,
-    journal: Vec<Step>,
+    journal: Steps,
     /// The moment of the newest step, in milliseconds.
     last: u64,
     clients: BTreeMap<u128, Client>,
@@ -70,7 +64,7 @@ pub struct State {
 }
 
 impl Model for State {
-    ghost use Rattle.hub_state.specs.Journal.{History};
+    ghost use Rattle.journal.specs.Journal.{History};
     ghost use Rattle.hub_state.specs.Inside.{history_of, Describes};
 
     ghost Value = { History };
@@ -81,26 +75,23 @@ impl Model for State {
 }
 
 /// Makes room for one more step.
-pub(crate) fn reserve(journal: &mut Vec<Step>) -> Result<(), HubError>
-    ensures items { journal.new.items ≡ journal.old.items }
-    ensures ok { OnOk result (vec_len journal.new < vec_capacity journal.new) }
+pub(crate) fn reserve(journal: &mut Steps) -> Result<(), HubError>
+    ensures items { journal.new.steps ≡ journal.old.steps }
+    ensures ok { OnOk result (0 < journal.new.room) }
     ensures memory { IfErr result (λ e. e ≡ HubError.Memory) }
 {
-    match journal.reserve(1) {
-        Ok(()) => Ok(()),
-        Err(_) => Err(HubError::Memory),
-    }
+    journal.reserve()
 }
 
 /// Writes a step at the end of the journal, which has room for it. A moment before the last counts
 /// as the last.
-pub(crate) fn record(journal: &mut Vec<Step>, last: &mut u64, now: u64, what: What)
-    requires { vec_len journal.old < vec_capacity journal.old }
+pub(crate) fn record(journal: &mut Steps, last: &mut u64, now: u64, what: What)
+    requires { 0 < journal.old.room }
     ensures last { last.new ≡ max now last.old }
-    ensures journal { reverse journal.new.items ≡ record { at = max now last.old; what = what } ∷ reverse journal.old.items }
+    ensures journal { journal.new.steps ≡ record { at = max now last.old; what = what } ∷ journal.old.steps }
 {
     *last = now.max(*last);
-    journal.push_reserved(Step { at: *last, what });
+    journal.push(Step { at: *last, what });
 }
 
 /// Counts one more command, with what it put, dropped, handed out and discarded.
@@ -165,7 +156,7 @@ impl State {
         ensures ok { IfOk result (λ state. (config_refusal config ≡ None) × (state ≡ record { base = empty_base config.first_offset; limits = config; journal = [] })) }
         ensures err { IfErr result (λ e. e ≡ unwrap_or (config_refusal config) HubError.Memory) }
     {
-        if is_bad(&config) {
+        if config.is_bad() {
             return Err(HubError::BadConfig);
         }
         let log = empty_log(alloc, &config)?;
@@ -194,7 +185,7 @@ impl State {
         State {
             limits,
             base,
-            journal: Vec::new(alloc),
+            journal: Steps::new(alloc),
             last: 0,
             clients: BTreeMap::new(alloc),
             seats: Seats::new(alloc),
@@ -206,25 +197,14 @@ impl State {
         }
     }
 
-    /// What holds of every hub. It has no effect.
+    /// What holds of every hub: its journal is legal, each of its broadcasts reached whom it was for,
+    /// and its state is sound. It has no effect.
     pub fn facts(&self)
         ensures legal { IsLegal self.now.base self.now.limits self.now.journal }
         ensures casts { (later before : List Step) (step : Step) (b : PlainBroadcast) → self.now.journal ≡ later ++ step ∷ before → step.what ≡ What.Cast b → RightCast self.now.base self.now.limits before step b }
-        ensures few_spaces { length self.now.limits.spaces ≤ 65536 }
-        ensures clients_once { IsDistinct nat_eq (open_clients self.now.base self.now.journal) }
-        ensures sockets_apart { EachTwo AreApart (sockets self.now.base self.now.journal) }
-        ensures of_open_clients { AllByRecursion (λ k. is_open self.now.base self.now.journal k.client ≡ true) (sockets self.now.base self.now.journal) }
-        ensures in_spaces { AllByRecursion (λ k. is_space self.now.limits k.space ≡ true) (sockets self.now.base self.now.journal) }
-        ensures seated { (s : ℕ) → room_maps.is_socket (rooms self.now.base self.now.journal) s ≡ is_connected sid_of self.now.base self.now.journal s }
-        ensures rooms_agree { room_maps.AreConsistent (rooms self.now.base self.now.journal) }
-        ensures apart { AllByRecursion (IsAway (sockets self.now.base self.now.journal)) (sessions self.now.base self.now.limits self.now.journal) }
-        ensures sessions_differ { EachTwo DifferInIds (sessions self.now.base self.now.limits self.now.journal) }
-        ensures few_rooms { AllByRecursion (λ s. room_maps.are_too_many s.sid s.rooms ≡ false) (sessions self.now.base self.now.limits self.now.journal) }
-        ensures offsets_rise { IsRun (next_number self.now.base self.now.journal) (log self.now.base self.now.limits self.now.journal) }
-        ensures log_rises { Rises (log_calls self.now.base self.now.limits self.now.journal) }
-        ensures log_late { latest (log_calls self.now.base self.now.limits self.now.journal) ≤ moment self.now.base self.now.journal }
-        ensures conserved { IsConserved self.now.base self.now.limits self.now.journal }
+        ensures sound { IsSound self.now.base self.now.limits self.now.journal }
     {
+        // The type's invariant is known once a field is read.
         let _fields = &self.base;
     }
 
@@ -244,6 +224,7 @@ impl State {
     pub(crate) fn is_spent(&self, puts: u64, drops: u64) -> bool
         ensures { (what : What) → placed_by self.now.base self.now.limits self.now.journal what ≡ puts → dropped_by what ≡ drops → handed_out_by what + discarded_by self.now.base self.now.limits self.now.journal what ≤ waiting_in_all self.now.base self.now.limits self.now.journal → result ≡ is_spent self.now.base self.now.limits self.now.journal what }
     {
+        // The type's invariant is known once a field is read.
         let _fields = &self.base;
         self.passes(puts, drops)
     }

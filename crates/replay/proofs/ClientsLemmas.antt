@@ -1,8 +1,8 @@
 -- What one more step makes of the open clients.
 use Rattle.std.proofs.Common.{◌≡◌, ℕ, ◌+◌, ◌<◌, List, ◌++◌, not, filter, length, take, get_or, reverse, sym, ◌∙◌, ap}
-use Rattle.hub_state.specs.declared.step.Step.{Step}
-use Rattle.hub_state.specs.Plain.{PlainBase}
-use Rattle.hub_state.specs.Membership.{open_clients, closes, opens}
+use Rattle.journal.specs.declared.step.Step.{Step}
+use Rattle.journal.specs.Plain.{PlainBase}
+use Rattle.journal.specs.Membership.{open_clients, closes, opens}
 use Rattle.replay.proofs.StepsLemmas.{newest_first}
 
 pub open_clients-next : (base : PlainBase) (steps : List Step) (i : ℕ) (step : Step) (before after : List ℕ) → i < length steps → step ≡ get_or steps i step

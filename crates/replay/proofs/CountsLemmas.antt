@@ -1,10 +1,10 @@
 -- What one more step adds to the counts.
 use Rattle.std.proofs.Common.{◌≡◌, ℕ, ◌+◌, ◌<◌, List, [], length, take, get_or, reverse, refl, sym, ◌∙◌, ap}
-use Rattle.hub_state.specs.declared.step.Step.{Step}
-use Rattle.hub_state.specs.declared.step.What.{What}
-use Rattle.hub_state.specs.Plain.{PlainBase, Limits}
-use Rattle.hub_state.specs.Journal.{total}
-use Rattle.hub_state.specs.Totals.{placed_by, dropped_by, handed_out_by, discarded_by, placed, dropped, handed_out, discarded}
+use Rattle.journal.specs.declared.step.Step.{Step}
+use Rattle.journal.specs.declared.step.What.{What}
+use Rattle.journal.specs.Plain.{PlainBase, Limits}
+use Rattle.journal.specs.Journal.{total}
+use Rattle.journal.specs.Totals.{placed_by, dropped_by, handed_out_by, discarded_by, placed, dropped, handed_out, discarded}
 use Rattle.replay.proofs.StepsLemmas.{newest_first}
 
 module _ (counts : List Step → What → ℕ) (start : ℕ) where

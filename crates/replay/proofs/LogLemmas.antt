@@ -6,9 +6,9 @@ use Rattle.std.proofs.Math.Seq.{drop-cons}
 use Rattle.std.proofs.lemmas.List.{take_all, length-drop}
 use Rattle.std.proofs.lemmas.Bool.Decides.{nat_tests}
 use Rattle.std.proofs.lemmas.List.Recursion.{is_count_by}
-use Rattle.hub_state.specs.declared.step.Step.{Step}
-use Rattle.hub_state.specs.Plain.{PlainBase, Limits}
-use Rattle.hub_state.specs.Log.{log_call, with_call, log_calls}
+use Rattle.journal.specs.declared.step.Step.{Step}
+use Rattle.journal.specs.Plain.{PlainBase, Limits}
+use Rattle.journal.specs.Log.{log_call, with_call, log_calls}
 use Rattle.recovery.specs.PacketLog.{LogCall, PlainLogged, Pushed, Swept, pushes, drops, kept}
 use Rattle.replay.specs.Log.{is_push, survivors}
 use Rattle.replay.proofs.StepsLemmas.{newest_first}

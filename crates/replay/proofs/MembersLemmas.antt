@@ -2,10 +2,10 @@
 use Rattle.std.proofs.Common.{◌≡◌, ℕ, ◌==◌, Bool, true, false, ◌&&◌, List, map, filter, refl, sym, ◌∙◌, ap, nat_eq, nat_cmp}
 use Rattle.std.specs.List.{list_any}
 use Rattle.std.specs.Ordering.{eq_by_cmp}
-use Rattle.hub_state.specs.declared.socket.Socket.{Socket}
-use Rattle.hub_state.specs.declared.step.Step.{Step}
-use Rattle.hub_state.specs.Plain.{PlainBase}
-use Rattle.hub_state.specs.Membership.{sockets, rooms, is_in_space}
+use Rattle.journal.specs.declared.socket.Socket.{Socket}
+use Rattle.journal.specs.declared.step.Step.{Step}
+use Rattle.journal.specs.Plain.{PlainBase}
+use Rattle.journal.specs.Membership.{sockets, rooms, is_in_space}
 use Rattle.room_maps.specs.Room.{same_room}
 use Rattle.room_maps.specs.Membership.{is_in}
 use Rattle.room_maps.proofs.BooleanLemmas.{and_comm}

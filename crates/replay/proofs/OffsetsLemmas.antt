@@ -2,11 +2,11 @@
 use Rattle.std.proofs.Common.{◌≡◌, ℕ, ◌+◌, ◌<◌, ◌≤◌, List, [], length, take, get_or, reverse, sym, refl, true, false, Option, Some, None, arith}
 use Rattle.std.specs.Option.{is_some, option_map_or}
 use Rattle.recovery.specs.PacketLog.{number_of}
-use Rattle.hub_state.specs.declared.step.Step.{Step}
-use Rattle.hub_state.specs.declared.step.What.{What}
-use Rattle.hub_state.specs.declared.step.What.TheVariants.{Opened, Attached, Recovered, Joined, Left, Cast, Told, Took, Parked, Ended, Closed, Swept}
-use Rattle.hub_state.specs.Plain.{PlainBase}
-use Rattle.hub_state.specs.Log.{offsets_used, next_number}
+use Rattle.journal.specs.declared.step.Step.{Step}
+use Rattle.journal.specs.declared.step.What.{What}
+use Rattle.journal.specs.declared.step.What.TheVariants.{Opened, Attached, Recovered, Joined, Left, AllJoined, AllLeft, Cast, Told, Took, Parked, Ended, AllEnded, Closed, Swept}
+use Rattle.journal.specs.Plain.{PlainBase}
+use Rattle.journal.specs.Log.{offsets_used, next_number}
 use Rattle.replay.proofs.CountsLemmas.{total-none, total-next}
 
 pub number-none : (base : PlainBase) → number_of base.next ≡ next_number base []
@@ -29,10 +29,13 @@ at_most_one (Attached k) = omega arith
 at_most_one (Recovered r) = omega arith
 at_most_one (Joined s r) = omega arith
 at_most_one (Left s r) = omega arith
+at_most_one (AllJoined m) = omega arith
+at_most_one (AllLeft m) = omega arith
 at_most_one (Told m) = omega arith
 at_most_one (Took c m n) = omega arith
 at_most_one (Parked c) = omega arith
 at_most_one (Ended s) = omega arith
+at_most_one (AllEnded d) = omega arith
 at_most_one (Closed c) = omega arith
 at_most_one Swept = omega arith
 

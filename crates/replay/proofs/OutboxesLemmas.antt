@@ -5,11 +5,11 @@ use Rattle.std.proofs.lemmas.List.{map-append, drop_min}
 use Rattle.std.proofs.lemmas.List.Elements.{filter-append}
 use Rattle.sio_wire.specs.declared.entry.Entry.{Entry}
 use Rattle.recovery.specs.PacketLog.{PlainLogged}
-use Rattle.hub_state.specs.declared.socket.Socket.{Socket}
-use Rattle.hub_state.specs.declared.step.Step.{Step}
-use Rattle.hub_state.specs.Plain.{PlainBase, Limits, PlainBroadcast}
-use Rattle.hub_state.specs.Membership.{sockets, rooms}
-use Rattle.hub_state.specs.Outboxes.{is_addressed, receivers, entries_of, entries_for, put, begins, taken_by, base_waiting, placements, taken, waiting}
+use Rattle.journal.specs.declared.socket.Socket.{Socket}
+use Rattle.journal.specs.declared.step.Step.{Step}
+use Rattle.journal.specs.Plain.{PlainBase, Limits, PlainBroadcast}
+use Rattle.journal.specs.Membership.{sockets, rooms}
+use Rattle.journal.specs.Outboxes.{is_addressed, receivers, entries_of, entries_for, put, begins, taken_by, base_waiting, placements, taken, waiting}
 use Rattle.room_maps.specs.Addressed as broadcast
 use Rattle.replay.specs.Rooms.{ListsSockets, ListsPairs}
 use Rattle.replay.specs.Outboxes as reach

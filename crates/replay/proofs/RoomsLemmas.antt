@@ -7,17 +7,17 @@ use Rattle.std.specs.Cmp.Lexicographic.{nat_list_eq_equiv}
 use Rattle.std.specs.FinSet.{contains-from_list}
 use Rattle.std.proofs.lemmas.Bool.{eqb-true}
 use Rattle.std.proofs.lemmas.List.Folds.{list_any-append}
-use Rattle.hub_state.specs.declared.socket.Socket.{Socket}
-use Rattle.hub_state.specs.declared.step.Step.{Step}
-use Rattle.hub_state.specs.declared.step.What.{What}
-use Rattle.hub_state.specs.declared.step.What.TheVariants.{Opened, Attached, Recovered, Joined, Left, Cast, Told, Took, Parked, Ended, Closed, Swept}
-use Rattle.hub_state.specs.Plain.{PlainBase}
-use Rattle.hub_state.specs.Membership.{sockets, sid_of, rooms, rooms_after, without_sockets}
+use Rattle.journal.specs.declared.socket.Socket.{Socket}
+use Rattle.journal.specs.declared.step.Step.{Step}
+use Rattle.journal.specs.declared.step.What.{What}
+use Rattle.journal.specs.declared.step.What.TheVariants.{Opened, Attached, Recovered, Joined, Left, AllJoined, AllLeft, Cast, Told, Took, Parked, Ended, AllEnded, Closed, Swept}
+use Rattle.journal.specs.Plain.{PlainBase}
+use Rattle.journal.specs.Membership.{sockets, sid_of, rooms, rooms_after, without_sockets}
 use Rattle.room_maps.specs.Room.{room_cmp, same_room, own_room}
 use Rattle.room_maps.specs.Membership.{RoomSets, pair_cmp, is_socket, is_in, without_socket}
 use Rattle.room_maps.proofs.BooleanLemmas.{and_comm, same_bool}
 use Rattle.room_maps.proofs.OrderLemmas.{pair_cmp_total, eq-pair, nat_tied, nat_itself, same_room-cmp, same_room_is, list_any-map, list_any-and, list_any-filter, list_any-at}
-use Rattle.room_maps.proofs.MembershipLaws.{is_socket-with_socket, is_in-with_socket, is_in-with_pair, is_in-without_pair, is_in-with_socket_in, is_socket-with_socket_in, is_socket-without_socket, is_in-without_socket}
+use Rattle.room_maps.proofs.MembershipLaws.{is_socket-with_socket, is_in-with_socket, is_in-with_pair, is_in-without_pair, is_in-with_members, is_in-without_members, is_in-with_socket_in, is_socket-with_socket_in, is_socket-without_socket, is_in-without_socket}
 use Rattle.replay.specs.Rooms.{is_listed, is_pair_listed, ListsSockets, ListsPairs, ended_with, ends, leaves, begins, enters}
 use Rattle.replay.proofs.StepsLemmas.{newest_first}
 
@@ -55,6 +55,9 @@ pairs-at_base base pairs is =
 
 -- ---- what a step takes out and adds
 
+is_listed-turned : (sids : List ℕ) (s : ℕ) → is_listed sids s ≡ list_any (nat_eq s) sids
+is_listed-turned sids s = ap (λ p. list_any p sids) (λ i t. nat_eq_equiv.symm t s i)
+
 -- the items at one place are those that were there and stay, and those that are added there
 parted : {A : Type 0} (here goes : A → Bool) (gone : Bool) (xs more : List A) → ((x : A) → here x ≡ true → goes x ≡ gone)
     → list_any here (filter (λ x. not (goes x)) xs ++ more) ≡ ((list_any here xs && not gone) || list_any here more)
@@ -89,13 +92,19 @@ comes true false = refl
 comes false true = refl
 comes false false = refl
 
+come-many : (b c : Bool) → ((b && true) || c) ≡ (c || b)
+come-many true true = refl
+come-many true false = refl
+come-many false true = refl
+come-many false false = refl
+
 goes : (b c : Bool) → ((b && not c) || false) ≡ (not c && b)
 goes true true = refl
 goes true false = refl
 goes false true = refl
 goes false false = refl
 
--- ---- sockets that end with their client
+-- ---- sockets that end with others or with their client
 
 step-out : (a b c : Bool) → (not b && (not a && c)) ≡ (not (a || b) && c)
 step-out true true c = refl
@@ -127,16 +136,20 @@ module _ (base : PlainBase) (before : List Step) where
   is_socket-after (Attached k) v s = comes (is_socket v s) (k.sid == s) ∙ sym (is_socket-with_socket v k.sid s)
   is_socket-after (Recovered r) v s = comes (is_socket v s) (r.socket.sid == s) ∙ sym (is_socket-with_socket_in v r.socket.sid r.rooms s)
   is_socket-after (Ended t) v s = goes (is_socket v s) (t == s) ∙ sym (is_socket-without_socket v t s)
+  is_socket-after (AllEnded d) v s = goes (is_socket v s) (list_any (λ k. k.sid == s) (ended_with base before (AllEnded d))) ∙ sym (is_socket-without_sockets (ended_with base before (AllEnded d)) v s)
   is_socket-after (Parked c) v s = goes (is_socket v s) (list_any (λ k. k.sid == s) (ended_with base before (Parked c))) ∙ sym (is_socket-without_sockets (ended_with base before (Parked c)) v s)
   is_socket-after (Closed c) v s = goes (is_socket v s) (list_any (λ k. k.sid == s) (ended_with base before (Closed c))) ∙ sym (is_socket-without_sockets (ended_with base before (Closed c)) v s)
   is_socket-after (Joined t r) v s = stays (is_socket v s)
   is_socket-after (Left t r) v s = stays (is_socket v s)
+  is_socket-after (AllJoined m) v s = stays (is_socket v s)
+  is_socket-after (AllLeft m) v s = stays (is_socket v s)
   is_socket-after (Opened c) v s = stays (is_socket v s)
   is_socket-after (Cast b) v s = stays (is_socket v s)
   is_socket-after (Told m) v s = stays (is_socket v s)
   is_socket-after (Took c m n) v s = stays (is_socket v s)
   is_socket-after Swept v s = stays (is_socket v s)
 
+  -- one socket's pairs with its own room and with these
   back : (t : ℕ) (own : List ℕ) (rooms : List (List ℕ)) (s : ℕ) (w : List ℕ)
       → is_pair_listed ((t, own) ∷ map (λ room. (t, room)) rooms) s w ≡ (nat_eq t s && list_any (same_room w) (own ∷ rooms))
   back t own rooms s w =
@@ -144,24 +157,35 @@ module _ (base : PlainBase) (before : List Step) where
       ∙ list_any-and (nat_eq t s) (λ room. same_room room w) (own ∷ rooms)
       ∙ ap (λ p. nat_eq t s && list_any p (own ∷ rooms)) (λ i room. nat_list_eq_equiv.symm room w i)
 
+  -- the pairs of these sockets and a room
+  in-room : (sids : List ℕ) (room : List ℕ) (s : ℕ) (w : List ℕ) → is_pair_listed (map (λ t. (t, room)) sids) s w ≡ (list_any (nat_eq s) sids && same_room room w)
+  in-room sids room s w =
+      list_any-map (λ (p : ℕ × List ℕ). p.0 == s && same_room p.1 w) (λ t. (t, room)) sids
+      ∙ ap (λ p. list_any p sids) (λ i t. (and_comm (t == s) (same_room room w) ∙ ap (λ b. same_room room w && b) (nat_eq_equiv.symm t s)) i)
+      ∙ list_any-and (same_room room w) (nat_eq s) sids
+      ∙ and_comm (same_room room w) (list_any (nat_eq s) sids)
+
   is_in-after : (what : What) (v : RoomSets) (s : ℕ) (w : List ℕ)
       → ((is_in v s w && not (leaves what (ended_with base before what) s w)) || is_pair_listed (enters what) s w) ≡ is_in (rooms_after base before v what) s w
   is_in-after (Attached k) v s w = comes (is_in v s w) (k.sid == s && same_room (own_room k.sid) w) ∙ sym (is_in-with_socket v k.sid s w)
   is_in-after (Recovered r) v s w =
       ap (λ b. (is_in v s w && true) || b) (back r.socket.sid (own_room r.socket.sid) r.rooms s w)
-      ∙ turned (is_in v s w) (nat_eq r.socket.sid s && list_any (same_room w) (own_room r.socket.sid ∷ r.rooms))
+      ∙ come-many (is_in v s w) (nat_eq r.socket.sid s && list_any (same_room w) (own_room r.socket.sid ∷ r.rooms))
       ∙ sym (is_in-with_socket_in v r.socket.sid r.rooms s w)
-    where
-      turned : (b c : Bool) → ((b && true) || c) ≡ (c || b)
-      turned true true = refl
-      turned true false = refl
-      turned false true = refl
-      turned false false = refl
   is_in-after (Ended t) v s w = goes (is_in v s w) (t == s) ∙ sym (is_in-without_socket v t s w)
+  is_in-after (AllEnded d) v s w = goes (is_in v s w) (list_any (λ k. k.sid == s) (ended_with base before (AllEnded d))) ∙ sym (is_in-without_sockets (ended_with base before (AllEnded d)) v s w)
   is_in-after (Parked c) v s w = goes (is_in v s w) (list_any (λ k. k.sid == s) (ended_with base before (Parked c))) ∙ sym (is_in-without_sockets (ended_with base before (Parked c)) v s w)
   is_in-after (Closed c) v s w = goes (is_in v s w) (list_any (λ k. k.sid == s) (ended_with base before (Closed c))) ∙ sym (is_in-without_sockets (ended_with base before (Closed c)) v s w)
   is_in-after (Joined t r) v s w = comes (is_in v s w) (t == s && same_room r w) ∙ sym (is_in-with_pair v t r s w)
   is_in-after (Left t r) v s w = goes (is_in v s w) (t == s && same_room r w) ∙ sym (is_in-without_pair v t r s w)
+  is_in-after (AllJoined m) v s w =
+      ap (λ b. (is_in v s w && true) || b) (in-room m.changed m.room s w)
+      ∙ come-many (is_in v s w) (list_any (nat_eq s) m.changed && same_room m.room w)
+      ∙ sym (is_in-with_members v m.changed m.room s w)
+  is_in-after (AllLeft m) v s w =
+      ap (λ b. (is_in v s w && not (b && same_room m.room w)) || false) (is_listed-turned m.changed s)
+      ∙ goes (is_in v s w) (list_any (nat_eq s) m.changed && same_room m.room w)
+      ∙ sym (is_in-without_members v m.changed m.room s w)
   is_in-after (Opened c) v s w = stays (is_in v s w)
   is_in-after (Cast b) v s w = stays (is_in v s w)
   is_in-after (Told m) v s w = stays (is_in v s w)

@@ -14,10 +14,10 @@ use Rattle.room_maps.specs.Membership.{RoomSets, is_in}
 use Rattle.room_maps.proofs.AddressedLemmas.{list_any-dedup}
 use Rattle.room_maps.proofs.OrderLemmas.{list_any-map, list_any-filter, room_tied}
 use Rattle.recovery.specs.SavedTable.{PlainSaved, with_session}
-use Rattle.hub_state.specs.declared.socket.Socket.{Socket}
-use Rattle.hub_state.specs.declared.step.Step.{Step}
-use Rattle.hub_state.specs.Plain.{PlainBase, Limits}
-use Rattle.hub_state.specs.Sessions.{with_sessions, sessions, sessions_after}
+use Rattle.journal.specs.declared.socket.Socket.{Socket}
+use Rattle.journal.specs.declared.step.Step.{Step}
+use Rattle.journal.specs.Plain.{PlainBase, Limits}
+use Rattle.journal.specs.Sessions.{with_sessions, sessions, sessions_after}
 use Rattle.replay.specs.Rooms.{ListsPairs}
 use Rattle.replay.proofs.RoomsLemmas.{room_eq-cmp}
 use Rattle.replay.proofs.StepsLemmas.{newest_first, taken-next}

@@ -1,9 +1,9 @@
 -- What one more step makes of the connected sockets.
 use Rattle.std.proofs.Common.{◌≡◌, ℕ, ◌+◌, ◌<◌, List, ◌++◌, not, filter, length, take, get_or, reverse, sym, ◌∙◌, ap}
-use Rattle.hub_state.specs.declared.socket.Socket.{Socket}
-use Rattle.hub_state.specs.declared.step.Step.{Step}
-use Rattle.hub_state.specs.Plain.{PlainBase}
-use Rattle.hub_state.specs.Membership.{sockets, ends, connects}
+use Rattle.journal.specs.declared.socket.Socket.{Socket}
+use Rattle.journal.specs.declared.step.Step.{Step}
+use Rattle.journal.specs.Plain.{PlainBase}
+use Rattle.journal.specs.Membership.{sockets, ends, connects}
 use Rattle.replay.proofs.StepsLemmas.{newest_first}
 
 pub sockets-next : (base : PlainBase) (steps : List Step) (i : ℕ) (step : Step) (before after : List Socket) → i < length steps → step ≡ get_or steps i step

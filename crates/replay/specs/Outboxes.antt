@@ -1,8 +1,8 @@
 -- For whom a broadcast is, by lists of sockets and of their rooms.
 use Rattle.std.specs.Prelude.{ℕ, ◌==◌, Bool, ◌&&◌, not, List}
 use Rattle.std.specs.List.{list_any}
-use Rattle.hub_state.specs.declared.socket.Socket.{Socket}
-use Rattle.hub_state.specs.Plain.{PlainBroadcast}
+use Rattle.journal.specs.declared.socket.Socket.{Socket}
+use Rattle.journal.specs.Plain.{PlainBroadcast}
 use Rattle.room_maps.specs.Addressed as broadcast
 use Rattle.replay.specs.Rooms.{is_listed, is_pair_listed}
 

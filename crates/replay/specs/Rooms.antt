@@ -1,12 +1,13 @@
 -- The sets of connected sockets and of their rooms as lists, in which nothing is said of the order.
-use Rattle.std.specs.Prelude.{◌≡◌, ℕ, ◌==◌, Bool, ◌&&◌, List, [], ◌∷◌, map}
+use Rattle.std.specs.Prelude.{◌≡◌, ℕ, ◌==◌, Bool, ◌&&◌, List, [], ◌∷◌, map, filter}
 use Rattle.std.specs.List.{list_any}
-use Rattle.hub_state.specs.declared.socket.Socket.{Socket}
-use Rattle.hub_state.specs.declared.step.Step.{Step}
-use Rattle.hub_state.specs.declared.step.What.{What}
-use Rattle.hub_state.specs.declared.step.What.TheVariants.{Attached, Recovered, Joined, Left, Parked, Ended, Closed}
-use Rattle.hub_state.specs.Plain.{PlainBase}
-use Rattle.hub_state.specs.Membership.{sockets_of}
+use Rattle.journal.specs.declared.socket.Socket.{Socket}
+use Rattle.journal.specs.declared.step.Step.{Step}
+use Rattle.journal.specs.declared.step.What.{What}
+use Rattle.journal.specs.declared.step.What.TheVariants.{Attached, Recovered, Joined, Left, AllJoined, AllLeft, Parked, Ended, AllEnded, Closed}
+use Rattle.journal.specs.Plain.{PlainBase}
+use Rattle.journal.specs.Membership as membership
+use Rattle.journal.specs.Membership.{sockets, sockets_of}
 use Rattle.room_maps.specs.Room.{same_room, own_room}
 use Rattle.room_maps.specs.Membership.{RoomSets, is_socket, is_in}
 
@@ -28,13 +29,14 @@ pub record ListsPairs (sets : RoomSets) (pairs : List (ℕ × List ℕ)) : Type 
 
 -- ---- what a step takes out of them and adds
 
--- the sockets that end with their client
+-- the sockets that end with others or with their client
 abbrev pub ended_with : PlainBase → List Step → What → List Socket
 ended_with base before (Parked c) = sockets_of base before c
 ended_with base before (Closed c) = sockets_of base before c
+ended_with base before (AllEnded d) = filter (membership.ends (AllEnded d)) (sockets base before)
 ended_with base before _ = []
 
--- the socket ends by itself or with its client
+-- the socket ends by itself, with others or with its client
 abbrev pub ends : What → List Socket → ℕ → Bool
 ends (Ended t) ended s = t == s
 ends _ ended s = list_any (λ (k : Socket). k.sid == s) ended
@@ -42,6 +44,7 @@ ends _ ended s = list_any (λ (k : Socket). k.sid == s) ended
 -- the socket leaves the room, or ends
 abbrev pub leaves : What → List Socket → ℕ → List ℕ → Bool
 leaves (Left t room) ended s q = t == s && same_room room q
+leaves (AllLeft m) ended s q = is_listed m.changed s && same_room m.room q
 leaves what ended s q = ends what ended s
 
 -- the sockets that the step connects
@@ -50,11 +53,12 @@ begins (Attached k) = k.sid ∷ []
 begins (Recovered r) = r.socket.sid ∷ []
 begins _ = []
 
--- the rooms that a socket comes into: its own, those that come back with it, or one that it joins
+-- the rooms that sockets come into: their own, those that come back with them, or one that they join
 abbrev pub enters : What → List (ℕ × List ℕ)
 enters (Attached k) = (k.sid, own_room k.sid) ∷ []
 enters (Recovered r) = (r.socket.sid, own_room r.socket.sid) ∷ map (λ room. (r.socket.sid, room)) r.rooms
 enters (Joined s room) = (s, room) ∷ []
+enters (AllJoined m) = map (λ s. (s, m.room)) m.changed
 enters _ = []
 
 -- ---- who is where

@@ -1,13 +1,13 @@
 //! The open clients.
 
 ghost use Rattle.std.specs.Prelude.{◌≡◌, [], ◌++◌, not, filter, reverse, IfOk};
-ghost use Rattle.hub_state.specs.Membership as membership;
+ghost use Rattle.journal.specs.Membership as membership;
 
-use hub_state::{Base, Step, What};
+use journal::{Base, Step, What};
 use std::alloc::{AllocError, Global};
 
 /// The clients of the base.
-#[tactic(auto, unfolding(hub_state::specs::Membership::open_clients))]
+#[tactic(auto, unfolding(journal::specs::Membership::open_clients))]
 fn at_base(alloc: Global, base: &Base) -> Result<Vec<u128>, AllocError>
     ensures { IfOk result (λ clients. clients.items ≡ membership.open_clients base.now []) }
 {

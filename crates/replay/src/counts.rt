@@ -2,13 +2,13 @@
 
 ghost use Rattle.std.specs.Prelude.{◌≡◌, ◌<◌, [], ◌∷◌, length, reverse, true, Some, None, IfOk, MatchOption, if◌then◌else◌};
 ghost use Rattle.std.specs.List.{list_any, sum_by};
-ghost use Rattle.hub_state.specs.Outboxes as outboxes;
-ghost use Rattle.hub_state.specs.Totals as definitions;
-ghost use Rattle.hub_state.specs.Totals.{is_past};
+ghost use Rattle.journal.specs.Outboxes as outboxes;
+ghost use Rattle.journal.specs.Totals as definitions;
+ghost use Rattle.journal.specs.Totals.{is_past};
 
 use crate::clients::open_clients;
 use crate::outboxes::{put, waiting};
-use hub_state::{Base, Config, Step, Totals, What};
+use journal::{Base, Config, Step, Totals, What};
 use std::alloc::{AllocError, Global};
 
 /// A number with room for many more.
@@ -86,7 +86,7 @@ fn discarded_by(
 }
 
 /// The commands that were accepted.
-#[tactic(auto, unfolding(hub_state::specs::Totals::commands))]
+#[tactic(auto, unfolding(journal::specs::Totals::commands))]
 fn commands(base: &Base, steps: &[Step]) -> u128
     ensures { result ≡ definitions.commands base.now (reverse steps.now) }
 {
@@ -163,7 +163,7 @@ fn waiting_for(
 }
 
 /// The entries that wait for the open clients.
-#[tactic(auto, unfolding(hub_state::specs::Totals::waiting_in_all))]
+#[tactic(auto, unfolding(journal::specs::Totals::waiting_in_all))]
 fn waiting_in_all(
     alloc: Global,
     base: &Base,

@@ -5,10 +5,10 @@ ghost use Rattle.std.specs.List.{list_any};
 ghost use Rattle.std.specs.Option.{option_map};
 ghost use Rattle.recovery.specs.Expiry as expiry;
 ghost use Rattle.recovery.specs.PacketLog as packets;
-ghost use Rattle.hub_state.specs.Log as definitions;
+ghost use Rattle.journal.specs.Log as definitions;
 ghost use Rattle.replay.specs.Log as lists;
 
-use hub_state::{Base, Broadcast, Config, Step, What};
+use journal::{Base, Broadcast, Config, Step, What};
 use recovery::Logged;
 use std::alloc::{AllocError, Global};
 use std::marker::Model;
@@ -227,7 +227,7 @@ fn survivors(alloc: Global, limit: usize, calls: &[Call]) -> Result<Vec<Logged>,
 }
 
 /// The log: the newest broadcasts that no later sweep dropped, rising by offset.
-#[tactic(auto, unfolding(hub_state::specs::Log::log))]
+#[tactic(auto, unfolding(journal::specs::Log::log))]
 pub fn log(
     alloc: Global,
     base: &Base,

@@ -6,12 +6,12 @@ ghost use Rattle.std.specs.List.{list_any};
 ghost use Rattle.terms.specs.Listing.{ListsRising};
 ghost use Rattle.room_maps.specs.Membership as room_maps;
 ghost use Rattle.room_maps.specs.Room.{same_room};
-ghost use Rattle.hub_state.specs.Membership as membership;
+ghost use Rattle.journal.specs.Membership as membership;
 ghost use Rattle.replay.specs.Rooms.{is_here};
 
 use crate::room_pairs::rooms;
 use crate::socket_list::{sockets, stands_in};
-use hub_state::{Base, Socket, Step};
+use journal::{Base, Socket, Step};
 use room_maps::{Room, Sid};
 use std::alloc::{AllocError, Global};
 

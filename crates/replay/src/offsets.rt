@@ -2,9 +2,9 @@
 
 ghost use Rattle.std.specs.Prelude.{◌≡◌, ◌<◌, reverse};
 ghost use Rattle.recovery.specs.PacketLog as packets;
-ghost use Rattle.hub_state.specs.Log as definitions;
+ghost use Rattle.journal.specs.Log as definitions;
 
-use hub_state::{Base, Step, What};
+use journal::{Base, Step, What};
 
 /// The number past the greatest offset.
 const PAST: u128 = 18_446_744_073_709_551_616;

@@ -4,19 +4,20 @@ ghost use Rattle.std.specs.Prelude.{◌≡◌, ◌+◌, [], ◌∷◌, ◌++◌,
 ghost use Rattle.std.specs.List.{list_any, find};
 ghost use Rattle.std.specs.Arc.{arc_value};
 ghost use Rattle.room_maps.specs.Addressed as addressed;
-ghost use Rattle.hub_state.specs.Log as log;
-ghost use Rattle.hub_state.specs.Outboxes as definitions;
+ghost use Rattle.journal.specs.Log as log;
+ghost use Rattle.journal.specs.Outboxes as definitions;
 ghost use Rattle.sio_wire.specs.ConnectAnswer as connect_answer;
+ghost use Rattle.sio_wire.specs.Disconnect as disconnect;
 ghost use Rattle.replay.specs.Rooms as lists;
 ghost use Rattle.replay.specs.Outboxes as reach;
 
 use crate::log_list::log;
 use crate::room_pairs::{room_sockets, rooms};
-use crate::socket_list::sockets;
-use hub_state::{Base, BaseClient, Broadcast, Config, Recovery, Socket, Step, What};
+use crate::socket_list::{is_listed, sockets};
+use journal::{Base, BaseClient, Broadcast, Config, Recovery, Socket, Step, What};
 use recovery::Logged;
 use room_maps::{Room, Sid};
-use sio_wire::{Attachments, Entry, connected_text};
+use sio_wire::{Attachments, Entry, connected_text, disconnect_text};
 use std::alloc::{AllocError, Global};
 use std::sync::Arc;
 use terms::Text;
@@ -45,18 +46,32 @@ fn answer_text(alloc: Global, name: &str, socket: &Socket) -> Result<Entry, Allo
 }
 
 /// The answer to the CONNECT of a socket.
-#[tactic(auto, unfolding(hub_state::specs::Outboxes::answer))]
+#[tactic(auto, unfolding(journal::specs::Outboxes::answer))]
 fn answer(alloc: Global, config: &Config, socket: &Socket) -> Result<Entry, AllocError>
     ensures { IfOk result (λ entry. entry ≡ definitions.answer config.now socket.now) }
 {
     answer_text(alloc, name_at(config, socket.space), socket)
 }
 
-/// Whether a session id is among these.
-fn is_listed(sids: &[Sid], sid: Sid) -> bool
-    ensures { result ≡ lists.is_listed sids.now sid }
+/// What sockets of this namespace are told when they are ended.
+fn farewell_text(alloc: Global, name: &str) -> Result<Entry, AllocError>
+    ensures { IfOk result (λ entry. entry ≡ record { text = disconnect.disconnect_text name.now; attachments = [] }) }
 {
-    sids.iter().any(|other| *other == sid)
+    match disconnect_text(alloc, name) {
+        Ok(text) => Ok(Entry {
+            text: Text::from_string(text),
+            attachments: Attachments::new(alloc),
+        }),
+        Err(_) => Err(AllocError),
+    }
+}
+
+/// What sockets of the namespace at a place are told when they are ended.
+#[tactic(auto, unfolding(journal::specs::Outboxes::farewell))]
+fn farewell(alloc: Global, config: &Config, place: u16) -> Result<Entry, AllocError>
+    ensures { IfOk result (λ entry. entry ≡ definitions.farewell config.now place) }
+{
+    farewell_text(alloc, name_at(config, place))
 }
 
 /// Whether a socket is in a room.
@@ -152,6 +167,21 @@ fn put_for_each(
     Ok(puts)
 }
 
+/// An entry for each of these clients.
+fn put_for_all(
+    alloc: Global,
+    clients: &[u128],
+    entry: &Entry,
+) -> Result<Vec<(u128, Entry)>, AllocError>
+    ensures { IfOk result (λ puts. puts.items ≡ map (λ c. (c, entry.now)) clients.now) }
+{
+    let mut puts = Vec::new(alloc);
+    for client in clients {
+        puts.push((*client, copy(entry)?))?;
+    }
+    Ok(puts)
+}
+
 /// One entry for a client.
 fn put_one(alloc: Global, client: u128, entry: Entry) -> Result<Vec<(u128, Entry)>, AllocError>
     ensures { IfOk result (λ puts. puts.items ≡ (client, entry) ∷ []) }
@@ -210,7 +240,7 @@ fn put_back(
 }
 
 /// What a step after these puts, in order, each entry with the client that it is for.
-#[tactic(auto, unfolding(hub_state::specs::Outboxes::put))]
+#[tactic(auto, unfolding(journal::specs::Outboxes::put))]
 pub fn put(
     alloc: Global,
     base: &Base,
@@ -231,6 +261,10 @@ pub fn put(
             put_for_each(alloc, &receivers, &broadcast.entry)
         }
         What::Told(message) => put_one(alloc, message.client, copy(&message.entry)?),
+        What::AllEnded(dismissal) => {
+            let entry = farewell(alloc, config, dismissal.space)?;
+            put_for_all(alloc, &dismissal.told, &entry)
+        }
         _ => Ok(Vec::new(alloc)),
     }
 }

@@ -2,17 +2,17 @@
 
 ghost use Rattle.std.specs.Prelude.{◌≡◌, [], ◌∷◌, ◌++◌, ◌==◌, not, map, filter, reverse, IfOk};
 ghost use Rattle.std.specs.List.{list_any};
-ghost use Rattle.hub_state.specs.Membership as membership;
+ghost use Rattle.journal.specs.Membership as membership;
 ghost use Rattle.room_maps.specs.Room.{own_room};
 ghost use Rattle.replay.specs.Rooms as lists;
 ghost use Rattle.replay.specs.Rooms.{ListsSockets, ListsPairs};
 
-use crate::socket_list::{sockets, sockets_of};
-use hub_state::{Base, Socket, Step, What};
+use crate::socket_list::{ending, is_listed, sockets, sockets_of};
+use journal::{Base, Socket, Step, What};
 use room_maps::{Room, Sid};
 use std::alloc::{AllocError, Global};
 
-/// The sockets that end with their client by a step after these.
+/// The sockets that end with others or with their client by a step after these.
 fn ended_with(
     alloc: Global,
     base: &Base,
@@ -23,6 +23,7 @@ fn ended_with(
 {
     match what {
         What::Parked(client) | What::Closed(client) => sockets_of(alloc, base, before, *client),
+        What::AllEnded(_) => ending(alloc, base, before, what),
         _ => Ok(Vec::new(alloc)),
     }
 }
@@ -34,7 +35,7 @@ fn is_among(sockets: &[Socket], sid: Sid) -> bool
     sockets.iter().any(|socket| socket.sid == sid)
 }
 
-/// Whether a socket ends by a step, by which these end with their client.
+/// Whether a socket ends by a step, by which these end with others or with their client.
 fn ends(what: &What, ended: &[Socket], sid: Sid) -> bool
     ensures { result ≡ lists.ends what.now ended.now sid }
 {
@@ -44,12 +45,13 @@ fn ends(what: &What, ended: &[Socket], sid: Sid) -> bool
     }
 }
 
-/// Whether a socket leaves a room by a step, by which these end with their client.
+/// Whether a socket leaves a room by a step, by which these end with others or with their client.
 fn leaves(what: &What, ended: &[Socket], sid: Sid, room: Room) -> bool
     ensures { result ≡ lists.leaves what.now ended.now sid room }
 {
     match what {
         What::Left(other, old) => *other == sid && *old == room,
+        What::AllLeft(change) => is_listed(&change.changed, sid) && change.room == room,
         _ => ends(what, ended, sid),
     }
 }
@@ -70,6 +72,13 @@ fn pairs_with(alloc: Global, sid: Sid, rooms: &[Room]) -> Result<Vec<(Sid, Room)
     rooms.iter().map(|room| (sid, *room)).collect(alloc)
 }
 
+/// The pairs of these sockets and a room.
+fn pairs_in(alloc: Global, sids: &[Sid], room: Room) -> Result<Vec<(Sid, Room)>, AllocError>
+    ensures { IfOk result (λ pairs. pairs.items ≡ map (λ s. (s, room)) sids.now) }
+{
+    sids.iter().map(|sid| (*sid, room)).collect(alloc)
+}
+
 /// The pairs of a socket with its own room and with these.
 fn pairs_back(alloc: Global, sid: Sid, rooms: &[Room]) -> Result<Vec<(Sid, Room)>, AllocError>
     ensures { IfOk result (λ pairs. pairs.items ≡ (sid, own_room sid) ∷ map (λ room. (sid, room)) rooms.now) }
@@ -88,11 +97,12 @@ fn enters(alloc: Global, what: &What) -> Result<Vec<(Sid, Room)>, AllocError>
         What::Attached(socket) => pair(alloc, socket.sid, Room::own(socket.sid)),
         What::Recovered(recovery) => pairs_back(alloc, recovery.socket.sid, &recovery.rooms),
         What::Joined(sid, room) => pair(alloc, *sid, *room),
+        What::AllJoined(change) => pairs_in(alloc, &change.changed, change.room),
         _ => Ok(Vec::new(alloc)),
     }
 }
 
-/// The sockets after a step, by which these end with their client.
+/// The sockets after a step, by which these end with others or with their client.
 fn sockets_after(
     alloc: Global,
     sids: &[Sid],
@@ -114,7 +124,7 @@ fn sockets_after(
     Ok(after)
 }
 
-/// The pairs after a step, by which these sockets end with their client.
+/// The pairs after a step, by which these sockets end with others or with their client.
 fn pairs_after(
     alloc: Global,
     pairs: &[(Sid, Room)],

@@ -8,13 +8,13 @@ ghost use Rattle.recovery.specs.SavedTable as table;
 ghost use Rattle.recovery.specs.SavedTable.{PlainSaved};
 ghost use Rattle.room_maps.specs.Room.{room_cmp};
 ghost use Rattle.room_maps.specs.Membership as room_maps;
-ghost use Rattle.hub_state.specs.Membership as membership;
-ghost use Rattle.hub_state.specs.Sessions as definitions;
+ghost use Rattle.journal.specs.Membership as membership;
+ghost use Rattle.journal.specs.Sessions as definitions;
 
 use crate::log_list::is_outdated;
 use crate::room_pairs::rooms;
 use crate::socket_list::sockets_of;
-use hub_state::{Base, Config, Socket, Step, What};
+use journal::{Base, Config, Socket, Step, What};
 use recovery::{Pid, Saved};
 use room_maps::{Room, Sid};
 use std::alloc::{AllocError, Global};

@@ -2,9 +2,10 @@
 
 ghost use Rattle.std.specs.Prelude.{◌≡◌, [], ◌++◌, ◌==◌, ◌&&◌, not, filter, reverse, is_some, option_copied, IfOk, OnOk};
 ghost use Rattle.std.specs.List.{list_any, find};
-ghost use Rattle.hub_state.specs.Membership as membership;
+ghost use Rattle.journal.specs.Membership as membership;
+ghost use Rattle.replay.specs.Rooms as lists;
 
-use hub_state::{Base, BaseClient, Socket, Step, What};
+use journal::{Base, BaseClient, Socket, Step, What};
 use room_maps::Sid;
 use std::alloc::{AllocError, Global};
 
@@ -26,7 +27,7 @@ fn sockets_at_base(alloc: Global, client: &BaseClient) -> Result<Vec<Socket>, Al
 }
 
 /// The sockets of the base.
-#[tactic(auto, unfolding(hub_state::specs::Membership::sockets))]
+#[tactic(auto, unfolding(journal::specs::Membership::sockets))]
 fn at_base(alloc: Global, base: &Base) -> Result<Vec<Socket>, AllocError>
     ensures { IfOk result (λ sockets. sockets.items ≡ membership.sockets base.now []) }
 {
@@ -38,12 +39,21 @@ fn at_base(alloc: Global, base: &Base) -> Result<Vec<Socket>, AllocError>
     Ok(sockets)
 }
 
+/// Whether a session id is among these.
+pub(crate) fn is_listed(sids: &[Sid], sid: Sid) -> bool
+    ensures listed { result ≡ lists.is_listed sids.now sid }
+    ensures turned { result ≡ list_any (λ s. sid == s) sids.now }
+{
+    sids.iter().any(|other| *other == sid)
+}
+
 /// Whether the step ends the socket.
 fn ends(what: &What, socket: &Socket) -> bool
     ensures { result ≡ membership.ends what.now socket.now }
 {
     match what {
         What::Ended(sid) => socket.sid == *sid,
+        What::AllEnded(dismissal) => is_listed(&dismissal.ended, socket.sid),
         What::Parked(client) | What::Closed(client) => socket.client == *client,
         _ => false,
     }
@@ -77,6 +87,23 @@ pub fn sockets(alloc: Global, base: &Base, steps: &[Step]) -> Result<Vec<Socket>
     Ok(sockets)
 }
 
+/// The sockets that a step after these ends.
+pub(crate) fn ending(
+    alloc: Global,
+    base: &Base,
+    before: &[Step],
+    what: &What,
+) -> Result<Vec<Socket>, AllocError>
+    ensures { IfOk result (λ ending. ending.items ≡ filter (membership.ends what.now) (membership.sockets base.now (reverse before.now))) }
+{
+    let sockets = sockets(alloc, base, before)?;
+    sockets
+        .iter()
+        .copied()
+        .filter(|socket| ends(what, socket))
+        .collect(alloc)
+}
+
 /// Whether the socket is one of the client's.
 fn is_of(socket: &Socket, client: u128) -> bool
     ensures { result ≡ (socket.now.client == client) }
@@ -85,7 +112,7 @@ fn is_of(socket: &Socket, client: u128) -> bool
 }
 
 /// The sockets of a client.
-#[tactic(auto, unfolding(hub_state::specs::Membership::sockets_of))]
+#[tactic(auto, unfolding(journal::specs::Membership::sockets_of))]
 pub fn sockets_of(
     alloc: Global,
     base: &Base,
@@ -117,7 +144,7 @@ fn find_sid(sockets: &[Socket], sid: Sid) -> Option<&Socket>
 }
 
 /// Whether a socket with this session id is connected.
-#[tactic(auto, unfolding(hub_state::specs::Membership::socket_with))]
+#[tactic(auto, unfolding(journal::specs::Membership::socket_with))]
 pub fn is_connected(
     alloc: Global,
     base: &Base,

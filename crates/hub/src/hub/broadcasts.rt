@@ -1,11 +1,11 @@
 //! Broadcasts through a hub, and whom they may reach.
-#![tactic(auto, unfolding(hub_state::specs::Totals::commands, hub_state::specs::Totals::handed_out, hub_state::specs::Journal::total))]
+#![tactic(auto, unfolding(journal::specs::Totals::commands, journal::specs::Totals::handed_out, journal::specs::Journal::total))]
 
 ghost use Rattle.hub.specs.Pass.{CastDoesCounted, Rises};
 
 use crate::hub::Hub;
 use crate::pass::Pass;
-use hub_state::{Cast, CastDone, HubError};
+use journal::{Cast, CastDone, HubError};
 use std::alloc::Global;
 use std::sync::ledger::Ledger;
 

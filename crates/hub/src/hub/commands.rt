@@ -1,18 +1,16 @@
 //! The commands of a hub: `State`'s, each counted in a pass.
-#![tactic(auto, unfolding(hub_state::specs::Totals::commands, hub_state::specs::Totals::handed_out, hub_state::specs::Journal::total))]
+#![tactic(auto, unfolding(journal::specs::Totals::commands, journal::specs::Totals::handed_out, journal::specs::Journal::total))]
 
 ghost use Rattle.std.specs.Prelude.{◌≡◌, None, Some, IfOk, length, min, take};
-ghost use Rattle.hub_state.specs.Membership.{sid_of, place_of};
-ghost use Rattle.hub_state.specs.Outboxes.{waiting};
-ghost use Rattle.hub_state.specs.Totals.{is_spent};
-ghost use Rattle.hub_state.specs.Refusals.{or_spent, open_refusal, client_refusal, tell_refusal, attach_refusal, join_refusal, leave_refusal, end_refusal};
+ghost use Rattle.journal.specs.Membership.{sid_of, place_of};
+ghost use Rattle.journal.specs.Outboxes.{waiting};
 ghost use Rattle.hub.specs.Pass.{DoesCounted, Rises};
-ghost use Rattle.hub_state.specs.declared.socket.Socket.{Socket};
-ghost use Rattle.hub_state.specs.declared.step.What.{What};
+ghost use Rattle.journal.specs.declared.socket.Socket.{Socket};
+ghost use Rattle.journal.specs.declared.step.What.{What};
 
 use crate::hub::Hub;
 use crate::pass::Pass;
-use hub_state::HubError;
+use journal::HubError;
 use recovery::Pid;
 use room_maps::{Room, Sid};
 use sio_wire::Entry;
@@ -30,7 +28,7 @@ impl<C: Ledger, T: Ledger> Hub<C, T> {
         client: u128,
         now: u64,
     ) -> Result<(), HubError>
-        ensures does { let h = self.old.history in DoesCounted self.old self.new pass.old pass.new now (What.Opened client) (or_spent (open_refusal h.base h.limits h.journal client) (is_spent h.base h.limits h.journal (What.Opened client))) result }
+        ensures does { let h = self.old.history in DoesCounted self.old self.new pass.old pass.new now (What.Opened client) result }
         ensures rises { Rises self.old self.new pass.old pass.new }
     {
         self.state.open(alloc, client, now)?;
@@ -52,7 +50,7 @@ impl<C: Ledger, T: Ledger> Hub<C, T> {
         pid: Pid,
         now: u64,
     ) -> Result<(), HubError>
-        ensures does { let h = self.old.history in let socket : Socket = record { client = client; space = place_of h.limits space.now; sid = sid; pid = pid } in DoesCounted self.old self.new pass.old pass.new now (What.Attached socket) (or_spent (attach_refusal h.base h.limits h.journal socket) (is_spent h.base h.limits h.journal (What.Attached socket))) result }
+        ensures does { let h = self.old.history in let socket : Socket = record { client = client; space = place_of h.limits space.now; sid = sid; pid = pid } in DoesCounted self.old self.new pass.old pass.new now (What.Attached socket) result }
         ensures rises { Rises self.old self.new pass.old pass.new }
     {
         self.state.attach(alloc, client, space, sid, pid, now)?;
@@ -70,7 +68,7 @@ impl<C: Ledger, T: Ledger> Hub<C, T> {
         room: Room,
         now: u64,
     ) -> Result<(), HubError>
-        ensures does { let h = self.old.history in DoesCounted self.old self.new pass.old pass.new now (What.Joined sid room) (or_spent (join_refusal h.base h.journal sid room) (is_spent h.base h.limits h.journal (What.Joined sid room))) result }
+        ensures does { let h = self.old.history in DoesCounted self.old self.new pass.old pass.new now (What.Joined sid room) result }
         ensures rises { Rises self.old self.new pass.old pass.new }
     {
         self.state.join(alloc, sid, room, now)?;
@@ -88,7 +86,7 @@ impl<C: Ledger, T: Ledger> Hub<C, T> {
         room: Room,
         now: u64,
     ) -> Result<(), HubError>
-        ensures does { let h = self.old.history in DoesCounted self.old self.new pass.old pass.new now (What.Left sid room) (or_spent (leave_refusal h.base h.journal sid room) (is_spent h.base h.limits h.journal (What.Left sid room))) result }
+        ensures does { let h = self.old.history in DoesCounted self.old self.new pass.old pass.new now (What.Left sid room) result }
         ensures rises { Rises self.old self.new pass.old pass.new }
     {
         self.state.leave(alloc, sid, room, now)?;
@@ -106,7 +104,7 @@ impl<C: Ledger, T: Ledger> Hub<C, T> {
         sid: Sid,
         now: u64,
     ) -> Result<(), HubError>
-        ensures does { let h = self.old.history in DoesCounted self.old self.new pass.old pass.new now (What.Ended sid) (or_spent (end_refusal h.base h.journal sid) (is_spent h.base h.limits h.journal (What.Ended sid))) result }
+        ensures does { let h = self.old.history in DoesCounted self.old self.new pass.old pass.new now (What.Ended sid) result }
         ensures rises { Rises self.old self.new pass.old pass.new }
     {
         self.state.end(alloc, sid, now)?;
@@ -124,7 +122,7 @@ impl<C: Ledger, T: Ledger> Hub<C, T> {
         client: u128,
         now: u64,
     ) -> Result<(), HubError>
-        ensures does { let h = self.old.history in DoesCounted self.old self.new pass.old pass.new now (What.Closed client) (or_spent (client_refusal h.base h.journal client) (is_spent h.base h.limits h.journal (What.Closed client))) result }
+        ensures does { let h = self.old.history in DoesCounted self.old self.new pass.old pass.new now (What.Closed client) result }
         ensures rises { Rises self.old self.new pass.old pass.new }
     {
         self.state.close(alloc, client, now)?;
@@ -142,7 +140,7 @@ impl<C: Ledger, T: Ledger> Hub<C, T> {
         entry: Entry,
         now: u64,
     ) -> Result<(), HubError>
-        ensures does { let h = self.old.history in let what = What.Told (record { client = client; entry = entry }) in DoesCounted self.old self.new pass.old pass.new now what (or_spent (tell_refusal h.base h.limits h.journal client entry) (is_spent h.base h.limits h.journal what)) result }
+        ensures does { let h = self.old.history in let what = What.Told (record { client = client; entry = entry }) in DoesCounted self.old self.new pass.old pass.new now what result }
         ensures rises { Rises self.old self.new pass.old pass.new }
     {
         self.state.tell(alloc, client, entry, now)?;
@@ -162,7 +160,7 @@ impl<C: Ledger, T: Ledger> Hub<C, T> {
         now: u64,
     ) -> Result<Vec<Entry>, HubError>
         ensures entries { let h = self.old.history in IfOk result (λ entries. entries.items ≡ take most (waiting h.base h.limits h.journal client)) }
-        ensures does { let h = self.old.history in let number = min most (length (waiting h.base h.limits h.journal client)) in DoesCounted self.old self.new pass.old pass.new now (What.Took client most number) (or_spent (client_refusal h.base h.journal client) (is_spent h.base h.limits h.journal (What.Took client most number))) result }
+        ensures does { let h = self.old.history in let number = min most (length (waiting h.base h.limits h.journal client)) in DoesCounted self.old self.new pass.old pass.new now (What.Took client most number) result }
         ensures rises { Rises self.old self.new pass.old pass.new }
     {
         let entries = self.state.take(alloc, client, most, now)?;

@@ -1,23 +1,23 @@
 //! Clients that are lost and sessions that are kept, through a hub (Socket.IO server documentation,
 //! "Connection state recovery").
-#![tactic(auto, unfolding(hub_state::specs::Totals::commands, hub_state::specs::Totals::handed_out, hub_state::specs::Journal::total))]
+#![tactic(auto, unfolding(journal::specs::Totals::commands, journal::specs::Totals::handed_out, journal::specs::Journal::total))]
 
 ghost use Rattle.std.specs.Prelude.{◌≡◌, ◌+◌, [], None, IfOk, IfErr, OnOk, OnErr, length};
-ghost use Rattle.hub_state.specs.Totals.{is_spent};
-ghost use Rattle.hub_state.specs.Sessions.{sessions};
-ghost use Rattle.hub_state.specs.Log.{log};
-ghost use Rattle.hub_state.specs.Legal.{IsLegal};
-ghost use Rattle.hub_state.specs.Journal.{moment_at};
-ghost use Rattle.hub_state.specs.Membership.{place_of};
-ghost use Rattle.hub_state.specs.Recovery.{recovery_of};
-ghost use Rattle.hub_state.specs.Refusals.{or_spent, park_refusal, recover_refusal};
+ghost use Rattle.journal.specs.Totals.{is_spent};
+ghost use Rattle.journal.specs.Sessions.{sessions};
+ghost use Rattle.journal.specs.Log.{log};
+ghost use Rattle.journal.specs.Legal.{IsLegal};
+ghost use Rattle.journal.specs.Journal.{moment_at};
+ghost use Rattle.journal.specs.Membership.{place_of};
+ghost use Rattle.journal.specs.Recovery.{recovery_of};
+ghost use Rattle.journal.specs.Refusals.{or_spent, park_refusal, recover_refusal};
 ghost use Rattle.hub.specs.Pass.{DoesCounted, Rises};
-ghost use Rattle.hub_state.specs.Seal.{IsSealed, SaysTheSame};
-ghost use Rattle.hub_state.specs.declared.step.What.{What};
+ghost use Rattle.journal.specs.Seal.{IsSealed, SaysTheSame};
+ghost use Rattle.journal.specs.declared.step.What.{What};
 
 use crate::hub::Hub;
 use crate::pass::Pass;
-use hub_state::{Epoch, HubError, Swept};
+use journal::{Epoch, HubError, Swept};
 use recovery::Pid;
 use room_maps::Sid;
 use std::alloc::Global;
@@ -37,7 +37,7 @@ impl<C: Ledger, T: Ledger> Hub<C, T> {
         client: u128,
         now: u64,
     ) -> Result<(), HubError>
-        ensures does { let h = self.old.history in DoesCounted self.old self.new pass.old pass.new now (What.Parked client) (or_spent (park_refusal h.base h.limits h.journal client) (is_spent h.base h.limits h.journal (What.Parked client))) result }
+        ensures does { let h = self.old.history in DoesCounted self.old self.new pass.old pass.new now (What.Parked client) result }
         ensures rises { Rises self.old self.new pass.old pass.new }
     {
         self.state.park(alloc, client, now)?;
@@ -62,7 +62,7 @@ impl<C: Ledger, T: Ledger> Hub<C, T> {
         now: u64,
     ) -> Result<Sid, HubError>
         ensures sid { let h = self.old.history in IfOk result (λ sid. sid ≡ (recovery_of h.base h.limits h.journal client (place_of h.limits space.now) pid offset).socket.sid) }
-        ensures does { let h = self.old.history in let recovery = recovery_of h.base h.limits h.journal client (place_of h.limits space.now) pid offset in DoesCounted self.old self.new pass.old pass.new now (What.Recovered recovery) (or_spent (recover_refusal h.base h.limits h.journal client (place_of h.limits space.now) pid offset (moment_at h now)) (is_spent h.base h.limits h.journal (What.Recovered recovery))) result }
+        ensures does { let h = self.old.history in let recovery = recovery_of h.base h.limits h.journal client (place_of h.limits space.now) pid offset in DoesCounted self.old self.new pass.old pass.new now (What.Recovered recovery) result }
         ensures rises { Rises self.old self.new pass.old pass.new }
     {
         let sid = self.state.recover(alloc, client, space, pid, offset, now)?;
@@ -79,7 +79,7 @@ impl<C: Ledger, T: Ledger> Hub<C, T> {
         pass: &mut Pass<C, T>,
         now: u64,
     ) -> Result<Swept, HubError>
-        ensures does { let h = self.old.history in DoesCounted self.old self.new pass.old pass.new now What.Swept (or_spent None (is_spent h.base h.limits h.journal What.Swept)) result }
+        ensures does { let h = self.old.history in DoesCounted self.old self.new pass.old pass.new now What.Swept result }
         ensures counts { let h = self.old.history in let g = self.new.history in IfOk result (λ dropped. (length (log h.base h.limits h.journal) ≡ length (log g.base g.limits g.journal) + dropped.log) × (length (sessions h.base h.limits h.journal) ≡ length (sessions g.base g.limits g.journal) + dropped.saved)) }
         ensures rises { Rises self.old self.new pass.old pass.new }
     {

@@ -7,17 +7,17 @@ ghost use Rattle.std.specs.Option.{option_map, option_map_or};
 ghost use Rattle.std.specs.Ordering.{nat_cmp};
 ghost use Rattle.std.specs.BTreeMap.{get};
 ghost use Rattle.std.specs.Arc.{arc_value};
-ghost use Rattle.hub_state.specs.Outboxes.{entries_for};
-ghost use Rattle.hub_state.specs.Casting.{in_space, is_here, ListsInside, is_full_in, message_for, missing_of, receiver_of, pair_of, with_entries, with_logged, Tells, IsEvent, refusal_of, offset_of, has_no_offset, IsCastOf, IsShortOf, CastDoes};
-ghost use Rattle.hub_state.specs.Casting as casting;
-ghost use Rattle.hub_state.specs.Broadcast.{event_header};
-ghost use Rattle.hub_state.specs.Log.{logged, next};
-ghost use Rattle.hub_state.specs.Membership as membership;
-ghost use Rattle.hub_state.specs.Membership.{is_in_space};
-ghost use Rattle.hub_state.specs.Journal.{moment_at, with_step};
-ghost use Rattle.hub_state.specs.Totals.{is_spent};
-ghost use Rattle.hub_state.specs.Refusals.{cast_refusal};
-ghost use Rattle.hub_state.specs.declared.step.What.{What};
+ghost use Rattle.journal.specs.Outboxes.{entries_for};
+ghost use Rattle.journal.specs.Casting.{in_space, is_here, ListsInside, is_full_in, message_for, missing_of, receiver_of, pair_of, with_entries, with_logged, Tells, IsEvent, refusal_of, offset_of, has_no_offset, IsCastOf, IsShortOf, CastDoes};
+ghost use Rattle.journal.specs.Casting as casting;
+ghost use Rattle.journal.specs.Broadcast.{event_header};
+ghost use Rattle.journal.specs.Log.{logged, next};
+ghost use Rattle.journal.specs.Membership as membership;
+ghost use Rattle.journal.specs.Membership.{is_in_space};
+ghost use Rattle.journal.specs.Journal.{moment_at, with_step};
+ghost use Rattle.journal.specs.Totals.{is_spent};
+ghost use Rattle.journal.specs.Refusals.{cast_refusal};
+ghost use Rattle.journal.specs.declared.step.What.{What};
 ghost use Rattle.room_maps.specs.Membership.{is_in};
 ghost use Rattle.room_maps.specs.Addressed.{is_addressed};
 ghost use Rattle.terms.specs.Listing.{ListsRising};
@@ -25,15 +25,10 @@ ghost use Rattle.sio_wire.specs.declared.kind.Kind.{Kind};
 ghost use Rattle.sio_wire.specs.Header.{Plain};
 ghost use Rattle.sio_wire.specs.Offset.{is_bracket, payload_with_offset};
 
-use crate::broadcast::{Cast, CastDone};
-use crate::client::Client;
-use crate::contents::{Broadcast, Message};
-use crate::error::HubError;
-use crate::seats::Seats;
-use crate::socket::Socket;
 use crate::state::deliver::put_entry;
 use crate::state::{State, count, record, reserve};
-use crate::step::What;
+use hub_parts::{Client, Seats};
+use journal::{Broadcast, Cast, CastDone, HubError, Message, Socket, What};
 use recovery::{Logged, PacketLog};
 use room_maps::{Room, Rooms, Sid};
 use sio_wire::{Attachments, Entry, Header, Kind, with_offset, write_header};
@@ -61,7 +56,7 @@ fn add_socket(
 }
 
 /// Those of the sockets with these ids that are in the namespace at a place, in the same order.
-fn sockets_in(
+pub(crate) fn sockets_in(
     alloc: Global,
     seats: &Seats,
     sids: &[Sid],
@@ -135,7 +130,7 @@ fn add_message(
 }
 
 /// One message for each of the sockets whose client's outbox has a place for the entry.
-fn messages_for(
+pub(crate) fn messages_for(
     alloc: Global,
     clients: &BTreeMap<u128, Client>,
     sockets: &[Socket],
@@ -186,7 +181,7 @@ fn missing(
 
 /// Puts each message into its client's outbox, which has a place for it. No two of them are for
 /// one client.
-fn put_messages(clients: &mut BTreeMap<u128, Client>, messages: Vec<Message>)
+pub(crate) fn put_messages(clients: &mut BTreeMap<u128, Client>, messages: Vec<Message>)
     requires apart { IsDistinct nat_eq (map receiver_of messages.items) }
     requires places { AllByRecursion (λ m. is_full_in (get nat_cmp clients.old) m.entry m.client ≡ false) messages.items }
     ensures { (q : ℕ) → get nat_cmp clients.new q ≡ option_map (with_entries (entries_for q (map pair_of messages.items))) (get nat_cmp clients.old q) }
@@ -289,15 +284,29 @@ fn push_logged(log: &mut PacketLog, entry: Option<Logged>)
     }
 }
 
-/// What comes of a broadcast with these messages.
-fn outcome(broadcast: &Broadcast, messages: &[Message]) -> CastDone
-    ensures { result ≡ record { offset = broadcast.now.offset; placed = length messages.now; dropped = length broadcast.now.dropped } }
+/// The clients that the messages are for.
+pub(crate) fn receivers(alloc: Global, messages: &[Message]) -> Result<Vec<u128>, HubError>
+    ensures ok { IfOk result (λ clients. clients.items ≡ map receiver_of messages.now) }
+    ensures memory { IfErr result (λ e. e ≡ HubError.Memory) }
 {
-    CastDone {
+    let mut clients = Vec::with_capacity(alloc, messages.len())?;
+    for message in messages {
+        clients.push(message.client)?;
+    }
+    Ok(clients)
+}
+
+/// What comes of a broadcast with these messages.
+fn outcome(alloc: Global, broadcast: &Broadcast, messages: &[Message]) -> Result<CastDone, HubError>
+    ensures ok { IfOk result (λ done. done ≡ record { offset = broadcast.now.offset; placed = length messages.now; dropped = length broadcast.now.dropped; clients = map receiver_of messages.now }) }
+    ensures memory { IfErr result (λ e. e ≡ HubError.Memory) }
+{
+    Ok(CastDone {
         offset: broadcast.offset,
         placed: messages.len() as u64,
         dropped: broadcast.dropped.len() as u64,
-    }
+        clients: receivers(alloc, messages)?,
+    })
 }
 
 impl State {
@@ -384,7 +393,7 @@ impl State {
 
     /// For whom a broadcast to the namespace at a place is. Where rooms are named, sockets of other
     /// namespaces may be among them.
-    fn listeners(
+    pub(crate) fn listeners(
         &self,
         alloc: Global,
         space: u16,
@@ -440,6 +449,7 @@ impl State {
     /// Puts and logs a broadcast that may be put.
     fn send(
         &mut self,
+        alloc: Global,
         broadcast: Broadcast,
         messages: Vec<Message>,
         entry: Option<Logged>,
@@ -451,11 +461,11 @@ impl State {
         requires unspent { is_spent self.old.base self.old.limits self.old.journal (What.Cast broadcast) ≡ false }
         requires logged { entry ≡ option_map (logged (moment_at self.old now) broadcast) broadcast.offset }
         ensures step { OnOk result (self.new ≡ with_step self.old now (What.Cast broadcast)) }
-        ensures done { IfOk result (λ done. done ≡ record { offset = broadcast.offset; placed = length messages.items; dropped = length broadcast.dropped }) }
+        ensures done { IfOk result (λ done. done ≡ record { offset = broadcast.offset; placed = length messages.items; dropped = length broadcast.dropped; clients = map receiver_of messages.items }) }
         ensures unchanged { OnErr result (self.new ≡ self.old) }
         ensures memory { IfErr result (λ e. e ≡ HubError.Memory) }
     {
-        let done = outcome(&broadcast, &messages);
+        let done = outcome(alloc, &broadcast, &messages)?;
         reserve(&mut self.journal)?;
         put_messages(&mut self.clients, messages);
         push_logged(&mut self.log, entry);
@@ -515,6 +525,6 @@ impl State {
             return Err(HubError::Spent);
         }
         let entry = log_entry(alloc, self.moment_at(now), &broadcast)?;
-        self.send(broadcast, messages, entry, now)
+        self.send(alloc, broadcast, messages, entry, now)
     }
 }

@@ -6,20 +6,19 @@ ghost use Rattle.std.specs.Ordering.{nat_cmp};
 ghost use Rattle.std.specs.BTreeMap.{get};
 ghost use Rattle.std.specs.BTreeSet as sorted;
 ghost use Rattle.room_maps.specs.Membership as room_maps;
-ghost use Rattle.hub_state.specs.Membership.{without_sockets};
-ghost use Rattle.hub_state.specs.Totals.{is_spent};
-ghost use Rattle.hub_state.specs.Refusals.{or_spent, client_refusal};
-ghost use Rattle.hub_state.specs.Legal.{EachTwo, AreApart};
-ghost use Rattle.hub_state.specs.Hub.{Does, held_sockets, held_entries};
-ghost use Rattle.hub_state.specs.declared.socket.Socket.{Socket};
-ghost use Rattle.hub_state.specs.declared.step.What.{What};
+ghost use Rattle.journal.specs.Membership.{without_sockets};
+ghost use Rattle.journal.specs.Totals.{is_spent};
+ghost use Rattle.journal.specs.Refusals.{or_spent, client_refusal};
+ghost use Rattle.journal.specs.Legal.{EachTwo, AreApart};
+ghost use Rattle.journal.specs.Command.{Does};
+ghost use Rattle.journal.specs.Fields.{held_sockets, held_entries};
+ghost use Rattle.journal.specs.declared.socket.Socket.{Socket};
+ghost use Rattle.journal.specs.declared.step.What.{What};
 
-use crate::client::Client;
-use crate::error::HubError;
-use crate::seats::Seats;
 use crate::state::end::forget_all;
 use crate::state::{State, count, record, reserve};
-use crate::step::What;
+use hub_parts::{Client, Seats};
+use journal::{HubError, What};
 use recovery::Pid;
 use room_maps::Rooms;
 use std::alloc::Global;
@@ -67,7 +66,7 @@ impl State {
     /// the clients and, for each of the client's sockets, that of the sockets, and each of their
     /// rooms takes the logarithm of the sockets and of the rooms.
     pub fn close(&mut self, _alloc: Global, client: u128, now: u64) -> Result<(), HubError>
-        ensures { Does self.old self.new now (What.Closed client) (or_spent (client_refusal self.old.base self.old.journal client) (is_spent self.old.base self.old.limits self.old.journal (What.Closed client))) result }
+        ensures { Does self.old self.new now (What.Closed client) result }
     {
         if let Some(refusal) = self.close_refusal(client) {
             return Err(refusal);

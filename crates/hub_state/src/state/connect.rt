@@ -10,24 +10,22 @@ ghost use Rattle.std.specs.Arc.{arc_value};
 ghost use Rattle.room_maps.specs.Membership as room_maps;
 ghost use Rattle.sio_wire.specs.Entry.{entry_size};
 ghost use Rattle.sio_wire.specs.ConnectAnswer as connect_answer;
-ghost use Rattle.hub_state.specs.Membership.{place_of, is_open, is_connected, pid_of, sid_of, sockets_of, socket_of};
-ghost use Rattle.hub_state.specs.Sessions.{sessions, is_sid_saved, is_pid_saved};
-ghost use Rattle.hub_state.specs.Outboxes.{answer, waiting, total_size, is_full};
-ghost use Rattle.hub_state.specs.Outboxes as outboxes;
-ghost use Rattle.hub_state.specs.Journal.{with_step};
-ghost use Rattle.hub_state.specs.Totals.{is_spent};
-ghost use Rattle.hub_state.specs.Refusals.{or_spent, attach_refusal, is_taken};
-ghost use Rattle.hub_state.specs.Hub.{Does, plus_socket, without_last, held_sockets};
-ghost use Rattle.hub_state.specs.declared.socket.Socket.{Socket};
-ghost use Rattle.hub_state.specs.declared.step.What.{What};
+ghost use Rattle.journal.specs.Membership.{place_of, is_open, is_connected, pid_of, sid_of, sockets_of, socket_of};
+ghost use Rattle.journal.specs.Sessions.{sessions, is_sid_saved, is_pid_saved};
+ghost use Rattle.journal.specs.Outboxes.{answer, waiting, total_size, is_full};
+ghost use Rattle.journal.specs.Outboxes as outboxes;
+ghost use Rattle.journal.specs.Journal.{with_step};
+ghost use Rattle.journal.specs.Totals.{is_spent};
+ghost use Rattle.journal.specs.Refusals.{or_spent, attach_refusal, is_taken};
+ghost use Rattle.journal.specs.Command.{Does};
+ghost use Rattle.journal.specs.Fields.{plus_socket, without_last, held_sockets};
+ghost use Rattle.journal.specs.declared.socket.Socket.{Socket};
+ghost use Rattle.journal.specs.declared.step.What.{What};
 
-use crate::client::Client;
-use crate::error::HubError;
-use crate::seats::Seats;
-use crate::socket::Socket;
 use crate::state::deliver::put_entry;
 use crate::state::{State, count, record, reserve};
-use crate::step::What;
+use hub_parts::{Client, Seats};
+use journal::{HubError, Socket, What};
 use recovery::Pid;
 use room_maps::{Rooms, Sid};
 use sio_wire::{Attachments, Entry, connected_text};
@@ -319,7 +317,7 @@ impl State {
         pid: Pid,
         now: u64,
     ) -> Result<(), HubError>
-        ensures { let socket : Socket = record { client = client; space = place_of self.old.limits space.now; sid = sid; pid = pid } in Does self.old self.new now (What.Attached socket) (or_spent (attach_refusal self.old.base self.old.limits self.old.journal socket) (is_spent self.old.base self.old.limits self.old.journal (What.Attached socket))) result }
+        ensures { let socket : Socket = record { client = client; space = place_of self.old.limits space.now; sid = sid; pid = pid } in Does self.old self.new now (What.Attached socket) result }
     {
         let place = self.place_of(space);
         self.attach_at(alloc, client, place, sid, pid, now)
@@ -334,7 +332,7 @@ impl State {
         pid: Pid,
         now: u64,
     ) -> Result<(), HubError>
-        ensures { let socket : Socket = record { client = client; space = place; sid = sid; pid = pid } in Does self.old self.new now (What.Attached socket) (or_spent (attach_refusal self.old.base self.old.limits self.old.journal socket) (is_spent self.old.base self.old.limits self.old.journal (What.Attached socket))) result }
+        ensures { let socket : Socket = record { client = client; space = place; sid = sid; pid = pid } in Does self.old self.new now (What.Attached socket) result }
     {
         if let Some(refusal) = self.attach_refusal(client, place, sid, pid) {
             return Err(refusal);

@@ -4,19 +4,18 @@ ghost use Rattle.std.specs.Prelude.{◌≡◌, ℕ, ◌≤◌, true, false, leng
 ghost use Rattle.std.specs.Ordering.{nat_cmp};
 ghost use Rattle.std.specs.BTreeMap.{get};
 ghost use Rattle.std.specs.Arc.{arc_value};
-ghost use Rattle.hub_state.specs.Membership.{is_open};
-ghost use Rattle.hub_state.specs.Outboxes.{waiting, is_full, has_no_place};
-ghost use Rattle.hub_state.specs.Totals.{is_spent};
-ghost use Rattle.hub_state.specs.Refusals.{or_spent, client_refusal, tell_refusal};
-ghost use Rattle.hub_state.specs.Hub.{Does, without_first, with_entry};
+ghost use Rattle.journal.specs.Membership.{is_open};
+ghost use Rattle.journal.specs.Outboxes.{waiting, is_full, has_no_place};
+ghost use Rattle.journal.specs.Totals.{is_spent};
+ghost use Rattle.journal.specs.Refusals.{or_spent, client_refusal, tell_refusal};
+ghost use Rattle.journal.specs.Command.{Does};
+ghost use Rattle.journal.specs.Fields.{without_first, with_entry};
 ghost use Rattle.std.specs.Option.{option_map};
-ghost use Rattle.hub_state.specs.declared.step.What.{What};
+ghost use Rattle.journal.specs.declared.step.What.{What};
 
-use crate::client::Client;
-use crate::contents::Message;
-use crate::error::HubError;
 use crate::state::{State, count, record, reserve};
-use crate::step::What;
+use hub_parts::Client;
+use journal::{HubError, Message, What};
 use sio_wire::Entry;
 use std::alloc::Global;
 use std::collections::BTreeMap;
@@ -85,7 +84,7 @@ impl State {
         entry: Entry,
         now: u64,
     ) -> Result<(), HubError>
-        ensures { let what = What.Told (record { client = client; entry = entry }) in Does self.old self.new now what (or_spent (tell_refusal self.old.base self.old.limits self.old.journal client entry) (is_spent self.old.base self.old.limits self.old.journal what)) result }
+        ensures { let what = What.Told (record { client = client; entry = entry }) in Does self.old self.new now what result }
     {
         if let Some(refusal) = self.tell_refusal(client, &entry) {
             return Err(refusal);
@@ -139,7 +138,7 @@ impl State {
         now: u64,
     ) -> Result<Vec<Entry>, HubError>
         ensures entries { IfOk result (λ entries. entries.items ≡ take most (waiting self.old.base self.old.limits self.old.journal client)) }
-        ensures does { let number = min most (length (waiting self.old.base self.old.limits self.old.journal client)) in Does self.old self.new now (What.Took client most number) (or_spent (client_refusal self.old.base self.old.journal client) (is_spent self.old.base self.old.limits self.old.journal (What.Took client most number))) result }
+        ensures does { let number = min most (length (waiting self.old.base self.old.limits self.old.journal client)) in Does self.old self.new now (What.Took client most number) result }
     {
         let number = self.takes(client, most)?;
         let entries = self.copies(alloc, client, number)?;

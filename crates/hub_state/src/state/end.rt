@@ -7,29 +7,26 @@ ghost use Rattle.std.specs.Ordering.{nat_cmp};
 ghost use Rattle.std.specs.BTreeMap.{get};
 ghost use Rattle.std.specs.BTreeSet as sorted;
 ghost use Rattle.room_maps.specs.Membership as room_maps;
-ghost use Rattle.hub_state.specs.Membership.{socket_with, sid_of, without_sockets};
-ghost use Rattle.hub_state.specs.Totals.{is_spent};
-ghost use Rattle.hub_state.specs.Refusals.{or_spent, end_refusal};
-ghost use Rattle.hub_state.specs.Legal.{EachTwo, AreApart};
-ghost use Rattle.hub_state.specs.Hub.{Does, without_place};
-ghost use Rattle.hub_state.specs.declared.socket.Socket.{Socket};
-ghost use Rattle.hub_state.specs.declared.step.What.{What};
+ghost use Rattle.journal.specs.Membership.{socket_with, sid_of, without_sockets};
+ghost use Rattle.journal.specs.Totals.{is_spent};
+ghost use Rattle.journal.specs.Refusals.{or_spent, end_refusal};
+ghost use Rattle.journal.specs.Legal.{EachTwo, AreApart};
+ghost use Rattle.journal.specs.Command.{Does};
+ghost use Rattle.journal.specs.Fields.{without_place};
+ghost use Rattle.journal.specs.declared.socket.Socket.{Socket};
+ghost use Rattle.journal.specs.declared.step.What.{What};
 
-use crate::client::Client;
-use crate::error::HubError;
-use crate::seats::Seats;
-use crate::socket::Socket;
-use crate::sockets::Sockets;
 use crate::state::connect::{drop_pid, drop_seat};
 use crate::state::{State, count, record, reserve};
-use crate::step::What;
+use hub_parts::{Client, Seats, Sockets};
+use journal::{HubError, Socket, What};
 use recovery::Pid;
 use room_maps::{Rooms, Sid};
 use std::alloc::Global;
 use std::collections::{BTreeMap, BTreeSet};
 
 /// Takes the socket at a place out of its client's list.
-fn drop_from(clients: &mut BTreeMap<u128, Client>, client: u128, place: usize)
+pub(crate) fn drop_from(clients: &mut BTreeMap<u128, Client>, client: u128, place: usize)
     ensures { (q : ℕ) → get nat_cmp clients.new q ≡ (if client == q then option_map (without_place place) (get nat_cmp clients.old q) else get nat_cmp clients.old q) }
 {
     if let Some(known) = clients.get_mut(&client) {
@@ -46,7 +43,7 @@ fn end_in(rooms: &mut Rooms, sid: Sid)
 }
 
 /// Forgets a socket's ids, and ends it in the rooms.
-fn forget(seats: &mut Seats, pids: &mut BTreeSet<Pid>, rooms: &mut Rooms, socket: Socket)
+pub(crate) fn forget(seats: &mut Seats, pids: &mut BTreeSet<Pid>, rooms: &mut Rooms, socket: Socket)
     requires { room_maps.is_socket rooms.old socket.sid ≡ true }
     ensures seats { (s : ℕ) → get nat_cmp seats.new s ≡ (if socket.sid == s then None else get nat_cmp seats.old s) }
     ensures pids { (p : ℕ) → sorted.contains nat_cmp pids.new p ≡ (if socket.pid == p then false else sorted.contains nat_cmp pids.old p) }
@@ -105,7 +102,7 @@ impl State {
     /// `UnknownSocket`, `Spent`, then for `Memory`. It takes the logarithm of the clients and
     /// sockets, and each of the socket's rooms takes the logarithm of the sockets and of the rooms.
     pub fn end(&mut self, _alloc: Global, sid: Sid, now: u64) -> Result<(), HubError>
-        ensures { Does self.old self.new now (What.Ended sid) (or_spent (end_refusal self.old.base self.old.journal sid) (is_spent self.old.base self.old.limits self.old.journal (What.Ended sid))) result }
+        ensures { Does self.old self.new now (What.Ended sid) result }
     {
         let socket = self.ending(sid)?;
         reserve(&mut self.journal)?;

@@ -1,16 +1,16 @@
 //! What can be asked of a hub.
 
-ghost use Rattle.std.specs.Prelude.{◌≡◌, length, reverse, None, Some, option_copied, slice_get, if◌then◌else◌};
-ghost use Rattle.hub_state.specs.Membership.{is_open, is_connected, sid_of};
-ghost use Rattle.hub_state.specs.Outboxes.{waiting, total_size};
-ghost use Rattle.hub_state.specs.Totals as counted;
+ghost use Rattle.std.specs.Prelude.{◌≡◌, min, length, reverse, None, Some, option_copied, slice_get, if◌then◌else◌};
+ghost use Rattle.room_maps.specs.Mirror.{IsMirrored};
+ghost use Rattle.journal.specs.Membership.{place_of, is_space, is_open, is_connected, sid_of, rooms};
+ghost use Rattle.journal.specs.Outboxes.{waiting, total_size};
+ghost use Rattle.journal.specs.Totals as counted;
 
-use crate::base::Base;
 use crate::state::State;
-use crate::step::Step;
-use crate::totals::Totals;
-use room_maps::Sid;
+use journal::{Base, Step, Totals};
+use room_maps::{Room, Sid};
 use sio_wire::Entry;
+use std::collections::{BTreeMap, BTreeSet};
 
 impl State {
     /// The state from which the journal begins.
@@ -24,7 +24,36 @@ impl State {
     pub fn steps(&self) -> &[Step]
         ensures { result.now ≡ reverse self.now.journal }
     {
-        &self.journal
+        self.journal.as_slice()
+    }
+
+    /// How many bytes the entries of the journal's broadcasts and messages have together, each
+    /// step's counted for itself. It stays at the greatest u64.
+    pub fn held(&self) -> u64
+        ensures { result ≡ min (counted.held self.now.journal) u64.MAX }
+    {
+        self.journal.held()
+    }
+
+    /// Whether the hub has a namespace with this name. It takes the logarithm of the namespaces.
+    pub fn has_space(&self, space: &str) -> bool
+        ensures { result ≡ is_space self.now.limits (place_of self.now.limits space.now) }
+    {
+        self.place_of(space) < self.spaces().len()
+    }
+
+    /// The two maps of rooms themselves: the rooms of each connected socket, and the sockets of each
+    /// room. They mirror each other, each socket is in its own room, and no room is empty (Socket.IO
+    /// server documentation, "Rooms").
+    pub fn mirrors(
+        &self,
+    ) -> (
+        &BTreeMap<Sid, BTreeSet<Room>>,
+        &BTreeMap<Room, BTreeSet<Sid>>,
+    )
+        ensures { IsMirrored (rooms self.now.base self.now.journal) result.0.now result.1.now }
+    {
+        self.rooms.mirrors()
     }
 
     /// Whether the client is open.

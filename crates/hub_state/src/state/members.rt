@@ -5,12 +5,12 @@ ghost use Rattle.std.specs.Ordering.{nat_cmp};
 ghost use Rattle.std.specs.BTreeMap.{get};
 ghost use Rattle.room_maps.specs.Membership.{is_in};
 ghost use Rattle.terms.specs.Listing.{ListsRising};
-ghost use Rattle.hub_state.specs.Membership.{place_of, is_space, is_in_space, rooms};
-ghost use Rattle.hub_state.specs.Casting.{is_here};
+ghost use Rattle.journal.specs.Membership.{place_of, is_space, is_in_space, rooms};
+ghost use Rattle.journal.specs.Casting.{is_here};
 
-use crate::error::HubError;
-use crate::seats::Seats;
 use crate::state::State;
+use hub_parts::Seats;
+use journal::HubError;
 use room_maps::{Room, Sid};
 use std::alloc::Global;
 
@@ -25,7 +25,12 @@ fn is_here(seats: &Seats, sid: Sid, place: usize) -> bool
 }
 
 /// Those of the sockets with these ids that are in the namespace at a place, in the same order.
-fn keep_here(alloc: Global, seats: &Seats, sids: &[Sid], place: usize) -> Result<Vec<Sid>, HubError>
+pub(crate) fn keep_here(
+    alloc: Global,
+    seats: &Seats,
+    sids: &[Sid],
+    place: usize,
+) -> Result<Vec<Sid>, HubError>
     ensures ok { IfOk result (λ kept. kept.items ≡ filter (λ s. is_here place (get nat_cmp seats.now s)) sids.now) }
     ensures memory { IfErr result (λ e. e ≡ HubError.Memory) }
 {

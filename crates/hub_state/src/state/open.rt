@@ -3,19 +3,17 @@
 ghost use Rattle.std.specs.Prelude.{◌≡◌, ℕ, [], length, nat_le, ◌==◌, OnOk, OnErr, IfOk, IfErr, Some, if◌then◌else◌};
 ghost use Rattle.std.specs.Ordering.{nat_cmp};
 ghost use Rattle.std.specs.BTreeMap.{get};
-ghost use Rattle.hub_state.specs.Membership.{open_clients, sockets};
-ghost use Rattle.hub_state.specs.Outboxes.{waiting};
-ghost use Rattle.hub_state.specs.Totals.{is_spent};
-ghost use Rattle.hub_state.specs.Refusals.{or_spent, open_refusal};
-ghost use Rattle.hub_state.specs.Hub.{Does, new_client};
-ghost use Rattle.hub_state.specs.declared.step.What.{What};
+ghost use Rattle.journal.specs.Membership.{open_clients, sockets};
+ghost use Rattle.journal.specs.Outboxes.{waiting};
+ghost use Rattle.journal.specs.Totals.{is_spent};
+ghost use Rattle.journal.specs.Refusals.{or_spent, open_refusal};
+ghost use Rattle.journal.specs.Command.{Does};
+ghost use Rattle.journal.specs.Fields.{new_client};
+ghost use Rattle.journal.specs.declared.step.What.{What};
 
-use crate::client::Client;
-use crate::error::HubError;
-use crate::outbox::Outbox;
-use crate::sockets::Sockets;
 use crate::state::{State, count, record, reserve};
-use crate::step::What;
+use hub_parts::{Client, Outbox, Sockets};
+use journal::{HubError, What};
 use std::alloc::Global;
 use std::collections::BTreeMap;
 
@@ -88,7 +86,7 @@ impl State {
     /// `TooManyClients`, `Spent`, then for `Memory`. It takes the logarithm of the clients, and
     /// memory for the whole outbox.
     pub fn open(&mut self, alloc: Global, client: u128, now: u64) -> Result<(), HubError>
-        ensures { Does self.old self.new now (What.Opened client) (or_spent (open_refusal self.old.base self.old.limits self.old.journal client) (is_spent self.old.base self.old.limits self.old.journal (What.Opened client))) result }
+        ensures { Does self.old self.new now (What.Opened client) result }
     {
         if let Some(refusal) = self.open_refusal(client) {
             return Err(refusal);

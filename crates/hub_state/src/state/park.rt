@@ -5,22 +5,20 @@ ghost use Rattle.std.specs.Prelude.{◌≡◌, ◌-◌, length, OnOk, OnErr, IfO
 ghost use Rattle.std.specs.Ordering.{nat_cmp};
 ghost use Rattle.std.specs.BTreeMap.{get};
 ghost use Rattle.recovery.specs.SavedTable as table;
-ghost use Rattle.hub_state.specs.Membership.{is_open, sockets_of};
-ghost use Rattle.hub_state.specs.Sessions.{sessions};
-ghost use Rattle.hub_state.specs.Totals.{is_spent};
-ghost use Rattle.hub_state.specs.Refusals.{or_spent, park_refusal};
-ghost use Rattle.hub_state.specs.Hub.{Does, held_sockets};
-ghost use Rattle.hub_state.specs.Parking.{lost_in, HasNoneOf, with_lost, without_lost};
-ghost use Rattle.hub_state.specs.declared.step.What.{What};
+ghost use Rattle.journal.specs.Membership.{is_open, sockets_of};
+ghost use Rattle.journal.specs.Sessions.{sessions};
+ghost use Rattle.journal.specs.Totals.{is_spent};
+ghost use Rattle.journal.specs.Refusals.{or_spent, park_refusal};
+ghost use Rattle.journal.specs.Command.{Does};
+ghost use Rattle.journal.specs.Fields.{held_sockets};
+ghost use Rattle.journal.specs.Parking.{lost_in, HasNoneOf, with_lost, without_lost};
+ghost use Rattle.journal.specs.declared.step.What.{What};
 
-use crate::client::Client;
-use crate::error::HubError;
-use crate::socket::Socket;
-use crate::sockets::Sockets;
 use crate::state::close::forget_client;
 use crate::state::recover::take_session;
 use crate::state::{State, count, record, reserve};
-use crate::step::What;
+use hub_parts::{Client, Sockets};
+use journal::{HubError, Socket, What};
 use recovery::{Saved, SavedTable};
 use room_maps::Rooms;
 use std::alloc::Global;
@@ -152,7 +150,7 @@ impl State {
     /// sockets and of the saved sessions, and each of their rooms takes the logarithm of the sockets
     /// and of the rooms.
     pub fn park(&mut self, alloc: Global, client: u128, now: u64) -> Result<(), HubError>
-        ensures { Does self.old self.new now (What.Parked client) (or_spent (park_refusal self.old.base self.old.limits self.old.journal client) (is_spent self.old.base self.old.limits self.old.journal (What.Parked client))) result }
+        ensures { Does self.old self.new now (What.Parked client) result }
     {
         if let Some(refusal) = self.park_refusal(client) {
             return Err(refusal);

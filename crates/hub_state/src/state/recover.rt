@@ -1,6 +1,6 @@
 //! Saved sessions come back (Socket.IO server documentation, "Connection state recovery").
 
-ghost use Rattle.std.specs.Prelude.{◌≡◌, ℕ, ◌+◌, ◌^◌, ◌<◌, ◌≤◌, ◌==◌, ◌||◌, true, false, [], ◌∷◌, ◌++◌, length, map, OnOk, OnErr, IfOk, IfErr, IfSome, IfNone, None, Some, option_copied, is_some, nat_lt, if◌then◌else◌};
+ghost use Rattle.std.specs.Prelude.{◌≡◌, ℕ, ◌+◌, ◌^◌, ◌<◌, ◌≤◌, ◌==◌, ◌||◌, true, false, [], ◌∷◌, ◌++◌, length, map, filter, OnOk, OnErr, IfOk, IfErr, IfSome, IfNone, None, Some, option_copied, is_some, nat_lt, if◌then◌else◌};
 ghost use Rattle.std.specs.Option.{option_map};
 ghost use Rattle.std.specs.Ordering.{nat_cmp};
 ghost use Rattle.std.specs.BTreeMap.{get};
@@ -8,39 +8,63 @@ ghost use Rattle.std.specs.BTreeSet as sorted;
 ghost use Rattle.std.specs.Arc.{arc_value};
 ghost use Rattle.room_maps.specs.Membership as room_maps;
 ghost use Rattle.room_maps.specs.Membership.{are_too_many};
-ghost use Rattle.recovery.specs.Missed.{missed};
+ghost use Rattle.recovery.specs.Missed.{is_for};
 ghost use Rattle.recovery.specs.PacketLog.{stands, later_than};
-ghost use Rattle.recovery.specs.Expiry.{is_outdated};
 ghost use Rattle.recovery.specs.SavedTable.{removed};
 ghost use Rattle.sio_wire.specs.Entry.{entry_size};
-ghost use Rattle.hub_state.specs.Journal.{moment_at, with_step};
-ghost use Rattle.hub_state.specs.Membership.{place_of, is_open};
-ghost use Rattle.hub_state.specs.Sessions.{sessions, session_with};
-ghost use Rattle.hub_state.specs.Log.{log};
-ghost use Rattle.hub_state.specs.Outboxes.{answer, waiting, total_size};
-ghost use Rattle.hub_state.specs.Totals.{is_spent};
-ghost use Rattle.hub_state.specs.Recovery.{brought_back, recovery_of, gets, with_entries};
-ghost use Rattle.hub_state.specs.Refusals.{or_spent, session_refusal, have_no_place, recovered_entries, recover_refusal};
-ghost use Rattle.hub_state.specs.Legal.{RightRecovery};
-ghost use Rattle.hub_state.specs.Hub.{Does};
-ghost use Rattle.hub_state.specs.declared.socket.Socket.{Socket};
-ghost use Rattle.hub_state.specs.declared.step.What.{What};
+ghost use Rattle.journal.specs.Journal.{moment_at, with_step};
+ghost use Rattle.journal.specs.Membership.{place_of, is_open};
+ghost use Rattle.journal.specs.Sessions.{sessions, session_with};
+ghost use Rattle.journal.specs.Log.{log};
+ghost use Rattle.journal.specs.Outboxes.{answer, waiting, total_size};
+ghost use Rattle.journal.specs.Totals.{is_spent};
+ghost use Rattle.journal.specs.Recovery.{brought_back, recovery_of, gets, with_entries};
+ghost use Rattle.journal.specs.Refusals.{or_spent, session_refusal, have_no_place, recovered_entries, recover_refusal};
+ghost use Rattle.journal.specs.Legal.{RightRecovery};
+ghost use Rattle.journal.specs.Command.{Does};
+ghost use Rattle.journal.specs.declared.socket.Socket.{Socket};
+ghost use Rattle.hub_state.specs.Returning.{socket_again, gets_back};
+ghost use Rattle.journal.specs.declared.step.What.{What};
 
-use crate::client::Client;
-use crate::contents::Recovery;
-use crate::error::{HubError, RecoveryRefusal};
-use crate::outbox::{Outbox, room_after};
-use crate::seats::Seats;
-use crate::socket::Socket;
 use crate::state::connect::{add_pid, add_seat, add_socket, drop_pid, drop_seat, drop_socket};
 use crate::state::{State, count, record, reserve};
-use crate::step::What;
+use hub_parts::{Client, Outbox, Seats, room_after};
+use journal::{HubError, Recovery, RecoveryRefusal, Socket, What};
 use recovery::{Logged, Pid, Saved, SavedTable};
 use room_maps::{Room, Rooms, Sid};
 use sio_wire::Entry;
 use std::alloc::Global;
 use std::collections::{BTreeMap, BTreeSet};
 use std::sync::Arc;
+
+/// A saved session that may come back, and what the log has past the offset that its client named,
+/// in two pieces.
+#[derive(Clone, Copy)]
+struct Found<'a> {
+    session: &'a Saved,
+    front: &'a [Logged],
+    back: &'a [Logged],
+}
+
+impl Found<'_> {
+    /// How many of the broadcasts the session gets, or `None` where so many places and bytes are
+    /// too few for them.
+    fn count(self, places: usize, bytes: usize) -> Option<usize>
+        ensures number { IfSome result (λ number. number ≡ length (gets_back self.entry)) }
+        ensures places { IfSome result (λ number. number ≤ places) }
+        ensures bytes { IfSome result (λ number. total_size (gets_back self.entry) ≤ bytes) }
+        ensures none { IfNone result ((nat_lt places (length (gets_back self.entry)) || nat_lt bytes (total_size (gets_back self.entry))) ≡ true) }
+    {
+        let Found {
+            session,
+            front,
+            back,
+        } = self;
+        let first = left_after(front, session.space, &session.rooms, places, bytes)?;
+        let last = left_after(back, session.space, &session.rooms, first.0, first.1)?;
+        Some(places - last.0)
+    }
+}
 
 /// The places and bytes that are left of these once a socket has what it gets of the broadcasts,
 /// or `None` where there is no place for all.
@@ -81,19 +105,23 @@ fn left_after_one(
     Some((places, bytes))
 }
 
-/// Puts what a socket gets of the broadcasts at the end of the list.
-fn add_gets(
+/// Puts what a socket gets of the broadcasts at the end of a list, and their offsets at the end of
+/// another.
+fn add_missed(
     broadcasts: &[Logged],
     space: u16,
     rooms: &[Room],
     entries: &mut Vec<Arc<Entry>>,
+    offsets: &mut Vec<u64>,
 ) -> Result<(), HubError>
-    ensures ok { OnOk result (map arc_value entries.new.items ≡ map arc_value entries.old.items ++ gets space rooms.now broadcasts.now) }
+    ensures entries { OnOk result (map arc_value entries.new.items ≡ map arc_value entries.old.items ++ gets space rooms.now broadcasts.now) }
+    ensures offsets { OnOk result (offsets.new.items ≡ offsets.old.items ++ map (λ entry. entry.offset) (filter (is_for space rooms.now) broadcasts.now)) }
     ensures memory { IfErr result (λ e. e ≡ HubError.Memory) }
 {
     for logged in broadcasts {
         if logged.is_for(space, rooms) {
             entries.push(Arc::try_clone(&logged.entry)?)?;
+            offsets.push(logged.offset)?;
         }
     }
     Ok(())
@@ -135,34 +163,34 @@ fn enter_rooms(alloc: Global, rooms: &mut Rooms, sid: Sid, names: &[Room]) -> Re
     }
 }
 
-/// Makes a socket known by both its ids, in these rooms.
+/// Makes the socket that comes back known by both its ids, in the rooms that it had.
 fn enter_again(
     alloc: Global,
     seats: &mut Seats,
     pids: &mut BTreeSet<Pid>,
     rooms: &mut Rooms,
-    socket: Socket,
-    names: &[Room],
+    recovery: &Recovery,
 ) -> Result<(), HubError>
-    requires free { get nat_cmp seats.old socket.sid ≡ None }
-    requires unused { sorted.contains nat_cmp pids.old socket.pid ≡ false }
-    requires new { room_maps.is_socket rooms.old socket.sid ≡ false }
-    requires few { are_too_many socket.sid names.now ≡ false }
-    ensures seats { OnOk result ((s : ℕ) → get nat_cmp seats.new s ≡ (if socket.sid == s then Some socket else get nat_cmp seats.old s)) }
-    ensures pids { OnOk result ((p : ℕ) → sorted.contains nat_cmp pids.new p ≡ ((socket.pid == p) || sorted.contains nat_cmp pids.old p)) }
-    ensures rooms { OnOk result (rooms.new ≡ room_maps.with_socket_in rooms.old socket.sid names.now) }
+    requires free { get nat_cmp seats.old recovery.now.socket.sid ≡ None }
+    requires unused { sorted.contains nat_cmp pids.old recovery.now.socket.pid ≡ false }
+    requires new { room_maps.is_socket rooms.old recovery.now.socket.sid ≡ false }
+    requires few { are_too_many recovery.now.socket.sid recovery.now.rooms ≡ false }
+    ensures seats { OnOk result ((s : ℕ) → get nat_cmp seats.new s ≡ (if recovery.now.socket.sid == s then Some recovery.now.socket else get nat_cmp seats.old s)) }
+    ensures pids { OnOk result ((p : ℕ) → sorted.contains nat_cmp pids.new p ≡ ((recovery.now.socket.pid == p) || sorted.contains nat_cmp pids.old p)) }
+    ensures rooms { OnOk result (rooms.new ≡ room_maps.with_socket_in rooms.old recovery.now.socket.sid recovery.now.rooms) }
     ensures same_seats { OnErr result ((s : ℕ) → get nat_cmp seats.new s ≡ get nat_cmp seats.old s) }
     ensures same_pids { OnErr result ((p : ℕ) → sorted.contains nat_cmp pids.new p ≡ sorted.contains nat_cmp pids.old p) }
     ensures same_rooms { OnErr result (rooms.new ≡ rooms.old) }
     ensures memory { IfErr result (λ e. e ≡ HubError.Memory) }
 {
+    let socket = recovery.socket;
     let (sid, pid) = (socket.sid, socket.pid);
     add_seat(seats, socket)?;
     if add_pid(pids, pid).is_err() {
         drop_seat(seats, sid);
         return Err(HubError::Memory);
     }
-    if enter_rooms(alloc, rooms, sid, names).is_err() {
+    if enter_rooms(alloc, rooms, sid, &recovery.rooms).is_err() {
         drop_seat(seats, sid);
         drop_pid(pids, pid);
         return Err(HubError::Memory);
@@ -177,27 +205,6 @@ fn left_of(all: usize, used: usize, more: usize) -> Option<usize>
     ensures none { IfNone result (all < used + more) }
 {
     all.checked_sub(used)?.checked_sub(more)
-}
-
-/// The socket that comes back.
-fn socket_in(recovery: &Recovery) -> Socket
-    ensures { result ≡ recovery.now.socket }
-{
-    recovery.socket
-}
-
-/// The rooms that come back.
-fn rooms_in(recovery: &Recovery) -> &[Room]
-    ensures { result.now ≡ recovery.now.rooms }
-{
-    &recovery.rooms
-}
-
-/// How many entries there are.
-fn number_of(entries: &[Arc<Entry>]) -> usize
-    ensures { result ≡ length entries.now }
-{
-    entries.len()
 }
 
 /// Takes a session out of the saved ones.
@@ -215,23 +222,11 @@ impl State {
         now.max(self.last)
     }
 
-    /// The saved session with a private id.
+    /// The saved session with a private id, outdated or not.
     fn session(&self, pid: Pid) -> Option<&Saved>
         ensures { option_copied result ≡ session_with pid (sessions self.now.base self.now.limits self.now.journal) }
     {
-        // At the moment 0 no session is outdated.
-        match self.saved.find(pid, 0, 0) {
-            Ok(session) => Some(session),
-            Err(_) => None,
-        }
-    }
-
-    /// Whether the saved session with a private id was lost too long before this moment.
-    fn is_session_outdated(&self, pid: Pid, at: u64) -> bool
-        ensures { IfSome (session_with pid (sessions self.now.base self.now.limits self.now.journal)) (λ session. result ≡ is_outdated self.now.limits.keep at session.lost_at) }
-    {
-        let keep = self.limits.config().keep;
-        self.saved.find(pid, at, keep).is_err()
+        self.saved.look_up(pid)
     }
 
     /// The broadcasts of the log past this offset, in two pieces, or `None` where it isn't there.
@@ -242,22 +237,32 @@ impl State {
         self.log.later(offset)
     }
 
-    fn session_refusal(&self, pid: Pid, place: usize, offset: u64, at: u64) -> Option<HubError>
-        ensures { result ≡ session_refusal self.now.limits (log self.now.base self.now.limits self.now.journal) (session_with pid (sessions self.now.base self.now.limits self.now.journal)) place offset at }
+    /// The session with a private id, with what the log has past an offset, or why it can't come
+    /// back at this moment.
+    fn found(&self, pid: Pid, place: usize, offset: u64, at: u64) -> Result<Found<'_>, HubError>
+        ensures session { IfOk result (λ found. session_with pid (sessions self.now.base self.now.limits self.now.journal) ≡ Some found.session.now) }
+        ensures later { IfOk result (λ found. found.front.now ++ found.back.now ≡ later_than offset (log self.now.base self.now.limits self.now.journal)) }
+        ensures accepted { IfOk result (λ found. session_refusal self.now.limits (log self.now.base self.now.limits self.now.journal) (session_with pid (sessions self.now.base self.now.limits self.now.journal)) place offset at ≡ None) }
+        ensures refused { IfErr result (λ refusal. session_refusal self.now.limits (log self.now.base self.now.limits self.now.journal) (session_with pid (sessions self.now.base self.now.limits self.now.journal)) place offset at ≡ Some refusal) }
     {
         let Some(session) = self.session(pid) else {
-            return Some(HubError::NotRecoverable(RecoveryRefusal::UnknownPid));
+            return Err(HubError::NotRecoverable(RecoveryRefusal::UnknownPid));
         };
         if usize::from(session.space) != place {
-            return Some(HubError::NotRecoverable(RecoveryRefusal::UnknownPid));
+            return Err(HubError::NotRecoverable(RecoveryRefusal::UnknownPid));
         }
-        if self.is_session_outdated(pid, at) {
-            return Some(HubError::NotRecoverable(RecoveryRefusal::Expired));
+        let keep = self.limits.config().keep;
+        if session.is_outdated(keep, at) {
+            return Err(HubError::NotRecoverable(RecoveryRefusal::Expired));
         }
-        if self.later(offset).is_none() {
-            return Some(HubError::NotRecoverable(RecoveryRefusal::OffsetGone));
-        }
-        None
+        let Some((front, back)) = self.later(offset) else {
+            return Err(HubError::NotRecoverable(RecoveryRefusal::OffsetGone));
+        };
+        Ok(Found {
+            session,
+            front,
+            back,
+        })
     }
 
     /// How many entries and bytes there is room for in an open client's outbox beside the answer to
@@ -278,114 +283,55 @@ impl State {
         Some((places, bytes))
     }
 
-    /// How many broadcasts a session has missed past this offset, or `None` where so many places
-    /// and bytes are too few for them.
-    fn missed_count(
-        &self,
-        session: &Saved,
-        offset: u64,
-        places: usize,
-        bytes: usize,
-    ) -> Option<usize>
-        requires { stands offset (log self.now.base self.now.limits self.now.journal) ≡ true }
-        ensures number { IfSome result (λ number. number ≡ length (gets session.now.space session.now.rooms (later_than offset (log self.now.base self.now.limits self.now.journal)))) }
-        ensures places { IfSome result (λ number. number ≤ places) }
-        ensures bytes { IfSome result (λ number. total_size (gets session.now.space session.now.rooms (later_than offset (log self.now.base self.now.limits self.now.journal))) ≤ bytes) }
-        ensures none { IfNone result ((nat_lt places (length (gets session.now.space session.now.rooms (later_than offset (log self.now.base self.now.limits self.now.journal)))) || nat_lt bytes (total_size (gets session.now.space session.now.rooms (later_than offset (log self.now.base self.now.limits self.now.journal))))) ≡ true) }
-    {
-        let Some((front, back)) = self.later(offset) else {
-            unreachable!()
-        };
-        let first = left_after(front, session.space, &session.rooms, places, bytes)?;
-        let last = left_after(back, session.space, &session.rooms, first.0, first.1)?;
-        Some(places - last.0)
-    }
-
     /// How many entries the recovery of a session puts for an open client, or `None` where there
     /// is no place for all.
-    fn put_count(&self, client: u128, session: &Saved, offset: u64) -> Option<u64>
+    fn put_count(&self, client: u128, found: Found, offset: u64) -> Option<u64>
         requires open { is_open self.now.base self.now.journal client ≡ true }
-        requires stands { stands offset (log self.now.base self.now.limits self.now.journal) ≡ true }
-        ensures count { IfSome result (λ puts. length (recovered_entries self.now.base self.now.limits self.now.journal (record { client = client; space = session.now.space; sid = session.now.sid; pid = session.now.pid }) offset session.now.rooms) ≡ puts) }
-        ensures place { IfSome result (λ puts. have_no_place self.now.limits (waiting self.now.base self.now.limits self.now.journal client) (recovered_entries self.now.base self.now.limits self.now.journal (record { client = client; space = session.now.space; sid = session.now.sid; pid = session.now.pid }) offset session.now.rooms) ≡ false) }
-        ensures none { IfNone result (have_no_place self.now.limits (waiting self.now.base self.now.limits self.now.journal client) (recovered_entries self.now.base self.now.limits self.now.journal (record { client = client; space = session.now.space; sid = session.now.sid; pid = session.now.pid }) offset session.now.rooms) ≡ true) }
+        requires later { found.front.now ++ found.back.now ≡ later_than offset (log self.now.base self.now.limits self.now.journal) }
+        ensures count { IfSome result (λ puts. length (recovered_entries self.now.base self.now.limits self.now.journal (socket_again client found.entry.session.now) offset found.entry.session.now.rooms) ≡ puts) }
+        ensures place { IfSome result (λ puts. have_no_place self.now.limits (waiting self.now.base self.now.limits self.now.journal client) (recovered_entries self.now.base self.now.limits self.now.journal (socket_again client found.entry.session.now) offset found.entry.session.now.rooms) ≡ false) }
+        ensures none { IfNone result (have_no_place self.now.limits (waiting self.now.base self.now.limits self.now.journal client) (recovered_entries self.now.base self.now.limits self.now.journal (socket_again client found.entry.session.now) offset found.entry.session.now.rooms) ≡ true) }
     {
+        // The prover needs that the log's offsets rise: so each names one of its entries.
         self.facts();
+        let session = found.session;
         let room = self.room_beside_answer(client, usize::from(session.space))?;
-        let missed = self.missed_count(session, offset, room.0, room.1)?;
+        let missed = found.count(room.0, room.1)?;
         Some(missed as u64 + 1)
     }
 
-    fn recovery_refusal(
+    /// The session that is to come back, with what the log has past the offset, or why it can't
+    /// come back.
+    fn returning(
         &self,
         client: u128,
         place: usize,
         pid: Pid,
         offset: u64,
         at: u64,
-    ) -> Option<HubError>
-        ensures { result ≡ or_spent (recover_refusal self.now.base self.now.limits self.now.journal client place pid offset at) (is_spent self.now.base self.now.limits self.now.journal (What.Recovered (recovery_of self.now.base self.now.limits self.now.journal client place pid offset))) }
+    ) -> Result<Found<'_>, HubError>
+        ensures session { IfOk result (λ found. session_with pid (sessions self.now.base self.now.limits self.now.journal) ≡ Some found.session.now) }
+        ensures later { IfOk result (λ found. found.front.now ++ found.back.now ≡ later_than offset (log self.now.base self.now.limits self.now.journal)) }
+        ensures accepted { IfOk result (λ found. or_spent (recover_refusal self.now.base self.now.limits self.now.journal client place pid offset at) (is_spent self.now.base self.now.limits self.now.journal (What.Recovered (recovery_of self.now.base self.now.limits self.now.journal client place pid offset))) ≡ None) }
+        ensures refused { IfErr result (λ refusal. or_spent (recover_refusal self.now.base self.now.limits self.now.journal client place pid offset at) (is_spent self.now.base self.now.limits self.now.journal (What.Recovered (recovery_of self.now.base self.now.limits self.now.journal client place pid offset))) ≡ Some refusal) }
     {
         if !self.is_open(client) {
-            return Some(HubError::UnknownClient);
+            return Err(HubError::UnknownClient);
         }
         if place >= self.spaces().len() {
-            return Some(HubError::UnknownNamespace);
+            return Err(HubError::UnknownNamespace);
         }
         if self.socket_at(client, place).is_some() {
-            return Some(HubError::AlreadyConnected);
+            return Err(HubError::AlreadyConnected);
         }
-        if let Some(refusal) = self.session_refusal(pid, place, offset, at) {
-            return Some(refusal);
-        }
-        let Some(session) = self.session(pid) else {
-            unreachable!()
+        let found = self.found(pid, place, offset, at)?;
+        let Some(puts) = self.put_count(client, found, offset) else {
+            return Err(HubError::OutboxFull);
         };
-        match self.put_count(client, session, offset) {
-            Some(puts) => self.count_refusal(puts, 0),
-            None => Some(HubError::OutboxFull),
+        match self.count_refusal(puts, 0) {
+            Some(refusal) => Err(refusal),
+            None => Ok(found),
         }
-    }
-
-    /// The offsets of the broadcasts that a session has missed past one that the log has.
-    fn missed(&self, alloc: Global, session: &Saved, offset: u64) -> Result<Vec<u64>, HubError>
-        ensures ok { IfOk result (λ offsets. offsets.items ≡ missed offset session.now.space session.now.rooms (log self.now.base self.now.limits self.now.journal)) }
-        ensures memory { IfErr result (λ e. e ≡ HubError.Memory) }
-    {
-        match self
-            .log
-            .missed(alloc, offset, session.space, &session.rooms)
-        {
-            Ok(offsets) => Ok(offsets),
-            Err(_) => Err(HubError::Memory),
-        }
-    }
-
-    /// The recovery of a session at a client.
-    fn recovery(
-        &self,
-        alloc: Global,
-        client: u128,
-        session: &Saved,
-        offset: u64,
-    ) -> Result<Recovery, HubError>
-        ensures ok { IfOk result (λ recovery. recovery ≡ brought_back client session.now.space session.now.pid offset (log self.now.base self.now.limits self.now.journal) session.now) }
-        ensures memory { IfErr result (λ e. e ≡ HubError.Memory) }
-    {
-        let missed = self.missed(alloc, session, offset)?;
-        let rooms = Vec::from_slice(alloc, &session.rooms)?;
-        let socket = Socket {
-            client,
-            space: session.space,
-            sid: session.sid,
-            pid: session.pid,
-        };
-        Ok(Recovery {
-            socket,
-            offset,
-            rooms,
-            missed,
-        })
     }
 
     /// The answer to a CONNECT, which outboxes may share.
@@ -405,28 +351,44 @@ impl State {
         Ok(answer)
     }
 
-    /// What the recovery of a session puts: the answer to the CONNECT, and then what it has missed.
-    fn puts(
+    /// The recovery of a session at a client, and what it puts: the answer to the CONNECT, and then
+    /// what the session has missed.
+    fn what_returns(
         &self,
         alloc: Global,
         client: u128,
-        session: &Saved,
+        found: Found,
         offset: u64,
-    ) -> Result<Vec<Arc<Entry>>, HubError>
-        requires { stands offset (log self.now.base self.now.limits self.now.journal) ≡ true }
-        ensures ok { IfOk result (λ puts. map arc_value puts.items ≡ recovered_entries self.now.base self.now.limits self.now.journal (record { client = client; space = session.now.space; sid = session.now.sid; pid = session.now.pid }) offset session.now.rooms) }
+    ) -> Result<(Recovery, Vec<Arc<Entry>>), HubError>
+        requires { found.front.now ++ found.back.now ≡ later_than offset (log self.now.base self.now.limits self.now.journal) }
+        ensures recovery { IfOk result (λ both. both.0 ≡ brought_back client found.entry.session.now.space found.entry.session.now.pid offset (log self.now.base self.now.limits self.now.journal) found.entry.session.now) }
+        ensures puts { IfOk result (λ both. map arc_value both.1.items ≡ recovered_entries self.now.base self.now.limits self.now.journal (socket_again client found.entry.session.now) offset found.entry.session.now.rooms) }
         ensures memory { IfErr result (λ e. e ≡ HubError.Memory) }
     {
+        // The prover needs that the log's offsets rise: so each names one of its entries.
         self.facts();
-        let Some((front, back)) = self.later(offset) else {
-            unreachable!()
-        };
-        let answer = self.answer_for(alloc, client, session.space, session.sid, session.pid)?;
+        let session = found.session;
+        let (space, sid, pid) = (session.space, session.sid, session.pid);
+        let rooms = Vec::from_slice(alloc, &session.rooms)?;
+        let answer = self.answer_for(alloc, client, space, sid, pid)?;
         let mut puts = Vec::new(alloc);
         puts.push(answer)?;
-        add_gets(front, session.space, &session.rooms, &mut puts)?;
-        add_gets(back, session.space, &session.rooms, &mut puts)?;
-        Ok(puts)
+        let mut missed = Vec::new(alloc);
+        add_missed(found.front, space, &rooms, &mut puts, &mut missed)?;
+        add_missed(found.back, space, &rooms, &mut puts, &mut missed)?;
+        let socket = Socket {
+            client,
+            space,
+            sid,
+            pid,
+        };
+        let recovery = Recovery {
+            socket,
+            offset,
+            rooms,
+            missed,
+        };
+        Ok((recovery, puts))
     }
 
     /// Brings back a session that may come back, and gives its session id.
@@ -445,19 +407,17 @@ impl State {
         ensures err { OnErr result (self.new ≡ self.old) }
         ensures memory { IfErr result (λ e. e ≡ HubError.Memory) }
     {
-        let number = number_of(&puts) as u64;
-        let same = socket_in(&recovery);
-        let again = socket_in(&recovery);
-        let (client, sid, pid) = (same.client, same.sid, same.pid);
+        let number = puts.len() as u64;
+        let socket = recovery.socket;
+        let (client, sid, pid) = (socket.client, socket.sid, socket.pid);
         reserve(&mut self.journal)?;
-        add_socket(&mut self.clients, client, same)?;
+        add_socket(&mut self.clients, client, socket)?;
         let entered = enter_again(
             alloc,
             &mut self.seats,
             &mut self.pids,
             &mut self.rooms,
-            again,
-            rooms_in(&recovery),
+            &recovery,
         );
         if entered.is_err() {
             drop_socket(&mut self.clients, client);
@@ -472,6 +432,7 @@ impl State {
         Ok(sid)
     }
 
+    /// Brings a saved session back in the namespace at a place.
     fn recover_at(
         &mut self,
         alloc: Global,
@@ -482,17 +443,11 @@ impl State {
         now: u64,
     ) -> Result<Sid, HubError>
         ensures sid { IfOk result (λ sid. let recovery = recovery_of self.old.base self.old.limits self.old.journal client place pid offset in sid ≡ recovery.socket.sid) }
-        ensures does { let recovery = recovery_of self.old.base self.old.limits self.old.journal client place pid offset in Does self.old self.new now (What.Recovered recovery) (or_spent (recover_refusal self.old.base self.old.limits self.old.journal client place pid offset (moment_at self.old now)) (is_spent self.old.base self.old.limits self.old.journal (What.Recovered recovery))) result }
+        ensures does { let recovery = recovery_of self.old.base self.old.limits self.old.journal client place pid offset in Does self.old self.new now (What.Recovered recovery) result }
     {
         let at = self.moment_of(now);
-        if let Some(refusal) = self.recovery_refusal(client, place, pid, offset, at) {
-            return Err(refusal);
-        }
-        let Some(session) = self.session(pid) else {
-            unreachable!()
-        };
-        let puts = self.puts(alloc, client, session, offset)?;
-        let recovery = self.recovery(alloc, client, session, offset)?;
+        let found = self.returning(client, place, pid, offset, at)?;
+        let (recovery, puts) = self.what_returns(alloc, client, found, offset)?;
         self.bring_back(alloc, recovery, puts, now)
     }
 
@@ -502,8 +457,8 @@ impl State {
     /// Refused as `UnknownClient`, `UnknownNamespace`, `AlreadyConnected`, `NotRecoverable` with
     /// `UnknownPid`, `Expired` or `OffsetGone`, `OutboxFull`, `Spent`, then for `Memory`. It takes
     /// the logarithm of the clients, sockets, namespaces and saved sessions, walks what the log has
-    /// past the offset, and each of the session's rooms takes the logarithm of the sockets and of
-    /// the rooms.
+    /// past the offset twice, first to see whether there is place for all, then to share it, and
+    /// each of the session's rooms takes the logarithm of the sockets and of the rooms.
     pub fn recover(
         &mut self,
         alloc: Global,
@@ -514,7 +469,7 @@ impl State {
         now: u64,
     ) -> Result<Sid, HubError>
         ensures sid { IfOk result (λ sid. let recovery = recovery_of self.old.base self.old.limits self.old.journal client (place_of self.old.limits space.now) pid offset in sid ≡ recovery.socket.sid) }
-        ensures does { let recovery = recovery_of self.old.base self.old.limits self.old.journal client (place_of self.old.limits space.now) pid offset in Does self.old self.new now (What.Recovered recovery) (or_spent (recover_refusal self.old.base self.old.limits self.old.journal client (place_of self.old.limits space.now) pid offset (moment_at self.old now)) (is_spent self.old.base self.old.limits self.old.journal (What.Recovered recovery))) result }
+        ensures does { let recovery = recovery_of self.old.base self.old.limits self.old.journal client (place_of self.old.limits space.now) pid offset in Does self.old self.new now (What.Recovered recovery) result }
     {
         let place = self.place_of(space);
         self.recover_at(alloc, client, place, pid, offset, now)

@@ -2,15 +2,14 @@
 
 ghost use Rattle.std.specs.Prelude.{◌≡◌, None};
 ghost use Rattle.room_maps.specs.Membership as room_maps;
-ghost use Rattle.hub_state.specs.Membership.{rooms};
-ghost use Rattle.hub_state.specs.Totals.{is_spent};
-ghost use Rattle.hub_state.specs.Refusals.{or_spent, join_refusal, leave_refusal};
-ghost use Rattle.hub_state.specs.Hub.{Does};
-ghost use Rattle.hub_state.specs.declared.step.What.{What};
+ghost use Rattle.journal.specs.Membership.{rooms};
+ghost use Rattle.journal.specs.Totals.{is_spent};
+ghost use Rattle.journal.specs.Refusals.{or_spent, join_refusal, leave_refusal};
+ghost use Rattle.journal.specs.Command.{Does};
+ghost use Rattle.journal.specs.declared.step.What.{What};
 
-use crate::error::HubError;
 use crate::state::{State, count, record, reserve};
-use crate::step::What;
+use journal::{HubError, What};
 use room_maps::{Room, RoomError, Rooms, Sid};
 use std::alloc::Global;
 
@@ -64,7 +63,7 @@ impl State {
     /// A socket joins a room. Refused as `UnknownSocket`, `RoomRefused`, `Spent`, then for
     /// `Memory`. It takes the logarithm of the sockets and of the rooms.
     pub fn join(&mut self, alloc: Global, sid: Sid, room: Room, now: u64) -> Result<(), HubError>
-        ensures { Does self.old self.new now (What.Joined sid room) (or_spent (join_refusal self.old.base self.old.journal sid room) (is_spent self.old.base self.old.limits self.old.journal (What.Joined sid room))) result }
+        ensures { Does self.old self.new now (What.Joined sid room) result }
     {
         if let Some(refusal) = self.join_refusal(sid, room) {
             return Err(refusal);
@@ -87,7 +86,7 @@ impl State {
     /// A socket leaves a room. Refused as `UnknownSocket`, `RoomRefused`, `Spent`, then for
     /// `Memory`. It takes the logarithm of the sockets and of the rooms.
     pub fn leave(&mut self, _alloc: Global, sid: Sid, room: Room, now: u64) -> Result<(), HubError>
-        ensures { Does self.old self.new now (What.Left sid room) (or_spent (leave_refusal self.old.base self.old.journal sid room) (is_spent self.old.base self.old.limits self.old.journal (What.Left sid room))) result }
+        ensures { Does self.old self.new now (What.Left sid room) result }
     {
         if let Some(refusal) = self.leave_refusal(sid, room) {
             return Err(refusal);

@@ -6,18 +6,15 @@ ghost use Rattle.std.specs.BTreeMap.{IsOrdered};
 ghost use Rattle.terms.specs.Listing.{ListsRising};
 ghost use Rattle.room_maps.specs.Membership.{pair_cmp, is_in};
 ghost use Rattle.recovery.specs.PacketLog.{IsRun, number_of};
-ghost use Rattle.hub_state.specs.Membership.{is_open, rooms};
-ghost use Rattle.hub_state.specs.Sessions.{sessions};
-ghost use Rattle.hub_state.specs.Log.{log, next};
-ghost use Rattle.hub_state.specs.Legal.{IsLegal};
-ghost use Rattle.hub_state.specs.Seal.{ids_of, client_of, base_of, base_client, LeadsTo, IsSealed, SaysTheSame};
+ghost use Rattle.journal.specs.Membership.{is_open, rooms};
+ghost use Rattle.journal.specs.Sessions.{sessions};
+ghost use Rattle.journal.specs.Log.{log, next};
+ghost use Rattle.journal.specs.Legal.{IsLegal};
+ghost use Rattle.journal.specs.Seal.{ids_of, client_of, base_of, base_client, LeadsTo, IsSealed, SaysTheSame};
 
-use crate::base::{Base, BaseClient};
-use crate::client::Client;
-use crate::epoch::Epoch;
-use crate::error::HubError;
-use crate::sockets::Sockets;
 use crate::state::State;
+use hub_parts::{Client, Sockets};
+use journal::{Base, BaseClient, Epoch, HubError};
 use recovery::{Logged, Pid, Saved};
 use room_maps::{Room, Sid};
 use std::alloc::{AllocError, Global};
@@ -140,7 +137,7 @@ impl State {
     {
         let present = self.present(alloc)?;
         let base = replace(&mut self.base, present);
-        let steps = replace(&mut self.journal, Vec::new(alloc));
+        let steps = self.journal.take(alloc);
         Ok(Epoch { base, steps })
     }
 }

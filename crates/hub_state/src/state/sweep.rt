@@ -4,28 +4,18 @@
 ghost use Rattle.std.specs.Prelude.{◌≡◌, ◌+◌, max, length, None, IfOk};
 ghost use Rattle.recovery.specs.PacketLog.{swept};
 ghost use Rattle.recovery.specs.SavedTable.{table_swept};
-ghost use Rattle.hub_state.specs.Sessions.{sessions};
-ghost use Rattle.hub_state.specs.Log.{log};
-ghost use Rattle.hub_state.specs.Totals.{is_spent};
-ghost use Rattle.hub_state.specs.Refusals.{or_spent};
-ghost use Rattle.hub_state.specs.Hub.{Does};
-ghost use Rattle.hub_state.specs.declared.step.What.{What};
+ghost use Rattle.journal.specs.Sessions.{sessions};
+ghost use Rattle.journal.specs.Log.{log};
+ghost use Rattle.journal.specs.Totals.{is_spent};
+ghost use Rattle.journal.specs.Refusals.{or_spent};
+ghost use Rattle.journal.specs.Command.{Does};
+ghost use Rattle.journal.specs.declared.step.What.{What};
 
-use crate::error::HubError;
-use crate::limits::Limits;
 use crate::state::{State, count, record, reserve};
-use crate::step::What;
+use hub_parts::Limits;
+use journal::{HubError, Swept, What};
 use recovery::{PacketLog, SavedTable};
 use std::alloc::Global;
-
-/// How much a sweep dropped.
-#[derive(Clone, Copy, Debug, PartialEq, Eq)]
-pub struct Swept {
-    /// The entries of the log.
-    pub log: usize,
-    /// The saved sessions.
-    pub saved: usize,
-}
 
 /// Drops what is outdated at a moment.
 fn drop_outdated(log: &mut PacketLog, saved: &mut SavedTable, limits: &Limits, at: u64) -> Swept
@@ -52,7 +42,7 @@ impl State {
     /// and says how many. Refused as `Spent`, then for `Memory`. Each that is dropped takes the
     /// logarithm of the saved sessions, and it looks at one more of both.
     pub fn sweep(&mut self, _alloc: Global, now: u64) -> Result<Swept, HubError>
-        ensures does { Does self.old self.new now What.Swept (or_spent None (is_spent self.old.base self.old.limits self.old.journal What.Swept)) result }
+        ensures does { Does self.old self.new now What.Swept result }
         ensures counts { IfOk result (λ dropped. (length (log self.old.base self.old.limits self.old.journal) ≡ length (log self.new.base self.new.limits self.new.journal) + dropped.log) × (length (sessions self.old.base self.old.limits self.old.journal) ≡ length (sessions self.new.base self.new.limits self.new.journal) + dropped.saved)) }
     {
         if let Some(refusal) = self.sweep_refusal() {

@@ -1,5 +1,5 @@
 use Rattle.std.proofs.Common.{sym, ap, inl, inr}
-use Rattle.hub_state.specs.Membership as membership
+use Rattle.journal.specs.Membership as membership
 use Rattle.replay.proofs.clients.closes.Goals as goal
 
 pub returns-in-Parked : goal.returns-in-Parked

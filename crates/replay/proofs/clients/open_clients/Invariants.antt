@@ -1,5 +1,5 @@
 use Rattle.std.proofs.Common.{◌≡◌, take, reverse}
-use Rattle.hub_state.specs.Membership as membership
+use Rattle.journal.specs.Membership as membership
 use Rattle.replay.proofs.clients.open_clients.Given as goal
 
 abbrev pub invariant-loop-step : goal.invariant-loop-step

@@ -1,6 +1,6 @@
 use Rattle.std.proofs.Common.{◌∙◌, sym, ap, length}
-use Rattle.hub_state.specs.Plain.{PlainBroadcast}
-use Rattle.hub_state.specs.Totals as definitions
+use Rattle.journal.specs.Plain.{PlainBroadcast}
+use Rattle.journal.specs.Totals as definitions
 use Rattle.replay.proofs.counts.dropped_by.Goals as goal
 
 pub returns-in-Cast : goal.returns-in-Cast

@@ -1,5 +1,5 @@
 use Rattle.std.proofs.Common.{◌≡◌, ◌+◌, ◌*◌, ◌<◌, take, reverse}
-use Rattle.hub_state.specs.Totals as definitions
+use Rattle.journal.specs.Totals as definitions
 use Rattle.replay.proofs.counts.placed.Given as goal
 
 abbrev pub invariant-loop-index : goal.invariant-loop-index

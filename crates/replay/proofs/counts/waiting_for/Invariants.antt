@@ -1,6 +1,6 @@
 use Rattle.std.proofs.Common.{◌≡◌, ◌+◌, ◌*◌, ◌<◌, take, reverse, length}
 use Rattle.std.specs.List.{sum_by}
-use Rattle.hub_state.specs.Outboxes as outboxes
+use Rattle.journal.specs.Outboxes as outboxes
 use Rattle.replay.proofs.counts.waiting_for.Given as goal
 
 abbrev pub invariant-loop-client : goal.invariant-loop-client

@@ -1,5 +1,5 @@
 use Rattle.std.proofs.Common.{◌≡◌, take, reverse}
-use Rattle.hub_state.specs.Log as definitions
+use Rattle.journal.specs.Log as definitions
 use Rattle.replay.proofs.log_list.calls.Given as goal
 
 abbrev pub invariant-loop-step : goal.invariant-loop-step

@@ -1,7 +1,7 @@
 use Rattle.std.proofs.Common.{◌∙◌, sym, ap}
-use Rattle.hub_state.specs.declared.step.What.TheVariants.{Cast}
-use Rattle.hub_state.specs.Plain.{PlainBroadcast}
-use Rattle.hub_state.specs.Log as definitions
+use Rattle.journal.specs.declared.step.What.TheVariants.{Cast}
+use Rattle.journal.specs.Plain.{PlainBroadcast}
+use Rattle.journal.specs.Log as definitions
 use Rattle.replay.proofs.OffsetsLemmas.{one_used, none_used}
 use Rattle.replay.proofs.offsets.offsets_used.Goals as goal
 

@@ -1,5 +1,5 @@
 use Rattle.std.proofs.Common.{◌≡◌, ◌++◌, take}
-use Rattle.hub_state.specs.Outboxes as definitions
+use Rattle.journal.specs.Outboxes as definitions
 use Rattle.replay.proofs.outboxes.add_for.Given as goal
 
 abbrev pub invariant-loop-put : goal.invariant-loop-put

@@ -1,6 +1,6 @@
 use Rattle.std.proofs.Common.{◌≡◌, ◌++◌, take, map}
 use Rattle.sio_wire.specs.declared.entry.Entry.{Entry}
-use Rattle.hub_state.specs.Outboxes as definitions
+use Rattle.journal.specs.Outboxes as definitions
 use Rattle.replay.proofs.outboxes.add_missed.Given as goal
 
 abbrev pub invariant-loop-logged : goal.invariant-loop-logged

@@ -1,5 +1,5 @@
 use Rattle.std.proofs.Common.{◌≡◌, take, reverse}
-use Rattle.hub_state.specs.Outboxes as definitions
+use Rattle.journal.specs.Outboxes as definitions
 use Rattle.replay.proofs.outboxes.placements.Given as goal
 
 abbrev pub invariant-loop-index : goal.invariant-loop-index

@@ -1,5 +1,5 @@
 use Rattle.std.proofs.Common.{◌≡◌, take, map}
-use Rattle.hub_state.specs.declared.socket.Socket.{Socket}
+use Rattle.journal.specs.declared.socket.Socket.{Socket}
 use Rattle.replay.proofs.outboxes.put_for_each.Given as goal
 
 abbrev pub invariant-loop-socket : goal.invariant-loop-socket

@@ -1,7 +1,7 @@
 use Rattle.std.proofs.Common.{◌≡◌, ◌∙◌, Vec, Global, filter, reverse}
 use Rattle.std.proofs.lemmas.Result.{IfOk-weaker}
-use Rattle.hub_state.specs.declared.socket.Socket.{Socket}
-use Rattle.hub_state.specs.Outboxes as definitions
+use Rattle.journal.specs.declared.socket.Socket.{Socket}
+use Rattle.journal.specs.Outboxes as definitions
 use Rattle.replay.specs.Outboxes as reach
 use Rattle.replay.proofs.OutboxesLemmas.{receivers-by}
 use Rattle.replay.proofs.outboxes.receivers.Goals as goal

@@ -1,5 +1,5 @@
 use Rattle.std.proofs.Common.{◌≡◌, min, take, reverse}
-use Rattle.hub_state.specs.Outboxes as definitions
+use Rattle.journal.specs.Outboxes as definitions
 use Rattle.replay.proofs.outboxes.taken.Given as goal
 
 abbrev pub invariant-loop-step : goal.invariant-loop-step

@@ -1,6 +1,6 @@
 use Rattle.std.proofs.Common.{◌∙◌, sym, ap, if◌then◌else◌}
 use Rattle.std.proofs.lemmas.Bool.{eq-eqb, ne_eqb}
-use Rattle.hub_state.specs.Outboxes as definitions
+use Rattle.journal.specs.Outboxes as definitions
 use Rattle.replay.proofs.outboxes.taken_by.Goals as goal
 
 pub returns-then-other-client : goal.returns-then-other-client

@@ -1,7 +1,7 @@
 use Rattle.std.proofs.Common.{◌≡◌, ◌∙◌, ◌-◌, ◌≤◌, Vec, Global, ap, sym, min, take, drop, length, reverse, arith}
 use Rattle.std.proofs.lemmas.Result.{IfOk-weaker}
 use Rattle.sio_wire.specs.declared.entry.Entry.{Entry}
-use Rattle.hub_state.specs.Outboxes as definitions
+use Rattle.journal.specs.Outboxes as definitions
 use Rattle.replay.proofs.OutboxesLemmas.{waiting-by}
 use Rattle.replay.proofs.outboxes.waiting.Goals as goal
 

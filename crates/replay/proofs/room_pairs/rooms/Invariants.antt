@@ -1,5 +1,5 @@
 use Rattle.std.proofs.Common.{take, reverse}
-use Rattle.hub_state.specs.Membership as membership
+use Rattle.journal.specs.Membership as membership
 use Rattle.replay.specs.Rooms.{ListsPairs}
 use Rattle.replay.proofs.room_pairs.rooms.Given as goal
 

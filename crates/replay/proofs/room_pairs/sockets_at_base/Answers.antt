@@ -1,6 +1,6 @@
 use Rattle.std.proofs.Common.{◌∙◌, ap, map}
 use Rattle.std.proofs.lemmas.Result.{IfOk-weaker}
-use Rattle.hub_state.specs.Membership.{sid_of}
+use Rattle.journal.specs.Membership.{sid_of}
 use Rattle.replay.proofs.RoomsLemmas.{sockets-at_base}
 use Rattle.replay.proofs.room_pairs.sockets_at_base.Goals as goal
 

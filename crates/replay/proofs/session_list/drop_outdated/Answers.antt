@@ -1,6 +1,6 @@
-use Rattle.std.proofs.Common.{rules, ◌≡◌, refl}
-use Rattle.hub_state.proofs.RetainLemmas.{filtered_by}
+use Rattle.std.proofs.Common.{rules}
+use Rattle.std.proofs.lemmas.Fn.{filter_same}
 use Rattle.replay.proofs.session_list.drop_outdated.Goals as goal
 
 pub returns : goal.returns
-returns c = filtered_by _ (λ f. (f.0.now ≡ c.args.keep) × (f.1.now ≡ c.args.now)) _ (λ p x b q i h. search rules) _ _ _ (refl, refl) c.retain.ensures.filtered
+returns c = filter_same _ _ _ (λ x b q h. search rules) _ _ c.retain.ensures.filtered

@@ -1,7 +1,7 @@
 use Rattle.std.proofs.Common.{ℕ, List, ap, reverse}
 use Rattle.recovery.specs.SavedTable.{PlainSaved}
-use Rattle.hub_state.specs.Membership as membership
-use Rattle.hub_state.proofs.ParkLemmas.{rooms-listed}
+use Rattle.journal.specs.Membership as membership
+use Rattle.journal.proofs.ParkLemmas.{rooms-listed}
 use Rattle.replay.proofs.session_list.lost_session.Goals as goal
 
 pub returns : goal.returns

@@ -1,7 +1,7 @@
 use Rattle.std.proofs.Common.{rules, reverse}
 use Rattle.std.specs.Cmp.Rules.{comparing}
 use Rattle.std.proofs.lemmas.List.Filters.{dedup_is}
-use Rattle.hub_state.specs.Membership as membership
+use Rattle.journal.specs.Membership as membership
 use Rattle.replay.proofs.SessionsLemmas.{rooms-by, rooms-sorted}
 use Rattle.replay.proofs.session_list.rooms_of.Goals as goal
 

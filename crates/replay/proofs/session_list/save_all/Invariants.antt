@@ -1,5 +1,5 @@
 use Rattle.std.proofs.Common.{◌≡◌, map, take, reverse}
-use Rattle.hub_state.specs.Sessions as definitions
+use Rattle.journal.specs.Sessions as definitions
 use Rattle.replay.proofs.session_list.save_all.Given as goal
 
 abbrev pub invariant-loop-socket : goal.invariant-loop-socket

@@ -1,5 +1,5 @@
 use Rattle.std.proofs.Common.{◌≡◌, take, reverse}
-use Rattle.hub_state.specs.Sessions as definitions
+use Rattle.journal.specs.Sessions as definitions
 use Rattle.replay.proofs.session_list.sessions.Given as goal
 
 abbrev pub invariant-loop-index : goal.invariant-loop-index

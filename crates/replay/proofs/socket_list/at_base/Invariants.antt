@@ -1,6 +1,6 @@
 use Rattle.std.proofs.Common.{◌≡◌, take}
 use Rattle.std.specs.List.{flat_map}
-use Rattle.hub_state.specs.Membership as membership
+use Rattle.journal.specs.Membership as membership
 use Rattle.replay.proofs.socket_list.at_base.Given as goal
 
 abbrev pub invariant-loop-client : goal.invariant-loop-client

@@ -1,5 +1,5 @@
 use Rattle.std.proofs.Common.{◌∙◌, sym, ap}
-use Rattle.hub_state.specs.Membership as membership
+use Rattle.journal.specs.Membership as membership
 use Rattle.replay.proofs.socket_list.ends.Goals as goal
 
 pub returns-in-Ended : goal.returns-in-Ended

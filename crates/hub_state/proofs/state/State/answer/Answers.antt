@@ -1,6 +1,6 @@
 use Rattle.std.proofs.Common.{◌∙◌, ap, []}
 use Rattle.sio_wire.specs.ConnectAnswer.{connected_text}
-use Rattle.hub_state.proofs.AnswersLemmas.{answer_is, if_ok_for}
+use Rattle.journal.proofs.AnswersLemmas.{answer_is, if_ok_for}
 use Rattle.hub_state.proofs.state.State.answer.Goals as goal
 
 pub returns-clause-ok : goal.returns-clause-ok

@@ -1,6 +1,6 @@
 use Rattle.std.proofs.Common.{◌∙◌, ap, length}
 use Rattle.sio_wire.specs.ConnectAnswer.{connected_text}
-use Rattle.hub_state.proofs.AnswersLemmas.{answer_size_is}
+use Rattle.journal.proofs.AnswersLemmas.{answer_size_is}
 use Rattle.hub_state.proofs.state.State.answer_size.Goals as goal
 
 pub returns : goal.returns

@@ -1,8 +1,8 @@
 use Rattle.std.proofs.Common.{rules, arith, refl, ◌≡◌, true}
-use Rattle.hub_state.specs.declared.socket.Socket.{Socket}
-use Rattle.hub_state.specs.declared.step.What.TheVariants.{Attached}
-use Rattle.hub_state.specs.Membership.{is_open}
-use Rattle.hub_state.proofs.SocketsLemmas.{puts_attached}
+use Rattle.journal.specs.declared.socket.Socket.{Socket}
+use Rattle.journal.specs.declared.step.What.TheVariants.{Attached}
+use Rattle.journal.specs.Membership.{is_open}
+use Rattle.journal.proofs.SocketsLemmas.{puts_attached}
 use Rattle.hub_state.proofs.state.State.attach_refusal.Goals as goal
 
 pub returns-then-is_taken-clause-refusal : goal.returns-then-is_taken-clause-refusal

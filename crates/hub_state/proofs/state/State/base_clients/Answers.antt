@@ -1,4 +1,4 @@
-use Rattle.hub_state.proofs.SealLemmas.{copied-open, copied-are}
+use Rattle.journal.proofs.SealLemmas.{copied-open, copied-are}
 use Rattle.hub_state.proofs.state.State.base_clients.Goals as goal
 
 pub returns-in-Ok-clause-open : goal.returns-in-Ok-clause-open

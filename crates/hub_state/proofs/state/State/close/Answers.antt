@@ -1,7 +1,7 @@
-use Rattle.std.proofs.Common.{rules, reverse}
+use Rattle.std.proofs.Common.{rules}
 use Rattle.std.specs.Ordering.{nat_cmp}
 use Rattle.std.specs.BTreeMap.{get}
-use Rattle.hub_state.proofs.CloseLemmas.{closed, can_close, can_forget}
+use Rattle.journal.proofs.CloseLemmas.{closed, can_close, can_forget}
 use Rattle.hub_state.proofs.state.State.close.Goals as goal
 
 pub invariant_of-self-2 : goal.invariant_of-self-2
@@ -12,7 +12,7 @@ invariant_of-self-2 c =
 
 pub count-requires : goal.count-requires
 count-requires c =
-    can_close c.self.inside.base c.self.inside.limits (get nat_cmp c.self.inside.clients) (reverse c.self.inside.journal.items) c.self.inside.counts c.self.invariant.3 c.self.invariant.2 c.self.invariant.0.clients
+    can_close c.self.inside.base c.self.inside.limits (get nat_cmp c.self.inside.clients) c.self.inside.journal.steps c.self.inside.counts c.self.invariant.3 c.self.invariant.2 c.self.invariant.0.clients
     c.args.client c.forget_client-discards.result (search rules) c.forget_client-discards.ensures.discards
 
 pub forget_client-discards-requires-clause-known : goal.forget_client-discards-requires-clause-known

@@ -1,9 +1,9 @@
-use Rattle.std.proofs.Common.{rules, ◌≡◌, ◌==◌, ℕ, subst, reverse, if◌then◌else◌}
+use Rattle.std.proofs.Common.{rules, ◌≡◌, ◌==◌, ℕ, subst, if◌then◌else◌}
 use Rattle.std.specs.Option.{option_map}
 use Rattle.std.specs.Ordering.{nat_cmp}
 use Rattle.std.specs.BTreeMap.{get}
-use Rattle.hub_state.specs.Hub.{without_place}
-use Rattle.hub_state.proofs.EndLemmas.{ended, can_end, one-known}
+use Rattle.journal.specs.Fields.{without_place}
+use Rattle.journal.proofs.EndLemmas.{ended, can_end, one-known}
 use Rattle.hub_state.proofs.state.State.end.Goals as goal
 
 pub invariant_of-self-2 : goal.invariant_of-self-2
@@ -19,4 +19,4 @@ pub count-requires : goal.count-requires
 count-requires c = can_end _ _ _ _ c.self.invariant.3 c.self.invariant.2 c.args.sid (search rules)
 
 pub forget-requires : goal.forget-requires
-forget-requires c = one-known c.self.inside.base c.self.inside.limits c.args.sid c.in_ok-socket.socket (reverse c.self.inside.journal.items) c.self.inside.rooms c.self.invariant.2 c.self.invariant.0.rooms_are (rw (← c.self.view_is) at c.in_ok-socket.ensures.socket)
+forget-requires c = one-known c.self.inside.base c.self.inside.limits c.args.sid c.in_ok-socket.socket c.self.inside.journal.steps c.self.inside.rooms c.self.invariant.2 c.self.invariant.0.rooms_are (rw (← c.self.view_is) at c.in_ok-socket.ensures.socket)

@@ -1,6 +1,6 @@
 use Rattle.std.proofs.Common.{rules, refl, arith}
-use Rattle.hub_state.specs.declared.step.What.TheVariants.{Ended}
-use Rattle.hub_state.proofs.EndLemmas.{puts_ended}
+use Rattle.journal.specs.declared.step.What.TheVariants.{Ended}
+use Rattle.journal.proofs.EndLemmas.{puts_ended}
 use Rattle.hub_state.proofs.state.State.ending.Goals as goal
 
 pub returns-in-Some-count_refusal-clause-refused : goal.returns-in-Some-count_refusal-clause-refused

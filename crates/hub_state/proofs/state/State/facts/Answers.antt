@@ -1,4 +1,4 @@
-use Rattle.hub_state.proofs.LegalLemmas.{cast-at}
+use Rattle.journal.proofs.LegalLemmas.{cast-at}
 use Rattle.hub_state.proofs.state.State.facts.Goals as goal
 
 pub returns-clause-casts : goal.returns-clause-casts

@@ -1,5 +1,5 @@
 use Rattle.std.proofs.Common.{rules}
-use Rattle.hub_state.proofs.CountsLemmas.{clients_counted}
+use Rattle.journal.proofs.CountsLemmas.{clients_counted}
 use Rattle.hub_state.proofs.state.State.is_crowded.Goals as goal
 
 pub returns : goal.returns

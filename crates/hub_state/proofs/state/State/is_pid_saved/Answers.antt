@@ -1,8 +1,8 @@
 use Rattle.std.proofs.Common.{◌∙◌, ◌==◌, ap}
 use Rattle.std.specs.Prelude.{is_some}
 use Rattle.recovery.specs.SavedTable.{PlainSaved, session}
-use Rattle.hub_state.specs.Sessions.{sessions}
-use Rattle.hub_state.proofs.SessionsLemmas.{is_some-find}
+use Rattle.journal.specs.Sessions.{sessions}
+use Rattle.journal.proofs.SessionsLemmas.{is_some-find}
 use Rattle.hub_state.proofs.state.State.is_pid_saved.Goals as goal
 
 pub returns : goal.returns

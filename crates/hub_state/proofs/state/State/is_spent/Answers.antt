@@ -1,4 +1,4 @@
-use Rattle.hub_state.proofs.CountsLemmas.{spent_for}
+use Rattle.journal.proofs.CountsLemmas.{spent_for}
 use Rattle.hub_state.proofs.state.State.is_spent.Goals as goal
 
 pub returns : goal.returns

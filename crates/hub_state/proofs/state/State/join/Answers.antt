@@ -1,5 +1,5 @@
 use Rattle.std.proofs.Common.{rules}
-use Rattle.hub_state.proofs.RoomsLemmas.{joined, can_join}
+use Rattle.journal.proofs.RoomsLemmas.{joined, can_join}
 use Rattle.hub_state.proofs.state.State.join.Goals as goal
 
 pub invariant_of-self-2 : goal.invariant_of-self-2

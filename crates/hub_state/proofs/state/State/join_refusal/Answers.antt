@@ -1,6 +1,6 @@
 use Rattle.std.proofs.Common.{rules, arith, refl}
-use Rattle.hub_state.specs.declared.step.What.TheVariants.{Joined}
-use Rattle.hub_state.proofs.RoomsLemmas.{puts_joined}
+use Rattle.journal.specs.declared.step.What.TheVariants.{Joined}
+use Rattle.journal.proofs.RoomsLemmas.{puts_joined}
 use Rattle.hub_state.proofs.state.State.join_refusal.Goals as goal
 
 pub returns : goal.returns

@@ -1,5 +1,5 @@
-use Rattle.std.proofs.Common.{rules, reverse}
-use Rattle.hub_state.proofs.RoomsLemmas.{left, can_leave, may_leave}
+use Rattle.std.proofs.Common.{rules}
+use Rattle.journal.proofs.RoomsLemmas.{left, can_leave, may_leave}
 use Rattle.hub_state.proofs.state.State.leave.Goals as goal
 
 pub invariant_of-self-2 : goal.invariant_of-self-2
@@ -11,4 +11,4 @@ pub count-requires : goal.count-requires
 count-requires c = can_leave _ _ _ _ c.self.invariant.3 c.self.invariant.2 c.args.sid c.args.room (search rules)
 
 pub take_out-requires : goal.take_out-requires
-take_out-requires c = may_leave c.self.inside.base c.self.inside.limits c.self.inside.rooms (reverse c.self.inside.journal.items) c.args.sid c.args.room c.self.invariant.0.rooms_are (search rules)
+take_out-requires c = may_leave c.self.inside.base c.self.inside.limits c.self.inside.rooms c.self.inside.journal.steps c.args.sid c.args.room c.self.invariant.0.rooms_are (search rules)

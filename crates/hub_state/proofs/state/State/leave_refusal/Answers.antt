@@ -1,6 +1,6 @@
 use Rattle.std.proofs.Common.{rules, arith, refl}
-use Rattle.hub_state.specs.declared.step.What.TheVariants.{Left}
-use Rattle.hub_state.proofs.RoomsLemmas.{puts_left}
+use Rattle.journal.specs.declared.step.What.TheVariants.{Left}
+use Rattle.journal.proofs.RoomsLemmas.{puts_left}
 use Rattle.hub_state.proofs.state.State.leave_refusal.Goals as goal
 
 pub returns : goal.returns

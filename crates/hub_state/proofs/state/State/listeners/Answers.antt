@@ -1,5 +1,5 @@
 use Rattle.std.proofs.Common.{sym, ◌∙◌}
-use Rattle.hub_state.proofs.AimLemmas.{none_named, of-those-inside, if_ok}
+use Rattle.journal.proofs.AimLemmas.{none_named, of-those-inside, if_ok}
 use Rattle.hub_state.proofs.state.State.listeners.Goals as goal
 
 pub returns-then-is_empty-clause-ok : goal.returns-then-is_empty-clause-ok

@@ -1,16 +1,16 @@
-use Rattle.std.proofs.Common.{◌&&◌, reverse}
+use Rattle.std.proofs.Common.{◌&&◌}
 use Rattle.std.specs.Ordering.{nat_cmp}
 use Rattle.std.specs.BTreeMap.{get}
 use Rattle.terms.specs.Listing.{ListsRising}
 use Rattle.room_maps.specs.Membership.{is_in}
-use Rattle.hub_state.specs.Membership.{is_in_space, rooms}
-use Rattle.hub_state.proofs.MembersLemmas.{here-members, ok-for}
+use Rattle.journal.specs.Membership.{is_in_space, rooms}
+use Rattle.journal.proofs.MembersLemmas.{here-members, ok-for}
 use Rattle.hub_state.proofs.state.State.members_at.Goals as goal
 
 pub returns-clause-ok : goal.returns-clause-ok
 returns-clause-ok c =
     let base = c.self.inside.base in
-    let journal = reverse c.self.inside.journal.items in
+    let journal = c.self.inside.journal.steps in
     let kept = rw c.deref.ensures.value at c.keep_here.ensures.ok in
     let inside = rw (← c.self.view_is) at c.in_ok-sids.ensures.ok in
     rw (← c.self.view_is)

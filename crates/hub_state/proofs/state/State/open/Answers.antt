@@ -1,5 +1,5 @@
 use Rattle.std.proofs.Common.{rules}
-use Rattle.hub_state.proofs.CommandLemmas.{opened, can_open}
+use Rattle.journal.proofs.CommandLemmas.{opened, can_open}
 use Rattle.hub_state.proofs.state.State.open.Goals as goal
 
 pub invariant_of-self-2 : goal.invariant_of-self-2

@@ -1,6 +1,6 @@
 use Rattle.std.proofs.Common.{rules, arith, refl}
-use Rattle.hub_state.specs.declared.step.What.TheVariants.{Opened}
-use Rattle.hub_state.proofs.CommandLemmas.{puts_opened}
+use Rattle.journal.specs.declared.step.What.TheVariants.{Opened}
+use Rattle.journal.proofs.CommandLemmas.{puts_opened}
 use Rattle.hub_state.proofs.state.State.open_refusal.Goals as goal
 
 pub returns : goal.returns

@@ -1,33 +1,26 @@
 use Rattle.std.proofs.Common.{◌≡◌, ◌∙◌, ◌+◌, ◌^◌, ◌<◌, ap, arith}
-use Rattle.recovery.specs.PacketLog.{later_than}
-use Rattle.hub_state.specs.declared.socket.Socket.{Socket}
-use Rattle.hub_state.specs.Log.{log}
-use Rattle.hub_state.specs.Outboxes.{answer, waiting}
-use Rattle.hub_state.specs.Recovery.{gets}
-use Rattle.hub_state.specs.Refusals.{recovered_entries}
-use Rattle.hub_state.proofs.RecoverLemmas.{none-so}
-use Rattle.hub_state.proofs.RecoverRefusalLemmas.{entries-put, lacks-answer, lacks-missed, has-places, how-many}
+use Rattle.journal.specs.Outboxes.{answer, waiting}
+use Rattle.journal.proofs.RecoverLemmas.{none-so}
+use Rattle.journal.proofs.RecoverRefusalLemmas.{lacks-answer, lacks-missed, has-places, how-many}
+use Rattle.hub_state.specs.Returning.{socket_again, gets_back}
+use Rattle.hub_state.proofs.ReturnLemmas.{puts-back}
 use Rattle.hub_state.proofs.state.State.put_count.Goals as goal
 
 pub returns-in_err-room-clause-none : goal.returns-in_err-room-clause-none
 returns-in_err-room-clause-none c =
-    let k : Socket = record { client = c.args.client; space = c.args.session.now.space; sid = c.args.session.now.sid; pid = c.args.session.now.pid } in
-    let space : c.from.result ≡ c.args.session.now.space = c.from.ensures ∙ ap (λ s. s.space) c.session.view_is in
-    let es = recovered_entries c.args.self.now.base c.args.self.now.limits c.args.self.now.journal k c.args.offset c.args.session.now.rooms in
-    let ws = waiting c.args.self.now.base c.args.self.now.limits c.args.self.now.journal c.args.client in
-    let missed = gets k.space c.args.session.now.rooms (later_than c.args.offset (log c.args.self.now.base c.args.self.now.limits c.args.self.now.journal)) in
-    let puts = entries-put c.args.self.now.base c.args.self.now.limits c.args.self.now.journal k c.args.offset c.args.session.now.rooms c.facts.ensures.offsets_rise in
-    none-so _ _ (lacks-answer c.args.self.now.base c.args.self.now.limits ws es missed (answer c.args.self.now.limits k) puts (rw space at c.in_err-room.ensures.none k.client k.sid k.pid))
+    let h = c.args.self.now in
+    let k = socket_again c.args.client c.args.found.session.now in
+    let space : c.from.result ≡ k.space = c.from.ensures ∙ ap (λ s. s.space) c.session.view_is in
+    let puts = puts-back h.base h.limits h.journal c.args.client c.args.found c.args.offset c.facts.ensures.sound.offsets_rise c.requires.later in
+    none-so _ _ (lacks-answer h.base h.limits (waiting h.base h.limits h.journal c.args.client) _ (gets_back c.args.found) (answer h.limits k) puts (rw space at c.in_err-room.ensures.none k.client k.sid k.pid))
 
 pub returns-in_err-missed-clause-none : goal.returns-in_err-missed-clause-none
 returns-in_err-missed-clause-none c =
-    let k : Socket = record { client = c.args.client; space = c.args.session.now.space; sid = c.args.session.now.sid; pid = c.args.session.now.pid } in
-    let space : c.from.result ≡ c.args.session.now.space = c.from.ensures ∙ ap (λ s. s.space) c.session.view_is in
-    let es = recovered_entries c.args.self.now.base c.args.self.now.limits c.args.self.now.journal k c.args.offset c.args.session.now.rooms in
-    let ws = waiting c.args.self.now.base c.args.self.now.limits c.args.self.now.journal c.args.client in
-    let missed = gets k.space c.args.session.now.rooms (later_than c.args.offset (log c.args.self.now.base c.args.self.now.limits c.args.self.now.journal)) in
-    let puts = entries-put c.args.self.now.base c.args.self.now.limits c.args.self.now.journal k c.args.offset c.args.session.now.rooms c.facts.ensures.offsets_rise in
-    none-so _ _ (lacks-missed c.args.self.now.base c.args.self.now.limits ws es missed (answer c.args.self.now.limits k) puts c.in_ok-room.room.0 c.in_ok-room.room.1 c.in_ok-room.ensures.places
+    let h = c.args.self.now in
+    let k = socket_again c.args.client c.args.found.session.now in
+    let space : c.from.result ≡ k.space = c.from.ensures ∙ ap (λ s. s.space) c.session.view_is in
+    let puts = puts-back h.base h.limits h.journal c.args.client c.args.found c.args.offset c.facts.ensures.sound.offsets_rise c.requires.later in
+    none-so _ _ (lacks-missed h.base h.limits (waiting h.base h.limits h.journal c.args.client) _ (gets_back c.args.found) (answer h.limits k) puts c.in_ok-room.room.0 c.in_ok-room.room.1 c.in_ok-room.ensures.places
     (rw space at c.in_ok-room.ensures.bytes k.client k.sid k.pid) c.in_err-missed.ensures.none)
 
 pub overflow_add-result : goal.overflow_add-result
@@ -39,21 +32,16 @@ overflow_add-result c =
 
 pub returns-clause-count : goal.returns-clause-count
 returns-clause-count c =
-    let k : Socket = record { client = c.args.client; space = c.args.session.now.space; sid = c.args.session.now.sid; pid = c.args.session.now.pid } in
-    let space : c.from.result ≡ c.args.session.now.space = c.from.ensures ∙ ap (λ s. s.space) c.session.view_is in
-    let es = recovered_entries c.args.self.now.base c.args.self.now.limits c.args.self.now.journal k c.args.offset c.args.session.now.rooms in
-    let ws = waiting c.args.self.now.base c.args.self.now.limits c.args.self.now.journal c.args.client in
-    let missed = gets k.space c.args.session.now.rooms (later_than c.args.offset (log c.args.self.now.base c.args.self.now.limits c.args.self.now.journal)) in
-    let puts = entries-put c.args.self.now.base c.args.self.now.limits c.args.self.now.journal k c.args.offset c.args.session.now.rooms c.facts.ensures.offsets_rise in
-    how-many c.args.self.now.base c.args.self.now.limits ws es missed (answer c.args.self.now.limits k) puts c.in_ok-missed.missed c.in_ok-missed.ensures.number
+    let h = c.args.self.now in
+    let k = socket_again c.args.client c.args.found.session.now in
+    let puts = puts-back h.base h.limits h.journal c.args.client c.args.found c.args.offset c.facts.ensures.sound.offsets_rise c.requires.later in
+    how-many h.base h.limits (waiting h.base h.limits h.journal c.args.client) _ (gets_back c.args.found) (answer h.limits k) puts c.in_ok-missed.missed c.in_ok-missed.ensures.number
 
 pub returns-clause-place : goal.returns-clause-place
 returns-clause-place c =
-    let k : Socket = record { client = c.args.client; space = c.args.session.now.space; sid = c.args.session.now.sid; pid = c.args.session.now.pid } in
-    let space : c.from.result ≡ c.args.session.now.space = c.from.ensures ∙ ap (λ s. s.space) c.session.view_is in
-    let es = recovered_entries c.args.self.now.base c.args.self.now.limits c.args.self.now.journal k c.args.offset c.args.session.now.rooms in
-    let ws = waiting c.args.self.now.base c.args.self.now.limits c.args.self.now.journal c.args.client in
-    let missed = gets k.space c.args.session.now.rooms (later_than c.args.offset (log c.args.self.now.base c.args.self.now.limits c.args.self.now.journal)) in
-    let puts = entries-put c.args.self.now.base c.args.self.now.limits c.args.self.now.journal k c.args.offset c.args.session.now.rooms c.facts.ensures.offsets_rise in
-    has-places c.args.self.now.base c.args.self.now.limits ws es missed (answer c.args.self.now.limits k) puts c.in_ok-room.room.0 c.in_ok-room.room.1 c.in_ok-missed.missed c.in_ok-room.ensures.places
+    let h = c.args.self.now in
+    let k = socket_again c.args.client c.args.found.session.now in
+    let space : c.from.result ≡ k.space = c.from.ensures ∙ ap (λ s. s.space) c.session.view_is in
+    let puts = puts-back h.base h.limits h.journal c.args.client c.args.found c.args.offset c.facts.ensures.sound.offsets_rise c.requires.later in
+    has-places h.base h.limits (waiting h.base h.limits h.journal c.args.client) _ (gets_back c.args.found) (answer h.limits k) puts c.in_ok-room.room.0 c.in_ok-room.room.1 c.in_ok-missed.missed c.in_ok-room.ensures.places
     (rw space at c.in_ok-room.ensures.bytes k.client k.sid k.pid) c.in_ok-missed.ensures.number c.in_ok-missed.ensures.places c.in_ok-missed.ensures.bytes

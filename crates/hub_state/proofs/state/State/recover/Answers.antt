@@ -1,10 +1,7 @@
 use Rattle.std.proofs.Common.{ℕ, subst}
-use Rattle.hub_state.specs.declared.step.What.TheVariants.{Recovered}
-use Rattle.hub_state.specs.Journal.{moment_at}
-use Rattle.hub_state.specs.Totals.{is_spent}
-use Rattle.hub_state.specs.Recovery.{recovery_of}
-use Rattle.hub_state.specs.Refusals.{or_spent, recover_refusal}
-use Rattle.hub_state.specs.Hub.{Does}
+use Rattle.journal.specs.declared.step.What.TheVariants.{Recovered}
+use Rattle.journal.specs.Recovery.{recovery_of}
+use Rattle.journal.specs.Command.{Does}
 use Rattle.hub_state.proofs.state.State.recover.Goals as goal
 
 pub returns-clause-sid : goal.returns-clause-sid
@@ -15,6 +12,4 @@ returns-clause-does c =
     let base = c.args.self.now.base in
     let limits = c.args.self.now.limits in
     let journal = c.args.self.now.journal in
-    subst (λ (place : ℕ). Does c.args.self.now c.recover_at.new.self c.args.now (Recovered (recovery_of base limits journal c.args.client place c.args.pid c.args.offset))
-    (or_spent (recover_refusal base limits journal c.args.client place c.args.pid c.args.offset (moment_at c.args.self.now c.args.now)) (is_spent base limits journal (Recovered (recovery_of base limits journal c.args.client place c.args.pid c.args.offset))))
-    c.recover_at.result) c.place_of-place.ensures c.recover_at.ensures.does
+    subst (λ (place : ℕ). Does c.args.self.now c.recover_at.new.self c.args.now (Recovered (recovery_of base limits journal c.args.client place c.args.pid c.args.offset)) c.recover_at.result) c.place_of-place.ensures c.recover_at.ensures.does

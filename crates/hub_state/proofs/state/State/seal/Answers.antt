@@ -1,20 +1,20 @@
 use Rattle.std.proofs.Common.{sym, subst}
-use Rattle.hub_state.specs.Journal.{History}
-use Rattle.hub_state.specs.Seal.{LeadsTo}
+use Rattle.journal.specs.Journal.{History}
+use Rattle.journal.specs.Seal.{LeadsTo}
 use Rattle.recovery.specs.PacketLog.{IsRun, number_of}
-use Rattle.hub_state.specs.Log.{log, next}
-use Rattle.hub_state.proofs.SealLemmas.{sealed, says-same}
+use Rattle.journal.specs.Log.{log, next}
+use Rattle.journal.proofs.SealLemmas.{sealed, says-same}
 use Rattle.hub_state.proofs.state.State.seal.Goals as goal
 
 pub invariant_of-self : goal.invariant_of-self
 invariant_of-self c =
-    rw (c.replace-base.ensures.after, c.replace-steps.ensures.after, c.new.ensures.items)
+    rw (c.replace-base.ensures.after, c.take-steps.ensures.none)
     (sealed _ _ _ c.in_ok-present.present _ _ _ _ _ _ _ _ c.self.invariant
     (subst (λ (h : History). LeadsTo h.base h.limits h.journal c.in_ok-present.present) (sym c.self.view_is) c.in_ok-present.ensures.leads)
     (subst (λ (h : History). IsRun (number_of (next h.base h.journal)) (log h.base h.limits h.journal)) (sym c.self.view_is) c.in_ok-present.ensures.run))
 
 pub returns-clause-same : goal.returns-clause-same
 returns-clause-same c =
-    rw (← c.self.view_is, c.replace-base.ensures.after, c.replace-steps.ensures.after, c.new.ensures.items)
+    rw (← c.self.view_is, c.replace-base.ensures.after, c.take-steps.ensures.none)
     (says-same _ _ _ c.in_ok-present.present c.self.invariant.2
     (subst (λ (h : History). LeadsTo h.base h.limits h.journal c.in_ok-present.present) (sym c.self.view_is) c.in_ok-present.ensures.leads))

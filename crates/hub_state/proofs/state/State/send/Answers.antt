@@ -1,11 +1,11 @@
-use Rattle.std.proofs.Common.{rules, ◌≡◌, false, subst, sym, ap, ◌∙◌, length, reverse}
+use Rattle.std.proofs.Common.{◌≡◌, false, subst, sym, ap, ◌∙◌, length}
 use Rattle.std.specs.List.{AllByRecursion}
 use Rattle.std.specs.Ordering.{nat_cmp}
 use Rattle.std.specs.BTreeMap.{get}
 use Rattle.std.specs.BTreeSet as sorted
-use Rattle.hub_state.specs.Plain.{PlainMessage}
-use Rattle.hub_state.specs.Casting.{is_full_in, with_logged}
-use Rattle.hub_state.proofs.CastStepLemmas.{casted}
+use Rattle.journal.specs.Plain.{PlainCastDone, PlainMessage}
+use Rattle.journal.specs.Casting.{is_full_in, with_logged}
+use Rattle.journal.proofs.CastStepLemmas.{casted}
 use Rattle.hub_state.proofs.state.State.send.Goals as goal
 
 pub put_messages-requires-clause-places : goal.put_messages-requires-clause-places
@@ -21,10 +21,11 @@ invariant_of-self-2 c =
     let room = rw (← c.self.view_is) at c.requires.unspent in
     let logs = rw (← c.self.view_is, ← c.self.invariant.0.last) at c.requires.logged in
     let logged = c.push_logged.ensures ∙ ap (with_logged c.self.inside.log) logs in
-    let placed : c.outcome-done.result.placed ≡ length c.args.messages.items = search rules in
-    let dropped : c.outcome-done.result.dropped ≡ length c.args.broadcast.dropped = search rules in
+    let told_of = rw c.deref.ensures.value at (c.done.view_is ∙ c.in_ok-done.ensures.ok) in
+    let placed : c.done.inside.placed ≡ length c.args.messages.items = ap (λ (d : PlainCastDone). d.placed) told_of in
+    let dropped : c.done.inside.dropped ≡ length c.args.broadcast.dropped = ap (λ (d : PlainCastDone). d.dropped) told_of in
     rw (c.record.ensures.journal, c.record.ensures.last, c.reserve.ensures.items, c.count.ensures, placed, dropped)
-    (casted c.self.inside.base c.self.inside.limits (reverse c.self.inside.journal.items) c.args.broadcast c.self.invariant.1 c.self.invariant.2 event.0 event.1 event.2 given
+    (casted c.self.inside.base c.self.inside.limits c.self.inside.journal.steps c.args.broadcast c.self.invariant.1 c.self.invariant.2 event.0 event.1 event.2 given
     c.args.messages.items told c.args.now c.self.inside.last (get nat_cmp c.self.inside.clients) (get nat_cmp c.put_messages.new.clients) (get nat_cmp c.self.inside.seats)
     (sorted.contains nat_cmp c.self.inside.pids) c.self.inside.rooms c.self.inside.saved c.self.inside.log c.push_logged.new.log c.self.inside.counts
     c.self.invariant room logged c.put_messages.ensures)

@@ -1,5 +1,5 @@
 use Rattle.std.proofs.Common.{rules, sym}
-use Rattle.hub_state.proofs.SweepLemmas.{swept-hub, can_sweep, dropped-log, dropped-saved}
+use Rattle.journal.proofs.SweepLemmas.{swept-hub, can_sweep, dropped-log, dropped-saved}
 use Rattle.hub_state.proofs.state.State.sweep.Goals as goal
 
 pub invariant_of-self-2 : goal.invariant_of-self-2

@@ -1,6 +1,6 @@
 use Rattle.std.proofs.Common.{arith, refl}
-use Rattle.hub_state.specs.declared.step.What.TheVariants.{Swept}
-use Rattle.hub_state.proofs.SweepLemmas.{puts_swept}
+use Rattle.journal.specs.declared.step.What.TheVariants.{Swept}
+use Rattle.journal.proofs.SweepLemmas.{puts_swept}
 use Rattle.hub_state.proofs.state.State.sweep_refusal.Goals as goal
 
 pub returns : goal.returns

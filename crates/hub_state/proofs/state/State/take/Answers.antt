@@ -1,5 +1,5 @@
 use Rattle.std.proofs.Common.{rules}
-use Rattle.hub_state.proofs.CommandLemmas.{took, can_take}
+use Rattle.journal.proofs.CommandLemmas.{took, can_take}
 use Rattle.hub_state.proofs.state.State.take.Goals as goal
 
 pub invariant_of-self-2 : goal.invariant_of-self-2

@@ -1,15 +1,15 @@
 use Rattle.std.proofs.Common.{rules, arith, refl, ◌≡◌, true, length, min}
-use Rattle.hub_state.specs.declared.step.What.TheVariants.{Took}
-use Rattle.hub_state.specs.Membership.{is_open}
-use Rattle.hub_state.specs.Outboxes.{waiting}
-use Rattle.hub_state.proofs.CommandLemmas.{puts_took, some_if, some_open}
-use Rattle.hub_state.proofs.CountsLemmas.{waits-within}
+use Rattle.journal.specs.declared.step.What.TheVariants.{Took}
+use Rattle.journal.specs.Membership.{is_open}
+use Rattle.journal.specs.Outboxes.{waiting}
+use Rattle.journal.proofs.CommandLemmas.{puts_took, some_if, some_open}
+use Rattle.journal.proofs.CountsLemmas.{waits-within}
 use Rattle.hub_state.proofs.state.State.takes.Goals as goal
 
 pub returns-in-Some-count_refusal-clause-refused : goal.returns-in-Some-count_refusal-clause-refused
 returns-in-Some-count_refusal-clause-refused c =
     let known : is_open c.args.self.now.base c.args.self.now.journal c.args.client ≡ true = some_open _ _ _ c.in-Some.ensures in
-    let within = waits-within c.args.self.now.base c.args.self.now.limits c.args.self.now.journal c.args.client c.facts.ensures.clients_once known in
+    let within = waits-within c.args.self.now.base c.args.self.now.limits c.args.self.now.journal c.args.client c.facts.ensures.sound.clients_once known in
     let number = min c.args.most (length (waiting c.args.self.now.base c.args.self.now.limits c.args.self.now.journal c.args.client)) in
     let s = c.count_refusal.ensures (Took c.args.client c.args.most number) (puts_took _ _ _ c.args.client c.args.most number) refl (omega (arith, within)) in
     search (rules, s, known)
@@ -18,6 +18,6 @@ pub returns-in-None-clause-accepted : goal.returns-in-None-clause-accepted
 returns-in-None-clause-accepted c =
     let known : is_open c.args.self.now.base c.args.self.now.journal c.args.client ≡ true = some_open _ _ _ c.in-Some.ensures in
     let waits = some_if _ _ _ c.in-Some.ensures in
-    let within = waits-within c.args.self.now.base c.args.self.now.limits c.args.self.now.journal c.args.client c.facts.ensures.clients_once known in
+    let within = waits-within c.args.self.now.base c.args.self.now.limits c.args.self.now.journal c.args.client c.facts.ensures.sound.clients_once known in
     let s = c.count_refusal.ensures (Took c.args.client c.args.most c.min-number.result) (puts_took _ _ _ c.args.client c.args.most c.min-number.result) refl (omega (arith, within, waits, c.min-number.ensures)) in
     search (rules, s, known)

@@ -1,5 +1,5 @@
 use Rattle.std.proofs.Common.{rules}
-use Rattle.hub_state.proofs.CommandLemmas.{told, can_tell}
+use Rattle.journal.proofs.CommandLemmas.{told, can_tell}
 use Rattle.hub_state.proofs.state.State.tell.Goals as goal
 
 pub invariant_of-self-2 : goal.invariant_of-self-2

@@ -1,6 +1,6 @@
 use Rattle.std.proofs.Common.{rules, arith, refl}
-use Rattle.hub_state.specs.declared.step.What.TheVariants.{Told}
-use Rattle.hub_state.proofs.CommandLemmas.{puts_told}
+use Rattle.journal.specs.declared.step.What.TheVariants.{Told}
+use Rattle.journal.proofs.CommandLemmas.{puts_told}
 use Rattle.hub_state.proofs.state.State.tell_refusal.Goals as goal
 
 pub returns-clause-refusal : goal.returns-clause-refusal

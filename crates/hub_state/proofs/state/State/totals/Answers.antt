@@ -1,4 +1,4 @@
-use Rattle.hub_state.proofs.CountsLemmas.{taken_fits, discarded_fits, totals_are}
+use Rattle.journal.proofs.CountsLemmas.{taken_fits, discarded_fits, totals_are}
 use Rattle.hub_state.proofs.state.State.totals.Goals as goal
 
 pub overflow_sub-result : goal.overflow_sub-result

@@ -1,4 +1,4 @@
-use Rattle.hub_state.proofs.AimLemmas.{kept}
+use Rattle.journal.proofs.AimLemmas.{kept}
 use Rattle.hub_state.proofs.state.cast.everybody_but.Goals as goal
 
 pub returns-clause-ok : goal.returns-clause-ok

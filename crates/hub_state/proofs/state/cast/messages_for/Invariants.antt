@@ -2,7 +2,7 @@ use Rattle.std.proofs.Common.{◌≡◌, take}
 use Rattle.std.specs.Ordering.{nat_cmp}
 use Rattle.std.specs.BTreeMap.{get}
 use Rattle.std.specs.Arc.{arc_value}
-use Rattle.hub_state.specs.Casting.{messages_for}
+use Rattle.journal.specs.Casting.{messages_for}
 use Rattle.hub_state.proofs.state.cast.messages_for.Given as goal
 
 abbrev pub invariant-loop-socket : goal.invariant-loop-socket

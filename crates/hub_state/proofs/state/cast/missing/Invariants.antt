@@ -1,7 +1,7 @@
 use Rattle.std.proofs.Common.{◌≡◌, take}
 use Rattle.std.specs.Ordering.{nat_cmp}
 use Rattle.std.specs.BTreeMap.{get}
-use Rattle.hub_state.specs.Casting.{missing}
+use Rattle.journal.specs.Casting.{missing}
 use Rattle.hub_state.proofs.state.cast.missing.Given as goal
 
 abbrev pub invariant-loop-socket : goal.invariant-loop-socket

@@ -1,4 +1,4 @@
-use Rattle.hub_state.proofs.CastLemmas.{put-more, has-place, split-more}
+use Rattle.journal.proofs.CastLemmas.{put-more, has-place, split-more}
 use Rattle.hub_state.proofs.state.cast.put_messages.Goals as goal
 
 pub loop-message-preserved : goal.loop-message-preserved

@@ -2,8 +2,8 @@ use Rattle.std.proofs.Common.{◌≡◌, ℕ, ◌++◌, map}
 use Rattle.std.specs.Ordering.{nat_cmp}
 use Rattle.std.specs.BTreeMap.{get}
 use Rattle.std.specs.Option.{option_map}
-use Rattle.hub_state.specs.Outboxes.{entries_for}
-use Rattle.hub_state.specs.Casting.{pair_of, with_entries}
+use Rattle.journal.specs.Outboxes.{entries_for}
+use Rattle.journal.specs.Casting.{pair_of, with_entries}
 use Rattle.hub_state.proofs.state.cast.put_messages.Given as goal
 
 abbrev pub invariant-loop-message : goal.invariant-loop-message

@@ -2,7 +2,7 @@ use Rattle.std.proofs.Common.{◌≡◌, take}
 use Rattle.std.specs.List.{flat_map}
 use Rattle.std.specs.Ordering.{nat_cmp}
 use Rattle.std.specs.BTreeMap.{get}
-use Rattle.hub_state.specs.Casting.{in_space}
+use Rattle.journal.specs.Casting.{in_space}
 use Rattle.hub_state.proofs.state.cast.sockets_in.Given as goal
 
 abbrev pub invariant-loop-sid : goal.invariant-loop-sid

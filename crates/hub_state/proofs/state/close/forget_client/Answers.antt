@@ -1,5 +1,5 @@
 use Rattle.std.proofs.Common.{refl}
-use Rattle.hub_state.specs.Membership.{without_sockets}
+use Rattle.journal.specs.Membership.{without_sockets}
 use Rattle.hub_state.proofs.state.close.forget_client.Goals as goal
 
 pub returns-in-None-clause-rooms : goal.returns-in-None-clause-rooms

@@ -1,7 +1,7 @@
 use Rattle.std.proofs.Common.{rules, ◌≡◌, true, false}
 use Rattle.std.specs.Prelude.{codes}
 use Rattle.std.specs.Str.{bytes_eq}
-use Rattle.hub_state.proofs.AnswersLemmas.{short_name, long_name}
+use Rattle.journal.proofs.AnswersLemmas.{short_name, long_name}
 use Rattle.hub_state.proofs.state.connect.answer_size.Goals as goal
 
 pub returns-then-eq : goal.returns-then-eq

@@ -4,9 +4,9 @@ use Rattle.std.specs.Ordering.{nat_cmp}
 use Rattle.std.specs.BTreeMap.{get}
 use Rattle.std.specs.BTreeSet as sorted
 use Rattle.std.proofs.lemmas.List.{length_push}
-use Rattle.hub_state.specs.Membership.{sid_of, pid_of, without_sockets}
-use Rattle.hub_state.specs.declared.socket.Socket.{Socket}
-use Rattle.hub_state.proofs.EndLemmas.{next-known, forgotten-next, out-more}
+use Rattle.journal.specs.Membership.{sid_of, pid_of, without_sockets}
+use Rattle.journal.specs.declared.socket.Socket.{Socket}
+use Rattle.journal.proofs.EndLemmas.{next-known, forgotten-next, out-more}
 use Rattle.hub_state.proofs.WalkLemmas.{turn, whole}
 use Rattle.hub_state.proofs.state.end.forget_all.Goals as goal
 

@@ -3,8 +3,8 @@ use Rattle.std.specs.List.{list_any}
 use Rattle.std.specs.Ordering.{nat_cmp}
 use Rattle.std.specs.BTreeMap.{get}
 use Rattle.std.specs.BTreeSet as sorted
-use Rattle.hub_state.specs.Membership.{without_sockets}
-use Rattle.hub_state.specs.declared.socket.Socket.{Socket}
+use Rattle.journal.specs.Membership.{without_sockets}
+use Rattle.journal.specs.declared.socket.Socket.{Socket}
 use Rattle.hub_state.proofs.state.end.forget_all.Given as goal
 
 abbrev pub invariant-loop-socket : goal.invariant-loop-socket

@@ -1,7 +1,7 @@
 use Rattle.std.proofs.Common.{◌≡◌, take, filter}
 use Rattle.std.specs.Ordering.{nat_cmp}
 use Rattle.std.specs.BTreeMap.{get}
-use Rattle.hub_state.specs.Casting.{is_here}
+use Rattle.journal.specs.Casting.{is_here}
 use Rattle.hub_state.proofs.state.members.keep_here.Given as goal
 
 abbrev pub invariant-loop-sid : goal.invariant-loop-sid

@@ -1,5 +1,5 @@
 use Rattle.std.proofs.Common.{ap}
-use Rattle.hub_state.proofs.ParkLemmas.{rooms-listed}
+use Rattle.journal.proofs.ParkLemmas.{rooms-listed}
 use Rattle.hub_state.proofs.state.park.lost_session.Goals as goal
 
 pub returns-clause-session : goal.returns-clause-session

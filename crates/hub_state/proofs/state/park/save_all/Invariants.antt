@@ -1,5 +1,5 @@
 use Rattle.std.proofs.Common.{◌≡◌, length, take}
-use Rattle.hub_state.specs.Parking.{with_lost}
+use Rattle.journal.specs.Parking.{with_lost}
 use Rattle.hub_state.proofs.state.park.save_all.Given as goal
 
 abbrev pub invariant-loop-socket : goal.invariant-loop-socket

@@ -1,7 +1,7 @@
 use Rattle.std.proofs.Common.{◌≡◌, ◌∙◌, length, take, sym, ap}
 use Rattle.std.proofs.lemmas.List.{length_push}
-use Rattle.hub_state.specs.Parking.{without_lost}
-use Rattle.hub_state.proofs.ParkLemmas.{one-back, none-back}
+use Rattle.journal.specs.Parking.{without_lost}
+use Rattle.journal.proofs.ParkLemmas.{one-back, none-back}
 use Rattle.hub_state.proofs.WalkLemmas.{turn, whole}
 use Rattle.hub_state.proofs.state.park.take_back.Goals as goal
 

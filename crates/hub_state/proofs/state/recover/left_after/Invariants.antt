@@ -1,6 +1,6 @@
 use Rattle.std.proofs.Common.{◌≡◌, ◌+◌, length, take}
-use Rattle.hub_state.specs.Outboxes.{total_size}
-use Rattle.hub_state.specs.Recovery.{gets}
+use Rattle.journal.specs.Outboxes.{total_size}
+use Rattle.journal.specs.Recovery.{gets}
 use Rattle.hub_state.proofs.state.recover.left_after.Given as goal
 
 abbrev pub invariant-loop-logged : goal.invariant-loop-logged

@@ -1,6 +1,6 @@
 use Rattle.std.proofs.Common.{rules, ◌≡◌, true, false, ap, ◌∙◌}
 use Rattle.recovery.specs.Missed.{is_for}
-use Rattle.hub_state.proofs.RecoverLemmas.{none-got, one-got, one-lacks, none-so}
+use Rattle.journal.proofs.RecoverLemmas.{none-got, one-got, one-lacks, none-so}
 use Rattle.hub_state.proofs.state.recover.left_after_one.Goals as goal
 
 pub returns-then-not-is_for-clause-bytes : goal.returns-then-not-is_for-clause-bytes

@@ -1,7 +1,7 @@
 use Rattle.std.proofs.Common.{◌≡◌, ◌∷◌, [], ◌++◌, length, map, sym, ap, subst, ◌∙◌, append_assoc, append-nil, arith}
 use Rattle.std.specs.Arc.{arc_value}
 use Rattle.std.specs.Vec.Iter.{into_iter_items}
-use Rattle.hub_state.proofs.RecoverLemmas.{nothing-left, pushed-more, still-place}
+use Rattle.journal.proofs.RecoverLemmas.{nothing-left, pushed-more, still-place}
 use Rattle.hub_state.proofs.state.recover.push_all.Goals as goal
 
 pub push-requires : goal.push-requires

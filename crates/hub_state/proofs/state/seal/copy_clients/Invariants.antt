@@ -1,5 +1,5 @@
 use Rattle.std.proofs.Common.{◌≡◌, ◌++◌, map}
-use Rattle.hub_state.specs.Seal.{base_of}
+use Rattle.journal.specs.Seal.{base_of}
 use Rattle.hub_state.proofs.state.seal.copy_clients.Given as goal
 
 abbrev pub invariant-loop-client : goal.invariant-loop-client

@@ -1,5 +1,5 @@
 use Rattle.std.proofs.Common.{◌≡◌, ◌++◌, map}
-use Rattle.hub_state.specs.Seal.{ids_of}
+use Rattle.journal.specs.Seal.{ids_of}
 use Rattle.hub_state.proofs.state.seal.socket_ids.Given as goal
 
 abbrev pub invariant-loop-socket : goal.invariant-loop-socket

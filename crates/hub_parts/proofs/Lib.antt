@@ -1,0 +1,2 @@
+pub mod SocketIndexLemmas
+pub mod SeatsLemmas

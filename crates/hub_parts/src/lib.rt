@@ -1,0 +1,17 @@
+//! What a hub is made of: its limits, the sockets and the outbox of each client, and the connected
+//! sockets by their ids.
+#![tactic(auto)]
+
+mod client;
+mod limits;
+mod outbox;
+mod seats;
+mod sockets;
+mod steps;
+
+pub use client::Client;
+pub use limits::Limits;
+pub use outbox::{Outbox, room_after};
+pub use seats::Seats;
+pub use sockets::Sockets;
+pub use steps::Steps;

@@ -1,0 +1,183 @@
+//! A client's queue of entries, which is bounded by their number and by their bytes.
+
+ghost use Rattle.std.specs.Prelude.{◌≡◌, ℕ, ◌+◌, ◌<◌, ◌≤◌, ◌^◌, [], ◌∷◌, ◌++◌, length, take, drop, map, false, ◌||◌, nat_le, nat_lt, IfOk, OnOk, IfSome, IfNone, option_copied, slice_get, Some, None};
+ghost use Rattle.std.specs.Arc.{arc_value};
+ghost use Rattle.sio_wire.specs.Entry.{entry_size};
+ghost use Rattle.journal.specs.Outboxes.{total_size, has_no_place};
+
+use circular_buffer::HeapCircularBuffer;
+use sio_wire::Entry;
+use std::alloc::{AllocError, Global};
+use std::marker::Model;
+use std::sync::Arc;
+
+/// What waits for a client, the oldest first. It takes its memory once, when it is made.
+#[derive(Drop)]
+pub struct Outbox {
+    ring: HeapCircularBuffer<Arc<Entry>>,
+    /// How many bytes may wait.
+    bytes: usize,
+    /// How many more bytes there is room for.
+    room: usize,
+}
+
+impl Model for Outbox {
+    ghost use Rattle.std.specs.Prelude.{◌≡◌, ◌+◌, map};
+    ghost use Rattle.std.specs.Arc.{arc_value};
+    ghost use Rattle.journal.specs.Plain.{PlainOutbox};
+    ghost use Rattle.journal.specs.Outboxes.{total_size};
+
+    ghost Value = { PlainOutbox };
+
+    ghost view = { λ o. record { waiting = map arc_value o.ring.items; capacity = o.ring.capacity; bytes = o.bytes } };
+
+    ghost invariant = { λ o. o.room + total_size (map arc_value o.ring.items) ≡ o.bytes };
+}
+
+/// The room that is left after an entry, or `None` where there isn't room for it.
+#[tactic(auto, using(std::proofs::lemmas::List::Sums::sum_by_more_le))]
+pub fn room_after(room: usize, entry: &Entry) -> Option<usize>
+    ensures some { IfSome result (λ left. left + entry_size entry.now ≡ room) }
+    ensures none { IfNone result (room < entry_size entry.now) }
+{
+    let mut left = room.checked_sub(entry.text.as_str().len())?;
+    for part in entry.attachments.as_slice() {
+        left = left.checked_sub(part.as_slice().len())?;
+    }
+    Some(left)
+}
+
+/// The room that there is once an entry is gone, which is at most `most`.
+#[tactic(auto, using(std::proofs::lemmas::List::Sums::sum_by_more_le))]
+fn room_without(room: usize, entry: &Entry, most: usize) -> usize
+    requires { room + entry_size entry.now ≤ most }
+    ensures { result ≡ room + entry_size entry.now }
+{
+    let mut left = room + entry.text.as_str().len();
+    for part in entry.attachments.as_slice() {
+        left += part.as_slice().len();
+    }
+    left
+}
+
+impl Outbox {
+    /// An empty outbox.
+    #[tactic(auto, unfolding(journal::specs::Outboxes::total_size))]
+    pub fn new(alloc: Global, capacity: usize, bytes: usize) -> Result<Outbox, AllocError>
+        ensures { IfOk result (λ outbox. outbox ≡ record { waiting = []; capacity = capacity; bytes = bytes }) }
+    {
+        let ring = HeapCircularBuffer::with_capacity(alloc, capacity)?;
+        Ok(Outbox {
+            ring,
+            bytes,
+            room: bytes,
+        })
+    }
+
+    /// How many entries wait.
+    pub fn len(&self) -> usize
+        ensures { result ≡ length self.now.waiting }
+    {
+        self.ring.len()
+    }
+
+    /// How many bytes the entries that wait have together.
+    pub fn used(&self) -> usize
+        ensures { result ≡ total_size self.now.waiting }
+    {
+        self.bytes - self.room
+    }
+
+    /// An entry that waits, counted from the oldest.
+    pub fn get(&self, index: usize) -> Option<&Entry>
+        ensures { option_copied result ≡ slice_get self.now.waiting index }
+    {
+        match self.ring.get(index) {
+            Some(entry) => Some(&**entry),
+            None => None,
+        }
+    }
+
+    /// Whether there is no place for an entry.
+    pub fn has_no_place(&self, entry: &Entry) -> bool
+        ensures { result ≡ has_no_place self.now.capacity self.now.bytes self.now.waiting entry.now }
+    {
+        self.ring.len() >= self.ring.capacity() || room_after(self.room, entry).is_none()
+    }
+
+    /// Whether there is no place for an entry of this many bytes.
+    pub fn lacks(&self, size: usize) -> bool
+        ensures { result ≡ (nat_le self.now.capacity (length self.now.waiting) || nat_lt self.now.bytes (total_size self.now.waiting + size)) }
+    {
+        self.ring.len() >= self.ring.capacity() || self.room < size
+    }
+
+    /// Puts an entry at the end, where there is a place for it.
+    pub fn push(&mut self, entry: Arc<Entry>)
+        requires { has_no_place self.old.capacity self.old.bytes self.old.waiting (arc_value entry) ≡ false }
+        ensures { self.new ≡ record self.old { waiting = self.old.waiting ++ arc_value entry ∷ [] } }
+    {
+        let Some(left) = room_after(self.room, &entry) else {
+            unreachable!()
+        };
+        self.room = left;
+        let Ok(()) = self.ring.try_push_back(entry) else {
+            unreachable!()
+        };
+    }
+
+    /// Takes the oldest entry away.
+    pub fn pop(&mut self)
+        ensures { self.new ≡ record self.old { waiting = drop 1 self.old.waiting } }
+    {
+        if let Some(entry) = self.ring.pop_front() {
+            self.room = room_without(self.room, &entry, self.bytes);
+        }
+    }
+
+    /// Takes the oldest entries away, as many as are named.
+    pub fn pop_first(&mut self, count: usize)
+        ensures { self.new ≡ record self.old { waiting = drop count self.old.waiting } }
+    {
+        for _index in 0..count {
+            self.pop();
+        }
+    }
+
+    /// Copies of the oldest entries, as many as are named.
+    #[tactic(auto, using(journal::proofs::OutboxesLemmas::take_next))]
+    pub fn copies(&self, alloc: Global, count: usize) -> Result<Vec<Entry>, AllocError>
+        requires { count ≤ length self.now.waiting }
+        ensures { IfOk result (λ entries. entries.items ≡ take count self.now.waiting) }
+    {
+        let mut entries = Vec::with_capacity(alloc, count)?;
+        for index in 0..count {
+            let Some(entry) = self.get(index) else {
+                unreachable!()
+            };
+            entries.push(entry.clone()?)?;
+        }
+        Ok(entries)
+    }
+
+    /// The entries that wait, in order, each shared.
+    pub fn shares(&self, alloc: Global) -> Result<Vec<Arc<Entry>>, AllocError>
+        ensures { IfOk result (λ entries. map arc_value entries.items ≡ self.now.waiting) }
+    {
+        let mut entries = Vec::with_capacity(alloc, self.ring.len())?;
+        let (front, back) = self.ring.as_slices();
+        share_all(&mut entries, front)?;
+        share_all(&mut entries, back)?;
+        Ok(entries)
+    }
+}
+
+/// Puts shares of the entries at the end of the list.
+fn share_all(list: &mut Vec<Arc<Entry>>, entries: &[Arc<Entry>]) -> Result<(), AllocError>
+    ensures { OnOk result (map arc_value list.new.items ≡ map arc_value list.old.items ++ map arc_value entries.now) }
+{
+    for entry in entries {
+        list.push(Arc::try_clone(entry)?)?;
+    }
+    Ok(())
+}

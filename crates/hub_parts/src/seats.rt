@@ -1,0 +1,153 @@
+//! The connected sockets by their session ids, and those of each namespace.
+
+ghost use Rattle.std.specs.Prelude.{◌≡◌, ℕ, ◌==◌, map, IfOk, OnOk, OnErr, None, Some, option_copied, is_some, if◌then◌else◌};
+ghost use Rattle.std.specs.Ordering.{nat_cmp};
+ghost use Rattle.std.specs.BTreeMap.{get, IsEmpty};
+ghost use Rattle.std.specs.BTreeMap.Range.{IsLeBy};
+ghost use Rattle.std.specs.BTreeSet as sorted;
+ghost use Rattle.terms.specs.Listing.{ListsRising};
+ghost use Rattle.std.specs.declared.ops.Bound.{Bound};
+ghost use Rattle.journal.specs.Casting.{is_here};
+ghost use Rattle.hub_parts.specs.Seats.{IsIndex, seat_cmp};
+
+use journal::Socket;
+use room_maps::Sid;
+use std::alloc::{AllocError, Global};
+use std::collections::{BTreeMap, BTreeSet};
+use std::marker::Model;
+
+/// The connected sockets. In a contract they are the map from session ids to sockets. In the costs
+/// below, "the logarithm" is that of the number of sockets of all namespaces.
+#[derive(Drop)]
+pub struct Seats {
+    by_sid: BTreeMap<Sid, Socket>,
+    /// The place of each socket's namespace, and its session id. A place is a `u32` here, so that
+    /// there is one after the greatest.
+    by_space: BTreeSet<(u32, Sid)>,
+}
+
+impl Model for Seats {
+    ghost use Rattle.hub_parts.specs.Seats.{SeatMap, seat_map_code, IsIndex};
+
+    ghost Value = { SeatMap };
+
+    ghost coded = { seat_map_code };
+
+    ghost view = { λ a. a.by_sid };
+
+    ghost invariant = { λ a. IsIndex a.by_sid a.by_space };
+}
+
+impl Seats {
+    /// No sockets.
+    pub fn new(alloc: Global) -> Seats
+        ensures { IsEmpty result }
+    {
+        Seats {
+            by_sid: BTreeMap::new(alloc),
+            by_space: BTreeSet::new(alloc),
+        }
+    }
+
+    /// The socket with a session id. It takes the logarithm.
+    pub fn get(&self, sid: Sid) -> Option<&Socket>
+        ensures { option_copied result ≡ get nat_cmp self.now sid }
+    {
+        self.by_sid.get(&sid)
+    }
+
+    /// Whether there is a socket with this session id. It takes the logarithm.
+    pub fn contains_key(&self, sid: Sid) -> bool
+        ensures { result ≡ is_some (get nat_cmp self.now sid) }
+    {
+        self.by_sid.contains_key(&sid)
+    }
+
+    /// Adds a socket whose session id is free. It takes the logarithm.
+    pub fn insert(&mut self, socket: Socket) -> Result<(), AllocError>
+        requires free { get nat_cmp self.old socket.sid ≡ None }
+        ensures ok { OnOk result ((s : ℕ) → get nat_cmp self.new s ≡ (if socket.sid == s then Some socket else get nat_cmp self.old s)) }
+        ensures err { OnErr result ((s : ℕ) → get nat_cmp self.new s ≡ get nat_cmp self.old s) }
+    {
+        put(&mut self.by_sid, &mut self.by_space, socket)?;
+        Ok(())
+    }
+
+    /// Takes the socket with a session id out, if there is one. It takes the logarithm and no
+    /// memory.
+    pub fn remove(&mut self, sid: Sid)
+        ensures { (s : ℕ) → get nat_cmp self.new s ≡ (if sid == s then None else get nat_cmp self.old s) }
+    {
+        take(&mut self.by_sid, &mut self.by_space, sid);
+    }
+
+    /// The session ids of the sockets in the namespace at a place, rising. It takes the logarithm,
+    /// and walks these sockets alone.
+    pub fn sids_in(&self, alloc: Global, space: u16) -> Result<Vec<Sid>, AllocError>
+        ensures { IfOk result (λ sids. ListsRising nat_cmp (λ s. is_here space (get nat_cmp self.now s)) sids.items) }
+    {
+        sids_at(alloc, &self.by_space, space)
+    }
+}
+
+/// Puts a socket into both indexes. Where the second growth is refused, the first is taken back.
+fn put(
+    by_sid: &mut BTreeMap<Sid, Socket>,
+    by_space: &mut BTreeSet<(u32, Sid)>,
+    socket: Socket,
+) -> Result<(), AllocError>
+    requires free { get nat_cmp by_sid.old socket.sid ≡ None }
+    requires mirrors { IsIndex by_sid.old by_space.old }
+    ensures ok { OnOk result ((s : ℕ) → get nat_cmp by_sid.new s ≡ (if socket.sid == s then Some socket else get nat_cmp by_sid.old s)) }
+    ensures err { OnErr result ((s : ℕ) → get nat_cmp by_sid.new s ≡ get nat_cmp by_sid.old s) }
+    ensures mirrors { IsIndex by_sid.new by_space.new }
+{
+    let sid = socket.sid;
+    let space = u32::from(socket.space);
+    by_sid.insert(sid, socket)?;
+    match by_space.insert((space, sid)) {
+        Ok(_) => Ok(()),
+        Err(_) => {
+            by_sid.remove(&sid);
+            Err(AllocError)
+        }
+    }
+}
+
+/// Takes the socket with a session id out of both indexes.
+fn take(by_sid: &mut BTreeMap<Sid, Socket>, by_space: &mut BTreeSet<(u32, Sid)>, sid: Sid)
+    requires { IsIndex by_sid.old by_space.old }
+    ensures seats { (s : ℕ) → get nat_cmp by_sid.new s ≡ (if sid == s then None else get nat_cmp by_sid.old s) }
+    ensures mirrors { IsIndex by_sid.new by_space.new }
+{
+    if let Some(socket) = by_sid.remove(&sid) {
+        by_space.remove(&(u32::from(socket.space), sid));
+    }
+}
+
+/// The session ids of what stands between two pairs, in its order.
+fn sids_between(
+    alloc: Global,
+    by_space: &BTreeSet<(u32, Sid)>,
+    from: (u32, Sid),
+    to: (u32, Sid),
+) -> Result<Vec<Sid>, AllocError>
+    requires { IsLeBy seat_cmp from to }
+    ensures ordered { sorted.IsOrdered seat_cmp by_space.now }
+    ensures items { IfOk result (λ sids. sids.items ≡ map (λ q. q.1) (sorted.keys_between seat_cmp (Bound.Included from) (Bound.Excluded to) by_space.now)) }
+{
+    by_space.range(from..to).map(|(_, sid)| *sid).collect(alloc)
+}
+
+/// The session ids that stand at a place, rising.
+fn sids_at(
+    alloc: Global,
+    by_space: &BTreeSet<(u32, Sid)>,
+    space: u16,
+) -> Result<Vec<Sid>, AllocError>
+    ensures { IfOk result (λ sids. ListsRising nat_cmp (λ s. sorted.contains seat_cmp by_space.now (space, s)) sids.items) }
+{
+    let place = u32::from(space);
+    let least = Sid::new(0);
+    sids_between(alloc, by_space, (place, least), (place + 1, least))
+}

@@ -1,0 +1,117 @@
+//! The steps since the base, and how many bytes their entries hold.
+
+ghost use Rattle.std.specs.Prelude.{◌≡◌, ◌∷◌, [], ◌-◌, ◌<◌, min, reverse, vec_len, vec_capacity, IfErr, OnOk};
+ghost use Rattle.sio_wire.specs.Entry.{entry_size};
+ghost use Rattle.journal.specs.Totals as totals;
+ghost use Rattle.journal.specs.declared.error.HubError.TheVariants.{Memory};
+
+use journal::{HubError, Step, What};
+use sio_wire::Entry;
+use std::alloc::Global;
+use std::marker::Model;
+use std::mem::replace;
+
+/// The steps since the base. In a contract they are the steps, the newest first, and for how many
+/// more there is room.
+#[derive(Drop)]
+pub struct Steps {
+    steps: Vec<Step>,
+    /// How many bytes the entries of broadcasts and messages have together. It stays at the greatest
+    /// u64.
+    bytes: u64,
+}
+
+impl Model for Steps {
+    ghost use Rattle.std.specs.Prelude.{◌≡◌, ◌-◌, min, reverse, vec_len, vec_capacity};
+    ghost use Rattle.journal.specs.Totals as totals;
+    ghost use Rattle.hub_parts.specs.Steps.{PlainSteps};
+
+    ghost Value = { PlainSteps };
+
+    ghost view = { λ s. record { steps = reverse s.steps.items; room = vec_capacity s.steps - vec_len s.steps } };
+
+    ghost invariant = { λ s. s.bytes ≡ min (totals.held (reverse s.steps.items)) 18446744073709551615 };
+}
+
+/// How many bytes an entry has, or the greatest u64.
+#[tactic(auto, using(std::proofs::lemmas::List::Sums::sum_by_more_le))]
+fn size_of(entry: &Entry) -> u64
+    ensures { result ≡ min (entry_size entry.now) 18446744073709551615 }
+{
+    let mut size = entry.text.as_str().len() as u64;
+    for part in entry.attachments.as_slice() {
+        size = size.saturating_add(part.as_slice().len() as u64);
+    }
+    size
+}
+
+/// How many bytes the entry of a step has, or the greatest u64.
+fn held_by(what: &What) -> u64
+    ensures { result ≡ min (totals.held_by what.now) 18446744073709551615 }
+{
+    match what {
+        What::Cast(broadcast) => size_of(&broadcast.entry),
+        What::Told(message) => size_of(&message.entry),
+        _ => 0,
+    }
+}
+
+impl Steps {
+    /// No steps.
+    #[tactic(auto, unfolding(journal::specs::Totals::held, journal::specs::Journal::total))]
+    pub fn new(alloc: Global) -> Steps
+        ensures { result.steps ≡ [] }
+    {
+        Steps {
+            steps: Vec::new(alloc),
+            bytes: 0,
+        }
+    }
+
+    /// Makes room for one more step. Refused for `Memory`.
+    pub fn reserve(&mut self) -> Result<(), HubError>
+        ensures same { self.new.steps ≡ self.old.steps }
+        ensures ok { OnOk result (0 < self.new.room) }
+        ensures memory { IfErr result (λ e. e ≡ HubError.Memory) }
+    {
+        match self.steps.reserve(1) {
+            Ok(()) => Ok(()),
+            Err(_) => Err(HubError::Memory),
+        }
+    }
+
+    /// Adds a step, for which there is room.
+    #[tactic(auto, unfolding(journal::specs::Totals::held, journal::specs::Journal::total))]
+    pub fn push(&mut self, step: Step)
+        requires { 0 < self.old.room }
+        ensures { self.new.steps ≡ step ∷ self.old.steps }
+    {
+        self.bytes = self.bytes.saturating_add(held_by(&step.what));
+        self.steps.push_reserved(step);
+    }
+
+    /// The steps, the oldest first.
+    pub fn as_slice(&self) -> &[Step]
+        ensures { result.now ≡ reverse self.now.steps }
+    {
+        &self.steps
+    }
+
+    /// How many bytes the entries of broadcasts and messages have together, each step's counted for
+    /// itself. It stays at the greatest u64.
+    pub fn held(&self) -> u64
+        ensures { result ≡ min (totals.held self.now.steps) 18446744073709551615 }
+    {
+        self.bytes
+    }
+
+    /// Takes all steps out, the oldest first.
+    #[tactic(auto, unfolding(journal::specs::Totals::held, journal::specs::Journal::total))]
+    pub fn take(&mut self, alloc: Global) -> Vec<Step>
+        ensures steps { reverse result.items ≡ self.old.steps }
+        ensures none { self.new.steps ≡ [] }
+    {
+        self.bytes = 0;
+        replace(&mut self.steps, Vec::new(alloc))
+    }
+}

@@ -1,5 +1,0 @@
-use Rattle.hub_state.proofs.LastWordLemmas.{last-words}
-use Rattle.hub_state.proofs.laws.last_words.Goals as goal
-
-pub returns : goal.returns
-returns c base journal sid room = last-words base journal sid room

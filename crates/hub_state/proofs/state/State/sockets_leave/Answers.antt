@@ -1,0 +1,36 @@
+use Rattle.std.proofs.Common.{rules, ◌≡◌, ◌∙◌, ap, subst, refl, true, None, Some}
+use Rattle.journal.specs.declared.step.What.TheVariants.{AllLeft}
+use Rattle.journal.specs.Plain.{PlainRoomChange}
+use Rattle.journal.specs.Journal.{moment_at}
+use Rattle.journal.specs.Membership.{place_of, is_space}
+use Rattle.journal.specs.ManySockets.{leaving}
+use Rattle.journal.specs.Command.{refusal, IsErrorOf, Does}
+use Rattle.journal.proofs.ManySocketsLemmas.{does-late, refused-late}
+use Rattle.hub_state.proofs.state.State.sockets_leave.Goals as goal
+
+pub returns-in-Some-clause-does : goal.returns-in-Some-clause-does
+returns-in-Some-clause-does c =
+    let self = c.args.self.now in
+    let place = place_of self.limits c.args.space.now in
+    let at = moment_at self c.args.now in
+    let known : is_space self.limits place ≡ true = search rules in
+    let is : c.in_ok-change.change ≡ leaving self place c.args.rooms.items c.args.excepted.items c.args.room = rw c.place_of-place.ensures at c.in_ok-change.ensures.change in
+    let asked = c.leaving_refusal.ensures at in
+    let said : Some c.in-Some.refusal ≡ refusal self at (AllLeft c.in_ok-change.change) = search (rules, asked) in (
+      subst (λ (m : PlainRoomChange). IsErrorOf (is_space self.limits m.space) (refusal self at (AllLeft m)) c.in-Some.refusal) is
+          (refused-late (refusal self at (AllLeft c.in_ok-change.change)) (is_space self.limits c.in_ok-change.change.space) c.in-Some.refusal (ap (λ (m : PlainRoomChange). is_space self.limits m.space) is ∙ known) said),
+      refl,
+    )
+
+pub returns-clause-does : goal.returns-clause-does
+returns-clause-does c =
+    let self = c.args.self.now in
+    let place = place_of self.limits c.args.space.now in
+    let at = moment_at self c.args.now in
+    let known : is_space self.limits place ≡ true = search rules in
+    let is : c.in_ok-change.change ≡ leaving self place c.args.rooms.items c.args.excepted.items c.args.room = rw c.place_of-place.ensures at c.in_ok-change.ensures.change in
+    let asked = c.leaving_refusal.ensures at in
+    let accepted : None ≡ refusal self at (AllLeft c.in_ok-change.change) = search (rules, asked) in
+    subst (λ (m : PlainRoomChange). Does self c.leave_all.new.self c.args.now (AllLeft m) c.leave_all.result) is
+    (does-late self c.leave_all.new.self c.args.now (AllLeft c.in_ok-change.change) c.leave_all.result (ap (λ (m : PlainRoomChange). is_space self.limits m.space) is ∙ known) accepted
+    c.leave_all.ensures.step c.leave_all.ensures.unchanged c.leave_all.ensures.memory)

@@ -1,0 +1,246 @@
+//! Many sockets of a namespace are ended (Socket.IO server documentation, "Server API":
+//! `disconnectSockets`).
+
+ghost use Rattle.std.specs.Prelude.{◌≡◌, ℕ, ◌==◌, ◌<◌, true, false, [], map, length, nat_eq, get_or, OnOk, OnErr, IfOk, IfErr, None, if◌then◌else◌};
+ghost use Rattle.std.specs.List.{list_any, IsDistinct, AllByRecursion};
+ghost use Rattle.std.specs.Option.{option_map};
+ghost use Rattle.std.specs.Ordering.{nat_cmp};
+ghost use Rattle.std.specs.BTreeMap.{get};
+ghost use Rattle.std.specs.BTreeSet as sorted;
+ghost use Rattle.std.specs.Arc.{arc_value};
+ghost use Rattle.terms.specs.Listing.{ListsRising};
+ghost use Rattle.room_maps.specs.Membership as room_maps;
+ghost use Rattle.sio_wire.specs.Disconnect as disconnect;
+ghost use Rattle.journal.specs.Journal.{with_step};
+ghost use Rattle.journal.specs.Membership.{place_of, sid_of, is_space, without_sockets};
+ghost use Rattle.journal.specs.Outboxes as outboxes;
+ghost use Rattle.journal.specs.ManySockets.{dismissal};
+ghost use Rattle.journal.specs.Totals.{is_spent};
+ghost use Rattle.journal.specs.Refusals.{or_spent};
+ghost use Rattle.journal.specs.Legal.{EachTwo, AreApart};
+ghost use Rattle.journal.specs.Command.{Does};
+ghost use Rattle.journal.specs.Fields.{client_at, without_place};
+ghost use Rattle.journal.specs.Casting.{receiver_of};
+ghost use Rattle.journal.specs.Casting as casting;
+ghost use Rattle.journal.specs.Dismissing.{ListsMatching, Dismisses};
+ghost use Rattle.journal.specs.declared.socket.Socket.{Socket};
+ghost use Rattle.journal.specs.declared.step.What.{What};
+
+use crate::state::cast::{messages_for, put_messages, receivers, sockets_in};
+use crate::state::end::{drop_from, forget};
+use crate::state::{State, count, record, reserve};
+use hub_parts::{Client, Seats};
+use journal::{Dismissal, Dismissed, HubError, Message, Socket, What};
+use recovery::Pid;
+use room_maps::{Room, Rooms, Sid};
+use sio_wire::{Attachments, Entry, disconnect_text};
+use std::alloc::Global;
+use std::collections::{BTreeMap, BTreeSet};
+use std::sync::Arc;
+use terms::Text;
+
+/// What a client is told whose socket in the namespace with this name is ended.
+fn farewell_to(alloc: Global, name: &str) -> Result<Arc<Entry>, HubError>
+    ensures ok { IfOk result (λ entry. arc_value entry ≡ record { text = disconnect.disconnect_text name.now; attachments = [] }) }
+    ensures memory { IfErr result (λ e. e ≡ HubError.Memory) }
+{
+    match disconnect_text(alloc, name) {
+        Ok(text) => Ok(Arc::new(
+            alloc,
+            Entry {
+                text: Text::from_string(text),
+                attachments: Attachments::new(alloc),
+            },
+        )?),
+        Err(_) => Err(HubError::Memory),
+    }
+}
+
+/// The ids of the sockets, in the same order.
+fn ids_of(alloc: Global, sockets: &[Socket]) -> Result<Vec<Sid>, HubError>
+    ensures ok { IfOk result (λ sids. sids.items ≡ map sid_of sockets.now) }
+    ensures memory { IfErr result (λ e. e ≡ HubError.Memory) }
+{
+    Ok(sockets.iter().map(|socket| socket.sid).collect(alloc)?)
+}
+
+/// The clients that the messages are for, rising. No two messages are for one client.
+fn told_by(alloc: Global, messages: &[Message]) -> Result<Vec<u128>, HubError>
+    requires { IsDistinct nat_eq (map receiver_of messages.now) }
+    ensures ok { IfOk result (λ clients. ListsRising nat_cmp (λ c. list_any (λ d. d == c) (map receiver_of messages.now)) clients.items) }
+    ensures memory { IfErr result (λ e. e ≡ HubError.Memory) }
+{
+    let mut clients = receivers(alloc, messages)?;
+    clients.sort_unstable();
+    Ok(clients)
+}
+
+/// What is answered of a dismissal.
+fn answer_of(alloc: Global, dismissal: &Dismissal) -> Result<Dismissed, HubError>
+    ensures ended { IfOk result (λ done. done.ended.items ≡ dismissal.now.ended) }
+    ensures told { IfOk result (λ done. done.told.items ≡ dismissal.now.told) }
+    ensures memory { IfErr result (λ e. e ≡ HubError.Memory) }
+{
+    Ok(Dismissed {
+        ended: Vec::from_slice(alloc, &dismissal.ended)?,
+        told: Vec::from_slice(alloc, &dismissal.told)?,
+    })
+}
+
+/// Takes the sockets, which are in the namespace at this place, out of their clients' lists.
+fn drop_all(clients: &mut BTreeMap<u128, Client>, sockets: &[Socket], place: usize)
+    ensures { (q : ℕ) → get nat_cmp clients.new q ≡ (if list_any (λ (k : Socket). k.client == q) sockets.now then option_map (without_place place) (get nat_cmp clients.old q) else get nat_cmp clients.old q) }
+{
+    for socket in sockets {
+        drop_from(clients, socket.client, place);
+    }
+}
+
+/// Forgets the ids of sockets that are apart, and ends these in the rooms.
+fn forget_each(seats: &mut Seats, pids: &mut BTreeSet<Pid>, rooms: &mut Rooms, sockets: &[Socket])
+    requires known { AllByRecursion (λ (k : Socket). room_maps.is_socket rooms.old k.sid ≡ true) sockets.now }
+    requires apart { EachTwo AreApart sockets.now }
+    ensures seats { (s : ℕ) → get nat_cmp seats.new s ≡ (if list_any (λ (k : Socket). k.sid == s) sockets.now then None else get nat_cmp seats.old s) }
+    ensures pids { (p : ℕ) → sorted.contains nat_cmp pids.new p ≡ (if list_any (λ (k : Socket). k.pid == p) sockets.now then false else sorted.contains nat_cmp pids.old p) }
+    ensures rooms { rooms.new ≡ without_sockets rooms.old sockets.now }
+{
+    for socket in sockets {
+        forget(seats, pids, rooms, *socket);
+    }
+}
+
+impl State {
+    /// What a client is told whose socket in the namespace at a place is ended.
+    fn farewell(&self, alloc: Global, place: usize) -> Result<Arc<Entry>, HubError>
+        ensures ok { IfOk result (λ entry. arc_value entry ≡ outboxes.farewell self.now.limits place) }
+        ensures memory { IfErr result (λ e. e ≡ HubError.Memory) }
+    {
+        farewell_to(alloc, self.name_at(place))
+    }
+
+    /// The connected sockets of the namespace at a place that are in one of the rooms, or where
+    /// none is named all, but for those in an excepted room, rising by their ids.
+    fn matching_sockets(
+        &self,
+        alloc: Global,
+        space: u16,
+        rooms: &[Room],
+        excepted: &[Room],
+    ) -> Result<Vec<Socket>, HubError>
+        ensures ok { IfOk result (λ sockets. ListsMatching self.now.base self.now.journal space rooms.now excepted.now sockets.items) }
+        ensures memory { IfErr result (λ e. e ≡ HubError.Memory) }
+    {
+        let sids = self.listeners(alloc, space, rooms, excepted)?;
+        sockets_in(alloc, &self.seats, &sids, space)
+    }
+
+    /// The dismissal that is asked for, the sockets that it ends, and what it tells their clients.
+    fn plan(
+        &self,
+        alloc: Global,
+        space: u16,
+        rooms: Vec<Room>,
+        excepted: Vec<Room>,
+    ) -> Result<(Dismissal, Vec<Socket>, Vec<Message>), HubError>
+        ensures asked { IfOk result (λ plan. plan.0 ≡ dismissal self.now space rooms.items excepted.items) }
+        ensures makes { IfOk result (λ plan. Dismisses self.now.base self.now.limits self.now.journal plan.0 plan.1.items plan.2.items) }
+        ensures memory { IfErr result (λ e. e ≡ HubError.Memory) }
+    {
+        let sockets = self.matching_sockets(alloc, space, &rooms, &excepted)?;
+        let entry = self.farewell(alloc, usize::from(space))?;
+        let messages = messages_for(alloc, &self.clients, &sockets, &entry)?;
+        let ended = ids_of(alloc, &sockets)?;
+        let told = told_by(alloc, &messages)?;
+        let dismissal = Dismissal {
+            space,
+            rooms,
+            excepted,
+            ended,
+            told,
+        };
+        Ok((dismissal, sockets, messages))
+    }
+
+    /// Spent, where a dismissal can't be counted.
+    fn dismissal_refusal(&self, dismissal: &Dismissal) -> Option<HubError>
+        ensures { result ≡ or_spent None (is_spent self.now.base self.now.limits self.now.journal (What.AllEnded dismissal.now)) }
+    {
+        self.count_refusal(dismissal.told.len() as u64, 0)
+    }
+
+    /// Tells the clients and ends the sockets of a dismissal that may be made.
+    fn dismiss(
+        &mut self,
+        dismissal: Dismissal,
+        sockets: Vec<Socket>,
+        messages: Vec<Message>,
+        now: u64,
+    ) -> Result<(), HubError>
+        requires known { is_space self.old.limits dismissal.space ≡ true }
+        requires makes { Dismisses self.old.base self.old.limits self.old.journal dismissal sockets.items messages.items }
+        requires unspent { is_spent self.old.base self.old.limits self.old.journal (What.AllEnded dismissal) ≡ false }
+        ensures ok { OnOk result (self.new ≡ with_step self.old now (What.AllEnded dismissal)) }
+        ensures err { OnErr result (self.new ≡ self.old) }
+        ensures memory { IfErr result (λ e. e ≡ HubError.Memory) }
+    {
+        let told = dismissal.told.len() as u64;
+        let place = usize::from(dismissal.space);
+        reserve(&mut self.journal)?;
+        put_messages(&mut self.clients, messages);
+        drop_all(&mut self.clients, &sockets, place);
+        forget_each(&mut self.seats, &mut self.pids, &mut self.rooms, &sockets);
+        self.rooms.kept_facts();
+        count(&mut self.counts, told, 0, 0, 0);
+        let what = What::AllEnded(dismissal);
+        record(&mut self.journal, &mut self.last, now, what);
+        Ok(())
+    }
+
+    fn dismiss_at(
+        &mut self,
+        alloc: Global,
+        space: u16,
+        rooms: Vec<Room>,
+        excepted: Vec<Room>,
+        now: u64,
+    ) -> Result<Dismissed, HubError>
+        requires { is_space self.old.limits space ≡ true }
+        ensures ended { IfOk result (λ done. done.ended.items ≡ (dismissal self.old space rooms.items excepted.items).ended) }
+        ensures told { IfOk result (λ done. done.told.items ≡ (dismissal self.old space rooms.items excepted.items).told) }
+        ensures does { Does self.old self.new now (What.AllEnded (dismissal self.old space rooms.items excepted.items)) result }
+    {
+        let (dismissal, sockets, messages) = self.plan(alloc, space, rooms, excepted)?;
+        let done = answer_of(alloc, &dismissal)?;
+        if let Some(refusal) = self.dismissal_refusal(&dismissal) {
+            return Err(refusal);
+        }
+        self.dismiss(dismissal, sockets, messages, now)?;
+        Ok(done)
+    }
+
+    /// Ends all connected sockets of a namespace that are in one of the rooms, or where none is
+    /// named all, but for those in an excepted room: each client is told so by a DISCONNECT packet
+    /// where its outbox has a place for it, nothing is saved, and no drop is counted. It gives the
+    /// sockets that ended, rising, and the clients that were told, rising. Refused as
+    /// `UnknownNamespace`, then as `Spent` and for `Memory` in either order. It takes the logarithm
+    /// of the namespaces, and walks the members of the rooms in all namespaces, or where no room is
+    /// named the sockets of its namespace alone, each with the logarithm and the excepted rooms.
+    /// Each of the rooms of a socket that ends takes the logarithm of the sockets and of the rooms.
+    pub fn disconnect_sockets(
+        &mut self,
+        alloc: Global,
+        space: &str,
+        rooms: Vec<Room>,
+        excepted: Vec<Room>,
+        now: u64,
+    ) -> Result<Dismissed, HubError>
+        ensures done { IfOk result (λ done. let d = dismissal self.old (place_of self.old.limits space.now) rooms.items excepted.items in (done.ended.items ≡ d.ended) × (done.told.items ≡ d.told)) }
+        ensures does { Does self.old self.new now (What.AllEnded (dismissal self.old (place_of self.old.limits space.now) rooms.items excepted.items)) result }
+    {
+        let place = self.place_of(space);
+        if place >= self.spaces().len() {
+            return Err(HubError::UnknownNamespace);
+        }
+        self.dismiss_at(alloc, place as u16, rooms, excepted, now)
+    }
+}

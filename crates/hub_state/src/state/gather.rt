@@ -1,0 +1,230 @@
+//! All sockets of a namespace that match join a room, or leave it (Socket.IO server documentation,
+//! "Server API", `socketsJoin` and `socketsLeave`).
+
+ghost use Rattle.std.specs.Prelude.{◌≡◌, ℕ, ◌&&◌, true, not, filter, None, OnOk, OnErr, IfOk, IfErr};
+ghost use Rattle.room_maps.specs.Membership.{is_in};
+ghost use Rattle.journal.specs.Membership.{place_of, is_space, sockets, sid_of, matches};
+ghost use Rattle.journal.specs.Journal.{moment_at, with_step};
+ghost use Rattle.journal.specs.ManySockets as many;
+ghost use Rattle.journal.specs.ManySockets.{ListsSockets, RightJoining, RightLeaving};
+ghost use Rattle.journal.specs.Command.{refusal, Does};
+ghost use Rattle.journal.specs.declared.step.What.{What};
+
+use crate::state::members::keep_here;
+use crate::state::{State, count, record, reserve};
+use journal::{HubError, RoomChange, What};
+use room_maps::{Room, Rooms, Sid};
+use std::alloc::Global;
+
+/// Keeps the sockets that aren't in the room.
+fn keep_outside(sids: &mut Vec<Sid>, inside: &Rooms, room: Room)
+    ensures { sids.new.items ≡ filter (λ s. not (is_in inside.now s room)) sids.old.items }
+{
+    sids.retain(|sid| !inside.is_in(*sid, room));
+}
+
+/// Keeps the sockets that are in the room.
+fn keep_inside(sids: &mut Vec<Sid>, inside: &Rooms, room: Room)
+    ensures { sids.new.items ≡ filter (λ s. is_in inside.now s room) sids.old.items }
+{
+    sids.retain(|sid| inside.is_in(*sid, room));
+}
+
+impl State {
+    /// The connected sockets of the namespace at a place that are in one of the rooms, or where none
+    /// is named all, but for those in an excepted room. They rise by their ids.
+    pub(crate) fn matching(
+        &self,
+        alloc: Global,
+        space: u16,
+        rooms: &[Room],
+        excepted: &[Room],
+    ) -> Result<Vec<Sid>, HubError>
+        ensures ok { IfOk result (λ sids. ListsSockets sid_of (matches self.now.base self.now.journal space rooms.now excepted.now) (sockets self.now.base self.now.journal) sids.items) }
+        ensures memory { IfErr result (λ e. e ≡ HubError.Memory) }
+    {
+        let sids = self.listeners(alloc, space, rooms, excepted)?;
+        keep_here(alloc, &self.seats, &sids, usize::from(space))
+    }
+
+    /// The change that is made where all that match join a room.
+    fn joining(
+        &self,
+        alloc: Global,
+        space: u16,
+        rooms: Vec<Room>,
+        excepted: Vec<Room>,
+        room: Room,
+    ) -> Result<RoomChange, HubError>
+        ensures change { IfOk result (λ m. m ≡ many.joining self.now space rooms.items excepted.items room) }
+        ensures right { IfOk result (λ m. RightJoining self.now.base self.now.journal m) }
+        ensures memory { IfErr result (λ e. e ≡ HubError.Memory) }
+    {
+        let mut changed = self.matching(alloc, space, &rooms, &excepted)?;
+        keep_outside(&mut changed, &self.rooms, room);
+        Ok(RoomChange {
+            space,
+            rooms,
+            excepted,
+            room,
+            changed,
+        })
+    }
+
+    /// The change that is made where all that match leave a room.
+    fn leaving(
+        &self,
+        alloc: Global,
+        space: u16,
+        rooms: Vec<Room>,
+        excepted: Vec<Room>,
+        room: Room,
+    ) -> Result<RoomChange, HubError>
+        ensures change { IfOk result (λ m. m ≡ many.leaving self.now space rooms.items excepted.items room) }
+        ensures right { IfOk result (λ m. RightLeaving self.now.base self.now.journal m) }
+        ensures memory { IfErr result (λ e. e ≡ HubError.Memory) }
+    {
+        let mut changed = self.matching(alloc, space, &rooms, &excepted)?;
+        keep_inside(&mut changed, &self.rooms, room);
+        Ok(RoomChange {
+            space,
+            rooms,
+            excepted,
+            room,
+            changed,
+        })
+    }
+
+    fn joining_refusal(&self, change: &RoomChange) -> Option<HubError>
+        requires known { is_space self.now.limits change.now.space ≡ true }
+        requires right { RightJoining self.now.base self.now.journal change.now }
+        ensures { (at : ℕ) → result ≡ refusal self.now at (What.AllJoined change.now) }
+    {
+        if let Some(refusal) = self.rooms.join_all_refusal(&change.changed, change.room) {
+            return Some(HubError::RoomRefused(refusal));
+        }
+        self.count_refusal(0, 0)
+    }
+
+    fn leaving_refusal(&self, change: &RoomChange) -> Option<HubError>
+        requires known { is_space self.now.limits change.now.space ≡ true }
+        requires right { RightLeaving self.now.base self.now.journal change.now }
+        ensures { (at : ℕ) → result ≡ refusal self.now at (What.AllLeft change.now) }
+    {
+        self.rooms.kept_facts();
+        if let Some(refusal) = self.rooms.leave_all_refusal(&change.changed, change.room) {
+            return Some(HubError::RoomRefused(refusal));
+        }
+        self.count_refusal(0, 0)
+    }
+
+    /// Makes a change that may be made: its sockets join the room.
+    fn join_all(
+        &mut self,
+        alloc: Global,
+        change: RoomChange,
+        now: u64,
+    ) -> Result<Vec<Sid>, HubError>
+        requires accepted { None ≡ refusal self.old (moment_at self.old now) (What.AllJoined change) }
+        requires known { is_space self.old.limits change.space ≡ true }
+        requires right { RightJoining self.old.base self.old.journal change }
+        ensures step { OnOk result (self.new ≡ with_step self.old now (What.AllJoined change)) }
+        ensures changed { IfOk result (λ sids. sids.items ≡ change.changed) }
+        ensures unchanged { OnErr result (self.new ≡ self.old) }
+        ensures memory { IfErr result (λ e. e ≡ HubError.Memory) }
+    {
+        reserve(&mut self.journal)?;
+        let Ok(joined) = self.rooms.join_all(alloc, &change.changed, change.room) else {
+            return Err(HubError::Memory);
+        };
+        self.rooms.kept_facts();
+        count(&mut self.counts, 0, 0, 0, 0);
+        let what = What::AllJoined(change);
+        record(&mut self.journal, &mut self.last, now, what);
+        Ok(joined)
+    }
+
+    /// Makes a change that may be made: its sockets leave the room.
+    fn leave_all(
+        &mut self,
+        alloc: Global,
+        change: RoomChange,
+        now: u64,
+    ) -> Result<Vec<Sid>, HubError>
+        requires accepted { None ≡ refusal self.old (moment_at self.old now) (What.AllLeft change) }
+        requires known { is_space self.old.limits change.space ≡ true }
+        requires right { RightLeaving self.old.base self.old.journal change }
+        ensures step { OnOk result (self.new ≡ with_step self.old now (What.AllLeft change)) }
+        ensures changed { IfOk result (λ sids. sids.items ≡ change.changed) }
+        ensures unchanged { OnErr result (self.new ≡ self.old) }
+        ensures memory { IfErr result (λ e. e ≡ HubError.Memory) }
+    {
+        reserve(&mut self.journal)?;
+        let Ok(left) = self.rooms.leave_all(alloc, &change.changed, change.room) else {
+            return Err(HubError::Memory);
+        };
+        self.rooms.kept_facts();
+        count(&mut self.counts, 0, 0, 0, 0);
+        let what = What::AllLeft(change);
+        record(&mut self.journal, &mut self.last, now, what);
+        Ok(left)
+    }
+
+    /// All sockets of a namespace that are in one of the rooms, or where none is named all, but for
+    /// those in an excepted room, join a room, or none does. It gives those that weren't in it,
+    /// rising. Refused as `UnknownNamespace`, then as `RoomRefused(TooManyRooms)` where one of them
+    /// that isn't in the room is in as many as it may be, then `Spent`; want of memory may come in
+    /// place of these two. It takes the logarithm of the namespaces, and walks the members of the
+    /// rooms in all namespaces, or where no room is named the sockets of its namespace alone, each
+    /// with the logarithm and the excepted rooms.
+    pub fn sockets_join(
+        &mut self,
+        alloc: Global,
+        space: &str,
+        rooms: Vec<Room>,
+        excepted: Vec<Room>,
+        room: Room,
+        now: u64,
+    ) -> Result<Vec<Sid>, HubError>
+        ensures changed { let change = many.joining self.old (place_of self.old.limits space.now) rooms.items excepted.items room in IfOk result (λ sids. sids.items ≡ change.changed) }
+        ensures does { let change = many.joining self.old (place_of self.old.limits space.now) rooms.items excepted.items room in Does self.old self.new now (What.AllJoined change) result }
+    {
+        let place = self.place_of(space);
+        if place >= self.spaces().len() {
+            return Err(HubError::UnknownNamespace);
+        }
+        let change = self.joining(alloc, place as u16, rooms, excepted, room)?;
+        if let Some(refusal) = self.joining_refusal(&change) {
+            return Err(refusal);
+        }
+        self.join_all(alloc, change, now)
+    }
+
+    /// All sockets of a namespace that are in one of the rooms, or where none is named all, but for
+    /// those in an excepted room, leave a room, or none does. It gives those that were in it,
+    /// rising. Refused as `UnknownNamespace`, then as `RoomRefused(OwnRoom)` where the room is the
+    /// own one of one of them, then `Spent`; want of memory may come in place of these two. It takes
+    /// as much as `sockets_join`.
+    pub fn sockets_leave(
+        &mut self,
+        alloc: Global,
+        space: &str,
+        rooms: Vec<Room>,
+        excepted: Vec<Room>,
+        room: Room,
+        now: u64,
+    ) -> Result<Vec<Sid>, HubError>
+        ensures changed { let change = many.leaving self.old (place_of self.old.limits space.now) rooms.items excepted.items room in IfOk result (λ sids. sids.items ≡ change.changed) }
+        ensures does { let change = many.leaving self.old (place_of self.old.limits space.now) rooms.items excepted.items room in Does self.old self.new now (What.AllLeft change) result }
+    {
+        let place = self.place_of(space);
+        if place >= self.spaces().len() {
+            return Err(HubError::UnknownNamespace);
+        }
+        let change = self.leaving(alloc, place as u16, rooms, excepted, room)?;
+        if let Some(refusal) = self.leaving_refusal(&change) {
+            return Err(refusal);
+        }
+        self.leave_all(alloc, change, now)
+    }
+}

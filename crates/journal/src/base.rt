@@ -1,0 +1,55 @@
+//! The state from which a journal begins.
+
+use crate::totals::Totals;
+use recovery::{Logged, Pid, Saved};
+use room_maps::{Room, Sid};
+use sio_wire::Entry;
+use std::marker::Model;
+use std::sync::Arc;
+
+/// The state of a hub before its first step, as data. In a contract it is plain data.
+#[derive(Drop)]
+pub struct Base {
+    /// The last moment, in milliseconds.
+    pub at: u64,
+    /// The next offset, or `None` where the greatest has been used.
+    pub next: Option<u64>,
+    /// The clients, rising.
+    pub clients: Vec<BaseClient>,
+    /// Each socket's rooms, rising.
+    pub pairs: Vec<(Sid, Room)>,
+    /// The log, rising by offset.
+    pub log: Vec<Logged>,
+    /// The saved sessions, rising by private id.
+    pub saved: Vec<Saved>,
+    pub totals: Totals,
+}
+
+impl Model for Base {
+    ghost use Rattle.journal.specs.Plain.{PlainBase};
+
+    ghost Value = { PlainBase };
+
+    ghost view = { λ b. record { at = b.at; next = b.next; clients = b.clients.items; pairs = b.pairs.items; log = b.log.items; saved = b.saved.items; totals = b.totals } };
+}
+
+/// A client of a base.
+#[derive(Drop)]
+pub struct BaseClient {
+    pub client: u128,
+    /// The place of the namespace, the session id and the private session id of each of its
+    /// sockets, in the order in which they were connected.
+    pub sockets: Vec<(u16, Sid, Pid)>,
+    /// What waits for it, in order.
+    pub waiting: Vec<Arc<Entry>>,
+}
+
+impl Model for BaseClient {
+    ghost use Rattle.std.specs.Prelude.{map};
+    ghost use Rattle.std.specs.Arc.{arc_value};
+    ghost use Rattle.journal.specs.Plain.{PlainBaseClient};
+
+    ghost Value = { PlainBaseClient };
+
+    ghost view = { λ c. record { client = c.client; sockets = c.sockets.items; waiting = map arc_value c.waiting.items } };
+}

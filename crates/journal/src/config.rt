@@ -1,0 +1,105 @@
+//! What a hub is made with.
+
+ghost use Rattle.std.specs.Prelude.{◌≡◌, ◌≤◌, ◌==◌, ◌||◌, false, length, not, nat_lt, bytes_eq};
+ghost use Rattle.std.specs.List.{list_any};
+ghost use Rattle.journal.specs.Config as rules;
+
+use std::marker::Model;
+use terms::Text;
+
+/// The limits and the namespaces of a hub.
+#[derive(Debug, Drop)]
+pub struct Config {
+    /// How many clients there may be, at least 1.
+    pub clients: usize,
+    /// How many entries may wait for a client, 1 to 65,536.
+    pub capacity: usize,
+    /// How many bytes the entries that wait for a client may have together, at least 1.
+    pub bytes: usize,
+    /// How many broadcasts the log holds, at least 1.
+    pub log: usize,
+    /// How many sessions may be saved.
+    pub saved: usize,
+    /// How long a logged broadcast or a saved session is kept, in milliseconds.
+    pub keep: u64,
+    /// The offset of the first logged broadcast, at least 1.
+    pub first_offset: u64,
+    /// The namespaces: 1 to 65,536, each once. Each begins with `/`, and has no comma and no
+    /// character under U+0020.
+    pub spaces: Vec<Text>,
+}
+
+impl Model for Config {
+    ghost use Rattle.journal.specs.Plain.{Limits};
+
+    ghost Value = { Limits };
+
+    ghost view = { λ c. record { clients = c.clients; capacity = c.capacity; bytes = c.bytes; log = c.log; saved = c.saved; keep = c.keep; first_offset = c.first_offset; spaces = c.spaces.items } };
+}
+
+impl Config {
+    /// Whether no hub can be made with this.
+    pub fn is_bad(&self) -> bool
+        ensures is { result ≡ rules.is_bad_config self.now }
+        ensures few { result ≡ false → length self.now.spaces ≤ 65536 }
+        ensures log { result ≡ false → 1 ≤ self.now.log }
+        ensures first { result ≡ false → 1 ≤ self.now.first_offset }
+    {
+        self.clients == 0
+            || self.capacity == 0
+            || self.bytes == 0
+            || self.log == 0
+            || self.first_offset == 0
+            || self.capacity > 65_536
+            || self.spaces.len() == 0
+            || self.spaces.len() > 65_536
+            || has_repeat(&self.spaces)
+            || has_stranger(&self.spaces)
+    }
+}
+
+/// Whether one of the bytes is a comma or under U+0020.
+fn has_forbidden(bytes: &[u8]) -> bool
+    ensures { result ≡ list_any (λ b. b == 44 || nat_lt b 32) bytes.now }
+{
+    bytes.iter().any(|byte| *byte == b',' || *byte < 32)
+}
+
+/// Whether a name is that of a namespace.
+fn is_namespace(name: &str) -> bool
+    ensures { result ≡ rules.is_namespace name.now }
+{
+    let bytes = name.as_bytes();
+    if bytes.is_empty() {
+        return false;
+    }
+    bytes[0] == b'/' && !has_forbidden(bytes)
+}
+
+/// Whether a name is among these.
+fn is_among(name: &str, names: &[Text]) -> bool
+    ensures { result ≡ list_any (bytes_eq name.now) names.now }
+{
+    names.iter().any(|other| name == other.as_str())
+}
+
+/// Whether some name stands twice. It compares each two.
+fn has_repeat(names: &[Text]) -> bool
+    ensures { result ≡ rules.has_repeat names.now }
+{
+    let mut rest = names;
+    while let Some((name, others)) = rest.split_first() {
+        if is_among(name.as_str(), others) {
+            return true;
+        }
+        rest = others;
+    }
+    false
+}
+
+/// Whether some name is none of a namespace.
+fn has_stranger(names: &[Text]) -> bool
+    ensures { result ≡ list_any (λ name. not (rules.is_namespace name)) names.now }
+{
+    names.iter().any(|name| !is_namespace(name.as_str()))
+}

@@ -1,0 +1,23 @@
+//! A closed part of a hub's history.
+
+use crate::base::Base;
+use crate::step::Step;
+use std::marker::Model;
+
+/// The state from which a journal began, and its steps up to a seal. In a contract it is plain
+/// data, with the newest step first.
+#[derive(Drop)]
+pub struct Epoch {
+    pub base: Base,
+    /// The steps since the base, the oldest first.
+    pub steps: Vec<Step>,
+}
+
+impl Model for Epoch {
+    ghost use Rattle.std.specs.Prelude.{reverse};
+    ghost use Rattle.journal.specs.Seal.{PlainEpoch};
+
+    ghost Value = { PlainEpoch };
+
+    ghost view = { λ e. record { base = e.base; journal = reverse e.steps.items } };
+}

@@ -1,0 +1,69 @@
+//! Why a command was refused.
+
+ghost use Rattle.std.specs.Prelude.{◌≡◌};
+ghost use Rattle.journal.specs.declared.error.HubError.TheVariants.{Memory};
+
+use room_maps::RoomError;
+use std::alloc::{AllocError, AllocFailed};
+
+/// Why a session can't come back.
+#[derive(Clone, Copy, Debug, PartialEq, Eq)]
+pub enum RecoveryRefusal {
+    /// No session with this private id is saved in this namespace.
+    UnknownPid,
+    /// The session was lost too long ago.
+    Expired,
+    /// The log doesn't reach back to the offset that was named.
+    OffsetGone,
+}
+
+/// Why a command was refused. Each command names the order in which it asks.
+#[derive(Clone, Copy, Debug, PartialEq, Eq)]
+pub enum HubError {
+    /// An allocation was refused.
+    Memory,
+    /// The id is in use: the client is open, or the socket's session id or private id is that of a
+    /// connected socket or of a saved session.
+    IdTaken,
+    /// There is no client with this id.
+    UnknownClient,
+    /// There is no socket with this session id.
+    UnknownSocket,
+    /// The hub has no such namespace.
+    UnknownNamespace,
+    /// The client has a socket in the namespace already.
+    AlreadyConnected,
+    /// There are as many clients as there may be.
+    TooManyClients,
+    /// The client's outbox has no place for what would be put.
+    OutboxFull,
+    /// The rooms don't allow it.
+    RoomRefused(RoomError),
+    /// The session can't come back.
+    NotRecoverable(RecoveryRefusal),
+    /// A count or the offset would pass the greatest u64.
+    Spent,
+    /// The table of saved sessions has not as many free places as the client has sockets.
+    SavedFull,
+    /// The payload has no `]`, or there are more than 32 attachments.
+    BadPayload,
+    /// A limit that must be at least 1 is 0, the capacity is over 65,536, or the list of
+    /// namespaces is empty, longer than 65,536, names one twice or one that is no namespace.
+    BadConfig,
+}
+
+impl From<AllocError> for HubError {
+    ghost from_gives = { λ _ e. e ≡ Memory };
+
+    fn from(_refused: AllocError) -> HubError {
+        HubError::Memory
+    }
+}
+
+impl<T: Drop> From<AllocFailed<T>> for HubError {
+    ghost from_gives = { λ _ e. e ≡ Memory };
+
+    fn from(_refused: AllocFailed<T>) -> HubError {
+        HubError::Memory
+    }
+}

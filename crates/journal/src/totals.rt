@@ -1,0 +1,28 @@
+//! What a hub counts.
+
+/// The counts of a hub, from its first step on.
+#[derive(Clone, Copy, Debug, PartialEq, Eq)]
+pub struct Totals {
+    /// The commands that were accepted.
+    pub commands: u64,
+    /// The entries that were put into clients' outboxes.
+    pub placed: u64,
+    /// The sockets that missed a broadcast, since their client's outbox had no place for it.
+    pub dropped: u64,
+    /// The entries that were handed out.
+    pub taken: u64,
+    /// The entries that still waited when their client ended.
+    pub discarded: u64,
+    /// The entries that wait.
+    pub waiting: u64,
+}
+
+/// The counts that a hub keeps. What waits is what was placed and neither taken nor discarded.
+#[derive(Clone, Copy, Debug)]
+pub struct Counts {
+    pub commands: u64,
+    pub placed: u64,
+    pub dropped: u64,
+    pub taken: u64,
+    pub discarded: u64,
+}
