@@ -1,6 +1,6 @@
 //! The faults that end a run.
 
-use hub_state::HubError;
+use journal::HubError;
 use std::alloc::AllocError;
 use thiserror::Error;
 

@@ -3,9 +3,9 @@
 ghost use Rattle.std.specs.Prelude.{◌≡◌};
 
 use crate::fault::Fault;
-use crate::{gauge, hall};
+use crate::{crowd, gauge, hall};
 use hub::{Hub, Pass};
-use hub_state::Totals;
+use journal::Totals;
 use std::alloc::Global;
 use std::fmt;
 use std::marker::Brand;
@@ -22,6 +22,12 @@ const WAITING: u64 = 64;
 /// How many clients a hub that is sealed has at most.
 const MOST_SEALED: u64 = 1000;
 
+/// The sockets of the namespace of few.
+const FEW: u64 = 16;
+
+/// The members of the room whose sockets join, leave and end together.
+const CROWD: u64 = 256;
+
 /// What is measured.
 #[derive(Clone, Copy)]
 pub enum Task {
@@ -29,8 +35,16 @@ pub enum Task {
     Casts(u64),
     /// The same, with an offset and a place in the log.
     LoggedCasts(u64),
+    /// Casts to everybody in a namespace of 16 sockets, among those of another namespace.
+    FewCasts,
     /// Each socket joins one room, and then each leaves it.
     Moves,
+    /// All in a room of 256 join another together, and then leave it together.
+    RoomMoves,
+    /// All in a room of 256 end together.
+    RoomEnds,
+    /// Each client connects a socket beside as many saved sessions.
+    Attaches,
     /// Each client is lost, with a socket in one room beside its own.
     Parks,
     /// Each session comes back, and gets the 64 broadcasts that it missed out of a log of 1,024.
@@ -43,8 +57,10 @@ impl Task {
     /// What is counted.
     pub fn counted(self) -> &'static str {
         match self {
-            Task::Casts(_) | Task::LoggedCasts(_) => "casts",
+            Task::Casts(_) | Task::LoggedCasts(_) | Task::FewCasts => "casts",
             Task::Moves => "moves",
+            Task::RoomMoves | Task::RoomEnds => "commands",
+            Task::Attaches => "sockets",
             Task::Parks | Task::Recoveries => "sessions",
             Task::Seal => "steps",
         }
@@ -56,7 +72,11 @@ impl fmt::Display for Task {
         match self {
             Task::Casts(members) => write!(f, "room of {members}"),
             Task::LoggedCasts(members) => write!(f, "room of {members}, logged"),
+            Task::FewCasts => write!(f, "all {FEW} of a namespace"),
             Task::Moves => f.write_str("joins and leaves"),
+            Task::RoomMoves => write!(f, "room of {CROWD}, joins and leaves"),
+            Task::RoomEnds => write!(f, "room of {CROWD}, ends"),
+            Task::Attaches => f.write_str("attaches beside saved sessions"),
             Task::Parks => f.write_str("parks"),
             Task::Recoveries => f.write_str("recoveries"),
             Task::Seal => f.write_str("seal"),
@@ -130,7 +150,11 @@ fn act<C: Ledger, T: Ledger, R: Clock>(
     match task {
         Task::Casts(members) => measure_casts(rt, alloc, hub, pass, scale, members, false),
         Task::LoggedCasts(members) => measure_casts(rt, alloc, hub, pass, scale, members, true),
+        Task::FewCasts => measure_few_casts(rt, alloc, hub, pass, scale),
         Task::Moves => measure_moves(rt, alloc, hub, pass, scale.sockets),
+        Task::RoomMoves => measure_room_moves(rt, alloc, hub, pass, scale),
+        Task::RoomEnds => measure_room_ends(rt, alloc, hub, pass, scale),
+        Task::Attaches => measure_attaches(rt, alloc, hub, pass, scale.sockets),
         Task::Parks => measure_parks(rt, alloc, hub, pass, scale.sockets),
         Task::Recoveries => measure_recoveries(rt, alloc, hub, pass, scale.sockets),
         Task::Seal => measure_seal(rt, alloc, hub, pass, scale.sockets.min(MOST_SEALED)),
@@ -183,6 +207,103 @@ fn time_casts<C: Ledger, T: Ledger, R: Clock>(
     let start = gauge::now(rt)?;
     hall::cast_to_room(alloc, hub, pass, logged, times)?;
     gauge::since(rt, start)
+}
+
+fn measure_few_casts<C: Ledger, T: Ledger, R: Clock>(
+    rt: &R,
+    alloc: Global,
+    hub: &mut Hub<C, T>,
+    pass: &mut Pass<C, T>,
+    scale: Scale,
+) -> Result<Measured, Fault> {
+    fill(alloc, hub, pass, scale.sockets)?;
+    hall::attach_few(alloc, hub, pass, FEW)?;
+    hall::take_all(alloc, hub, pass, FEW)?;
+    let mut time = Duration::ZERO;
+    for first in (0..scale.casts).step_by(BATCH as usize) {
+        let times = scale.casts.saturating_sub(first).min(BATCH);
+        time = time.saturating_add(time_few_casts(rt, alloc, hub, pass, times)?);
+        hall::take_all(alloc, hub, pass, FEW)?;
+    }
+    let number = scale.casts;
+    Ok(Measured { number, time })
+}
+
+fn time_few_casts<C: Ledger, T: Ledger, R: Clock>(
+    rt: &R,
+    alloc: Global,
+    hub: &mut Hub<C, T>,
+    pass: &mut Pass<C, T>,
+    times: u64,
+) -> Result<Duration, Fault> {
+    let start = gauge::now(rt)?;
+    hall::cast_to_few(alloc, hub, pass, times)?;
+    gauge::since(rt, start)
+}
+
+fn measure_room_moves<C: Ledger, T: Ledger, R: Clock>(
+    rt: &R,
+    alloc: Global,
+    hub: &mut Hub<C, T>,
+    pass: &mut Pass<C, T>,
+    scale: Scale,
+) -> Result<Measured, Fault> {
+    fill(alloc, hub, pass, scale.sockets)?;
+    hall::join_all(alloc, hub, pass, CROWD)?;
+    let start = gauge::now(rt)?;
+    crowd::move_room(alloc, hub, pass, scale.casts)?;
+    let time = gauge::since(rt, start)?;
+    let number = scale.casts.saturating_mul(2);
+    Ok(Measured { number, time })
+}
+
+/// Fills the room, and says how long all of it took to end.
+fn time_room_end<C: Ledger, T: Ledger, R: Clock>(
+    rt: &R,
+    alloc: Global,
+    hub: &mut Hub<C, T>,
+    pass: &mut Pass<C, T>,
+) -> Result<Duration, Fault> {
+    hall::join_all(alloc, hub, pass, CROWD)?;
+    let start = gauge::now(rt)?;
+    crowd::end_room(alloc, hub, pass)?;
+    let time = gauge::since(rt, start)?;
+    hall::attach_all(alloc, hub, pass, CROWD)?;
+    hall::take_all(alloc, hub, pass, CROWD)?;
+    Ok(time)
+}
+
+fn measure_room_ends<C: Ledger, T: Ledger, R: Clock>(
+    rt: &R,
+    alloc: Global,
+    hub: &mut Hub<C, T>,
+    pass: &mut Pass<C, T>,
+    scale: Scale,
+) -> Result<Measured, Fault> {
+    fill(alloc, hub, pass, scale.sockets)?;
+    let mut time = Duration::ZERO;
+    for _time in 0..scale.casts {
+        time = time.saturating_add(time_room_end(rt, alloc, hub, pass)?);
+    }
+    let number = scale.casts;
+    Ok(Measured { number, time })
+}
+
+fn measure_attaches<C: Ledger, T: Ledger, R: Clock>(
+    rt: &R,
+    alloc: Global,
+    hub: &mut Hub<C, T>,
+    pass: &mut Pass<C, T>,
+    sockets: u64,
+) -> Result<Measured, Fault> {
+    gather(alloc, hub, pass, sockets)?;
+    hall::park_all(alloc, hub, pass, sockets)?;
+    hall::open_all(alloc, hub, pass, sockets)?;
+    let start = gauge::now(rt)?;
+    hall::attach_anew(alloc, hub, pass, sockets)?;
+    let time = gauge::since(rt, start)?;
+    let number = sockets;
+    Ok(Measured { number, time })
 }
 
 fn measure_moves<C: Ledger, T: Ledger, R: Clock>(

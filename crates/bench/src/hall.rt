@@ -1,11 +1,11 @@
 //! The hub's commands, for one client and for all. The client with a number has one socket, in `/`,
-//! and its session id and its private id are that number too.
+//! and its session id and its private id are that number too, where nothing else is said.
 
 ghost use Rattle.std.specs.Prelude.{◌≡◌};
 
 use crate::fault::Fault;
 use hub::{Hub, Pass};
-use hub_state::{Cast, Config, Epoch, HubError, Totals};
+use journal::{Cast, Config, Epoch, HubError, Totals};
 use recovery::Pid;
 use room_maps::{Room, Sid};
 use sio_wire::Attachments;
@@ -23,13 +23,19 @@ const CAPACITY: usize = 128;
 pub const LOG: u64 = 1024;
 
 /// The room that sockets join.
-const ROOM: &str = "members";
+pub const ROOM: &str = "members";
+
+/// The namespace in which few clients have a socket, beside their one in `/`.
+const FEW: &str = "/few";
+
+/// The first session id of the sockets that clients have beside, or after, the one of their number.
+const SECOND: u128 = 1 << 64;
 
 /// A room that nobody joins.
 const EMPTY_ROOM: &str = "nobody";
 
 /// The moment of each command but the last sweep.
-const NOW: u64 = 0;
+pub const NOW: u64 = 0;
 
 /// A moment at which all that was kept since `NOW` is outdated.
 const LATE: u64 = 1_000_000;
@@ -41,6 +47,7 @@ const PAYLOAD: &str = "[\"news\",\"012345678901234567890123456789012345678901234
 fn config(alloc: Global, clients: u64) -> Result<Config, HubError> {
     let mut spaces = Vec::new(alloc);
     spaces.push(Text::copy_of(alloc, "/")?)?;
+    spaces.push(Text::copy_of(alloc, FEW)?)?;
     Ok(Config {
         clients: clients as usize,
         capacity: CAPACITY,
@@ -108,6 +115,47 @@ pub fn attach_all<C: Ledger, T: Ledger>(
 ) -> Result<(), HubError> {
     for number in 0..clients {
         attach(alloc, hub, pass, number)?;
+    }
+    Ok(())
+}
+
+/// Connects a socket with the second ids of a client, in a namespace.
+fn attach_second<C: Ledger, T: Ledger>(
+    alloc: Global,
+    hub: &mut Hub<C, T>,
+    pass: &mut Pass<C, T>,
+    number: u64,
+    space: &str,
+) -> Result<(), HubError> {
+    let (client, id) = (
+        u128::from(number),
+        SECOND.saturating_add(u128::from(number)),
+    );
+    hub.attach(alloc, pass, client, space, Sid::new(id), Pid::new(id), NOW)
+}
+
+/// The clients below a number connect to the namespace of few too.
+pub fn attach_few<C: Ledger, T: Ledger>(
+    alloc: Global,
+    hub: &mut Hub<C, T>,
+    pass: &mut Pass<C, T>,
+    clients: u64,
+) -> Result<(), HubError> {
+    for number in 0..clients {
+        attach_second(alloc, hub, pass, number, FEW)?;
+    }
+    Ok(())
+}
+
+/// The clients below a number connect to `/` with new ids.
+pub fn attach_anew<C: Ledger, T: Ledger>(
+    alloc: Global,
+    hub: &mut Hub<C, T>,
+    pass: &mut Pass<C, T>,
+    clients: u64,
+) -> Result<(), HubError> {
+    for number in 0..clients {
+        attach_second(alloc, hub, pass, number, "/")?;
     }
     Ok(())
 }
@@ -256,17 +304,17 @@ pub fn settle<C: Ledger, T: Ledger>(
 }
 
 /// The room of this name, which is short.
-fn room(name: &str) -> Room {
+pub fn room(name: &str) -> Room {
     match Room::read(name) {
         Some(room) => room,
         None => Room::own(Sid::new(0)),
     }
 }
 
-/// An event for the rooms, or where there are none for everybody.
-fn news(alloc: Global, rooms: &[Room], logged: bool) -> Result<Cast, HubError> {
+/// An event for the rooms of a namespace, or where there are none for everybody in it.
+fn news(alloc: Global, space: &str, rooms: &[Room], logged: bool) -> Result<Cast, HubError> {
     Ok(Cast {
-        space: Text::copy_of(alloc, "/")?,
+        space: Text::copy_of(alloc, space)?,
         rooms: Vec::from_slice(alloc, rooms)?,
         excepted: Vec::new(alloc),
         logged,
@@ -282,7 +330,7 @@ fn cast<C: Ledger, T: Ledger>(
     rooms: &[Room],
     logged: bool,
 ) -> Result<(), HubError> {
-    let event = news(alloc, rooms, logged)?;
+    let event = news(alloc, "/", rooms, logged)?;
     let _done = hub.cast(alloc, pass, event, NOW)?;
     Ok(())
 }
@@ -311,6 +359,29 @@ pub fn cast_to_all<C: Ledger, T: Ledger>(
 ) -> Result<(), HubError> {
     for _time in 0..times {
         cast(alloc, hub, pass, &[], false)?;
+    }
+    Ok(())
+}
+
+fn cast_once_to_few<C: Ledger, T: Ledger>(
+    alloc: Global,
+    hub: &mut Hub<C, T>,
+    pass: &mut Pass<C, T>,
+) -> Result<(), HubError> {
+    let event = news(alloc, FEW, &[], false)?;
+    let _done = hub.cast(alloc, pass, event, NOW)?;
+    Ok(())
+}
+
+/// Casts to everybody in the namespace of few so many times.
+pub fn cast_to_few<C: Ledger, T: Ledger>(
+    alloc: Global,
+    hub: &mut Hub<C, T>,
+    pass: &mut Pass<C, T>,
+    times: u64,
+) -> Result<(), HubError> {
+    for _time in 0..times {
+        cast_once_to_few(alloc, hub, pass)?;
     }
     Ok(())
 }

@@ -2,6 +2,7 @@
 //! `bench SOCKETS CASTS` what the hub's commands cost among so many sockets.
 #![tactic(auto)]
 
+mod crowd;
 mod fault;
 mod figures;
 mod gauge;

@@ -7,14 +7,18 @@ use std::rt::{Clock, Files};
 use std::{fmt, io};
 
 /// All that is measured by the clock.
-const TASKS: [Task; 10] = [
+const TASKS: [Task; 14] = [
     Task::Casts(1),
     Task::Casts(16),
     Task::Casts(256),
     Task::LoggedCasts(1),
     Task::LoggedCasts(16),
     Task::LoggedCasts(256),
+    Task::FewCasts,
     Task::Moves,
+    Task::RoomMoves,
+    Task::RoomEnds,
+    Task::Attaches,
     Task::Parks,
     Task::Recoveries,
     Task::Seal,
@@ -43,7 +47,14 @@ impl fmt::Display for Figure {
 /// of its answer to CONNECT, they follow from what is done:
 ///
 /// - a room of M, ten casts: 900 + M joins + 10 casts + M takes; 300 + 10 M are placed and taken;
+/// - everybody in a namespace of 16: 900 + 16 attaches and takes + 10 casts + 16 takes; 300 + 16 +
+///   160 are placed and taken;
 /// - joins and leaves: 900 + 600; 300 are placed and taken;
+/// - a room of 256 that joins and leaves another: 900 + 256 joins + 20;
+/// - a room of 256 that ends ten times: 900, and each time 256 each joined, connected and taken, and
+///   one command; 256 are told and 256 answered each time, and taken;
+/// - attaches beside saved sessions: 300 each opened, connected, joined, parked, opened and
+///   connected; of 600 answers that were placed 300 are discarded, and the others wait;
 /// - parks: 300 each opened, connected, joined and parked, and a sweep: 1,201; the 300 answers that
 ///   were placed are discarded, and 300 sessions were saved;
 /// - recoveries: 1,200 as before, 1,024 casts into the log, which find nobody, and 300 each opened,

@@ -6,11 +6,12 @@ ghost use Rattle.std.specs.Prelude.{◌≡◌};
 mod attachments;
 mod broadcasts;
 mod lookups;
+mod many;
 mod sessions;
 
 use crate::made::{AMPLE, Limits, PARTS, new_hub};
 use hub::{Hub, Pass};
-use hub_state::{Base, Cast, CastDone, HubError, Step, Swept, Totals, What};
+use journal::{Base, Cast, CastDone, Dismissed, HubError, Step, Swept, Totals, What};
 use recovery::Pid;
 use room_maps::{Room, Sid};
 use sio_wire::{Attachments, Entry};
@@ -61,6 +62,22 @@ enum Line {
     All(&'static str),
     /// The socket says this with attachments to the others in a room.
     Show(u128, &'static str, &'static [&'static [u8]]),
+    /// The sockets in one of the rooms, or where none is named all, join a room.
+    Pull(&'static [&'static str], &'static str),
+    /// They leave a room.
+    Push(&'static [&'static str], &'static str),
+    /// They leave the own room of a socket.
+    PushOwn(&'static [&'static str], u128),
+    /// They end, but for those that are in an excepted room.
+    Kick(&'static [&'static str], &'static [&'static str]),
+    /// Those in a room end, but for this socket.
+    KickOthers(&'static str, u128),
+    /// They join a room, leave it or end in a namespace that the hub doesn't have.
+    PullAstray,
+    PushAstray,
+    KickAstray,
+    /// The socket joins rooms of its own making, until it is in as many as it may be.
+    Fill(u128),
     Tell(u128, &'static str),
     /// The client is told this with attachments.
     Hand(u128, &'static str, &'static [&'static [u8]]),
@@ -102,6 +119,12 @@ enum Sight {
     Base(&'static [u128], usize, usize),
     /// How many commands the pass has, and how many entries they handed out.
     Pass(u64, u64),
+    /// How many bytes of entries the steps hold.
+    Held(u64),
+    /// Whether there is a namespace with this name.
+    Space(&'static str, bool),
+    /// How many sockets and how many rooms the maps of rooms have.
+    Mirrors(usize, usize),
 }
 
 /// How it is answered.
@@ -111,6 +134,12 @@ enum Answer {
     Refused(HubError),
     /// The offset, how many outboxes got it and how many sockets miss it.
     Cast(Option<u64>, u64, u64),
+    /// The offset, and the clients that got it.
+    Reached(Option<u64>, &'static [u128]),
+    /// The sockets that joined or left.
+    Changed(&'static [u128]),
+    /// The sockets that ended, and the clients that were told.
+    Dismissed(&'static [u128], &'static [u128]),
     /// The entries' texts. They have no attachments.
     Texts(&'static [&'static str]),
     /// The text of the one entry, and its attachments.
@@ -130,6 +159,8 @@ enum Got {
     Cast(CastDone),
     Entries(Vec<Entry>),
     Sid(Sid),
+    Changed(Vec<Sid>),
+    Dismissed(Dismissed),
     Swept(Swept),
     Sealed(usize),
 }
@@ -169,6 +200,14 @@ fn attachments_of(alloc: Global, parts: &[&[u8]]) -> Result<Attachments, HubErro
     Ok(attachments)
 }
 
+fn rooms_of(alloc: Global, names: &[&str]) -> Result<Vec<Room>, HubError> {
+    let mut rooms = Vec::new(alloc);
+    for name in names {
+        rooms.push(room(name))?;
+    }
+    Ok(rooms)
+}
+
 fn entry(alloc: Global, text: &str, parts: &[&[u8]]) -> Result<Entry, HubError> {
     Ok(Entry {
         text: Text::copy_of(alloc, text)?,
@@ -198,25 +237,25 @@ impl<C: Ledger, T: Ledger> Chat<C, T> {
     fn look(&self) -> Look {
         let hub = &self.hub;
         Look {
-            totals: hub.totals(),
-            steps: hub.steps().len(),
+            totals: hub.state().totals(),
+            steps: hub.state().steps().len(),
             waiting: [
-                hub.waiting(A),
-                hub.waiting(B),
-                hub.waiting(C),
-                hub.waiting(D),
+                hub.state().waiting(A),
+                hub.state().waiting(B),
+                hub.state().waiting(C),
+                hub.state().waiting(D),
             ],
             waiting_bytes: [
-                hub.waiting_bytes(A),
-                hub.waiting_bytes(B),
-                hub.waiting_bytes(C),
-                hub.waiting_bytes(D),
+                hub.state().waiting_bytes(A),
+                hub.state().waiting_bytes(B),
+                hub.state().waiting_bytes(C),
+                hub.state().waiting_bytes(D),
             ],
             connected: [
-                hub.is_connected(Sid::new(OF_A)),
-                hub.is_connected(Sid::new(OF_B)),
-                hub.is_connected(Sid::new(OF_C)),
-                hub.is_connected(Sid::new(OF_D)),
+                hub.state().is_connected(Sid::new(OF_A)),
+                hub.state().is_connected(Sid::new(OF_B)),
+                hub.state().is_connected(Sid::new(OF_C)),
+                hub.state().is_connected(Sid::new(OF_D)),
             ],
             commands: self.pass.commands(),
             taken: self.pass.taken(),
@@ -250,8 +289,12 @@ impl<C: Ledger, T: Ledger> Chat<C, T> {
             Line::Tell(client, text) => self.tell(client, text, &[]),
             Line::Hand(client, text, parts) => self.tell(client, text, parts),
             Line::Show(sid, text, parts) => self.show(sid, text, parts),
+            Line::Pull(_, _) | Line::PullAstray => self.pull(line),
+            Line::Push(_, _) | Line::PushOwn(_, _) | Line::PushAstray => self.push(line),
+            Line::Kick(_, _) | Line::KickOthers(_, _) | Line::KickAstray => self.kick(line),
             Line::Attach(_, _) | Line::End(_) => self.connect(line),
             Line::Join(_, _) | Line::Leave(_, _) | Line::LeaveOwn(_) => self.move_in(line),
+            Line::Fill(sid) => self.fill(Sid::new(sid)),
             said => self.say(said),
         }
     }
@@ -384,7 +427,7 @@ impl<C: Ledger, T: Ledger> Chat<C, T> {
     }
 
     fn has_totals(&self, counts: [u64; 6]) -> bool {
-        let totals = self.hub.totals();
+        let totals = self.hub.state().totals();
         let [commands, placed, dropped, taken, discarded, waiting] = counts;
         totals
             == Totals {
@@ -401,21 +444,34 @@ impl<C: Ledger, T: Ledger> Chat<C, T> {
     fn sees(&mut self, sight: Sight) -> bool {
         let hub = &self.hub;
         match sight {
-            Sight::Open(client, is_open) => hub.is_open(client) == is_open,
-            Sight::Connected(sid, connected) => hub.is_connected(Sid::new(sid)) == connected,
+            Sight::Open(client, is_open) => hub.state().is_open(client) == is_open,
+            Sight::Connected(sid, connected) => hub.state().is_connected(Sid::new(sid))
+                == connected,
             Sight::Socket(client, space, sid) => {
-                hub.socket_of(client, space) == sid.map(|id| Sid::new(id))
+                hub.state().socket_of(client, space) == sid.map(|id| Sid::new(id))
             }
             Sight::Waiting(client, waits) => {
-                hub.waiting(client).zip(hub.waiting_bytes(client)) == waits
+                hub.state()
+                    .waiting(client)
+                    .zip(hub.state().waiting_bytes(client))
+                    == waits
             }
             Sight::Front(client, index, text) => {
-                hub.front(client, index).map(|entry| entry.text.as_str()) == text
+                hub.state()
+                    .front(client, index)
+                    .map(|entry| entry.text.as_str())
+                    == text
             }
-            Sight::Next(offset) => hub.next_offset() == offset,
-            Sight::Steps(names) => are_steps(hub.steps(), names),
-            Sight::Base(clients, log, saved) => is_base(hub.base(), clients, log, saved),
+            Sight::Next(offset) => hub.state().next_offset() == offset,
+            Sight::Steps(names) => are_steps(hub.state().steps(), names),
+            Sight::Base(clients, log, saved) => is_base(hub.state().base(), clients, log, saved),
             Sight::Pass(commands, taken) => self.has_passed(commands, taken),
+            Sight::Held(bytes) => hub.state().held() == bytes,
+            Sight::Space(space, has) => hub.state().has_space(space) == has,
+            Sight::Mirrors(sockets, rooms) => {
+                let (inside, members) = hub.state().mirrors();
+                (inside.len(), members.len()) == (sockets, rooms)
+            }
         }
     }
 
@@ -439,7 +495,7 @@ impl<C: Ledger, T: Ledger> Chat<C, T> {
     }
 
     fn members(&self, name: &str) -> Result<Vec<Sid>, HubError> {
-        self.hub.members(self.alloc, "/", room(name))
+        self.hub.state().members(self.alloc, "/", room(name))
     }
 
     fn count_members(&self, name: &str) -> Result<usize, HubError> {
@@ -455,12 +511,15 @@ fn is_due(got: &Result<Got, HubError>, answer: Answer) -> bool {
     match (got, answer) {
         (Ok(Got::Done), Answer::Done) => true,
         (Ok(Got::Cast(done)), Answer::Cast(offset, placed, dropped)) => {
-            *done
-                == CastDone {
-                    offset,
-                    placed,
-                    dropped,
-                }
+            (done.offset, done.placed, done.dropped) == (offset, placed, dropped)
+                && done.clients.len() as u64 == placed
+        }
+        (Ok(Got::Cast(done)), Answer::Reached(offset, clients)) => {
+            done.offset == offset && done.clients.as_slice() == clients
+        }
+        (Ok(Got::Changed(sids)), Answer::Changed(due)) => are_sids(sids, due),
+        (Ok(Got::Dismissed(done)), Answer::Dismissed(ended, told)) => {
+            are_sids(&done.ended, ended) && done.told.as_slice() == told
         }
         (Ok(Got::Entries(entries)), Answer::Texts(texts)) => have_texts(entries, texts),
         (Ok(Got::Entries(entries)), Answer::Shown(text, parts)) => is_shown(entries, text, parts),
@@ -520,6 +579,9 @@ fn name_of(step: &Step) -> &'static str {
         What::Ended(_) => "ended",
         What::Closed(_) => "closed",
         What::Swept => "swept",
+        What::AllJoined(_) => "all joined",
+        What::AllLeft(_) => "all left",
+        What::AllEnded(_) => "all ended",
     }
 }
 

@@ -4,6 +4,7 @@ ghost use Rattle.std.specs.Prelude.{◌≡◌};
 
 mod agreement;
 mod entries;
+mod many;
 mod random;
 mod run;
 mod tally;
@@ -12,7 +13,7 @@ use crate::made::PARTS;
 use agreement::agree;
 use entries::{are_same_broadcasts, are_same_sessions};
 use hub::Hub;
-use hub_state::{Config, HubError};
+use journal::{Config, HubError};
 use random::Random;
 use replay::{log, sessions};
 use run::Run;
@@ -42,14 +43,14 @@ fn config(alloc: Global) -> Result<Config, HubError> {
 /// computed before.
 fn seals_once<C: Ledger, T: Ledger>(run: &mut Run<C, T>) -> Result<bool, HubError> {
     let (alloc, config, hub) = (run.alloc, &run.config, &mut run.hub);
-    let saved = sessions(alloc, hub.base(), config, hub.steps())?;
-    let broadcasts = log(alloc, hub.base(), config, hub.steps())?;
+    let saved = sessions(alloc, hub.state().base(), config, hub.state().steps())?;
+    let broadcasts = log(alloc, hub.state().base(), config, hub.state().steps())?;
     hub.seal(alloc)?;
-    let base = hub.base();
+    let base = hub.state().base();
     Ok(
         are_same_sessions(&base.saved, &saved)
             && are_same_broadcasts(&base.log, &broadcasts)
-            && hub.steps().is_empty(),
+            && hub.state().steps().is_empty(),
     )
 }
 
@@ -73,7 +74,7 @@ fn goes_on<C: Ledger, T: Ledger>(run: &mut Run<C, T>, are_long: bool) -> Result<
             return Ok(false);
         }
     }
-    Ok(run.hub.settle(&mut run.pass) == Ok(run.hub.totals()))
+    Ok(run.hub.settle(&mut run.pass) == Ok(run.hub.state().totals()))
 }
 
 /// A new hub that gets the random commands of a seed.

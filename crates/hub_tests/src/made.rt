@@ -3,7 +3,7 @@
 ghost use Rattle.std.specs.Prelude.{◌≡◌};
 
 use hub::{Hub, Pass};
-use hub_state::{Config, HubError};
+use journal::{Config, HubError};
 use std::alloc::Global;
 use std::sync::ledger::{Blank, Ledger};
 use terms::Text;

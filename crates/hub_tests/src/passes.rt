@@ -6,7 +6,7 @@ ghost use Rattle.std.specs.Prelude.{◌≡◌};
 
 use crate::made::{AMPLE, Limits, PARTS, new_hub};
 use hub::{Hub, NotAll, Pass};
-use hub_state::{HubError, Totals};
+use journal::{HubError, Totals};
 use sio_wire::{Attachments, Entry};
 use std::alloc::Global;
 use std::marker::Brand;

@@ -1,7 +1,7 @@
 //! Events and messages with attachments.
 
 use super::{AMPLE, Answer, B, Line, OF_A, played_by_two};
-use hub_state::HubError;
+use journal::HubError;
 
 /// As many attachments as a packet may have, and one more.
 const MOST: [&[u8]; 32] = [&[7]; 32];

@@ -1,7 +1,7 @@
 //! Broadcasts, full outboxes, and what is refused.
 
 use super::{A, AMPLE, Answer, B, Limits, Line, OF_A, OF_B, played, played_by_two};
-use hub_state::HubError;
+use journal::HubError;
 use room_maps::RoomError;
 
 #[test]

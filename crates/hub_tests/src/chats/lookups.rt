@@ -1,7 +1,7 @@
 //! What may be read of a hub.
 
 use super::{A, AMPLE, Answer, B, C, Line, OF_A, OF_B, OF_C, Sight, played_by_two};
-use hub_state::HubError;
+use journal::HubError;
 
 #[test]
 fn clients_and_sockets(rt: HostRuntime) -> Result<(), HubError> {

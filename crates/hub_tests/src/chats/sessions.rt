@@ -4,7 +4,7 @@ use super::{
     A, AMPLE, Answer, B, C, CONNECTED_B, CONNECTED_C, CONNECTED_D, D, Limits, Line, OF_A, OF_B,
     OF_C, OF_D, PID_B, played_by_two, played_over_seals,
 };
-use hub_state::{HubError, RecoveryRefusal};
+use journal::{HubError, RecoveryRefusal};
 
 #[test]
 fn a_lost_session_comes_back(rt: HostRuntime) -> Result<(), HubError> {

@@ -3,7 +3,7 @@
 use super::entries::{is_same, total_size};
 use super::run::Run;
 use hub::Hub;
-use hub_state::{HubError, Socket};
+use journal::{HubError, Socket};
 use replay::{
     is_connected, is_in_space, members, next, open_clients, put, room_sockets, rooms, sockets,
     sockets_of, totals, waiting,
@@ -29,11 +29,11 @@ fn sid_in(sockets: &[Socket], place: u16) -> Option<Sid> {
 
 /// Whether the entries are just those that wait for the client.
 fn is_front<C: Ledger, T: Ledger>(hub: &Hub<C, T>, client: u128, entries: &[Entry]) -> bool {
-    let mut same = hub.waiting(client) == Some(entries.len())
-        && hub.waiting_bytes(client) == Some(total_size(entries));
+    let mut same = hub.state().waiting(client) == Some(entries.len())
+        && hub.state().waiting_bytes(client) == Some(total_size(entries));
     for (index, entry) in entries.iter().enumerate() {
         same = same
-            && match hub.front(client, index) {
+            && match hub.state().front(client, index) {
                 Some(other) => is_same(other, entry),
                 None => false,
             };
@@ -49,9 +49,9 @@ fn have_members<C: Ledger, T: Ledger>(
     pairs: &[(Sid, Room)],
     room: Room,
 ) -> Result<bool, HubError> {
-    let (base, steps) = (hub.base(), hub.steps());
-    let main = hub.members(alloc, "/", room)?;
-    let other = hub.members(alloc, "/a", room)?;
+    let (base, steps) = (hub.state().base(), hub.state().steps());
+    let main = hub.state().members(alloc, "/", room)?;
+    let other = hub.state().members(alloc, "/a", room)?;
     Ok(
         main.as_slice() == members(alloc, base, steps, 0, room)?.as_slice()
             && other.as_slice() == members(alloc, base, steps, 1, room)?.as_slice()
@@ -72,7 +72,7 @@ fn are_with(pairs: &[(Sid, Room)], room: Room, main: &[Sid], other: &[Sid]) -> b
 
 /// Whether both say the same of who is in which room.
 fn agree_on_rooms<C: Ledger, T: Ledger>(alloc: Global, hub: &Hub<C, T>) -> Result<bool, HubError> {
-    let pairs = rooms(alloc, hub.base(), hub.steps())?;
+    let pairs = rooms(alloc, hub.state().base(), hub.state().steps())?;
     for name in ["r", "s"] {
         if let Some(room) = Room::read(name) {
             if !have_members(alloc, hub, &pairs, room)? {
@@ -96,10 +96,10 @@ fn agree_on_socket<C: Ledger, T: Ledger>(
     hub: &Hub<C, T>,
     sid: Sid,
 ) -> Result<bool, HubError> {
-    let (base, steps, own) = (hub.base(), hub.steps(), Room::own(sid));
-    let connected = hub.is_connected(sid);
-    let in_main = hub.members(alloc, "/", own)?.contains(&sid);
-    let in_other = hub.members(alloc, "/a", own)?.contains(&sid);
+    let (base, steps, own) = (hub.state().base(), hub.state().steps(), Room::own(sid));
+    let connected = hub.state().is_connected(sid);
+    let in_main = hub.state().members(alloc, "/", own)?.contains(&sid);
+    let in_other = hub.state().members(alloc, "/a", own)?.contains(&sid);
     Ok(
         connected == is_connected(alloc, base, steps, sid)?
             && connected == room_sockets(alloc, base, steps)?.contains(&sid)
@@ -111,14 +111,14 @@ fn agree_on_socket<C: Ledger, T: Ledger>(
 /// Whether both say the same of a client: whether it is open, which sockets it has, and what waits.
 fn agree_on_client<C: Ledger, T: Ledger>(run: &Run<C, T>, client: u128) -> Result<bool, HubError> {
     let (alloc, hub) = (run.alloc, &run.hub);
-    let (base, steps) = (hub.base(), hub.steps());
+    let (base, steps) = (hub.state().base(), hub.state().steps());
     let is_open = open_clients(alloc, base, steps)?.contains(&client);
     let waits = waiting(alloc, base, &run.config, steps, client)?;
     let sockets = sockets_of(alloc, base, steps, client)?;
     Ok(
-        hub.is_open(client) == is_open
-            && hub.socket_of(client, "/") == sid_in(&sockets, 0)
-            && hub.socket_of(client, "/a") == sid_in(&sockets, 1)
+        hub.state().is_open(client) == is_open
+            && hub.state().socket_of(client, "/") == sid_in(&sockets, 0)
+            && hub.state().socket_of(client, "/a") == sid_in(&sockets, 1)
             && (!is_open || is_front(hub, client, &waits)),
     )
 }
@@ -126,8 +126,9 @@ fn agree_on_client<C: Ledger, T: Ledger>(run: &Run<C, T>, client: u128) -> Resul
 /// Whether the hub has each socket that the slow program lists.
 fn has_sockets<C: Ledger, T: Ledger>(alloc: Global, hub: &Hub<C, T>) -> Result<bool, HubError> {
     let mut same = true;
-    for socket in sockets(alloc, hub.base(), hub.steps())?.iter() {
-        same = same && hub.socket_of(socket.client, name_of(socket.space)) == Some(socket.sid);
+    for socket in sockets(alloc, hub.state().base(), hub.state().steps())?.iter() {
+        same = same
+            && hub.state().socket_of(socket.client, name_of(socket.space)) == Some(socket.sid);
     }
     Ok(same)
 }
@@ -135,8 +136,12 @@ fn has_sockets<C: Ledger, T: Ledger>(alloc: Global, hub: &Hub<C, T>) -> Result<b
 /// Whether the entry is the one that waits for its client so many before the end.
 fn is_at<C: Ledger, T: Ledger>(hub: &Hub<C, T>, put: &(u128, Entry), from_end: usize) -> bool {
     let (client, entry) = put;
-    let index = hub.waiting(*client).unwrap_or(0).saturating_sub(from_end);
-    match hub.front(*client, index) {
+    let index = hub
+        .state()
+        .waiting(*client)
+        .unwrap_or(0)
+        .saturating_sub(from_end);
+    match hub.state().front(*client, index) {
         Some(other) => is_same(other, entry),
         None => false,
     }
@@ -152,11 +157,17 @@ fn count_from(puts: &[(u128, Entry)], place: usize, client: u128) -> usize {
 
 /// Whether what the last step put is what waits last.
 fn agree_on_last<C: Ledger, T: Ledger>(run: &Run<C, T>) -> Result<bool, HubError> {
-    let (hub, steps) = (&run.hub, run.hub.steps());
+    let (hub, steps) = (&run.hub, run.hub.state().steps());
     let Some((last, before)) = steps.split_last() else {
         return Ok(true);
     };
-    let puts = put(run.alloc, hub.base(), &run.config, before, &last.what)?;
+    let puts = put(
+        run.alloc,
+        hub.state().base(),
+        &run.config,
+        before,
+        &last.what,
+    )?;
     let mut same = true;
     for (place, put) in puts.iter().enumerate() {
         same = same && is_at(hub, put, count_from(&puts, place, put.0));
@@ -167,11 +178,11 @@ fn agree_on_last<C: Ledger, T: Ledger>(run: &Run<C, T>) -> Result<bool, HubError
 /// Whether both say the same of the counts and of the next offset, and the one pass has all.
 fn agree_on_numbers<C: Ledger, T: Ledger>(run: &Run<C, T>) -> Result<bool, HubError> {
     let (hub, pass) = (&run.hub, &run.pass);
-    let (base, steps) = (hub.base(), hub.steps());
-    let counts = hub.totals();
+    let (base, steps) = (hub.state().base(), hub.state().steps());
+    let counts = hub.state().totals();
     Ok(
         totals(run.alloc, base, &run.config, steps)? == Some(counts)
-            && next(base, steps) == hub.next_offset()
+            && next(base, steps) == hub.state().next_offset()
             && (pass.commands(), pass.taken()) == (counts.commands, counts.taken),
     )
 }

@@ -1,6 +1,6 @@
 //! Numbers, ids, texts and broadcasts that look random.
 
-use hub_state::{Cast, HubError};
+use journal::{Cast, HubError};
 use room_maps::{Room, Sid};
 use sio_wire::{Attachments, Entry};
 use std::alloc::Global;
@@ -63,7 +63,7 @@ impl Random {
     }
 
     /// No room, one or two.
-    fn rooms(&mut self, alloc: Global) -> Result<Vec<Room>, HubError> {
+    pub(super) fn rooms(&mut self, alloc: Global) -> Result<Vec<Room>, HubError> {
         let mut rooms = Vec::new(alloc);
         for _more in 0..self.below(3) {
             rooms.push(self.room())?;

@@ -5,7 +5,7 @@ use super::entries::are_same;
 use super::random::Random;
 use super::tally::Tally;
 use hub::{Hub, Pass};
-use hub_state::{CastDone, Config, HubError, Swept, Totals};
+use journal::{CastDone, Config, Dismissed, HubError, Swept, Totals};
 use recovery::Pid;
 use replay::{next, sessions, waiting};
 use room_maps::Sid;
@@ -35,6 +35,10 @@ pub(super) enum Got {
     /// The session id with which it was saved.
     Back(Sid, Sid),
     Swept(Swept),
+    /// The sockets that had to join or leave, and those that did.
+    Changed(Vec<Sid>, Vec<Sid>),
+    /// The sockets that had to end, and what was answered.
+    Dismissed(Vec<Sid>, Dismissed),
 }
 
 /// What a refused command leaves as it was, but for what the clauses alone can say.
@@ -49,8 +53,8 @@ struct Look {
 impl<C: Ledger, T: Ledger> Run<C, T> {
     fn look(&self) -> Look {
         Look {
-            totals: self.hub.totals(),
-            steps: self.hub.steps().len(),
+            totals: self.hub.state().totals(),
+            steps: self.hub.state().steps().len(),
             commands: self.pass.commands(),
             taken: self.pass.taken(),
         }
@@ -90,7 +94,7 @@ impl<C: Ledger, T: Ledger> Run<C, T> {
 
     /// Makes a random command, which may be refused. A command more is an arm more.
     fn act(&mut self) -> Result<Got, HubError> {
-        match self.random.below(24) {
+        match self.random.below(28) {
             0 | 1 => self.open(),
             2 | 3 | 4 => self.attach(),
             5 | 6 => self.join(),
@@ -102,6 +106,9 @@ impl<C: Ledger, T: Ledger> Run<C, T> {
             14 => self.sweep(),
             15 | 16 | 17 => self.recover(),
             18 | 19 => self.take(),
+            20 | 21 => self.pull(),
+            22 => self.push(),
+            23 => self.kick(),
             _ => self.cast(),
         }
     }
@@ -109,7 +116,7 @@ impl<C: Ledger, T: Ledger> Run<C, T> {
     /// A client, more often one that is open.
     fn client(&mut self) -> u128 {
         let client = self.random.id();
-        if self.hub.is_open(client) {
+        if self.hub.state().is_open(client) {
             client
         } else {
             self.random.id()
@@ -119,7 +126,7 @@ impl<C: Ledger, T: Ledger> Run<C, T> {
     /// A socket, more often one that is connected.
     fn sid(&mut self) -> Sid {
         let sid = self.random.sid();
-        if self.hub.is_connected(sid) {
+        if self.hub.state().is_connected(sid) {
             sid
         } else {
             self.random.sid()
@@ -188,7 +195,12 @@ impl<C: Ledger, T: Ledger> Run<C, T> {
     /// Brings back the first of the saved sessions, mostly with an offset close to the last.
     fn recover(&mut self) -> Result<Got, HubError> {
         let (due, pid, place) = self.lost()?;
-        let last = self.hub.next_offset().unwrap_or(0).saturating_sub(1);
+        let last = self
+            .hub
+            .state()
+            .next_offset()
+            .unwrap_or(0)
+            .saturating_sub(1);
         let offset = last.saturating_sub(self.random.below(4));
         let client = self.client();
         let (hub, pass) = (&mut self.hub, &mut self.pass);
@@ -200,7 +212,12 @@ impl<C: Ledger, T: Ledger> Run<C, T> {
     /// The first of the saved sessions with the place of its namespace, or ids of none.
     fn lost(&self) -> Result<(Sid, Pid, u16), HubError> {
         let hub = &self.hub;
-        let saved = sessions(self.alloc, hub.base(), &self.config, hub.steps())?;
+        let saved = sessions(
+            self.alloc,
+            hub.state().base(),
+            &self.config,
+            hub.state().steps(),
+        )?;
         Ok(match saved.first() {
             Some(session) => (session.sid, session.pid, session.space),
             None => (Sid::new(0), Pid::new(0), 0),
@@ -210,7 +227,13 @@ impl<C: Ledger, T: Ledger> Run<C, T> {
     fn take(&mut self) -> Result<Got, HubError> {
         let (client, most) = (self.client(), self.random.below(3) as usize);
         let (hub, pass) = (&mut self.hub, &mut self.pass);
-        let waited = waiting(self.alloc, hub.base(), &self.config, hub.steps(), client)?;
+        let waited = waiting(
+            self.alloc,
+            hub.state().base(),
+            &self.config,
+            hub.state().steps(),
+            client,
+        )?;
         let entries = hub.take(self.alloc, pass, client, most, self.now)?;
         Ok(Got::Took(waited, most, entries))
     }
@@ -219,7 +242,7 @@ impl<C: Ledger, T: Ledger> Run<C, T> {
         let cast = self.random.cast(self.alloc)?;
         let (hub, pass) = (&mut self.hub, &mut self.pass);
         let offset = if cast.logged {
-            next(hub.base(), hub.steps())
+            next(hub.state().base(), hub.state().steps())
         } else {
             None
         };
@@ -233,11 +256,19 @@ fn is_due(before: &Totals, after: &Totals, got: &Got) -> bool {
     match got {
         Got::Cast(offset, done) => {
             done.offset == *offset
+                && done.clients.len() as u64 == done.placed
                 && before.placed.checked_add(done.placed) == Some(after.placed)
                 && before.dropped.checked_add(done.dropped) == Some(after.dropped)
         }
         Got::Took(waited, most, entries) => are_first(waited, *most, entries),
         Got::Back(saved, sid) => saved == sid,
+        Got::Changed(due, sids) => sids.as_slice() == due.as_slice(),
+        Got::Dismissed(due, done) => {
+            let told = done.told.len() as u64;
+            done.ended.as_slice() == due.as_slice()
+                && before.placed.checked_add(told) == Some(after.placed)
+                && before.dropped == after.dropped
+        }
         _ => true,
     }
 }

@@ -1,7 +1,8 @@
 //! What came up in the histories, so that none of it is left out.
 
 use super::run::Got;
-use hub_state::{HubError, RecoveryRefusal};
+use journal::{HubError, RecoveryRefusal};
+use room_maps::RoomError;
 
 /// How often each of these came up.
 #[derive(Clone, Copy, Debug)]
@@ -19,6 +20,12 @@ pub(super) struct Tally {
     saved_full: u64,
     outboxes_full: u64,
     ids_taken: u64,
+    own_rooms: u64,
+    /// Sockets that joined or left together with others.
+    changed: u64,
+    /// Sockets that were ended together with others, and clients that were told of it.
+    ended: u64,
+    told: u64,
 }
 
 /// The start of a tally.
@@ -34,6 +41,10 @@ pub(super) const NOTHING: Tally = Tally {
     saved_full: 0,
     outboxes_full: 0,
     ids_taken: 0,
+    own_rooms: 0,
+    changed: 0,
+    ended: 0,
+    told: 0,
 };
 
 impl Tally {
@@ -45,6 +56,7 @@ impl Tally {
             Err(HubError::SavedFull) => raise(&mut self.saved_full, 1),
             Err(HubError::OutboxFull) => raise(&mut self.outboxes_full, 1),
             Err(HubError::IdTaken) => raise(&mut self.ids_taken, 1),
+            Err(HubError::RoomRefused(RoomError::OwnRoom)) => raise(&mut self.own_rooms, 1),
             Err(_) => {}
         }
     }
@@ -57,6 +69,11 @@ impl Tally {
             Got::Swept(swept) => {
                 raise(&mut self.swept_entries, swept.log as u64);
                 raise(&mut self.swept_sessions, swept.saved as u64);
+            }
+            Got::Changed(_, sids) => raise(&mut self.changed, sids.len() as u64),
+            Got::Dismissed(_, done) => {
+                raise(&mut self.ended, done.ended.len() as u64);
+                raise(&mut self.told, done.told.len() as u64);
             }
             _ => {}
         }
@@ -76,6 +93,9 @@ impl Tally {
             && self.dropped > 0
             && self.swept_entries > 0
             && self.swept_sessions > 0
+            && self.changed > 0
+            && self.told > 0
+            && self.ended > self.told
     }
 
     fn has_all_refusals(&self) -> bool {
@@ -85,6 +105,7 @@ impl Tally {
             && self.saved_full > 0
             && self.outboxes_full > 0
             && self.ids_taken > 0
+            && self.own_rooms > 0
     }
 }
 
