@@ -6,54 +6,102 @@ use super::{
 };
 use journal::{HubError, RecoveryRefusal};
 use room_maps::{Room, RoomError, Sid};
+use std::alloc::Global;
 use std::sync::ledger::Ledger;
 
+/// A namespace that the hub doesn't have.
+const STRAY: &str = "/stray";
+
+/// Which sockets a command is for.
+#[derive(Drop)]
+struct Choice {
+    space: &'static str,
+    rooms: Vec<Room>,
+    excepted: Vec<Room>,
+}
+
+/// The sockets of a namespace that are in one of the rooms, or where none is named all.
+fn all_in(alloc: Global, space: &'static str, names: &[&str]) -> Result<Choice, HubError> {
+    let (rooms, excepted) = (rooms_of(alloc, names)?, Vec::new(alloc));
+    Ok(Choice {
+        space,
+        rooms,
+        excepted,
+    })
+}
+
 impl<C: Ledger, T: Ledger> Chat<C, T> {
+    fn join_all(&mut self, choice: Choice, room: Room) -> Result<Got, HubError> {
+        let Choice {
+            space,
+            rooms,
+            excepted,
+        } = choice;
+        let (alloc, hub, now) = (self.alloc, &mut self.hub, self.now);
+        let sids = hub.sockets_join(alloc, &mut self.pass, space, rooms, excepted, room, now)?;
+        Ok(Got::Changed(sids))
+    }
+
+    fn leave_all(&mut self, choice: Choice, room: Room) -> Result<Got, HubError> {
+        let Choice {
+            space,
+            rooms,
+            excepted,
+        } = choice;
+        let (alloc, hub, now) = (self.alloc, &mut self.hub, self.now);
+        let sids = hub.sockets_leave(alloc, &mut self.pass, space, rooms, excepted, room, now)?;
+        Ok(Got::Changed(sids))
+    }
+
+    fn end_all(&mut self, choice: Choice) -> Result<Got, HubError> {
+        let Choice {
+            space,
+            rooms,
+            excepted,
+        } = choice;
+        let (alloc, hub, now) = (self.alloc, &mut self.hub, self.now);
+        let done = hub.disconnect_sockets(alloc, &mut self.pass, space, rooms, excepted, now)?;
+        Ok(Got::Dismissed(done))
+    }
+
     /// Does a line by which many sockets join a room.
     pub(super) fn pull(&mut self, line: Line) -> Result<Got, HubError> {
-        let (alloc, now) = (self.alloc, self.now);
-        let (space, rooms, into) = match line {
-            Line::Pull(names, into) => ("/", rooms_of(alloc, names)?, into),
-            _ => ("/stray", rooms_of(alloc, &["r"])?, "q"),
-        };
-        let excepted = Vec::new(alloc);
-        let (hub, pass) = (&mut self.hub, &mut self.pass);
-        let joined = hub.sockets_join(alloc, pass, space, rooms, excepted, room(into), now)?;
-        Ok(Got::Changed(joined))
+        match line {
+            Line::Pull(names, into) => self.join_all(all_in(self.alloc, "/", names)?, room(into)),
+            _ => self.join_all(all_in(self.alloc, STRAY, &["r"])?, room("q")),
+        }
     }
 
     /// Does a line by which many sockets leave a room.
     pub(super) fn push(&mut self, line: Line) -> Result<Got, HubError> {
-        let (alloc, now) = (self.alloc, self.now);
-        let (space, rooms, from) = match line {
-            Line::Push(names, from) => ("/", rooms_of(alloc, names)?, room(from)),
-            Line::PushOwn(names, sid) => ("/", rooms_of(alloc, names)?, Room::own(Sid::new(sid))),
-            _ => ("/stray", rooms_of(alloc, &["r"])?, room("q")),
-        };
-        let excepted = Vec::new(alloc);
-        let (hub, pass) = (&mut self.hub, &mut self.pass);
-        let left = hub.sockets_leave(alloc, pass, space, rooms, excepted, from, now)?;
-        Ok(Got::Changed(left))
+        match line {
+            Line::Push(names, from) => self.leave_all(all_in(self.alloc, "/", names)?, room(from)),
+            Line::PushOwn(names, sid) => {
+                self.leave_all(all_in(self.alloc, "/", names)?, Room::own(Sid::new(sid)))
+            }
+            _ => self.leave_all(all_in(self.alloc, STRAY, &["r"])?, room("q")),
+        }
     }
 
     /// Does a line by which many sockets end.
     pub(super) fn kick(&mut self, line: Line) -> Result<Got, HubError> {
-        let (alloc, now) = (self.alloc, self.now);
-        let (space, rooms, excepted) = match line {
-            Line::Kick(names, but) => ("/", rooms_of(alloc, names)?, rooms_of(alloc, but)?),
-            Line::KickOthers(name, sid) => {
-                let own = [Room::own(Sid::new(sid))];
-                (
-                    "/",
-                    rooms_of(alloc, &[name])?,
-                    Vec::from_slice(alloc, &own)?,
-                )
-            }
-            _ => ("/stray", rooms_of(alloc, &["r"])?, Vec::new(alloc)),
-        };
-        let (hub, pass) = (&mut self.hub, &mut self.pass);
-        let done = hub.disconnect_sockets(alloc, pass, space, rooms, excepted, now)?;
-        Ok(Got::Dismissed(done))
+        match line {
+            Line::Kick(names, but) => self.kick_but(names, but),
+            Line::KickOthers(name, sid) => self.kick_others(name, Room::own(Sid::new(sid))),
+            _ => self.end_all(all_in(self.alloc, STRAY, &["r"])?),
+        }
+    }
+
+    fn kick_but(&mut self, names: &[&str], but: &[&str]) -> Result<Got, HubError> {
+        let mut chosen = all_in(self.alloc, "/", names)?;
+        chosen.excepted = rooms_of(self.alloc, but)?;
+        self.end_all(chosen)
+    }
+
+    fn kick_others(&mut self, name: &str, own: Room) -> Result<Got, HubError> {
+        let mut chosen = all_in(self.alloc, "/", &[name])?;
+        chosen.excepted.push(own)?;
+        self.end_all(chosen)
     }
 
     fn join_once(&mut self, sid: Sid, room: Room) -> Result<(), HubError> {
