@@ -28,6 +28,9 @@ const FEW: u64 = 16;
 /// The members of the room whose sockets join, leave and end together.
 const CROWD: u64 = 256;
 
+/// How often a room of these moves or ends at most, since each time is a long step of the journal.
+const MOST_ROUNDS: u64 = 1000;
+
 /// What is measured.
 #[derive(Clone, Copy)]
 pub enum Task {
@@ -250,10 +253,11 @@ fn measure_room_moves<C: Ledger, T: Ledger, R: Clock>(
 ) -> Result<Measured, Fault> {
     fill(alloc, hub, pass, scale.sockets)?;
     hall::join_all(alloc, hub, pass, CROWD)?;
+    let rounds = scale.casts.min(MOST_ROUNDS);
     let start = gauge::now(rt)?;
-    crowd::move_room(alloc, hub, pass, scale.casts)?;
+    crowd::move_room(alloc, hub, pass, rounds)?;
     let time = gauge::since(rt, start)?;
-    let number = scale.casts.saturating_mul(2);
+    let number = rounds.saturating_mul(2);
     Ok(Measured { number, time })
 }
 
@@ -282,10 +286,10 @@ fn measure_room_ends<C: Ledger, T: Ledger, R: Clock>(
 ) -> Result<Measured, Fault> {
     fill(alloc, hub, pass, scale.sockets)?;
     let mut time = Duration::ZERO;
-    for _time in 0..scale.casts {
+    let number = scale.casts.min(MOST_ROUNDS);
+    for _round in 0..number {
         time = time.saturating_add(time_room_end(rt, alloc, hub, pass)?);
     }
-    let number = scale.casts;
     Ok(Measured { number, time })
 }
 
