@@ -8,6 +8,8 @@ mod digits;
 #[cfg(test)]
 mod engine_io;
 #[cfg(test)]
+mod line;
+#[cfg(test)]
 mod questions;
 #[cfg(test)]
 mod rooms;

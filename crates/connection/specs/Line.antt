@@ -1,0 +1,71 @@
+-- What a line holds, and which histories lead to it.
+use Rattle.std.specs.Prelude.{◌≡◌, ℕ, Bool, true, List, [], ◌++◌, Option, None, Some, unwrap_or}
+use Rattle.std.specs.Ordering.{nat_cmp}
+use Rattle.std.specs.Map.{lookup}
+use Rattle.std.specs.BTreeMap.{is_at}
+use Rattle.eio_wire.specs.Payload.{IsWhole}
+use Rattle.sio_wire.specs.declared.entry.SioPacket.{SioPacket}
+use Rattle.sio_wire.specs.declared.assembler.Progress.{Progress}
+use Rattle.sio_wire.specs.declared.assembler.Progress.TheVariants.{Failed}
+use Rattle.sio_wire.specs.Frames.{Frame, Accepted}
+use Rattle.session_clock.specs.declared.timing.Due.{Due}
+use Rattle.session_clock.specs.declared.timing.Due.TheVariants.{SendPing}
+use Rattle.session_clock.specs.History.{Opening}
+use Rattle.session_clock.specs.Clock as clock
+use Rattle.session_clock.specs.Contents as clock_contents
+use Rattle.ack_book.specs.Book as book
+use Rattle.ack_book.specs.Contents as book_contents
+use Rattle.connection.specs.History.{Call, frames, clock_calls, book_calls, is_getting, is_ping_due}
+
+-- the assembler and the clock, whether a GET waits and whether a ping is due, and the books of sockets by their ids
+pub record PlainLine : Type 0 where
+  pub assembler : Progress
+  pub clock : clock_contents.Contents
+  pub getting : Bool
+  pub ping : Bool
+  pub books : List (ℕ × book_contents.Contents)
+
+-- a ping is due after a tick that was answered so, where one was due before it or not
+abbrev pub ping_after : Due → Bool → Bool
+ping_after SendPing ping = true
+ping_after _ ping = ping
+
+-- a book before its first question
+abbrev pub fresh_book : book_contents.Contents
+fresh_book = record { next = 0; questions = [] }
+
+-- a socket's book: before its first question it has none, which is as good as a fresh one
+abbrev pub book_in : List (ℕ × book_contents.Contents) → ℕ → book_contents.Contents
+book_in books s = unwrap_or (lookup (is_at (nat_cmp s)) books) fresh_book
+
+-- the assembler took these frames; of one that has failed nothing is said
+abbrev pub HasTaken : Progress → List Frame → Type 0
+HasTaken (Failed error) taken = Unit {0}
+HasTaken progress taken = (packets : List SioPacket) × Accepted progress taken packets
+
+-- a line that was opened so and then had these calls holds this
+pub record LeadsTo (o : Opening) (h : List Call) (l : PlainLine) : Type 0 where
+  pub taken : HasTaken l.assembler (frames h)
+  pub clock : clock.LeadsTo o (clock_calls h) l.clock
+  pub getting : l.getting ≡ is_getting h
+  pub ping : l.ping ≡ is_ping_due h
+  pub books : (s : ℕ) → book.LeadsTo 0 (book_calls s h) (book_in l.books s)
+
+-- each history that leads to this line is such
+abbrev pub ForEachHistory : PlainLine → (Opening → List Call → Type 0) → Type 0
+ForEachHistory l P = (o : Opening) (h : List Call) → LeadsTo o h l → P o h
+
+-- some history leads to this line
+pub record HasHistory (l : PlainLine) : Type 0 where
+  pub opening : Opening
+  pub calls : List Call
+  pub leads : LeadsTo opening calls l
+
+-- with these calls more, the newest first, each history that leads to the one line leads to the other
+abbrev pub Advances : PlainLine → List Call → PlainLine → Type 0
+Advances old calls new = ForEachHistory old (λ o h. LeadsTo o (calls ++ h) new)
+
+-- U+001E, which separates the packets of a payload, stands neither in the packet's namespace nor in its payload
+abbrev pub IsWholeIfGiven : Option SioPacket → Type 0
+IsWholeIfGiven None = Unit {0}
+IsWholeIfGiven (Some packet) = IsWhole packet.header.space × IsWhole packet.header.payload

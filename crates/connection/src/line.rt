@@ -1,0 +1,220 @@
+//! What the server keeps of one client beside the hub.
+#![tactic(auto, unfolding(crate::specs::History::frames, crate::specs::History::clock_calls, crate::specs::History::book_calls, crate::specs::History::is_getting, crate::specs::History::is_ping_due))]
+
+ghost use Rattle.std.specs.Prelude.{◌≡◌, ◌⊎◌, List, [], ◌∷◌, Some, None, Err, IfOk, IfErr, IfSome, OnOk, OnErr, IsErrOf};
+ghost use Rattle.terms.specs.Refusal.{ok_unless};
+ghost use Rattle.sio_wire.specs.declared.assembler.Progress.{Progress};
+ghost use Rattle.sio_wire.specs.Frames.{text as text_frame, binary as binary_frame, Accepts, RefusesText, binary_refusal};
+ghost use Rattle.session_clock.specs.Heartbeat.{due};
+ghost use Rattle.session_clock.specs.Upgrade.{transport, probe_refusal, unprobed_refusal};
+ghost use Rattle.ack_book.specs.Questions.{next_id, question_at};
+ghost use Rattle.ack_book.specs.Book.{ask_refusal, answer_of};
+ghost use Rattle.connection.specs.History.{Call, Framed, Ticked, Ponged, Probed, Upgraded, ProbeLost, GetBegan, GetEnded, PingCarried, Entered, Left, Asked, Answered, clock_calls, book_calls, is_getting, is_ping_due};
+ghost use Rattle.connection.specs.Line.{LeadsTo, ForEachHistory, HasHistory, Advances, IsWholeIfGiven, ping_after};
+
+use crate::books;
+use ack_book::{AckBook, AckError};
+use room_maps::Sid;
+use session_clock::{Clock, ClockError, Due, Timing, Transport};
+use sio_wire::{Assembler, SioError, SioPacket};
+use std::alloc::Global;
+use std::collections::BTreeMap;
+use std::marker::Model;
+
+/// A client's line: its assembler and its clock, whether a GET of it waits and whether it is due a
+/// ping, and the questions to its sockets. All moments are milliseconds of one clock.
+///
+/// Contracts see the parts of `PlainLine`, and speak of histories: how the line was opened, and the
+/// calls since then that lead to these parts. Every line has such a history.
+#[derive(Drop)]
+pub struct Line {
+    assembler: Assembler,
+    clock: Clock,
+    /// A GET waits for a payload.
+    getting: bool,
+    /// The next payload or frame carries a ping.
+    ping: bool,
+    /// The questions to each socket that was asked one.
+    books: BTreeMap<Sid, AckBook>,
+}
+
+impl Model for Line {
+    ghost use Rattle.connection.specs.Line.{PlainLine, HasHistory};
+
+    ghost Value = { PlainLine };
+
+    ghost view = { λ l. record { assembler = l.assembler; clock = l.clock; getting = l.getting; ping = l.ping; books = l.books.entries } };
+
+    ghost invariant = { λ l. HasHistory (record { assembler = l.assembler; clock = l.clock; getting = l.getting; ping = l.ping; books = l.books.entries }) };
+}
+
+/// Whether a ping is due after a tick that was answered so, where one was due before it or not.
+fn ping_after(due: Due, ping: bool) -> bool
+    ensures { result ≡ ping_after due ping }
+{
+    due == Due::SendPing || ping
+}
+
+impl Line {
+    /// The line of a client that opens now, over a WebSocket or by polling. It takes no memory.
+    pub fn open(alloc: Global, now: u64, timing: Timing, socket: bool) -> Line
+        ensures { LeadsTo (record { now = now; timing = timing; socket = socket }) [] result }
+    {
+        Line {
+            assembler: Assembler::new(),
+            clock: Clock::open(now, timing, socket),
+            getting: false,
+            ping: false,
+            books: BTreeMap::new(alloc),
+        }
+    }
+
+    /// How the client speaks.
+    pub fn transport(&self) -> Transport
+        ensures value { ForEachHistory self.now (λ o h. result ≡ transport o (clock_calls h)) }
+        ensures reached { HasHistory self.now }
+    {
+        self.clock.state().transport
+    }
+
+    /// Whether a GET waits.
+    pub fn is_getting(&self) -> bool
+        ensures { ForEachHistory self.now (λ o h. result ≡ is_getting h) }
+    {
+        self.getting
+    }
+
+    /// Whether a ping is due.
+    pub fn is_ping_due(&self) -> bool
+        ensures { ForEachHistory self.now (λ o h. result ≡ is_ping_due h) }
+    {
+        self.ping
+    }
+
+    /// The client sent a message of text. Gives the packet that it makes whole, in whose namespace
+    /// and payload U+001E stands nowhere. After an error other than `Memory` the assembler has
+    /// failed, and each further frame is answered with that error.
+    pub fn text(&mut self, alloc: Global, text: &str) -> Result<Option<SioPacket>, SioError>
+        ensures given { IfOk result (λ given. Accepts self.old.assembler (text_frame text.now) given self.new.assembler) }
+        ensures advances { OnOk result (Advances self.old (Framed (text_frame text.now) ∷ []) self.new) }
+        ensures whole { IfOk result IsWholeIfGiven }
+        ensures fault { IfErr result (λ e. ((e ≡ SioError.Memory) × (self.new ≡ self.old))
+            ⊎ (RefusesText self.old.assembler text.now e × (self.new ≡ record self.old { assembler = Progress.Failed e }))) }
+    {
+        self.assembler.text(alloc, text)
+    }
+
+    /// The client sent a message of bytes. As `text`.
+    pub fn binary(&mut self, alloc: Global, bytes: &[u8]) -> Result<Option<SioPacket>, SioError>
+        ensures given { IfOk result (λ given. Accepts self.old.assembler (binary_frame bytes.now) given self.new.assembler) }
+        ensures advances { OnOk result (Advances self.old (Framed (binary_frame bytes.now) ∷ []) self.new) }
+        ensures whole { IfOk result IsWholeIfGiven }
+        ensures fault { IfErr result (λ e. ((e ≡ SioError.Memory) × (self.new ≡ self.old))
+            ⊎ ((binary_refusal self.old.assembler ≡ Some e) × (self.new ≡ record self.old { assembler = Progress.Failed e }))) }
+    {
+        self.assembler.binary(alloc, bytes)
+    }
+
+    /// The client sent a pong. One that isn't awaited changes only the last moment.
+    pub fn pong(&mut self, now: u64)
+        ensures { Advances self.old (Ponged now ∷ []) self.new }
+    {
+        self.clock.pong(now);
+    }
+
+    /// Forgets the questions that ran out, and answers what is due now. `SendPing` makes a ping due.
+    pub fn tick(&mut self, now: u64) -> Due
+        ensures due { ForEachHistory self.old (λ o h. result ≡ due o (clock_calls h) now) }
+        ensures advances { Advances self.old (Ticked now result ∷ []) self.new }
+    {
+        books::expire(&mut self.books, now);
+        let due = self.clock.tick(now);
+        self.ping = ping_after(due, self.ping);
+        due
+    }
+
+    /// A probe over a WebSocket begins.
+    pub fn probe(&mut self) -> Result<(), ClockError>
+        ensures answer { ForEachHistory self.old (λ o h. result ≡ ok_unless (probe_refusal (transport o (clock_calls h)))) }
+        ensures advances { OnOk result (Advances self.old (Probed ∷ []) self.new) }
+        ensures unchanged { OnErr result (self.new ≡ self.old) }
+    {
+        self.clock.probe()
+    }
+
+    /// The client speaks over the WebSocket from now on.
+    pub fn upgrade(&mut self) -> Result<(), ClockError>
+        ensures answer { ForEachHistory self.old (λ o h. result ≡ ok_unless (unprobed_refusal (transport o (clock_calls h)))) }
+        ensures advances { OnOk result (Advances self.old (Upgraded ∷ []) self.new) }
+        ensures unchanged { OnErr result (self.new ≡ self.old) }
+    {
+        self.clock.upgrade()
+    }
+
+    /// The probe failed, and the client polls on.
+    pub fn probe_lost(&mut self) -> Result<(), ClockError>
+        ensures answer { ForEachHistory self.old (λ o h. result ≡ ok_unless (unprobed_refusal (transport o (clock_calls h)))) }
+        ensures advances { OnOk result (Advances self.old (ProbeLost ∷ []) self.new) }
+        ensures unchanged { OnErr result (self.new ≡ self.old) }
+    {
+        self.clock.probe_lost()
+    }
+
+    /// A GET begins to wait.
+    pub fn begin_get(&mut self)
+        ensures { Advances self.old (GetBegan ∷ []) self.new }
+    {
+        self.getting = true;
+    }
+
+    /// No GET waits any more.
+    pub fn end_get(&mut self)
+        ensures { Advances self.old (GetEnded ∷ []) self.new }
+    {
+        self.getting = false;
+    }
+
+    /// The ping that was due was carried to the client.
+    pub fn carry_ping(&mut self)
+        ensures { Advances self.old (PingCarried ∷ []) self.new }
+    {
+        self.ping = false;
+    }
+
+    /// A socket joined its namespace: the connection timeout is over, and none of its questions is
+    /// open.
+    pub fn enter(&mut self, sid: Sid)
+        ensures { Advances self.old (Entered sid ∷ []) self.new }
+    {
+        self.clock.joined();
+        books::forget(&mut self.books, sid);
+    }
+
+    /// A socket left its namespace, and its questions with it.
+    pub fn leave(&mut self, sid: Sid)
+        ensures { Advances self.old (Left sid ∷ []) self.new }
+    {
+        books::forget(&mut self.books, sid);
+    }
+
+    /// Asks a question of a socket that runs out at a moment, and answers its id, the next one of the
+    /// socket, from 0.
+    pub fn ask(&mut self, alloc: Global, sid: Sid, tag: u64, until: u64) -> Result<u64, AckError>
+        ensures refused { ForEachHistory self.old (λ o h. IfSome (ask_refusal 0 (book_calls sid h)) (λ e. result ≡ Err e)) }
+        ensures memory_alone { ForEachHistory self.old (λ o h. ask_refusal 0 (book_calls sid h) ≡ None → IfErr result (λ e. e ≡ AckError.Memory)) }
+        ensures id { IfOk result (λ id. ForEachHistory self.old (λ o h. id ≡ next_id 0 (book_calls sid h))) }
+        ensures advances { OnOk result (Advances self.old (Asked sid tag until ∷ []) self.new) }
+        ensures unchanged { OnErr result (Advances self.old [] self.new) }
+    {
+        books::ask(alloc, &mut self.books, sid, tag, until)
+    }
+
+    /// Takes a socket's answer to a question: gives its tag and forgets its id.
+    pub fn answer(&mut self, sid: Sid, id: u64) -> Result<u64, AckError>
+        ensures answer { ForEachHistory self.old (λ o h. result ≡ answer_of (question_at 0 (book_calls sid h) id)) }
+        ensures advances { OnOk result (Advances self.old (Answered sid id ∷ []) self.new) }
+        ensures unchanged { OnErr result (Advances self.old [] self.new) }
+    {
+        books::answer(&mut self.books, sid, id)
+    }
+}
