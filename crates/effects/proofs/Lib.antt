@@ -1,0 +1,5 @@
+mod ActLemmas
+mod CleanLemmas
+mod RefusalLemmas
+mod RunsLemmas
+mod StepLemmas

@@ -1,0 +1,17 @@
+-- Which refusals of a command can come for an open client and a connected socket.
+use Rattle.std.proofs.Common.{inl, inr, ◌≡◌, ℕ, refl, sym, ◌∙◌, ap, Option, None, Some}
+use Rattle.std.specs.Prelude.{unwrap_or}
+use Rattle.journal.specs.declared.error.HubError.{HubError}
+use Rattle.journal.specs.declared.error.HubError.TheVariants as hub
+use Rattle.journal.specs.declared.step.What.{What}
+use Rattle.journal.specs.Journal.{History, moment_at}
+use Rattle.journal.specs.Command.{refusal}
+use Rattle.effects.specs.Commands.{StopsAt, IsFault, fault_of}
+
+-- an error that is the refusal, or else want of memory, stops the event where it is a fault
+pub stops : (h : History) (now : ℕ) (what : What) (e : HubError) → e ≡ unwrap_or (refusal h (moment_at h now) what) hub.Memory → IsFault e → StopsAt h now what (fault_of e)
+stops h now what e is fault = on (refusal h (moment_at h now) what) refl is
+  where
+    on : (o : Option HubError) → refusal h (moment_at h now) what ≡ o → e ≡ unwrap_or o hub.Memory → StopsAt h now what (fault_of e)
+    on None found same = inl (ap fault_of same)
+    on (Some x) found same = inr (e, found ∙ ap Some (sym same), fault, refl)

@@ -1,0 +1,61 @@
+-- How an event uses the commands of the hub, and which of their refusals end it.
+use Rattle.std.specs.Prelude.{◌≡◌, ◌⊎◌, ℕ, true, List, None, Some}
+use Rattle.journal.specs.declared.error.HubError.{HubError}
+use Rattle.journal.specs.declared.error.HubError.TheVariants as hub
+use Rattle.journal.specs.declared.error.RecoveryRefusal.{RecoveryRefusal}
+use Rattle.journal.specs.declared.socket.Socket.{Socket}
+use Rattle.journal.specs.declared.step.What.{What}
+use Rattle.journal.specs.Plain.{PlainRecovery}
+use Rattle.journal.specs.Recovery.{recovery_of}
+use Rattle.journal.specs.Journal.{History, moment_at, with_step}
+use Rattle.journal.specs.Command.{refusal}
+use Rattle.journal.specs.Membership.{place_of, is_space, is_open, is_connected, sid_of}
+use Rattle.effects.specs.declared.app.Who.{Who}
+use Rattle.effects.specs.declared.fault.CoreFault.{CoreFault}
+use Rattle.effects.specs.declared.fault.CoreFault.TheVariants.{Memory, IdTaken, TooManyClients, Spent, UnknownClient}
+
+-- the command that makes this step is accepted, and the journal is one step longer
+abbrev pub Makes : History → ℕ → What → History → Type 0
+Makes h now what g = (refusal h (moment_at h now) what ≡ None) × (g ≡ with_step h now what)
+
+-- the command that makes this step is refused for this reason
+abbrev pub IsRefused : History → ℕ → What → HubError → Type 0
+IsRefused h now what e = refusal h (moment_at h now) what ≡ Some e
+
+-- a refusal that ends the event
+abbrev pub IsFault : HubError → Type 0
+IsFault hub.Memory = Unit {0}
+IsFault hub.IdTaken = Unit {0}
+IsFault hub.TooManyClients = Unit {0}
+IsFault hub.Spent = Unit {0}
+IsFault _ = ⊥
+
+-- the fault by its name; no other refusal ends an event
+abbrev pub fault_of : HubError → CoreFault
+fault_of hub.Memory = Memory
+fault_of hub.IdTaken = IdTaken
+fault_of hub.TooManyClients = TooManyClients
+fault_of hub.Spent = Spent
+fault_of _ = UnknownClient
+
+-- the command that makes this step isn't done: for want of memory, or it is refused for a reason that ends the event
+abbrev pub StopsAt : History → ℕ → What → CoreFault → Type 0
+StopsAt h now what fault = (fault ≡ Memory) ⊎ ((e : HubError) × IsRefused h now what e × IsFault e × (fault ≡ fault_of e))
+
+-- the socket is connected, its client is open, and its namespace is one of the hub's
+pub record IsSeated (who : Who) (h : History) : Type 0 where
+  pub open_client : is_open h.base h.journal who.client ≡ true
+  pub connected : is_connected sid_of h.base h.journal who.sid ≡ true
+  pub in_space : is_space h.limits (place_of h.limits who.space) ≡ true
+
+-- the socket at the place of its namespace
+abbrev pub seat : Who → (pid : ℕ) → History → Socket
+seat who pid h = record { client = who.client; space = place_of h.limits who.space; sid = who.sid; pid = pid }
+
+-- what brings a session back in a namespace
+abbrev pub return_of : (c : ℕ) → (space : List ℕ) → (pid offset : ℕ) → History → PlainRecovery
+return_of c space pid offset h = recovery_of h.base h.limits h.journal c (place_of h.limits space) pid offset
+
+-- the session can't come back, or what it missed has no place in the client's outbox
+abbrev pub CannotReturn : History → ℕ → What → Type 0
+CannotReturn h now what = ((why : RecoveryRefusal) × IsRefused h now what (hub.NotRecoverable why)) ⊎ IsRefused h now what hub.OutboxFull

@@ -1,0 +1,183 @@
+-- What the app's effects do (Socket.IO protocol 5, "Sending and receiving data" and "Disconnection from a namespace";
+-- Socket.IO server documentation, "Rooms").
+use Rattle.std.specs.Prelude.{◌≡◌, ◌⊎◌, ℕ, ◌+◌, ◌==◌, min, Bool, true, false, not, ◌||◌, List, [], ◌∷◌, ◌++◌, length, filter, nat_lt, is_none, Option, None, Some, slice_get, take, if◌then◌else◌}
+use Rattle.std.specs.List.{list_any}
+use Rattle.std.specs.Option.{option_or}
+use Rattle.room_maps.specs.declared.error.RoomError.{RoomError}
+use Rattle.sio_wire.specs.declared.entry.Entry.{Entry}
+use Rattle.sio_wire.specs.declared.header.Header.{Header}
+use Rattle.sio_wire.specs.declared.kind.Kind.TheVariants.{Ack, BinaryAck}
+use Rattle.sio_wire.specs.Header.{Plain}
+use Rattle.sio_wire.specs.Offset.{is_bracket}
+use Rattle.sio_wire.specs.Disconnect.{disconnect_text}
+use Rattle.journal.specs.declared.error.HubError.TheVariants as hub
+use Rattle.journal.specs.declared.step.What.{What}
+use Rattle.journal.specs.declared.step.What.TheVariants as what
+use Rattle.journal.specs.Plain.{PlainCast, PlainCastDone}
+use Rattle.journal.specs.Journal.{History}
+use Rattle.journal.specs.Casting.{refusal_of, IsCast, IsSpentBy}
+use Rattle.effects.specs.declared.app.Effect.{Effect}
+use Rattle.effects.specs.declared.app.Effect.TheVariants.{Join, Leave, Emit, Reply, Disconnect}
+use Rattle.effects.specs.declared.app.Reply as reply
+use Rattle.effects.specs.declared.app.Who.{Who}
+use Rattle.effects.specs.declared.cause.Cause.{Cause}
+use Rattle.effects.specs.declared.cause.Cause.TheVariants.{OutboxFull}
+use Rattle.effects.specs.declared.act.Turn.{Turn}
+use Rattle.effects.specs.declared.fault.CoreFault.{CoreFault}
+use Rattle.effects.specs.declared.fault.CoreFault.TheVariants.{Memory, Spent, BadEffect}
+use Rattle.effects.specs.Emission.{PlainEmission}
+use Rattle.journal.specs.Membership.{is_open}
+use Rattle.effects.specs.Commands.{Makes, IsRefused, StopsAt, IsSeated}
+use Rattle.hub.specs.Pass.{PlainHub}
+use Rattle.effects.specs.Plain.{PlainDone}
+use Rattle.effects.specs.Runs.{Runs}
+
+-- where an event stands between two effects of a packet: the hub's history, what was done of the event, and of the packet
+pub record Scene : Type 0 where
+  pub history : History
+  pub done : PlainDone
+  pub turn : Turn
+
+abbrev pub scene : PlainHub → PlainDone → Turn → Scene
+scene hub done turn = record { history = hub.history; done = done; turn = turn }
+
+-- ---- what is done
+
+-- one effect more was done
+abbrev pub one_more : PlainDone → PlainDone
+one_more done = record done { effects = min (done.effects + 1) 18446744073709551615 }
+
+abbrev pub counted : Scene → Scene
+counted s = record s { done = one_more s.done; turn = record s.turn { count = s.turn.count + 1 } }
+
+-- an effect was skipped for this reason, or not: the first reason is kept
+abbrev pub noted : Option RoomError → PlainDone → PlainDone
+noted refused done = record done { skipped = option_or done.skipped refused }
+
+-- these clients got something; the event's own is left out
+abbrev pub told : ℕ → List ℕ → PlainDone → PlainDone
+told c ids done = record done { clients = done.clients ++ filter (λ d. not (d == c)) ids ∷ [] }
+
+-- the client is closed for this cause
+abbrev pub Closes : ℕ → ℕ → Cause → (h g : History) → (old new : PlainDone) → Type 0
+Closes c now cause h g old new = Makes h now (what.Closed c) g × (new ≡ record old { closed = Some cause })
+
+-- ---- which effects the app may not have
+
+-- no offset could be added to the payload, or too many attachments go with it
+abbrev pub is_unsendable : List ℕ → List (List ℕ) → Bool
+is_unsendable payload attachments = not (list_any is_bracket payload) || nat_lt 32 (length attachments)
+
+-- the effect can't be done by itself: what it sends can't be sent, or no reply is asked for, or one was given
+abbrev pub is_wrong : (asked : Option ℕ) → Turn → Effect → Bool
+is_wrong asked turn (Emit e) = is_unsendable e.payload e.attachments
+is_wrong asked turn (Reply r) = (turn.replied || is_none asked) || is_unsendable r.payload r.attachments
+is_wrong asked turn _ = false
+
+-- it can't be done, or comes after the socket was disconnected
+abbrev pub is_bad : (asked : Option ℕ) → Turn → Effect → Bool
+is_bad asked turn effect = turn.ended || is_wrong asked turn effect
+
+-- ---- each effect
+
+-- a change of the socket's rooms: where the rooms don't allow it, it is skipped
+abbrev pub ChangesRooms : What → ℕ → Scene → Scene → Type 0
+ChangesRooms what now s t =
+    (Makes s.history now what t.history × (t ≡ record (counted s) { history = t.history }))
+    ⊎ ((e : RoomError) × IsRefused s.history now what (hub.RoomRefused e) × (t ≡ record (counted s) { done = noted (Some e) (one_more s.done) }))
+
+-- the broadcast that is asked for
+abbrev pub cast_of : Who → PlainEmission → PlainCast
+cast_of who e =
+    record { space = who.space; rooms = e.rooms; excepted = e.excepted; logged = e.logged; payload = e.payload; attachments = e.attachments }
+
+abbrev pub Emits : Who → PlainEmission → ℕ → Scene → Scene → Type 0
+Emits who e now s t = (refusal_of s.history (cast_of who e) ≡ None)
+    × (done : PlainCastDone)
+    × IsCast s.history t.history now (cast_of who e) done
+    × (t ≡ record (counted s) { history = t.history; done = told who.client done.clients (one_more s.done) })
+
+-- the acknowledgement of the event with this id
+abbrev pub reply_header : List ℕ → (id : ℕ) → reply.Reply → Header
+reply_header space id r =
+    record { kind = if length r.attachments == 0 then Ack else BinaryAck; space = space; id = Some id; payload = r.payload; count = length r.attachments }
+
+pub record IsReply (space : List ℕ) (id : ℕ) (r : reply.Reply) (entry : Entry) : Type 0 where
+  pub text : Plain (reply_header space id r) entry.text
+  pub attachments : entry.attachments ≡ r.attachments
+
+-- the client is told, or closed where its outbox has no place for it
+abbrev pub Replies : Who → (id : ℕ) → reply.Reply → ℕ → Scene → Scene → Type 0
+Replies who id r now s t = (entry : Entry) × IsReply who.space id r entry
+    × ((Makes s.history now (what.Told (record { client = who.client; entry = entry })) t.history
+    × (t ≡ record (counted s) { history = t.history; turn = record (counted s).turn { replied = true } }))
+    ⊎ (IsRefused s.history now (what.Told (record { client = who.client; entry = entry })) hub.OutboxFull
+    × Closes who.client now OutboxFull s.history t.history s.done t.done × (t.turn ≡ s.turn)))
+
+-- the client is told that the socket ends, where its outbox has a place for that
+abbrev pub goodbye : Who → What
+goodbye who = what.Told (record { client = who.client; entry = record { text = disconnect_text who.space; attachments = [] } })
+
+abbrev pub SaysGoodbye : Who → ℕ → History → History → Type 0
+SaysGoodbye who now h g = Makes h now (goodbye who) g ⊎ (IsRefused h now (goodbye who) hub.OutboxFull × (g ≡ h))
+
+abbrev pub Disconnects : Who → ℕ → Scene → Scene → Type 0
+Disconnects who now s t = (between : History) × SaysGoodbye who now s.history between × Makes between now (what.Ended who.sid) t.history
+    × (t ≡ record (counted s) { history = t.history; turn = record (counted s).turn { ended = true } })
+
+-- what the effect does where it is allowed
+abbrev pub Acts : Who → (asked : Option ℕ) → ℕ → Scene → Effect → Scene → Type 0
+Acts who asked now s (Join room) t = ChangesRooms (what.Joined who.sid room) now s t
+Acts who asked now s (Leave room) t = ChangesRooms (what.Left who.sid room) now s t
+Acts who asked now s (Emit e) t = Emits who e now s t
+Acts who asked now s (Reply r) t = (id : ℕ) × (asked ≡ Some id) × Replies who id r now s t
+Acts who asked now s Disconnect t = Disconnects who now s t
+
+-- an effect in its turn: after the client was closed nothing more is done
+abbrev pub ActsInTurn : Who → (asked : Option ℕ) → ℕ → Scene → Effect → Scene → Type 0
+ActsInTurn who asked now s effect t = elim s.done.closed [
+  | Some cause ↦ t ≡ s
+  | None ↦ (is_bad asked s.turn effect ≡ false) × Acts who asked now s effect t
+]
+
+-- ---- where the effects stop
+
+-- the client isn't told, or isn't closed where its outbox has no place
+abbrev pub FailsToTell : Who → ℕ → History → Entry → CoreFault → Type 0
+FailsToTell who now h entry fault =
+    StopsAt h now (what.Told (record { client = who.client; entry = entry })) fault
+    ⊎ (IsRefused h now (what.Told (record { client = who.client; entry = entry })) hub.OutboxFull × StopsAt h now (what.Closed who.client) fault)
+
+-- an effect that is allowed isn't done: for want of memory, or since a count or the offset would pass the greatest u64
+abbrev pub Fails : Who → (asked : Option ℕ) → ℕ → History → Effect → CoreFault → Type 0
+Fails who asked now h (Join room) fault = StopsAt h now (what.Joined who.sid room) fault
+Fails who asked now h (Leave room) fault = StopsAt h now (what.Left who.sid room) fault
+Fails who asked now h (Emit e) fault = (fault ≡ Memory) ⊎ ((fault ≡ Spent) × IsSpentBy h (cast_of who e))
+Fails who asked now h (Reply r) fault = (fault ≡ Memory) ⊎ ((id : ℕ) × (asked ≡ Some id) × (entry : Entry) × IsReply who.space id r entry × FailsToTell who now h entry fault)
+Fails who asked now h Disconnect fault = (fault ≡ Memory) ⊎ StopsAt h now (goodbye who) fault ⊎ StopsAt h now (what.Ended who.sid) fault
+
+-- the hub's history then: of a disconnection the client may have been told already
+abbrev pub IsLeft : Who → ℕ → Effect → History → History → Type 0
+IsLeft who now Disconnect h g = (g ≡ h) ⊎ SaysGoodbye who now h g
+IsLeft who now _ h g = g ≡ h
+
+-- the effect ends the event with this fault
+abbrev pub Stops : Who → (asked : Option ℕ) → ℕ → Scene → Effect → CoreFault → History → Type 0
+Stops who asked now s effect fault g = (s.done.closed ≡ None)
+    × (((fault ≡ BadEffect) × (is_bad asked s.turn effect ≡ true) × (g ≡ s.history))
+    ⊎ ((is_bad asked s.turn effect ≡ false) × Fails who asked now g effect fault × IsLeft who now effect s.history g))
+
+-- so many of the effects were done, and the next one ends the event
+abbrev pub StopsAfter : Who → (asked : Option ℕ) → ℕ → List Effect → Scene → CoreFault → (count : ℕ) → History → Type 0
+StopsAfter who asked now effects s fault count g =
+    (done : ℕ) × (at : Scene) × Runs (ActsInTurn who asked now) (take done effects) s at × (at.turn.count ≡ count)
+    × (effect : Effect) × (slice_get effects done ≡ Some effect) × Stops who asked now at effect fault g
+
+-- all effects of a packet, in order
+abbrev pub ActsAll : Who → (asked : Option ℕ) → ℕ → List Effect → Scene → History → PlainDone → Type 0
+ActsAll who asked now effects s g done = (t : Scene) × Runs (ActsInTurn who asked now) effects s t × (t.history ≡ g) × (t.done ≡ done)
+
+-- the client is open unless it was closed, and its socket is connected unless it was disconnected
+pub record StandsWith (who : Who) (s : Scene) : Type 0 where
+  pub open_client : is_open s.history.base s.history.journal who.client ≡ is_none s.done.closed
+  pub seated : s.done.closed ≡ None → s.turn.ended ≡ false → IsSeated who s.history

@@ -1,0 +1,10 @@
+-- An event that the app sends, as plain data.
+use Rattle.std.specs.Prelude.{ℕ, Bool, List}
+
+-- its rooms and excepted rooms, whether it is logged, the event as a JSON array and its attachments
+pub record PlainEmission : Type 0 where
+  pub rooms : List (List ℕ)
+  pub excepted : List (List ℕ)
+  pub logged : Bool
+  pub payload : List ℕ
+  pub attachments : List (List ℕ)
