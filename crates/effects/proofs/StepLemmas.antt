@@ -1,6 +1,6 @@
 -- What one more step of an event leaves as it was.
 use Rattle.std.proofs.Common.{◌≡◌, ◌≢◌, ℕ, ◌==◌, Bool, true, false, not, ◌&&◌, ◌||◌, List, [], ◌∷◌, ◌++◌, refl, sym, ◌∙◌, ap, subst, arith, map, filter, is_some, append-nil, if◌then◌else◌, Option, None, Some}
-use Rattle.std.specs.List.{list_any, find}
+use Rattle.std.specs.List.{AllByRecursion, list_any, find}
 use Rattle.std.specs.Option.{option_or}
 use Rattle.std.proofs.lemmas.Bool.Decides.{nat_tests}
 use Rattle.std.proofs.lemmas.List.Folds.{find-append, list_any-append}
@@ -22,7 +22,7 @@ use Rattle.journal.proofs.SocketsLemmas.{neither}
 use Rattle.hub.specs.Pass.{PlainHub, PlainPass, Rises}
 use Rattle.effects.specs.declared.app.Who.{Who}
 use Rattle.effects.specs.Commands.{IsSeated}
-use Rattle.effects.specs.Following.{is_clean, is_own, Follows, WorksFor, is_listed, Spares}
+use Rattle.effects.specs.Following.{is_clean, is_own, is_cast, CastsNothing, Follows, WorksFor, is_listed, Spares}
 
 pub itself : (c : ℕ) → (c == c) ≡ true
 itself c = grind (arith, nat_tests)
@@ -122,11 +122,6 @@ none-for : (e d : ℕ) (es : List Entry) → (e == d) ≡ false → entries_for 
 none-for e d [] other = refl
 none-for e d (x ∷ es) other = rw other (none-for e d es other)
 
--- the step is a broadcast
-abbrev pub is_cast : What → Bool
-is_cast (Cast b) = true
-is_cast _ = false
-
 -- a step of a client that is no broadcast doesn't open another one
 begins-none : (c d : ℕ) (what : What) → is_own c what ≡ true → d ≢ c → begins d what ≡ false
 begins-none c d (Opened e) own other = apart e c d own other
@@ -154,6 +149,17 @@ same-placements c d base limits step before own isnt other =
 pub spares-on : (c now : ℕ) (what : What) (h k : History) → k ≡ with_step h now what → is_own c what ≡ true → is_cast what ≡ false → (g : History) (lists : List (List ℕ)) → Spares c g h lists → Spares c g k lists
 spares-on c now what h k made own isnt g lists before d other unlisted =
     rw made (same-placements c d h.base h.limits (step_at h now what) h.journal own isnt other ∙ before d other unlisted)
+
+same-after : (c d : ℕ) (base : PlainBase) (limits : Limits) (steps before : List Step) → AllByRecursion (λ (step : Step). is_own c step.what ≡ true) steps → CastsNothing steps → d ≢ c
+    → placements base limits (steps ++ before) d ≡ placements base limits before d
+same-after c d base limits [] before own nothing other = refl
+same-after c d base limits (step ∷ steps) before own nothing other =
+    same-placements c d base limits step (steps ++ before) own.0 nothing.0 other ∙ same-after c d base limits steps before own.1 nothing.1 other
+
+-- an event without a broadcast puts nothing for another client
+pub spared : (c : ℕ) (h g : History) (follows : Follows c h g) → CastsNothing follows.steps → Spares c h g []
+spared c h g follows nothing d other unlisted =
+    rw (follows.base, follows.limits, follows.journal) (same-after c d h.base h.limits follows.steps h.journal follows.own nothing other)
 
 -- where a client is in none of the lists and not in one more
 unlisted-in : (d : ℕ) (ids : List ℕ) (lists : List (List ℕ)) → is_listed d (lists ++ ids ∷ []) ≡ false → (is_listed d lists ≡ false) × (list_any (λ e. e == d) ids ≡ false)

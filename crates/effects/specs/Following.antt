@@ -4,7 +4,7 @@ use Rattle.std.specs.List.{AllByRecursion, list_any}
 use Rattle.sio_wire.specs.declared.entry.Entry.{Entry}
 use Rattle.journal.specs.declared.step.Step.{Step}
 use Rattle.journal.specs.declared.step.What.{What}
-use Rattle.journal.specs.declared.step.What.TheVariants.{Opened, Attached, Recovered, AllEnded, Told, Took, Parked, Closed, Swept}
+use Rattle.journal.specs.declared.step.What.TheVariants.{Opened, Attached, Recovered, Cast, AllEnded, Told, Took, Parked, Closed, Swept}
 use Rattle.journal.specs.Journal.{History}
 use Rattle.journal.specs.Entries.{AllPass, own_entries}
 use Rattle.journal.specs.Outboxes.{placements}
@@ -26,6 +26,15 @@ is_own c (Closed d) = d == c
 is_own c (AllEnded d) = false
 is_own c Swept = false
 is_own c _ = true
+
+-- the step is a broadcast
+abbrev pub is_cast : What → Bool
+is_cast (Cast b) = true
+is_cast _ = false
+
+-- none of the steps is
+abbrev pub CastsNothing : List Step → Type 0
+CastsNothing steps = AllByRecursion (λ (step : Step). is_cast step.what ≡ false) steps
 
 -- the history goes on with steps for an event of this client, which bring in only entries without U+001E
 pub record Follows (c : ℕ) (before after : History) : Type 0 where

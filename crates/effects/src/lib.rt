@@ -8,6 +8,7 @@ pub mod commands;
 mod done;
 mod emission;
 mod fault;
+mod laws;
 mod receivers;
 
 pub use act::{Turn, act_all, close_for};
@@ -16,4 +17,5 @@ pub use cause::Cause;
 pub use done::Done;
 pub use emission::Emission;
 pub use fault::{CoreError, CoreFault};
+pub use laws::others_are_spared;
 pub use receivers::Receivers;

@@ -1,0 +1,6 @@
+mod ConnectLemmas
+mod CountLemmas
+mod PacketLemmas
+mod ServerLemmas
+mod TakeLemmas
+mod TurnLemmas

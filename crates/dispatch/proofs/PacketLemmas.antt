@@ -1,0 +1,137 @@
+-- What a packet does, put together from what its parts do.
+use Rattle.std.proofs.Common.{◌≡◌, ◌≢◌, ◌⊎◌, ℕ, ◌==◌, Bool, true, false, List, [], ◌∷◌, filter, refl, sym, ◌∙◌, ap, subst, arith, is_some, if◌then◌else◌, Option, None, Some, Result, Ok, Err, IfOk, IfErr, OnOk, inl, inr}
+use Rattle.std.specs.List.{AllByRecursion, find}
+use Rattle.std.specs.Map.{lookup}
+use Rattle.std.specs.Option.{option_map}
+use Rattle.std.proofs.lemmas.Bool.Decides.{nat_tests}
+use Rattle.sio_wire.specs.declared.entry.SioPacket.{SioPacket}
+use Rattle.sio_wire.specs.declared.kind.Kind.{Kind}
+use Rattle.sio_wire.specs.declared.kind.Kind.TheVariants as kind
+use Rattle.sio_wire.specs.declared.assembler.Progress.TheVariants.{Failed}
+use Rattle.sio_wire.specs.declared.error.SioError.{SioError}
+use Rattle.sio_wire.specs.declared.error.SioError.TheVariants as sio
+use Rattle.sio_wire.specs.Frames.{text, binary, Accepts, RefusesText, binary_refusal}
+use Rattle.ack_book.specs.Book.{answer_of}
+use Rattle.ack_book.specs.Questions.{question_at}
+use Rattle.ack_book.specs.declared.book.Question.{Question}
+use Rattle.connection.specs.History.{Framed, book_calls}
+use Rattle.connection.specs.Line.{PlainLine, ForEachHistory, Advances, book_in}
+use Rattle.journal.specs.declared.error.HubError.TheVariants as hub
+use Rattle.journal.specs.declared.socket.Socket.{Socket}
+use Rattle.journal.specs.declared.step.What.TheVariants as what
+use Rattle.journal.specs.Journal.{History}
+use Rattle.journal.specs.Membership.{place_of, is_open, is_space, sid_of, has_id, socket_with, sockets, sockets_of, socket_of}
+use Rattle.effects.specs.declared.app.Arrived.{Arrived}
+use Rattle.effects.specs.declared.app.Effect.{Effect}
+use Rattle.effects.specs.declared.app.Who.{Who}
+use Rattle.effects.specs.declared.cause.Cause.TheVariants as cause
+use Rattle.effects.specs.App.{PlainVerdict}
+use Rattle.effects.specs.Commands.{IsRefused, IsSeated}
+use Rattle.dispatch.specs.Packets.{Stage, Upshot, AsksToConnect, ClosesFor, ParksFor, ServesJoined, Works, GoesOn, TakesText, TakesBinary}
+
+-- a client whose sessions have no place is closed
+pub parks : (c now : ℕ) (s : Stage) (result : Upshot) (t : Stage) → IsRefused s.history now (what.Parked c) hub.SavedFull → ClosesFor c now cause.ClientClosed s result t → ParksFor c now s result t
+parks c now s (Ok done) t refused closed = inr (refused, closed)
+parks c now s (Err e) t refused closed = inr (refused, closed)
+
+-- ---- questions
+
+pub until_of : Option Question → ℕ
+until_of None = 0
+until_of (Some question) = question.until
+
+-- the question that a socket's book holds under an id
+abbrev pub held : PlainLine → (s id tag : ℕ) → Question
+held l s id tag = record { tag = tag; until = until_of (lookup (λ key. id == key) (book_in l.books s).questions) }
+
+-- an answer that gives a tag is to the question that the book holds
+pub question-held : (l : PlainLine) (s id tag : ℕ) → ForEachHistory l (λ o h. Ok tag ≡ answer_of (question_at 0 (book_calls s h) id))
+    → ForEachHistory l (λ o h. question_at 0 (book_calls s h) id ≡ Some (held l s id tag))
+unfolding until_of
+question-held l s id tag each o h leads =
+    let same : question_at 0 (book_calls s h) id ≡ lookup (λ key. id == key) (book_in l.books s).questions = ap (lookup (λ key. id == key)) (sym (leads.books s).questions) in
+    same ∙ on (lookup (λ key. id == key) (book_in l.books s).questions) (each o h leads ∙ ap answer_of same)
+  where
+    on : (q : Option Question) → ◌≡◌ {A = Result ℕ _} (Ok tag) (answer_of q) → q ≡ Some (record { tag = tag; until = until_of q })
+    on None e = absurd (cc e)
+    on (Some question) e = let same : tag ≡ question.tag = cc in rw same refl
+
+-- ---- the socket of a client
+
+-- what is found among a client's sockets is a connected socket at that place
+abbrev Found : (P : Socket → Type 0) (c place : ℕ) (ks : List Socket) (k : Socket) → Type 0
+Found P c place ks k = find (λ (l : Socket). l.space == place) (filter (λ (l : Socket). l.client == c) ks) ≡ Some k → P k × (k.space ≡ place) × (is_some (find (has_id sid_of k.sid) ks) ≡ true)
+
+found-in : (P : Socket → Type 0) (c place : ℕ) (ks : List Socket) (k : Socket) → AllByRecursion P ks → Found P c place ks k
+found-in P c place [] k all found = absurd (cc found)
+found-in P c place (l ∷ ks) k all found = on (l.client == c) refl found (found-in P c place ks k all.1)
+  where
+    still : (b : Bool) → is_some (find (has_id sid_of k.sid) ks) ≡ true → is_some (if b then Some l else find (has_id sid_of k.sid) ks) ≡ true
+    still true e = refl
+    still false e = e
+
+    at : (b : Bool) → (l.space == place) ≡ b → (if b then Some l else find (λ (l : Socket). l.space == place) (filter (λ (l : Socket). l.client == c) ks)) ≡ Some k → Found P c place ks k
+        → P k × (k.space ≡ place) × (is_some (find (has_id sid_of k.sid) (l ∷ ks)) ≡ true)
+    at true is here rest =
+        let same : l ≡ k = cc in
+        let space : l.space ≡ place = grind (arith, nat_tests, is) in
+        let own : (k.sid == k.sid) ≡ true = grind (arith, nat_tests) in
+        (subst P same all.0, ap (λ (k : Socket). k.space) (sym same) ∙ space, rw (same, own) refl)
+    at false is there rest = let r = rest there in (r.0, r.1, still (l.sid == k.sid) r.2)
+
+    on : (b : Bool) → (l.client == c) ≡ b → find (λ (l : Socket). l.space == place) (if b then l ∷ filter (λ (l : Socket). l.client == c) ks else filter (λ (l : Socket). l.client == c) ks) ≡ Some k → Found P c place ks k
+        → P k × (k.space ≡ place) × (is_some (find (has_id sid_of k.sid) (l ∷ ks)) ≡ true)
+    on true is found rest = at (l.space == place) refl found rest
+    on false is found rest = let r = rest found in (r.0, r.1, still (l.sid == k.sid) r.2)
+
+seated-found : (h : History) (who : Who) (k : Socket) → AllByRecursion (λ (l : Socket). is_space h.limits l.space ≡ true) (sockets h.base h.journal) → is_open h.base h.journal who.client ≡ true
+    → socket_of h.base h.journal who.client (place_of h.limits who.space) ≡ Some k → who.sid ≡ k.sid → IsSeated who h
+unfolding socket_of sockets_of socket_with
+seated-found h who k in_spaces is_open found sid =
+    let r = found-in (λ (l : Socket). is_space h.limits l.space ≡ true) who.client (place_of h.limits who.space) (sockets h.base h.journal) k in_spaces found in
+    record {
+      open_client = is_open;
+      connected = rw sid r.2;
+      in_space = subst (λ (place : ℕ). is_space h.limits place ≡ true) r.1 r.0;
+    }
+
+-- the socket whose id is known is seated
+pub seated-at : (h : History) (who : Who) → AllByRecursion (λ (l : Socket). is_space h.limits l.space ≡ true) (sockets h.base h.journal) → is_open h.base h.journal who.client ≡ true
+    → Some who.sid ≡ option_map sid_of (socket_of h.base h.journal who.client (place_of h.limits who.space)) → IsSeated who h
+seated-at h who in_spaces is_open known = on (socket_of h.base h.journal who.client (place_of h.limits who.space)) refl known
+  where
+    on : (o : Option Socket) → socket_of h.base h.journal who.client (place_of h.limits who.space) ≡ o → Some who.sid ≡ option_map sid_of o → IsSeated who h
+    on None found e = absurd (cc e)
+    on (Some k) found e = seated-found h who k in_spaces is_open found cc
+
+-- ---- frames
+
+module _ (decides : Who → Arrived → List Effect → Type 0) (allows : (space payload : List ℕ) → PlainVerdict → Type 0) where
+  pub works-joined : (c : ℕ) (p : SioPacket) (now : ℕ) (s : Stage) (result : Upshot) (t : Stage) → p.header.kind ≢ kind.Connect → ServesJoined decides c p now s result t → Works decides allows c p now s result t
+  works-joined c p now s result t other serves = on p.header.kind other
+    where
+      on : (k : Kind) → k ≢ kind.Connect → elim k as (λ (k : Kind). Type 0) [ kind.Connect ↦ AsksToConnect allows c p.header.space p.header.payload now s result t | _ ↦ ServesJoined decides c p now s result t ]
+      on kind.Connect other = absurd (other refl)
+      on _ other = serves
+
+  pub takes-text : (c : ℕ) (content : List ℕ) (now : ℕ) (s : Stage) (line : PlainLine) (given : Result (Option SioPacket) SioError) (result : Upshot) (t : Stage)
+      → IfOk given (λ g. Accepts s.line.assembler (text content) g line.assembler)
+      → OnOk given (Advances s.line (Framed (text content) ∷ []) line)
+      → IfErr given (λ e. ((e ≡ sio.Memory) × (line ≡ s.line)) ⊎ (RefusesText s.line.assembler content e × (line ≡ record s.line { assembler = Failed e })))
+      → GoesOn decides allows c given now (record s { line = line }) result t → TakesText decides allows c content now s result t
+  takes-text c content now s line (Ok given) result t accepts advances fault on = inr (inl (given, line, accepts, advances, on))
+  takes-text c content now s line (Err e) result t accepts advances (inl (is, same)) on =
+      inl (subst (λ (l : PlainLine). GoesOn decides allows c (Err sio.Memory) now (record s { line = l }) result t) same (subst (λ (e : SioError). GoesOn decides allows c (Err e) now (record s { line = line }) result t) is on))
+  takes-text c content now s line (Err e) result t accepts advances (inr (refuses, is)) on =
+      inr (inr (e, refuses, subst (λ (l : PlainLine). GoesOn decides allows c (Err e) now (record s { line = l }) result t) is on))
+
+  pub takes-binary : (c : ℕ) (content : List ℕ) (now : ℕ) (s : Stage) (line : PlainLine) (given : Result (Option SioPacket) SioError) (result : Upshot) (t : Stage)
+      → IfOk given (λ g. Accepts s.line.assembler (binary content) g line.assembler)
+      → OnOk given (Advances s.line (Framed (binary content) ∷ []) line)
+      → IfErr given (λ e. ((e ≡ sio.Memory) × (line ≡ s.line)) ⊎ ((binary_refusal s.line.assembler ≡ Some e) × (line ≡ record s.line { assembler = Failed e })))
+      → GoesOn decides allows c given now (record s { line = line }) result t → TakesBinary decides allows c content now s result t
+  takes-binary c content now s line (Ok given) result t accepts advances fault on = inr (inl (given, line, accepts, advances, on))
+  takes-binary c content now s line (Err e) result t accepts advances (inl (is, same)) on =
+      inl (subst (λ (l : PlainLine). GoesOn decides allows c (Err sio.Memory) now (record s { line = l }) result t) same (subst (λ (e : SioError). GoesOn decides allows c (Err e) now (record s { line = line }) result t) is on))
+  takes-binary c content now s line (Err e) result t accepts advances (inr (refuses, is)) on =
+      inr (inr (e, refuses, subst (λ (l : PlainLine). GoesOn decides allows c (Err e) now (record s { line = l }) result t) is on))

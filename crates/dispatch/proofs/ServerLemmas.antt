@@ -1,0 +1,187 @@
+-- What a core keeps from event to event.
+use Rattle.std.proofs.Common.{◌≡◌, ℕ, ◌+◌, ◌-◌, ◌<◌, ◌≤◌, false, List, [], ◌∷◌, ◌++◌, length, take, get_or, map, refl, sym, ◌∙◌, ap, subst, Result, Ok, Err, IfOk, OnOk, OnErr}
+use Rattle.std.specs.List.{AllByRecursion}
+use Rattle.std.proofs.lemmas.List.{take_more, take_all}
+use Rattle.eio_wire.specs.declared.handshake.Numbers.{Numbers}
+use Rattle.session_clock.specs.declared.timing.Timing.{Timing}
+use Rattle.connection.specs.Line.{PlainLine}
+use Rattle.journal.specs.declared.step.Step.{Step}
+use Rattle.journal.specs.Config.{empty_base}
+use Rattle.journal.specs.Plain.{Limits, PlainBase, PlainBaseClient}
+use Rattle.journal.specs.Journal.{History}
+use Rattle.journal.specs.Entries.{own_entries, AllPass}
+use Rattle.journal.specs.Membership.{open_clients, is_open}
+use Rattle.journal.specs.Seal.{base_client, client_of, IsSealed, SaysTheSame}
+use Rattle.journal.proofs.EntriesLemmas.{what-waits}
+use Rattle.journal.proofs.SealListsLemmas.{all-append}
+use Rattle.hub.specs.Pass.{PlainHub, PlainPass}
+use Rattle.effects.specs.declared.app.Arrived.{Arrived}
+use Rattle.effects.specs.declared.app.Effect.{Effect}
+use Rattle.effects.specs.declared.app.Who.{Who}
+use Rattle.effects.specs.App.{PlainVerdict}
+use Rattle.effects.specs.Following.{is_clean, Follows, WorksFor, Spares}
+use Rattle.dispatch.specs.declared.event.Event.{Event}
+use Rattle.dispatch.specs.Place.{Place, PlainCore, Agree, IsClean}
+use Rattle.dispatch.specs.Machine.{Answer, Does, Machine, listed, speaker}
+use Rattle.dispatch.proofs.TurnLemmas.{works-none}
+
+-- ---- a new core
+
+abbrev fresh : Limits → History
+fresh limits = record { base = empty_base limits.first_offset; limits = limits; journal = [] }
+
+nobody : (base : PlainBase) → base.clients ≡ [] → (d : ℕ) → false ≡ is_open base [] d
+unfolding is_open open_clients
+nobody base none d = rw none refl
+
+pub agree-fresh : (limits : Limits) (h : History) (lines : List (ℕ × PlainLine)) → h ≡ fresh limits → lines ≡ [] → Agree h lines
+agree-fresh limits h lines is none = rw (is, none) (nobody (empty_base limits.first_offset) refl)
+
+pub clean-fresh : (limits : Limits) (h : History) → h ≡ fresh limits → IsClean h
+clean-fresh limits h is = rw is (record { base_clients = tt; base_log = tt; steps = tt })
+
+-- ---- an event
+
+-- the steps of an event bring in only entries without U+001E
+pub clean-after : (c : ℕ) (h g : History) → IsClean h → Follows c h g → IsClean g
+clean-after c h g clean follows = rw (follows.base, follows.limits, follows.journal) (record {
+  base_clients = clean.base_clients;
+  base_log = clean.base_log;
+  steps = all-append (λ (step : Step). AllPass is_clean (own_entries h.limits step.what)) follows.steps h.journal follows.clean clean.steps;
+})
+
+-- nothing was done
+spares-none : (c : ℕ) (h : History) (lists : List (List ℕ)) → Spares c h h lists
+spares-none c h lists = λ d other out. refl
+
+-- where fewer may be listed, more may be
+spares-more : (c : ℕ) (h g : History) (lists : List (List ℕ)) → Spares c h g [] → Spares c h g lists
+spares-more c h g lists spares = λ d other out. spares d other refl
+
+-- the event is this one, and its turn goes on from each hub that worked for its client
+pub works-as : (event named : Event) (ids : ℕ → ℕ) (old new : PlainHub) (p q : PlainPass) → event ≡ named
+    → ((h : PlainHub) (r : PlainPass) → WorksFor (speaker named ids) h old r p → WorksFor (speaker named ids) h new r q) → WorksFor (speaker event ids) old new p q
+works-as event named ids old new p q is on =
+    subst (λ (e : Event). WorksFor (speaker e ids) old new p q) (sym is) (on old p (works-none (speaker named ids) old p))
+
+-- its turn lists no other client
+pub spares-as : (event named : Event) (ids : ℕ → ℕ) (h g : History) (answer : Answer) → event ≡ named
+    → ((f : History) → Spares (speaker named ids) f h [] → Spares (speaker named ids) f g []) → IfOk answer (λ o. Spares (speaker event ids) h g (listed o))
+spares-as event named ids h g (Ok o) is on =
+    subst (λ (e : Event). Spares (speaker e ids) h g (listed o)) (sym is) (spares-more (speaker named ids) h g (listed o) (on h (spares-none (speaker named ids) h [])))
+spares-as event named ids h g (Err e) is on = tt
+
+-- its turn lists those that it reached
+pub spares-listed : (event named : Event) (ids : ℕ → ℕ) (h g : History) (answer : Answer) → event ≡ named
+    → IfOk answer (λ o. (f : History) → Spares (speaker named ids) f h [] → Spares (speaker named ids) f g (listed o)) → IfOk answer (λ o. Spares (speaker event ids) h g (listed o))
+spares-listed event named ids h g (Ok o) is on =
+    subst (λ (e : Event). Spares (speaker e ids) h g (listed o)) (sym is) (on h (spares-none (speaker named ids) h []))
+spares-listed event named ids h g (Err e) is on = tt
+
+-- ---- a seal
+
+all-made : {A B : Type 0} (P : B → Type 0) (f : A → B) → ((x : A) → P (f x)) → (xs : List A) → AllByRecursion P (map f xs)
+all-made P f each [] = tt
+all-made P f each (x ∷ xs) = (each x, all-made P f each xs)
+
+clean-sealed : (h g : History) → IsSealed h g → IsClean h → IsClean g
+clean-sealed h g sealed clean =
+    let holds = what-waits is_clean h.base h.limits h.journal clean in
+    record {
+      base_clients = subst (AllByRecursion (λ (b : PlainBaseClient). AllPass is_clean b.waiting)) (sym sealed.leads.clients_are)
+          (all-made (λ (b : PlainBaseClient). AllPass is_clean b.waiting) (base_client h.base h.limits h.journal) holds.waits (map client_of g.base.clients));
+      base_log = rw sealed.leads.log_is holds.logged;
+      steps = rw sealed.no_steps tt;
+    }
+
+agree-sealed : (h g : History) (lines : List (ℕ × PlainLine)) → SaysTheSame h g → Agree h lines → Agree g lines
+agree-sealed h g lines same agree = λ d. agree d ∙ sym (same.same_open d)
+
+abbrev IsKept : List (ℕ × PlainLine) → PlainHub → Type 0
+IsKept lines hub = Agree hub.history lines × IsClean hub.history
+
+pub kept-sealed : {X E : Type 0} (r : Result X E) (lines : List (ℕ × PlainLine)) (old new : PlainHub)
+    → OnOk r (IsSealed old.history new.history) → OnOk r (SaysTheSame old.history new.history) → OnErr r (new ≡ old) → IsKept lines old → IsKept lines new
+kept-sealed (Ok x) lines old new sealed same unchanged kept = (agree-sealed old.history new.history lines same kept.0, clean-sealed old.history new.history sealed kept.1)
+kept-sealed (Err e) lines old new sealed same unchanged kept = subst (IsKept lines) (sym unchanged) kept
+
+-- ---- a core with another hub
+
+abbrev with_hub : PlainCore → PlainHub → PlainCore
+with_hub core hub = record core { hub = hub }
+
+pub kept-same : (lines : List (ℕ × PlainLine)) (old new : PlainHub) → new ≡ old → IsKept lines old → IsKept lines new
+kept-same lines old new same kept = subst (IsKept lines) (sym same) kept
+
+pub kept-passed : {X E : Type 0} (r : Result X E) (lines : List (ℕ × PlainLine)) (old new : PlainHub)
+    → OnOk r ((1 < old.rest) × (new ≡ record old { rest = old.rest - 1 })) → OnErr r ((old.rest ≡ 1) × (new ≡ old)) → IsKept lines old → IsKept lines new
+kept-passed (Ok x) lines old new passed same kept = subst (IsKept lines) (sym passed.1) kept
+kept-passed (Err e) lines old new passed same kept = subst (IsKept lines) (sym same.1) kept
+
+pub core-same : (core : PlainCore) (old new : PlainHub) → new ≡ old → with_hub core new ≡ with_hub core old
+core-same core old new same = ap (with_hub core) same
+
+pub core-unchanged : {X E : Type 0} (r : Result X E) (core : PlainCore) (old new : PlainHub) → OnErr r (new ≡ old) → OnErr r (with_hub core new ≡ with_hub core old)
+core-unchanged (Ok x) core old new same = tt
+core-unchanged (Err e) core old new same = ap (with_hub core) same
+
+pub core-passed : {X E : Type 0} (r : Result X E) (core : PlainCore) (old new : PlainHub)
+    → OnOk r ((1 < old.rest) × (new ≡ record old { rest = old.rest - 1 })) → OnOk r ((1 < old.rest) × (with_hub core new ≡ with_hub core (record old { rest = old.rest - 1 })))
+core-passed (Ok x) core old new passed = (passed.0, ap (with_hub core) passed.1)
+core-passed (Err e) core old new passed = tt
+
+pub core-spent : {X E : Type 0} (r : Result X E) (core : PlainCore) (old new : PlainHub)
+    → OnErr r ((old.rest ≡ 1) × (new ≡ old)) → OnErr r ((old.rest ≡ 1) × (with_hub core new ≡ with_hub core old))
+core-spent (Ok x) core old new same = tt
+core-spent (Err e) core old new same = (same.0, ap (with_hub core) same.1)
+
+-- ---- the machine
+
+module _ (decides : Who → Arrived → List Effect → Type 0) (allows : (space payload : List ℕ) → PlainVerdict → Type 0) (timing : Timing) (numbers : Numbers) where
+  -- the row of this event
+  pub does-as : (now : ℕ) (event named : Event) (s : Place) (ids : ℕ → ℕ) (answer : Answer) (t : Place) (left : ℕ → ℕ) → event ≡ named
+      → Does decides allows now timing numbers named s ids answer t left → Does decides allows now timing numbers event s ids answer t left
+  does-as now event named s ids answer t left is does = subst (λ (e : Event). Does decides allows now timing numbers e s ids answer t left) (sym is) does
+
+  machine-none : (s : Place) (ids : ℕ → ℕ) → Machine decides allows timing numbers [] [] s ids s ids
+  unfolding Machine
+  machine-none s ids = (refl, refl)
+
+  -- one event more
+  machine-push : (turns : List (Event × ℕ)) (answers : List Answer) (turn : Event × ℕ) (answer : Answer) (s m t : Place) (ids mid last : ℕ → ℕ)
+      → Machine decides allows timing numbers turns answers s ids m mid → Does decides allows turn.1 timing numbers turn.0 m mid answer t last
+      → Machine decides allows timing numbers (turns ++ turn ∷ []) (answers ++ answer ∷ []) s ids t last
+  unfolding Machine
+  machine-push [] [] turn answer s m t ids mid last run does = (
+    t,
+    last,
+    subst (λ (x : Place). Does decides allows turn.1 timing numbers turn.0 x ids answer t last) run.0
+        (subst (λ (x : ℕ → ℕ). Does decides allows turn.1 timing numbers turn.0 m x answer t last) run.1 does),
+    (refl, refl),
+  )
+  machine-push (first ∷ turns) (said ∷ answers) turn answer s m t ids mid last run does =
+      (run.0, run.1, run.2, machine-push turns answers turn answer run.0 m t run.1 mid last run.3 does)
+  machine-push [] (said ∷ answers) turn answer s m t ids mid last run does = absurd run
+  machine-push (first ∷ turns) [] turn answer s m t ids mid last run does = absurd run
+
+  -- no event was done
+  pub machine-start : (answers : List Answer) (s : Place) (ids : ℕ → ℕ) → answers ≡ [] → Machine decides allows timing numbers [] answers s ids s ids
+  machine-start answers s ids none = rw none (machine-none s ids)
+
+  -- the event at an index is done, with the settings as they were
+  pub machine-next : (all : List (Event × ℕ)) (i : ℕ) (turn : Event × ℕ) (answers more : List Answer) (answer : Answer) (told : Timing) (sent : Numbers) (s m t : Place) (ids mid last : ℕ → ℕ)
+      → i < length all → turn ≡ get_or all i turn → more ≡ answers ++ answer ∷ [] → told ≡ timing → sent ≡ numbers
+      → Machine decides allows timing numbers (take i all) answers s ids m mid → Does decides allows turn.1 told sent turn.0 m mid answer t last
+      → Machine decides allows timing numbers (take (i + 1) all) more s ids t last
+  machine-next all i turn answers more answer told sent s m t ids mid last within is pushed tolds sents run does =
+      let next : take (i + 1) all ≡ take i all ++ turn ∷ [] = take_more all i turn within ∙ ap (λ (x : Event × ℕ). take i all ++ x ∷ []) (sym is) in
+      let done = subst (λ (x : Timing). Does decides allows turn.1 x sent turn.0 m mid answer t last) tolds does in
+      let right = subst (λ (x : Numbers). Does decides allows turn.1 timing x turn.0 m mid answer t last) sents done in
+      subst (λ (turns : List (Event × ℕ)). Machine decides allows timing numbers turns more s ids t last) (sym next)
+      (subst (λ (said : List Answer). Machine decides allows timing numbers (take i all ++ turn ∷ []) said s ids t last) (sym pushed)
+      (machine-push (take i all) answers turn answer s m t ids mid last run right))
+
+  -- all were done
+  pub machine-whole : (all : List (Event × ℕ)) (i : ℕ) (answers : List Answer) (s t : Place) (ids last : ℕ → ℕ) → length all ≤ i
+      → Machine decides allows timing numbers (take i all) answers s ids t last → Machine decides allows timing numbers all answers s ids t last
+  machine-whole all i answers s t ids last past run = subst (λ (turns : List (Event × ℕ)). Machine decides allows timing numbers turns answers s ids t last) (take_all i all past) run

@@ -1,0 +1,9 @@
+use Rattle.std.proofs.Common.{ap}
+use Rattle.hub.specs.Pass.{PlainHub}
+use Rattle.dispatch.proofs.ServerLemmas.{agree-fresh, clean-fresh}
+use Rattle.dispatch.proofs.server.Core.new.Goals as goal
+
+pub invariant_of-result : goal.invariant_of-result
+invariant_of-result g c =
+    let is = ap (λ (hub : PlainHub). hub.history) c.in-Ok.ensures.hub in
+    (agree-fresh c.args.config _ _ is c.new-in-Ok.ensures.empty, clean-fresh c.args.config _ is)

@@ -1,0 +1,4 @@
+pub mod Machine
+pub mod Packets
+pub mod Place
+pub mod Takes

@@ -1,0 +1,56 @@
+-- What a core holds: the hub's history, and a line for each client that is open.
+use Rattle.std.specs.Prelude.{◌≡◌, ℕ, ◌==◌, false, List, Option, None, Some, is_some}
+use Rattle.std.specs.Ordering.{nat_cmp}
+use Rattle.std.specs.Map.{lookup}
+use Rattle.std.specs.BTreeMap.{is_at}
+use Rattle.eio_wire.specs.declared.handshake.Numbers.{Numbers}
+use Rattle.session_clock.specs.declared.timing.Timing.{Timing}
+use Rattle.connection.specs.Line.{PlainLine}
+use Rattle.journal.specs.Journal.{History}
+use Rattle.journal.specs.Membership.{is_open}
+use Rattle.journal.specs.Entries.{BringsOnly}
+use Rattle.hub.specs.Pass.{PlainHub}
+use Rattle.effects.specs.Following.{is_clean}
+
+-- the hub, the lines by their clients, and what each new client is told
+pub record PlainCore : Type 0 where
+  pub hub : PlainHub
+  pub lines : List (ℕ × PlainLine)
+  pub timing : Timing
+  pub numbers : Numbers
+
+-- the client's line
+abbrev pub line_of : List (ℕ × PlainLine) → ℕ → Option PlainLine
+line_of lines c = lookup (is_at (nat_cmp c)) lines
+
+-- the hub's history and the clients' lines
+pub record Place : Type 0 where
+  pub history : History
+  pub lines : ℕ → Option PlainLine
+
+abbrev pub place : History → List (ℕ × PlainLine) → Place
+place history lines = record { history = history; lines = line_of lines }
+
+-- the other clients' lines are as they were
+abbrev pub KeepsOthers : ℕ → Place → Place → Type 0
+KeepsOthers c s t = (d : ℕ) → c == d ≡ false → t.lines d ≡ s.lines d
+
+-- the client has such a line now, and the others are as they were
+abbrev pub HasLine : ℕ → (PlainLine → Type 0) → Place → Place → Type 0
+HasLine c P s t = elim (t.lines c) [ None ↦ ⊥ | Some line ↦ P line ] × KeepsOthers c s t
+
+-- the client has no line any more
+abbrev pub LosesLine : ℕ → Place → Place → Type 0
+LosesLine c s t = (t.lines c ≡ None) × KeepsOthers c s t
+
+-- the lines are as they were
+abbrev pub KeepsLines : Place → Place → Type 0
+KeepsLines s t = (d : ℕ) → t.lines d ≡ s.lines d
+
+-- a line stands for each open client, and for no other
+abbrev pub Agree : History → List (ℕ × PlainLine) → Type 0
+Agree h lines = (d : ℕ) → is_some (line_of lines d) ≡ is_open h.base h.journal d
+
+-- U+001E, which separates the packets of a payload, stands in no entry of the base and in none that a step brought in
+abbrev pub IsClean : History → Type 0
+IsClean h = BringsOnly is_clean h.base h.limits h.journal

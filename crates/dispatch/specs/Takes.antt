@@ -1,0 +1,115 @@
+-- What a take carries to a client (Engine.IO protocol 4, "HTTP long-polling" and "Heartbeat").
+use Rattle.std.specs.Prelude.{◌≡◌, ◌⊎◌, ℕ, Bool, true, false, List, [], ◌∷◌, ◌++◌, map, length, take, All, ◌<◌, Result, Ok, Err, if◌then◌else◌}
+use Rattle.std.specs.List.{flat_map}
+use Rattle.eio_wire.specs.declared.packet.Packet.{Packet}
+use Rattle.eio_wire.specs.declared.packet.Packet.TheVariants.{Ping, Message, Binary, Noop}
+use Rattle.eio_wire.specs.Payload.{Payload, HasWholeData}
+use Rattle.session_clock.specs.declared.transport.Transport.{Transport}
+use Rattle.session_clock.specs.declared.transport.Transport.TheVariants.{Probing, Socket}
+use Rattle.session_clock.specs.Upgrade.{transport}
+use Rattle.sio_wire.specs.declared.entry.Entry.{Entry}
+use Rattle.connection.specs.History.{Call, GetEnded, PingCarried, clock_calls, is_getting, is_ping_due}
+use Rattle.connection.specs.Line.{PlainLine, ForEachHistory, Advances}
+use Rattle.journal.specs.declared.step.What.TheVariants.{Took}
+use Rattle.journal.specs.Journal.{History}
+use Rattle.journal.specs.Outboxes.{waiting}
+use Rattle.effects.specs.declared.fault.CoreFault.{CoreFault}
+use Rattle.effects.specs.declared.fault.CoreFault.TheVariants.{Memory, WrongTransport}
+use Rattle.effects.specs.Commands.{Makes, StopsAt}
+use Rattle.dispatch.specs.declared.outcome.Outcome.{Outcome}
+use Rattle.dispatch.specs.declared.outcome.Outcome.TheVariants as outcome
+
+-- ---- what is read from a line
+
+-- whichever calls led to the line: the client speaks over this transport, a GET waits or not, a ping is due or not
+abbrev pub IsOn : Transport → PlainLine → Type 0
+IsOn on line = ForEachHistory line (λ o h. on ≡ transport o (clock_calls h))
+
+abbrev pub IsGetting : Bool → PlainLine → Type 0
+IsGetting getting line = ForEachHistory line (λ o h. getting ≡ is_getting h)
+
+abbrev pub IsPingDue : Bool → PlainLine → Type 0
+IsPingDue ping line = ForEachHistory line (λ o h. ping ≡ is_ping_due h)
+
+-- ---- the packets
+
+-- an entry: its text as a message, and then its attachments
+abbrev pub packets_of : Entry → List Packet
+packets_of entry = Message entry.text ∷ map Binary entry.attachments
+
+-- the entries that a take of so many hands out
+abbrev pub handed : History → (c most : ℕ) → List Entry
+handed h c most = take most (waiting h.base h.limits h.journal c)
+
+-- a ping where one is due, and then the entries
+abbrev pub carried : (ping : Bool) → List Entry → List Packet
+carried ping entries = (if ping then Ping [] ∷ [] else []) ++ flat_map packets_of entries
+
+-- ---- the take
+
+-- how a take is answered
+abbrev pub Take : Type 0
+Take = Result Outcome CoreFault
+
+-- the hub counts the entries that are handed out; where there are none it isn't asked
+abbrev pub Counts : (c most : ℕ) → ℕ → History → History → Type 0
+Counts c most now h g = elim (handed h c most) [
+  | [] ↦ g ≡ h
+  | entry ∷ entries ↦ Makes h now (Took c most (length (entry ∷ entries))) g
+]
+
+-- the entries aren't counted
+abbrev pub FailsToCount : (c most : ℕ) → ℕ → History → CoreFault → Type 0
+FailsToCount c most now h fault = (fault ≡ Memory) ⊎ ((0 < length (handed h c most)) × StopsAt h now (Took c most (length (handed h c most))) fault)
+
+-- nothing was taken
+abbrev pub TakesNone : CoreFault → CoreFault → (h g : History) → (old new : PlainLine) → Type 0
+TakesNone fault e h g old new = (e ≡ fault) × (g ≡ h) × (new ≡ old)
+
+-- there is no memory for the packets
+abbrev pub IsShort : Take → (h g : History) → (old new : PlainLine) → Type 0
+IsShort (Ok outcome) h g old new = ⊥
+IsShort (Err e) h g old new = TakesNone Memory e h g old new
+
+-- a GET is told that there is nothing to wait for, by the noop packet
+abbrev pub TellsNoop : Take → (h g : History) → (old new : PlainLine) → Type 0
+TellsNoop (Ok (outcome.Payload text)) h g old new = Payload (Noop [] ∷ []) text × (g ≡ h) × Advances old (GetEnded ∷ []) new
+TellsNoop (Ok _) h g old new = ⊥
+TellsNoop (Err e) h g old new = TakesNone Memory e h g old new
+
+-- what a payload does to the line: the GET is answered, and a ping that was due is carried
+abbrev pub calls_of : (ping : Bool) → List Call
+calls_of ping = GetEnded ∷ (if ping then PingCarried ∷ [] else [])
+
+-- the payload is written, and then the entries are taken
+abbrev pub Carries : (c most : ℕ) → ℕ → (ping : Bool) → Take → (h g : History) → (old new : PlainLine) → Type 0
+Carries c most now ping (Ok (outcome.Payload text)) h g old new =
+    Payload (carried ping (handed h c most)) text × Counts c most now h g × Advances old (calls_of ping) new
+Carries c most now ping (Ok _) h g old new = ⊥
+Carries c most now ping (Err e) h g old new = (fault : CoreFault) × FailsToCount c most now h fault × TakesNone fault e h g old new
+
+-- where there is nothing to carry, a GET of a client that probes is told so, and another one waits on
+abbrev pub FindsNothing : Transport → Take → (h g : History) → (old new : PlainLine) → Type 0
+FindsNothing Probing answer h g old new = TellsNoop answer h g old new
+FindsNothing _ answer h g old new = (answer ≡ Ok outcome.Nothing) × (g ≡ h) × (new ≡ old)
+
+abbrev pub TakesWaiting : Transport → (ping : Bool) → (c most : ℕ) → ℕ → Take → (h g : History) → (old new : PlainLine) → Type 0
+TakesWaiting on ping c most now answer h g old new = IsShort answer h g old new ⊎ elim (carried ping (handed h c most)) [
+  | [] ↦ FindsNothing on answer h g old new
+  | packet ∷ packets ↦ Carries c most now ping answer h g old new
+]
+
+-- a client that doesn't poll any more has no payload to take, but a GET of it that still waits is answered
+abbrev pub TakesOn : Transport → (getting ping : Bool) → (c most : ℕ) → ℕ → Take → (h g : History) → (old new : PlainLine) → Type 0
+TakesOn Socket true ping c most now answer h g old new = TellsNoop answer h g old new
+TakesOn Socket false ping c most now answer h g old new = (answer ≡ Err WrongTransport) × (g ≡ h) × (new ≡ old)
+TakesOn on getting ping c most now answer h g old new = TakesWaiting on ping c most now answer h g old new
+
+abbrev pub TakesFor : (c most : ℕ) → ℕ → Take → (h g : History) → (old new : PlainLine) → Type 0
+TakesFor c most now answer h g old new =
+    (on : Transport) × (getting : Bool) × (ping : Bool) × IsOn on old × IsGetting getting old × IsPingDue ping old
+    × TakesOn on getting ping c most now answer h g old new
+
+-- U+001E stands in no packet
+abbrev pub AllWhole : List Packet → Type 0
+AllWhole packets = All HasWholeData packets

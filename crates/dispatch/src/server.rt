@@ -1,0 +1,248 @@
+//! The whole state of the server, and what each event does to it.
+
+ghost use Rattle.std.specs.Prelude.{◌≡◌, ◌+◌, ◌-◌, ◌<◌, [], Some, None, is_some, IsOk, IfOk, IfErr, IfSome, OnOk, OnErr};
+ghost use Rattle.std.specs.Ordering.{nat_cmp};
+ghost use Rattle.terms.specs.Listing.{ListsRising};
+ghost use Rattle.journal.specs.Config.{config_refusal, empty_base};
+ghost use Rattle.journal.specs.Legal.{IsLegal};
+ghost use Rattle.journal.specs.Membership.{is_open};
+ghost use Rattle.journal.specs.Seal.{IsSealed, SaysTheSame};
+ghost use Rattle.journal.specs.Totals as counted;
+ghost use Rattle.hub.specs.Pass.{commands_of, taken_of};
+ghost use Rattle.effects.specs.Following.{WorksFor, Spares};
+ghost use Rattle.connection.specs.Line.{PlainLine};
+ghost use Rattle.dispatch.specs.Place.{line_of, place, Agree, IsClean};
+ghost use Rattle.dispatch.specs.Takes.{IsOn};
+ghost use Rattle.dispatch.specs.Machine.{Does, Machine, at_once, fault_of_config, listed, speaker};
+
+use crate::event::Event;
+use crate::outcome::Outcome;
+use crate::turns;
+use connection::Line;
+use effects::{App, CoreError, CoreFault, IdSource};
+use eio_wire::Numbers;
+use hub::{Hub, NotAll, Pass};
+use journal::{Config, Epoch, HubError, Totals};
+use session_clock::{Timing, Transport};
+use std::alloc::{AllocError, Global};
+use std::collections::BTreeMap;
+use std::marker::Model;
+use std::sync::ledger::{Blank, Ledger};
+
+/// The hub, and a line for each of its open clients. In a contract it is the hub's value, the lines by
+/// their clients, and what each new client is told. Each core has a line for just the open clients,
+/// and U+001E, which separates the packets of a payload, stands in no entry of it.
+#[derive(Drop)]
+pub struct Core<C: Ledger, T: Ledger> {
+    hub: Hub<C, T>,
+    lines: BTreeMap<u128, Line>,
+    timing: Timing,
+    numbers: Numbers,
+}
+
+impl<C: Ledger, T: Ledger> Model for Core<C, T> {
+    ghost use Rattle.dispatch.specs.Place.{PlainCore, Agree, IsClean};
+
+    ghost Value = { PlainCore };
+
+    ghost view = { λ c. record { hub = c.hub; lines = c.lines.entries; timing = c.timing; numbers = c.numbers } };
+
+    ghost invariant = { λ c. Agree c.hub.history c.lines.entries × IsClean c.hub.history };
+}
+
+impl<C: Ledger, T: Ledger> Core<C, T> {
+    /// A core with no clients, and its first pass. Refused as `BadConfig`, then for `Memory`.
+    pub fn new(
+        alloc: Global,
+        config: Config,
+        timing: Timing,
+        numbers: Numbers,
+        commands: Blank,
+        taken: Blank,
+    ) -> Result<(Core<C, T>, Pass<C, T>), CoreError>
+        requires commands { (commands.name ≡ C.name) × (commands.parts ≡ C.parts) × (commands.parts ≡ 65536) }
+        requires taken { (taken.name ≡ T.name) × (taken.parts ≡ T.parts) × (taken.parts ≡ 65536) }
+        ensures config { OnOk result (config_refusal config ≡ None) }
+        ensures core { IfOk result (λ made. made.0 ≡ record { hub = record { history = record { base = empty_base config.first_offset; limits = config; journal = [] }; rest = 65535 }; lines = []; timing = timing; numbers = numbers }) }
+        ensures pass { IfOk result (λ made. made.1 ≡ record { commands = 0; taken = 0; parts = 1 }) }
+        ensures err { IfErr result (λ e. e ≡ at_once (fault_of_config (config_refusal config))) }
+    {
+        match Hub::new(alloc, config, commands, taken) {
+            Ok((hub, pass)) => Ok((
+                Core {
+                    hub,
+                    lines: BTreeMap::new(alloc),
+                    timing,
+                    numbers,
+                },
+                pass,
+            )),
+            Err(HubError::BadConfig) => Err(CoreFault::BadConfig.at_once()),
+            Err(_) => Err(CoreFault::Memory.at_once()),
+        }
+    }
+
+    /// Does what an event does.
+    pub fn apply<A: App, I: IdSource>(
+        &mut self,
+        alloc: Global,
+        pass: &mut Pass<C, T>,
+        app: &A,
+        event: &Event,
+        now: u64,
+        ids: &mut I,
+    ) -> Result<Outcome, CoreError>
+        ensures does { Does (A.decides app.now) (A.allows app.now) now self.old.timing self.old.numbers event.now (place self.old.hub.history self.old.lines) (I.stream ids.old) result (place self.new.hub.history self.new.lines) (I.stream ids.new) }
+        ensures settings { (self.new.timing ≡ self.old.timing) × (self.new.numbers ≡ self.old.numbers) }
+        ensures works { WorksFor (speaker event.now (I.stream ids.old)) self.old.hub self.new.hub pass.old pass.new }
+        ensures spares { IfOk result (λ o. Spares (speaker event.now (I.stream ids.old)) self.old.hub.history self.new.hub.history (listed o)) }
+    {
+        apply_to(
+            alloc,
+            &mut self.hub,
+            pass,
+            &mut self.lines,
+            self.timing,
+            &self.numbers,
+            app,
+            event,
+            now,
+            ids,
+        )
+    }
+
+    /// What each of these events in turn is answered with.
+    pub fn apply_all<A: App, I: IdSource>(
+        &mut self,
+        alloc: Global,
+        pass: &mut Pass<C, T>,
+        app: &A,
+        events: &[(Event, u64)],
+        ids: &mut I,
+    ) -> Result<Vec<Result<Outcome, CoreError>>, AllocError>
+        ensures { IfOk result (λ answers. Machine (A.decides app.now) (A.allows app.now) self.old.timing self.old.numbers events.now answers.items (place self.old.hub.history self.old.lines) (I.stream ids.old) (place self.new.hub.history self.new.lines) (I.stream ids.new)) }
+    {
+        let mut answers = Vec::with_capacity(alloc, events.len())?;
+        for (event, now) in events {
+            let answer = self.apply(alloc, pass, app, event, *now, ids);
+            answers.push_reserved(answer);
+        }
+        Ok(answers)
+    }
+
+    /// The hub, which tells all that can be asked of it.
+    pub fn hub(&self) -> &Hub<C, T>
+        ensures { result.now ≡ self.now.hub }
+    {
+        &self.hub
+    }
+
+    /// Changes nothing. It tells what every core keeps: a line for just the open clients, and no
+    /// U+001E in any entry.
+    pub fn facts(&self)
+        ensures agree { Agree self.now.hub.history self.now.lines }
+        ensures clean { IsClean self.now.hub.history }
+    {
+        let _fields = &self.hub;
+    }
+
+    /// How a client speaks, or `None` where it isn't open.
+    pub fn transport(&self, client: u128) -> Option<Transport>
+        ensures known { is_some result ≡ is_open self.now.hub.history.base self.now.hub.history.journal client }
+        ensures on { IfSome result (λ on. (line : PlainLine) × (line_of self.now.lines client ≡ Some line) × IsOn on line) }
+    {
+        turns::transport_of(&self.lines, client)
+    }
+
+    /// The open clients, rising.
+    pub fn clients(&self, alloc: Global) -> Result<Vec<u128>, CoreError>
+        ensures ok { IfOk result (λ clients. ListsRising nat_cmp (is_open self.now.hub.history.base self.now.hub.history.journal) clients.items) }
+        ensures err { IfErr result (λ e. e ≡ at_once CoreFault.Memory) }
+    {
+        match self.lines.keys().copied().collect(alloc) {
+            Ok(clients) => Ok(clients),
+            Err(_) => Err(CoreFault::Memory.at_once()),
+        }
+    }
+
+    /// A pass that has counted nothing, for one more thread. Refused as `Spent` alone, after 65,534
+    /// of them.
+    pub fn new_pass(&mut self) -> Result<Pass<C, T>, HubError>
+        ensures pass { IfOk result (λ pass. pass ≡ record { commands = 0; taken = 0; parts = 1 }) }
+        ensures ok { OnOk result ((1 < self.old.hub.rest) × (self.new ≡ record self.old { hub = record self.old.hub { rest = self.old.hub.rest - 1 } })) }
+        ensures err { OnErr result ((self.old.hub.rest ≡ 1) × (self.new ≡ self.old)) }
+        ensures spent { IfErr result (λ e. e ≡ HubError.Spent) }
+    {
+        self.hub.new_pass()
+    }
+
+    /// The hub's counts, where the pass has all of its commands and all that it handed out, and else
+    /// what the pass lacks. It lacks nothing where every other pass was absorbed. Changes nothing.
+    pub fn settle(&mut self, pass: &mut Pass<C, T>) -> Result<Totals, NotAll>
+        ensures same { (self.new ≡ self.old) × (pass.new ≡ pass.old) }
+        ensures totals { IfOk result (λ totals. totals ≡ counted.totals self.old.hub.history.base self.old.hub.history.limits self.old.hub.history.journal) }
+        ensures all { OnOk result ((pass.old.commands ≡ commands_of self.old.hub) × (pass.old.taken ≡ taken_of self.old.hub)) }
+        ensures lacks { IfErr result (λ lack. (pass.old.commands + lack.commands ≡ commands_of self.old.hub) × (pass.old.taken + lack.taken ≡ taken_of self.old.hub) × (0 < lack.commands + lack.taken)) }
+        ensures whole { self.old.hub.rest + pass.old.parts ≡ C.parts → self.old.hub.rest + pass.old.parts ≡ T.parts → IsOk result }
+    {
+        self.hub.settle(pass)
+    }
+
+    /// Makes the present state of the hub its base, and hands out the old base with the steps since
+    /// then. It is no command and no event: the lines stay. Refused for `Memory` alone.
+    pub fn seal(&mut self, alloc: Global) -> Result<Epoch, HubError>
+        ensures epoch { IfOk result (λ epoch. epoch ≡ record { base = self.old.hub.history.base; journal = self.old.hub.history.journal }) }
+        ensures legal { IfOk result (λ epoch. IsLegal epoch.base self.old.hub.history.limits epoch.journal) }
+        ensures sealed { OnOk result (IsSealed self.old.hub.history self.new.hub.history) }
+        ensures same { OnOk result (SaysTheSame self.old.hub.history self.new.hub.history) }
+        ensures kept { (self.new.lines ≡ self.old.lines) × (self.new.timing ≡ self.old.timing) × (self.new.numbers ≡ self.old.numbers) × (self.new.hub.rest ≡ self.old.hub.rest) }
+        ensures unchanged { OnErr result (self.new ≡ self.old) }
+        ensures memory { IfErr result (λ e. e ≡ HubError.Memory) }
+    {
+        self.hub.seal(alloc)
+    }
+}
+
+/// Does what an event does to the hub and to the clients' lines.
+fn apply_to<C: Ledger, T: Ledger, A: App, I: IdSource>(
+    alloc: Global,
+    hub: &mut Hub<C, T>,
+    pass: &mut Pass<C, T>,
+    lines: &mut BTreeMap<u128, Line>,
+    timing: Timing,
+    numbers: &Numbers,
+    app: &A,
+    event: &Event,
+    now: u64,
+    ids: &mut I,
+) -> Result<Outcome, CoreError>
+    requires agree { Agree hub.old.history lines.old.entries }
+    requires clean { IsClean hub.old.history }
+    ensures does { Does (A.decides app.now) (A.allows app.now) now timing numbers.now event.now (place hub.old.history lines.old.entries) (I.stream ids.old) result (place hub.new.history lines.new.entries) (I.stream ids.new) }
+    ensures agree { Agree hub.new.history lines.new.entries }
+    ensures works { WorksFor (speaker event.now (I.stream ids.old)) hub.old hub.new pass.old pass.new }
+    ensures spares { IfOk result (λ o. Spares (speaker event.now (I.stream ids.old)) hub.old.history hub.new.history (listed o)) }
+{
+    match event {
+        Event::Opened { socket } => turns::open(
+            alloc, hub, pass, lines, timing, numbers, *socket, now, ids,
+        ),
+        Event::Post { client, body } => turns::post(
+            alloc,
+            hub,
+            pass,
+            lines,
+            app,
+            *client,
+            body.as_str(),
+            now,
+            ids,
+        ),
+        Event::PollBegin { client } => turns::begin(alloc, hub, pass, lines, *client, now),
+        Event::PollEnd { client } => turns::end(alloc, lines, *client),
+        Event::PollTake { client, most } => {
+            turns::take(alloc, hub, pass, lines, *client, *most, now)
+        }
+        Event::TransportLost { client } => turns::lose(alloc, hub, pass, lines, *client, now),
+    }
+}
