@@ -1,1 +1,2 @@
 pub mod ScriptLineLemmas
+pub mod PrintingLemmas

@@ -1,2 +1,3 @@
 pub mod ScriptLine
+pub mod Setup
 pub mod Printing

@@ -1,14 +1,140 @@
 -- What a script line prints.
-use Rattle.std.specs.Prelude.{ℕ, List, ◌++◌, codes, Some, None, string_bytes}
-use Rattle.first_server.specs.Printing.{fault_name, posted_text}
+use Rattle.std.specs.Prelude.{ℕ, ◌==◌, ◌&&◌, not, Bool, true, false, if◌then◌else◌, List, [], ◌∷◌, ◌++◌, codes, Option, Some, None, decimal}
+use Rattle.eio_wire.specs.Ids.{id_digits}
+use Rattle.journal.specs.declared.totals.Totals.{Totals}
+use Rattle.room_maps.specs.declared.error.RoomError.{RoomError}
+use Rattle.room_maps.specs.declared.error.RoomError.TheVariants as room
+use Rattle.effects.specs.declared.cause.Cause.{Cause}
+use Rattle.effects.specs.declared.cause.Cause.TheVariants as cause
+use Rattle.effects.specs.declared.fault.CoreFault.{CoreFault}
+use Rattle.effects.specs.declared.fault.CoreFault.TheVariants as fault
+use Rattle.effects.specs.Plain.{PlainDone}
+use Rattle.dispatch.specs.declared.outcome.Outcome.{Outcome}
+use Rattle.dispatch.specs.declared.outcome.Outcome.TheVariants as outcome
+use Rattle.script.specs.declared.printing.Posted.{Posted}
 use Rattle.script.specs.declared.printing.Answer.{Answer}
-use Rattle.script.specs.declared.printing.Answer.TheVariants.{Opened, Posted, Taken, Refused, BadLine}
+use Rattle.script.specs.declared.printing.Answer.TheVariants as answer
+use Rattle.script.specs.ScriptLine.{SPACE}
+
+-- the name of a cause
+abbrev pub cause_name : Cause → List ℕ
+cause_name cause.Empty = codes "Empty"
+cause_name cause.BadType = codes "BadType"
+cause_name cause.BadBase64 = codes "BadBase64"
+cause_name cause.BadKind = codes "BadKind"
+cause_name cause.BadCount = codes "BadCount"
+cause_name cause.BadId = codes "BadId"
+cause_name cause.BadJson = codes "BadJson"
+cause_name cause.BadShape = codes "BadShape"
+cause_name cause.Reserved = codes "Reserved"
+cause_name cause.BadPlaceholder = codes "BadPlaceholder"
+cause_name cause.TooMany = codes "TooMany"
+cause_name cause.TextAwaitingBinary = codes "TextAwaitingBinary"
+cause_name cause.BinaryUnawaited = codes "BinaryUnawaited"
+cause_name cause.NotJoined = codes "NotJoined"
+cause_name cause.AlreadyConnected = codes "AlreadyConnected"
+cause_name cause.PingFromClient = codes "PingFromClient"
+cause_name cause.ClientClosed = codes "ClientClosed"
+cause_name cause.DoubleGet = codes "DoubleGet"
+cause_name cause.TooLong = codes "TooLong"
+cause_name cause.PingTimeout = codes "PingTimeout"
+cause_name cause.ConnectTimeout = codes "ConnectTimeout"
+cause_name cause.OutboxFull = codes "OutboxFull"
+
+-- the name of a fault
+abbrev pub fault_name : CoreFault → List ℕ
+fault_name fault.Memory = codes "Memory"
+fault_name fault.UnknownClient = codes "UnknownClient"
+fault_name fault.WrongTransport = codes "WrongTransport"
+fault_name fault.AlreadyProbing = codes "AlreadyProbing"
+fault_name fault.AlreadyUpgraded = codes "AlreadyUpgraded"
+fault_name fault.NotProbing = codes "NotProbing"
+fault_name fault.TooManyClients = codes "TooManyClients"
+fault_name fault.IdTaken = codes "IdTaken"
+fault_name fault.Spent = codes "Spent"
+fault_name fault.BadEffect = codes "BadEffect"
+fault_name fault.BadConfig = codes "BadConfig"
+
+-- the name of a reason why an effect was skipped
+abbrev pub reason_name : RoomError → List ℕ
+reason_name room.Memory = codes "Memory"
+reason_name room.UnknownSocket = codes "UnknownSocket"
+reason_name room.AlreadyIn = codes "AlreadyIn"
+reason_name room.NotIn = codes "NotIn"
+reason_name room.OwnRoom = codes "OwnRoom"
+reason_name room.TooManyRooms = codes "TooManyRooms"
+reason_name room.SidTaken = codes "SidTaken"
+
+-- the client was closed for what no payload is
+abbrev pub is_unread : Option Cause → Bool
+is_unread (Some cause.Empty) = true
+is_unread (Some cause.BadType) = true
+is_unread (Some cause.BadBase64) = true
+is_unread _ = false
+
+abbrev pub is_double_get : Option Cause → Bool
+is_double_get (Some cause.DoubleGet) = true
+is_double_get _ = false
+
+-- what is told of a payload: it wasn't read where the client was closed for that with no packet worked on
+abbrev pub posted_of : PlainDone → Posted
+posted_of d = record { read = not ((d.packets == 0) && is_unread d.closed); skipped = d.skipped; ignored = d.ignored; closed = d.closed }
+
+-- that an effect was skipped, and why
+abbrev pub skipped_text : Option RoomError → List ℕ
+skipped_text None = []
+skipped_text (Some reason) = codes ", skipped: " ++ reason_name reason
+
+-- that an answer came to no open question
+abbrev pub ignored_text : Bool → List ℕ
+ignored_text ignored = if ignored then codes ", ignored" else []
+
+-- that the client was closed, and why
+abbrev pub closed_text : Option Cause → List ℕ
+closed_text None = []
+closed_text (Some cause) = codes ", closed: " ++ cause_name cause
+
+-- what became of a payload
+abbrev pub posted_text : Posted → List ℕ
+posted_text p = (if p.read then codes "ok" else codes "400") ++ skipped_text p.skipped
+    ++ ignored_text p.ignored ++ closed_text p.closed
+
+-- what the server has counted
+abbrev pub totals_text : Totals → List ℕ
+totals_text t = codes "commands " ++ decimal t.commands ++ codes ", placed " ++ decimal t.placed ++ codes ", dropped " ++ decimal t.dropped
+    ++ codes ", taken " ++ decimal t.taken ++ codes ", discarded " ++ decimal t.discarded ++ codes ", waiting " ++ decimal t.waiting
+
+-- ids, each after a space
+abbrev pub ids_text : List ℕ → List ℕ
+ids_text [] = []
+ids_text (id ∷ ids) = SPACE ∷ id_digits id ++ ids_text ids
 
 -- the line that an answer prints, without its LF
 abbrev pub answer_text : Answer → List ℕ
-answer_text (Opened name text) = name.now ++ codes " " ++ string_bytes text
-answer_text (Posted posted) = posted_text posted
-answer_text (Taken name (Some payload)) = name.now ++ codes " " ++ string_bytes payload
-answer_text (Taken name None) = name.now ++ codes " -"
-answer_text (Refused fault) = codes "refused: " ++ fault_name fault
-answer_text BadLine = codes "bad line"
+answer_text (answer.Opened name text) = name.now ++ codes " " ++ text
+answer_text (answer.Posted posted) = posted_text posted
+answer_text answer.Ok = codes "ok"
+answer_text (answer.Closed cause) = codes "closed: " ++ cause_name cause
+answer_text (answer.Taken name (Some payload)) = name.now ++ codes " " ++ payload
+answer_text (answer.Taken name None) = name.now ++ codes " -"
+answer_text answer.NotSaved = codes "ok, not saved: SavedFull"
+answer_text (answer.Members (Some ids)) = codes "members" ++ ids
+answer_text (answer.Members None) = codes "members -"
+answer_text (answer.Totals totals) = totals_text totals
+answer_text (answer.Sealed steps) = codes "sealed " ++ decimal steps
+answer_text (answer.Refused fault) = codes "refused: " ++ fault_name fault
+answer_text answer.UnknownNamespace = codes "refused: UnknownNamespace"
+answer_text answer.BadLine = codes "bad line"
+
+-- what is printed of an event that was worked on: a second GET that waits has closed the client
+abbrev pub done_text : PlainDone → List ℕ
+done_text d = if is_double_get d.closed then codes "closed: DoubleGet" else posted_text (posted_of d)
+
+-- what is printed of an outcome for the client of this name
+abbrev pub outcome_text : (name : List ℕ) → Outcome → List ℕ
+outcome_text name (outcome.Opened opening) = name ++ codes " " ++ opening.text
+outcome_text name (outcome.Done done) = done_text done
+outcome_text name outcome.Begun = codes "ok"
+outcome_text name (outcome.Payload text) = name ++ codes " " ++ text
+outcome_text name outcome.Nothing = name ++ codes " -"
+outcome_text name (outcome.Lost saved) = if saved then codes "ok" else codes "ok, not saved: SavedFull"

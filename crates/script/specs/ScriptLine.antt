@@ -1,20 +1,38 @@
 -- Which texts are which line of a script.
-use Rattle.std.specs.Prelude.{◌≡◌, ℕ, ◌≤◌, ◌⊎◌, ◌==◌, ◌||◌, List, ◌∷◌, ◌++◌, length, codes, Some, slice_get}
+use Rattle.std.specs.Prelude.{◌≡◌, ◌≢◌, ℕ, ◌≤◌, ◌<◌, ◌^◌, ◌⊎◌, ◌==◌, ◌||◌, List, ◌∷◌, ◌++◌, length, codes, Some, slice_get, All}
+use Rattle.std.specs.Borrow.{Bor}
 use Rattle.std.specs.List.{AllPass}
 use Rattle.std.specs.Char.{is_ascii_alphabetic}
 use Rattle.std.specs.Str.{IsUtf8}
+use Rattle.std.specs.Str.Parse.{IsNumeral, digits_value}
+use Rattle.script.specs.declared.script_line.Key.{Key}
+use Rattle.script.specs.declared.script_line.Key.TheVariants.{Capacity, Clients, Bytes, Log, Saved, Keep, FirstOffset}
 use Rattle.script.specs.declared.script_line.ScriptLine.{ScriptLine}
-use Rattle.script.specs.declared.script_line.ScriptLine.TheVariants.{Open, Text, Take, Nothing, Bad}
+use Rattle.script.specs.declared.script_line.ScriptLine.TheVariants.{Config, At, Open, OpenSocket, Text, Get, Unget, Take, Lost, Members, Totals, Seal, Nothing, Bad}
 
 -- the space between the words of a line
 abbrev pub SPACE : ℕ
 SPACE = 32
+
+-- how many entries a take hands out at most that names no number
+abbrev pub MOST_TAKEN : ℕ
+MOST_TAKEN = 64
 
 -- a client's name: one to sixteen ASCII letters
 pub record IsName (name : List ℕ) : Type 0 where
   pub some : 1 ≤ length name
   pub few : length name ≤ 16
   pub letters : AllPass is_ascii_alphabetic name
+
+-- decimal digits alone, with a value that fits 64 bits
+pub record IsNumber (text : List ℕ) (number : ℕ) : Type 0 where
+  pub digits : IsNumeral 10 text
+  pub value : number ≡ digits_value 10 text
+  pub fits : number < 2 ^ 64
+
+-- no space stands in it
+abbrev pub IsWord : List ℕ → Type 0
+IsWord word = All (λ byte. byte ≢ SPACE) word
 
 -- nothing but spaces and tabs
 abbrev pub IsBlank : List ℕ → Type 0
@@ -28,13 +46,63 @@ IsComment text = slice_get text 0 ≡ Some 35
 abbrev pub IsSilent : List ℕ → Type 0
 IsSilent text = IsComment text ⊎ IsBlank text
 
+-- the word for a limit
+abbrev pub key_text : Key → List ℕ
+key_text Capacity = codes "capacity"
+key_text Clients = codes "clients"
+key_text Bytes = codes "bytes"
+key_text Log = codes "log"
+key_text Saved = codes "saved"
+key_text Keep = codes "keep"
+key_text FirstOffset = codes "first-offset"
+
+-- the line takes so many entries: 64, or as many as it names, but not 0
+abbrev pub SpellsTake : List ℕ → (name : List ℕ) → (most : ℕ) → Type 0
+SpellsTake text name most = ((text ≡ codes "take" ++ SPACE ∷ name) × (most ≡ MOST_TAKEN))
+    ⊎ ((digits : List ℕ) × IsNumber digits most × (1 ≤ most) × (text ≡ codes "take" ++ SPACE ∷ name ++ SPACE ∷ digits))
+
 -- the text spells this line, which is no bad one
 abbrev pub Spells : List ℕ → ScriptLine → Type 0
+Spells text (Config key number) = (digits : List ℕ) × IsNumber digits number × (text ≡ codes "config" ++ SPACE ∷ key_text key ++ SPACE ∷ digits)
+Spells text (At moment) = (digits : List ℕ) × IsNumber digits moment × (text ≡ codes "at" ++ SPACE ∷ digits)
 Spells text (Open name) = IsName name.now × (text ≡ codes "open" ++ SPACE ∷ name.now)
+Spells text (OpenSocket name) = IsName name.now × (text ≡ codes "open" ++ SPACE ∷ name.now ++ SPACE ∷ codes "socket")
 Spells text (Text name rest) = IsName name.now × (text ≡ codes "text" ++ SPACE ∷ name.now ++ SPACE ∷ rest.now)
-Spells text (Take name) = IsName name.now × (text ≡ codes "take" ++ SPACE ∷ name.now)
+Spells text (Get name) = IsName name.now × (text ≡ codes "get" ++ SPACE ∷ name.now)
+Spells text (Unget name) = IsName name.now × (text ≡ codes "unget" ++ SPACE ∷ name.now)
+Spells text (Take name most) = IsName name.now × SpellsTake text name.now most
+Spells text (Lost name) = IsName name.now × (text ≡ codes "lost" ++ SPACE ∷ name.now)
+Spells text (Members space room) = IsWord space.now × (text ≡ codes "members" ++ SPACE ∷ space.now ++ SPACE ∷ room.now)
+Spells text Totals = text ≡ codes "totals"
+Spells text Seal = text ≡ codes "seal"
 Spells text Nothing = IsSilent text
 Spells text Bad = ⊥
+
+-- the text spells no line about the server as a whole
+pub record IsNoServerLine (text : List ℕ) : Type 0 where
+  pub limit : (key : Key) (number : ℕ) → ¬ Spells text (Config key number)
+  pub moment : (moment : ℕ) → ¬ Spells text (At moment)
+  pub members : (space room : Bor (List ℕ)) → ¬ Spells text (Members space room)
+  pub totals : ¬ Spells text Totals
+  pub seal : ¬ Spells text Seal
+
+-- the text spells no line that opens a client
+pub record IsNoOpenLine (text : List ℕ) : Type 0 where
+  pub polling : (name : Bor (List ℕ)) → ¬ Spells text (Open name)
+  pub socket : (name : Bor (List ℕ)) → ¬ Spells text (OpenSocket name)
+
+-- the text spells no line that takes what waits for a client
+abbrev pub IsNoTakeLine : List ℕ → Type 0
+IsNoTakeLine text = (name : Bor (List ℕ)) (most : ℕ) → ¬ Spells text (Take name most)
+
+-- the text spells no line about one client
+pub record IsNoClientLine (text : List ℕ) : Type 0 where
+  pub opening : IsNoOpenLine text
+  pub taking : IsNoTakeLine text
+  pub posting : (name rest : Bor (List ℕ)) → ¬ Spells text (Text name rest)
+  pub getting : (name : Bor (List ℕ)) → ¬ Spells text (Get name)
+  pub ungetting : (name : Bor (List ℕ)) → ¬ Spells text (Unget name)
+  pub losing : (name : Bor (List ℕ)) → ¬ Spells text (Lost name)
 
 -- what a text is read as: the line that it spells, or a bad line where it spells none
 abbrev pub ReadsAs : List ℕ → ScriptLine → Type 0

@@ -1,15 +1,18 @@
-//! Scripts: their lines are read from a reader, played to the first server, and answered to a writer.
+//! Scripts: their lines are read from a reader, played to a server of the demonstration app, and
+//! answered to a writer.
 #![tactic(auto)]
 
 mod faults;
+mod play;
 mod printing;
 mod run;
 mod script_line;
+mod setup;
 
 pub use faults::RunError;
 pub use printing::Answer;
 pub use run::run_script;
-pub use script_line::{ScriptLine, read_line};
+pub use script_line::{Key, ScriptLine, read_line};
 
 #[cfg(test)]
 mod tests;

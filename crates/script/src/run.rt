@@ -1,27 +1,31 @@
 //! The run of a script: lines come in, and each that prints is answered by one line.
 
-ghost use Rattle.std.specs.Prelude.{◌≡◌, ◌≢◌, ◌<◌, [], ◌∷◌, ◌++◌, IsOkUnless, IfOk, IfErr, OnOk, IfSome, None, length};
-ghost use Rattle.std.specs.BTreeMap.{get_by_text};
+ghost use Rattle.std.specs.Prelude.{◌≡◌, ◌≢◌, ◌<◌, [], ◌∷◌, ◌++◌, IsOkUnless, IfOk, IfErr, OnOk, IfSome, None, Some, Ok, length};
 ghost use Rattle.std.specs.Io.KnownBytes.{Appends, IsAtEnd};
 ghost use Rattle.script.specs.declared.faults.RunError.TheVariants.{Memory, Reading, Writing};
 ghost use Rattle.script.specs.Printing.{answer_text};
 
 use crate::faults::RunError;
+use crate::play::Play;
 use crate::printing::Answer;
-use crate::script_line::{ScriptLine, read_line};
-use first_server::{First, FirstError};
+use crate::script_line::{Key, ScriptLine, read_line};
+use crate::setup::Setup;
+use effects::CoreFault;
 use std::alloc::Global;
-use std::collections::BTreeMap;
 use std::io::{ErrorKind, Read, Write};
+use std::marker::{Brand, PhantomData};
+use std::mem::replace;
+use std::sync::ledger::{Blank, Ledger};
 
-/// How many entries one `take` hands out at most.
-const MOST_TAKEN: usize = 64;
+/// Into how many parts each of the server's ledgers is cut.
+const PARTS: u64 = 65_536;
 
 /// How many bytes one read asks for.
 const READ_SIZE: usize = 4096;
 
 /// Reads script lines to the end of the input and writes the answers. What was answered is flushed
-/// before each read and at the end. The last line may lack its LF.
+/// before each read and at the end. The last line may lack its LF. Where the limits allow no server,
+/// that is the last answer, and the lines after it ask for nothing.
 pub fn run_script<R: Read, W: Write>(
     alloc: Global,
     reader: &mut R,
@@ -29,7 +33,8 @@ pub fn run_script<R: Read, W: Write>(
 ) -> Result<(), RunError>
     ensures { OnOk result (IsAtEnd (R.remaining reader.new)) }
 {
-    let served = serve(alloc, reader, writer);
+    let (commands, taken) = (Blank::new(PARTS), Blank::new(PARTS));
+    let served = serve::<Brand, Brand, R, W>(alloc, reader, writer, commands, taken);
     if served.is_err() {
         // The fault that ended the run is told, and not one more.
         let _ = flush(writer);
@@ -37,10 +42,30 @@ pub fn run_script<R: Read, W: Write>(
     served
 }
 
-fn serve<R: Read, W: Write>(alloc: Global, reader: &mut R, writer: &mut W) -> Result<(), RunError>
+fn serve<C: Ledger, T: Ledger, R: Read, W: Write>(
+    alloc: Global,
+    reader: &mut R,
+    writer: &mut W,
+    commands: Blank,
+    taken: Blank,
+) -> Result<(), RunError>
+    requires commands { (commands.name ≡ C.name) × (commands.parts ≡ C.parts) × (commands.parts ≡ 65536) }
+    requires taken { (taken.name ≡ T.name) × (taken.parts ≡ T.parts) × (taken.parts ≡ 65536) }
     ensures { OnOk result (IsAtEnd (R.remaining reader.new)) }
 {
-    let mut run = Run::new(alloc);
+    let mut run: Run<C, T> = Run::new(commands, taken);
+    answer_all(alloc, &mut run, reader, writer)
+}
+
+/// Reads to the end of the input, and answers each line.
+fn answer_all<C: Ledger, T: Ledger, R: Read, W: Write>(
+    alloc: Global,
+    run: &mut Run<C, T>,
+    reader: &mut R,
+    writer: &mut W,
+) -> Result<(), RunError>
+    ensures { OnOk result (IsAtEnd (R.remaining reader.new)) }
+{
     let mut line = Vec::new(alloc);
     let mut buffer = [0u8; READ_SIZE];
     for _ in 0..u64::MAX {
@@ -48,10 +73,10 @@ fn serve<R: Read, W: Write>(alloc: Global, reader: &mut R, writer: &mut W) -> Re
         match read_some(reader, &mut buffer)? {
             None => {}
             Some([]) => {
-                answer_line(alloc, &mut run, &mut line, writer)?;
+                answer_line(alloc, run, &mut line, writer)?;
                 return flush(writer);
             }
-            Some(bytes) => answer_lines(alloc, &mut run, &mut line, bytes, writer)?,
+            Some(bytes) => answer_lines(alloc, run, &mut line, bytes, writer)?,
         }
     }
     Err(RunError::Reading)
@@ -81,9 +106,9 @@ fn flush<W: Write>(writer: &mut W) -> Result<(), RunError>
 
 /// Answers each line that these bytes end, the first of them begun by `line`, and leaves in `line`
 /// what they begin.
-fn answer_lines<W: Write>(
+fn answer_lines<C: Ledger, T: Ledger, W: Write>(
     alloc: Global,
-    run: &mut Run,
+    run: &mut Run<C, T>,
     line: &mut Vec<u8>,
     bytes: &[u8],
     writer: &mut W,
@@ -103,9 +128,9 @@ fn answer_lines<W: Write>(
 }
 
 /// Answers a whole line and empties it for the next.
-fn answer_line<W: Write>(
+fn answer_line<C: Ledger, T: Ledger, W: Write>(
     alloc: Global,
-    run: &mut Run,
+    run: &mut Run<C, T>,
     line: &mut Vec<u8>,
     writer: &mut W,
 ) -> Result<(), RunError>
@@ -126,19 +151,39 @@ fn print<W: Write>(writer: &mut W, answer: &Answer<'_>) -> Result<(), RunError>
     writeln!(writer, "{answer}").map_err(|_| RunError::Writing)
 }
 
-/// A script under way: the server, and the clients that the names stand for.
+/// A script under way: how far it has come.
 #[derive(Drop)]
-struct Run {
-    first: First,
-    clients: BTreeMap<String, u128>,
+enum Run<C: Ledger, T: Ledger> {
+    /// Limits may be set.
+    Setting(Setup, Ledgers<C, T>),
+    /// The server is there.
+    Playing(Play<C, T>),
+    /// There is no server, and nothing is answered any more.
+    Over,
 }
 
-impl Run {
-    fn new(alloc: Global) -> Run {
-        Run {
-            first: First::new(alloc),
-            clients: BTreeMap::new(alloc),
-        }
+/// The ledgers of a server that isn't made yet.
+#[derive(Drop)]
+struct Ledgers<C: Ledger, T: Ledger> {
+    commands: Blank,
+    taken: Blank,
+    of: PhantomData<(C, T)>,
+    ghost commands_of: { (commands.name ≡ C.name) × (commands.parts ≡ C.parts) × (commands.parts ≡ 65536) },
+    ghost taken_of: { (taken.name ≡ T.name) × (taken.parts ≡ T.parts) × (taken.parts ≡ 65536) },
+}
+
+impl<C: Ledger, T: Ledger> Run<C, T> {
+    /// A script of which no line was read.
+    fn new(commands: Blank, taken: Blank) -> Run<C, T>
+        requires commands { (commands.name ≡ C.name) × (commands.parts ≡ C.parts) × (commands.parts ≡ 65536) }
+        requires taken { (taken.name ≡ T.name) × (taken.parts ≡ T.parts) × (taken.parts ≡ 65536) }
+    {
+        let ledgers = Ledgers {
+            commands,
+            taken,
+            of: PhantomData,
+        };
+        Run::Setting(Setup::usual(), ledgers)
     }
 
     /// Does what a line asks for. A blank line or a comment has no answer.
@@ -148,73 +193,78 @@ impl Run {
         line: ScriptLine<'a>,
     ) -> Result<Option<Answer<'a>>, RunError>
         ensures nothing { line.entry ≡ ScriptLine.Nothing → result ≡ Ok None }
-        ensures bad { line.entry ≡ ScriptLine.Bad → result ≡ Ok (Some Answer.BadLine) }
         ensures err { IsOkUnless result Memory }
     {
         match line {
-            ScriptLine::Open(name) => Ok(Some(self.open(alloc, name)?)),
-            ScriptLine::Text(name, rest) => Ok(Some(self.text(alloc, name, rest)?)),
-            ScriptLine::Take(name) => Ok(Some(self.take(alloc, name)?)),
             ScriptLine::Nothing => Ok(None),
-            ScriptLine::Bad => Ok(Some(Answer::BadLine)),
+            ScriptLine::Config(key, number) => Ok(self.set(key, number)),
+            _ => match self.begin(alloc)? {
+                Some(fault) => Ok(Some(Answer::Refused(fault))),
+                None => self.play(alloc, line),
+            },
         }
     }
 
-    /// Opens a client, for which the name stands from now on.
-    fn open<'a>(&mut self, alloc: Global, name: &'a str) -> Result<Answer<'a>, RunError>
+    /// Sets a limit, as long as there is no server.
+    fn set(&mut self, key: Key, number: u64) -> Option<Answer<'static>> {
+        match self {
+            Run::Setting(setup, _) => {
+                setup.set(key, number);
+                None
+            }
+            Run::Playing(_) => Some(Answer::BadLine),
+            Run::Over => None,
+        }
+    }
+
+    /// Makes the server at the first line that isn't about its limits, unless it is refused.
+    fn begin(&mut self, alloc: Global) -> Result<Option<CoreFault>, RunError>
         ensures { IsOkUnless result Memory }
     {
-        match self.first.open(alloc) {
-            Ok((client, text)) => {
-                let name_of_client = String::from_str(alloc, name)?;
-                self.clients.insert(name_of_client, client)?;
-                Ok(Answer::Opened(name, text))
+        match replace(self, Run::Over) {
+            Run::Setting(setup, ledgers) => self.make(alloc, setup, ledgers),
+            begun => {
+                *self = begun;
+                Ok(None)
             }
-            Err(fault) => refused(fault),
         }
     }
 
-    /// Hands the server a payload from the client of this name.
-    fn text<'a>(
+    /// Makes the server, unless it is refused.
+    fn make(
         &mut self,
         alloc: Global,
-        name: &'a str,
-        payload: &str,
-    ) -> Result<Answer<'a>, RunError>
-        ensures unknown { get_by_text self.old.clients name.entry.now ≡ None → result ≡ Ok Answer.BadLine }
-        ensures err { IsOkUnless result Memory }
+        setup: Setup,
+        ledgers: Ledgers<C, T>,
+    ) -> Result<Option<CoreFault>, RunError>
+        ensures { IsOkUnless result Memory }
     {
-        let Some(client) = self.clients.get(name).copied() else {
-            return Ok(Answer::BadLine);
-        };
-        match self.first.post(alloc, client, payload) {
-            Ok(posted) => Ok(Answer::Posted(posted)),
-            Err(fault) => refused(fault),
+        let Ledgers {
+            commands,
+            taken,
+            of: _,
+        } = ledgers;
+        match setup.server(alloc, commands, taken) {
+            Ok((core, pass)) => {
+                *self = Run::Playing(Play::new(alloc, core, pass));
+                Ok(None)
+            }
+            Err(error) if error.fault == CoreFault::Memory => Err(RunError::Memory),
+            Err(error) => Ok(Some(error.fault)),
         }
     }
 
-    /// Takes what waits for the client of this name.
-    fn take<'a>(&mut self, alloc: Global, name: &'a str) -> Result<Answer<'a>, RunError>
-        ensures unknown { get_by_text self.old.clients name.entry.now ≡ None → result ≡ Ok Answer.BadLine }
-        ensures err { IsOkUnless result Memory }
+    /// Plays a line, where there is a server.
+    fn play<'a>(
+        &mut self,
+        alloc: Global,
+        line: ScriptLine<'a>,
+    ) -> Result<Option<Answer<'a>>, RunError>
+        ensures { IsOkUnless result Memory }
     {
-        let Some(client) = self.clients.get(name).copied() else {
-            return Ok(Answer::BadLine);
-        };
-        match self.first.take(alloc, client, MOST_TAKEN) {
-            Ok(payload) => Ok(Answer::Taken(name, payload)),
-            Err(fault) => refused(fault),
+        match self {
+            Run::Playing(play) => play.answer(alloc, line),
+            Run::Setting(..) | Run::Over => Ok(None),
         }
-    }
-}
-
-/// What a refused call prints. Want of memory prints nothing and ends the run.
-fn refused(fault: FirstError) -> Result<Answer<'static>, RunError>
-    ensures memory { fault ≡ FirstError.Memory → result ≡ Err Memory }
-    ensures printed { fault ≢ FirstError.Memory → result ≡ Ok (Answer.Refused fault) }
-{
-    match fault {
-        FirstError::Memory => Err(RunError::Memory),
-        FirstError::UnknownClient | FirstError::Spent => Ok(Answer::Refused(fault)),
     }
 }

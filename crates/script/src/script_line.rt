@@ -1,17 +1,50 @@
 //! One line of a script.
 
 ghost use Rattle.std.specs.Prelude.{◌≡◌, ◌≢◌, ◌++◌, ◌∷◌, ◌↔◌, ℕ, List, IsTrue, IfSome, IfNone};
-ghost use Rattle.script.specs.ScriptLine.{IsName, IsSilent, IsReadAs, ReadsAs, SPACE};
+ghost use Rattle.script.specs.ScriptLine.{IsName, IsNumber, IsWord, IsSilent, IsReadAs, ReadsAs, Spells, IsNoServerLine, IsNoClientLine, IsNoOpenLine, IsNoTakeLine, SPACE, key_text};
+
+/// How many entries a `take` hands out at most that names no number.
+const MOST_TAKEN: usize = 64;
+
+/// A limit that a script may set.
+#[derive(Clone, Copy, Debug, PartialEq, Eq)]
+pub enum Key {
+    Capacity,
+    Clients,
+    Bytes,
+    Log,
+    Saved,
+    Keep,
+    FirstOffset,
+}
 
 /// What one line of a script asks for. A line is UTF-8; a carriage return belongs to it.
-#[derive(Clone, Copy, Debug, PartialEq, Eq)]
+#[derive(Clone, Copy, Debug)]
 pub enum ScriptLine<'a> {
-    /// `open NAME`: a client by this name.
+    /// `config KEY N`: a limit of the server.
+    Config(Key, u64),
+    /// `at N`: the moment from now on.
+    At(u64),
+    /// `open NAME`: a client by this name, that polls.
     Open(&'a str),
+    /// `open NAME socket`: a client by this name, over a WebSocket.
+    OpenSocket(&'a str),
     /// `text NAME REST`: the payload REST, which may be empty, from the client.
     Text(&'a str, &'a str),
-    /// `take NAME`: what waits for the client.
-    Take(&'a str),
+    /// `get NAME`: a GET of the client waits.
+    Get(&'a str),
+    /// `unget NAME`: it waits no more.
+    Unget(&'a str),
+    /// `take NAME` or `take NAME N`: what waits for the client, at most so many entries.
+    Take(&'a str, usize),
+    /// `lost NAME`: the client's connection is lost.
+    Lost(&'a str),
+    /// `members SPACE ROOM`: the sockets of a namespace in a room, whose name is the whole rest.
+    Members(&'a str, &'a str),
+    /// `totals`: what the server has counted.
+    Totals,
+    /// `seal`: the end of an epoch.
+    Seal,
     /// A blank line or a comment, which begins with `#`.
     Nothing,
     /// Any other line.
@@ -34,16 +67,86 @@ fn read_text(text: &str) -> ScriptLine<'_>
     if is_silent(text) {
         return ScriptLine::Nothing;
     }
+    if let Some(line) = read_server_line(text) {
+        return line;
+    }
+    match read_client_line(text) {
+        Some(line) => line,
+        None => ScriptLine::Bad,
+    }
+}
+
+/// A line about the server as a whole.
+fn read_server_line(text: &str) -> Option<ScriptLine<'_>>
+    ensures some { IfSome result (λ line. Spells text.now line) }
+    ensures none { IfNone result (IsNoServerLine text.now) }
+{
+    match text {
+        "totals" => return Some(ScriptLine::Totals),
+        "seal" => return Some(ScriptLine::Seal),
+        _ => {}
+    }
+    if let Some(moment) = number_after("at", text) {
+        return Some(ScriptLine::At(moment));
+    }
+    if let Some((key, number)) = key_and_number_after("config", text) {
+        return Some(ScriptLine::Config(key, number));
+    }
+    let (space, room) = word_and_rest_after("members", text)?;
+    Some(ScriptLine::Members(space, room))
+}
+
+/// A line about one client.
+fn read_client_line(text: &str) -> Option<ScriptLine<'_>>
+    ensures some { IfSome result (λ line. Spells text.now line) }
+    ensures none { IfNone result (IsNoClientLine text.now) }
+{
+    if let Some(line) = read_open(text) {
+        return Some(line);
+    }
+    if let Some(line) = read_take(text) {
+        return Some(line);
+    }
+    if let Some(name) = name_after("get", text) {
+        return Some(ScriptLine::Get(name));
+    }
+    if let Some(name) = name_after("unget", text) {
+        return Some(ScriptLine::Unget(name));
+    }
+    if let Some(name) = name_after("lost", text) {
+        return Some(ScriptLine::Lost(name));
+    }
+    let (name, rest) = name_and_rest_after("text", text)?;
+    Some(ScriptLine::Text(name, rest))
+}
+
+/// A line that opens a client.
+fn read_open(text: &str) -> Option<ScriptLine<'_>>
+    ensures some { IfSome result (λ line. Spells text.now line) }
+    ensures none { IfNone result (IsNoOpenLine text.now) }
+{
     if let Some(name) = name_after("open", text) {
-        return ScriptLine::Open(name);
+        return Some(ScriptLine::Open(name));
     }
+    match name_and_rest_after("open", text)? {
+        (name, "socket") => Some(ScriptLine::OpenSocket(name)),
+        _ => None,
+    }
+}
+
+/// A line that takes what waits for a client.
+fn read_take(text: &str) -> Option<ScriptLine<'_>>
+    ensures some { IfSome result (λ line. Spells text.now line) }
+    ensures none { IfNone result (IsNoTakeLine text.now) }
+{
     if let Some(name) = name_after("take", text) {
-        return ScriptLine::Take(name);
+        return Some(ScriptLine::Take(name, MOST_TAKEN));
     }
-    if let Some((name, rest)) = name_and_rest_after("text", text) {
-        return ScriptLine::Text(name, rest);
+    let (name, digits) = name_and_rest_after("take", text)?;
+    match read_number(digits)? {
+        0 => None,
+        most => Some(ScriptLine::Take(name, most as usize)),
     }
-    ScriptLine::Bad
 }
 
 /// Whether the line is blank or a comment.
@@ -85,9 +188,66 @@ fn rest_after<'a>(word: &str, text: &'a str) -> Option<&'a str>
     text.strip_prefix(word)?.strip_prefix(' ')
 }
 
+/// The number of a line that is this word and a number.
+fn number_after(word: &str, text: &str) -> Option<u64>
+    ensures some { IfSome result (λ number. (digits : List ℕ) × IsNumber digits number × (text.now ≡ word.now ++ SPACE ∷ digits)) }
+    ensures none { IfNone result ((digits : List ℕ) (number : ℕ) → IsNumber digits number → text.now ≢ word.now ++ SPACE ∷ digits) }
+{
+    read_number(rest_after(word, text)?)
+}
+
+/// The key and the number of a line that is this word, a key and a number.
+fn key_and_number_after(word: &str, text: &str) -> Option<(Key, u64)>
+    ensures some { IfSome result (λ parts. (digits : List ℕ) × IsNumber digits parts.1
+        × (text.now ≡ word.now ++ SPACE ∷ key_text parts.0 ++ SPACE ∷ digits)) }
+    ensures none { IfNone result ((key : Key) (digits : List ℕ) (number : ℕ) → IsNumber digits number
+        → text.now ≢ word.now ++ SPACE ∷ key_text key ++ SPACE ∷ digits) }
+{
+    let (key, digits) = word_and_rest_after(word, text)?;
+    Some((read_key(key)?, read_number(digits)?))
+}
+
+/// The second word of a line that begins with this one, and anything after one more space.
+fn word_and_rest_after<'a>(word: &str, text: &'a str) -> Option<(&'a str, &'a str)>
+    ensures some { IfSome result (λ parts. IsWord parts.0.now
+        × (text.now ≡ word.now ++ SPACE ∷ parts.0.now ++ SPACE ∷ parts.1.now)) }
+    ensures none { IfNone result ((second rest : List ℕ) → IsWord second
+        → text.now ≢ word.now ++ SPACE ∷ second ++ SPACE ∷ rest) }
+{
+    rest_after(word, text)?.split_once(' ')
+}
+
 /// Whether the text is one to sixteen ASCII letters.
 fn is_name(text: &str) -> bool
     ensures { IsTrue result ↔ IsName text.now }
 {
     1 <= text.len() && text.len() <= 16 && text.bytes().all(|byte| byte.is_ascii_alphabetic())
+}
+
+/// The number that the text is in decimal digits.
+fn read_number(text: &str) -> Option<u64>
+    ensures some { IfSome result (λ number. IsNumber text.now number) }
+    ensures none { IfNone result ((number : ℕ) → ¬ IsNumber text.now number) }
+{
+    if text.starts_with('+') {
+        return None;
+    }
+    text.parse().ok()
+}
+
+/// The key that this word names.
+fn read_key(word: &str) -> Option<Key>
+    ensures some { IfSome result (λ key. word.now ≡ key_text key) }
+    ensures none { IfNone result ((key : Key) → word.now ≢ key_text key) }
+{
+    match word {
+        "capacity" => Some(Key::Capacity),
+        "clients" => Some(Key::Clients),
+        "bytes" => Some(Key::Bytes),
+        "log" => Some(Key::Log),
+        "saved" => Some(Key::Saved),
+        "keep" => Some(Key::Keep),
+        "first-offset" => Some(Key::FirstOffset),
+        _ => None,
+    }
 }

@@ -1,5 +1,0 @@
-use Rattle.std.proofs.Common.{rules}
-use Rattle.first_server.proofs.first.First.new.Goals as goal
-
-pub returns : goal.returns
-returns c = search rules

@@ -1,6 +1,0 @@
-pub mod Cause
-pub mod Relay
-pub mod First
-pub mod Whom
-pub mod Working
-pub mod Printing

@@ -1,0 +1,119 @@
+-- What the demonstration app does with each event.
+use Rattle.std.specs.Prelude.{◌≡◌, ◌≢◌, ℕ, Bool, true, false, if◌then◌else◌, List, [], ◌∷◌, ◌++◌, length, codes, bytes_eq, nat_lt, Option, Some, None, Result, Ok, Err, slice_get}
+use Rattle.sio_wire.specs.declared.error.SioError.{SioError}
+use Rattle.sio_wire.specs.JsonFields.{names_at}
+use Rattle.room_maps.specs.Room.{own_room}
+use Rattle.effects.specs.App.{PlainVerdict, Accepted, Refused}
+use Rattle.effects.specs.declared.app.Who.{Who}
+use Rattle.effects.specs.declared.app.Message.{Message}
+use Rattle.effects.specs.declared.app.Arrived.{Arrived}
+use Rattle.effects.specs.declared.app.Arrived.TheVariants.{Event, Answer}
+use Rattle.effects.specs.declared.app.Effect.{Effect}
+use Rattle.effects.specs.declared.app.Effect.TheVariants as effect
+use Rattle.relay.specs.declared.word.Word.{Word}
+use Rattle.relay.specs.declared.word.Word.TheVariants as word
+
+-- ---- CONNECT
+
+abbrev pub NO_TOKEN : List ℕ
+NO_TOKEN = codes "{\"token\":\"no\"}"
+
+-- one payload is refused, and every other is accepted with no effects
+abbrev pub Allows : (payload : List ℕ) → PlainVerdict → Type 0
+Allows payload (Accepted effects) = (payload ≢ NO_TOKEN) × (effects ≡ [])
+Allows payload (Refused message) = (payload ≡ NO_TOKEN) × (message ≡ codes "Not allowed")
+
+-- ---- the texts of an event
+
+abbrev pub texts_or_none : Result (List (Option (List ℕ))) SioError → List (Option (List ℕ))
+texts_or_none (Ok texts) = texts
+texts_or_none (Err fault) = []
+
+-- the texts among the elements of an event
+abbrev pub texts_of : (payload : List ℕ) → List (Option (List ℕ))
+texts_of payload = texts_or_none (names_at payload)
+
+-- what the name of an event asks for
+abbrev pub word_of : List ℕ → Word
+word_of name =
+    if bytes_eq name (codes "join") then word.Join
+    else if bytes_eq name (codes "leave") then word.Leave
+    else if bytes_eq name (codes "say") then word.Say
+    else if bytes_eq name (codes "two") then word.Two
+    else if bytes_eq name (codes "but") then word.But
+    else if bytes_eq name (codes "quiet") then word.Quiet
+    else if bytes_eq name (codes "all") then word.All
+    else if bytes_eq name (codes "bye") then word.Bye
+    else word.Other
+
+abbrev pub word_or_other : Option (Option (List ℕ)) → Word
+word_or_other (Some (Some name)) = word_of name
+word_or_other (Some None) = word.Other
+word_or_other None = word.Other
+
+-- the first text is the event's name
+abbrev pub word_in : List (Option (List ℕ)) → Word
+word_in texts = word_or_other (slice_get texts 0)
+
+-- a text of at most 64 bytes names a room
+abbrev pub room_of : Option (Option (List ℕ)) → Option (List ℕ)
+room_of (Some (Some name)) = if nat_lt 64 (length name) then None else Some name
+room_of (Some None) = None
+room_of None = None
+
+-- the room that the text at a place names
+abbrev pub room_in : (place : ℕ) → List (Option (List ℕ)) → Option (List ℕ)
+room_in place texts = room_of (slice_get texts place)
+
+-- ---- the effects
+
+-- the event as it came, for these rooms except those
+abbrev pub emit : (rooms excepted : List (List ℕ)) → (logged : Bool) → Message → Effect
+emit rooms excepted logged m = effect.Emit (record { rooms = rooms; excepted = excepted; logged = logged; payload = m.payload; attachments = m.attachments })
+
+abbrev pub to_two : (own room : List ℕ) → Option (List ℕ) → Message → Option Effect
+to_two own r (Some q) m = Some (emit (r ∷ q ∷ []) (own ∷ []) true m)
+to_two own r None m = None
+
+abbrev pub to_one_but : (own room : List ℕ) → Option (List ℕ) → Message → Option Effect
+to_one_but own r (Some q) m = Some (emit (r ∷ []) (q ∷ own ∷ []) true m)
+to_one_but own r None m = None
+
+-- by what is asked for and the first two rooms
+abbrev pub effect_for : (own : List ℕ) → Word → (r q : Option (List ℕ)) → Message → Option Effect
+effect_for own word.Join (Some r) q m = Some (effect.Join r)
+effect_for own word.Leave (Some r) q m = Some (effect.Leave r)
+effect_for own word.Say (Some r) q m = Some (emit (r ∷ []) (own ∷ []) true m)
+effect_for own word.Two (Some r) q m = to_two own r q m
+effect_for own word.But (Some r) q m = to_one_but own r q m
+effect_for own word.Quiet (Some r) q m = Some (emit (r ∷ []) (own ∷ []) false m)
+effect_for own word.All r q m = Some (emit [] [] true m)
+effect_for own _ r q m = None
+
+-- what an event does before it is acknowledged
+abbrev pub first_effect : (own : List ℕ) → List (Option (List ℕ)) → Message → Option Effect
+first_effect own texts m = effect_for own (word_in texts) (room_in 1 texts) (room_in 2 texts) m
+
+-- the acknowledgement
+abbrev pub reply : Effect
+reply = effect.Reply (record { payload = codes "[]"; attachments = [] })
+
+-- the effect alone, if there is one
+abbrev pub listed : Option Effect → List Effect
+listed (Some e) = e ∷ []
+listed None = []
+
+abbrev pub farewell : Word → List Effect
+farewell word.Bye = effect.Disconnect ∷ []
+farewell _ = []
+
+-- the effects of an event: where it was asked, the acknowledgement comes last but for the disconnection
+abbrev pub effects_of : (own : List ℕ) → Message → List Effect
+effects_of own m = listed (first_effect own (texts_of m.payload) m)
+    ++ (if m.asked then reply ∷ [] else [])
+    ++ farewell (word_in (texts_of m.payload))
+
+-- what the app decides: an answer to a question has no effects
+abbrev pub decided : Who → Arrived → List Effect
+decided who (Event m) = effects_of (own_room who.sid) m
+decided who (Answer a) = []

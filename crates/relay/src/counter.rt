@@ -1,0 +1,42 @@
+//! Ids that count from 1.
+
+ghost use Rattle.std.specs.Prelude.{◌≡◌};
+
+use effects::IdSource;
+use std::marker::Model;
+
+/// Gives the numbers from 1 on, each once, but for the greatest u128, at which it stays. In a
+/// contract it is the number that comes next.
+#[derive(Debug, Drop)]
+pub struct Counter {
+    next: u128,
+}
+
+impl Model for Counter {
+    ghost use Rattle.std.specs.Prelude.{ℕ};
+
+    ghost Value = { ℕ };
+
+    ghost view = { λ c. c.next };
+}
+
+impl Counter {
+    /// A counter that has given nothing.
+    pub fn new() -> Counter
+        ensures { result ≡ 1 }
+    {
+        Counter { next: 1 }
+    }
+}
+
+impl IdSource for Counter {
+    ghost use Rattle.relay.specs.Counter.{counted_from};
+
+    ghost stream = { λ next k. counted_from next k };
+
+    fn draw(&mut self) -> u128 {
+        let number = self.next;
+        self.next = number.saturating_add(1);
+        number
+    }
+}

@@ -1,0 +1,24 @@
+-- The limits of a server.
+use Rattle.std.specs.Prelude.{ℕ, List, [], ◌∷◌, codes}
+use Rattle.journal.specs.Plain.{Limits}
+use Rattle.script.specs.declared.script_line.Key.{Key}
+use Rattle.script.specs.declared.script_line.Key.TheVariants.{Capacity, Clients, Bytes, Log, Saved, Keep, FirstOffset}
+use Rattle.script.specs.declared.setup.Setup.{Setup}
+
+-- the limits where nothing is set
+abbrev pub USUAL : Setup
+USUAL = record { clients = 1024; capacity = 64; bytes = 8388608; log = 1024; saved = 4096; keep = 120000; first_offset = 1 }
+
+-- the limits with one that is set
+abbrev pub with_limit : Key → ℕ → Setup → Setup
+with_limit Capacity n s = record s { capacity = n }
+with_limit Clients n s = record s { clients = n }
+with_limit Bytes n s = record s { bytes = n }
+with_limit Log n s = record s { log = n }
+with_limit Saved n s = record s { saved = n }
+with_limit Keep n s = record s { keep = n }
+with_limit FirstOffset n s = record s { first_offset = n }
+
+-- the limits and the two namespaces
+abbrev pub limits_of : Setup → Limits
+limits_of s = record { clients = s.clients; capacity = s.capacity; bytes = s.bytes; log = s.log; saved = s.saved; keep = s.keep; first_offset = s.first_offset; spaces = codes "/" ∷ codes "/admin" ∷ [] }

@@ -1,0 +1,108 @@
+//! What a script's server is made with.
+
+ghost use Rattle.std.specs.Prelude.{◌≡◌, IfOk, IfErr};
+ghost use Rattle.script.specs.Setup.{USUAL, with_limit, limits_of};
+
+use crate::script_line::Key;
+use dispatch::Core;
+use effects::{CoreError, CoreFault};
+use eio_wire::Numbers;
+use hub::Pass;
+use journal::Config;
+use session_clock::Timing;
+use std::alloc::{AllocError, Global};
+use std::sync::ledger::{Blank, Ledger};
+use terms::Text;
+
+/// What every client is told: pings each 25 s, 20 s for the answer, payloads of a million bytes.
+const NUMBERS: Numbers = Numbers {
+    ping_interval: 25_000,
+    ping_timeout: 20_000,
+    max_payload: 1_000_000,
+};
+
+/// What a client's clock goes by.
+const TIMING: Timing = Timing {
+    ping_interval: 25_000,
+    ping_timeout: 20_000,
+    connect_timeout: 45_000,
+};
+
+/// The limits of a server, of which a script may set each.
+#[derive(Clone, Copy, Debug)]
+pub(crate) struct Setup {
+    clients: usize,
+    capacity: usize,
+    bytes: usize,
+    log: usize,
+    saved: usize,
+    keep: u64,
+    first_offset: u64,
+}
+
+impl Setup {
+    /// The limits where nothing was set.
+    pub(crate) fn usual() -> Setup
+        ensures { result ≡ USUAL }
+    {
+        Setup {
+            clients: 1024,
+            capacity: 64,
+            bytes: 8_388_608,
+            log: 1024,
+            saved: 4096,
+            keep: 120_000,
+            first_offset: 1,
+        }
+    }
+
+    /// Sets one limit.
+    pub(crate) fn set(&mut self, key: Key, number: u64)
+        ensures { self.new ≡ with_limit key number self.old }
+    {
+        match key {
+            Key::Capacity => self.capacity = number as usize,
+            Key::Clients => self.clients = number as usize,
+            Key::Bytes => self.bytes = number as usize,
+            Key::Log => self.log = number as usize,
+            Key::Saved => self.saved = number as usize,
+            Key::Keep => self.keep = number,
+            Key::FirstOffset => self.first_offset = number,
+        }
+    }
+
+    /// The limits with the names of the two namespaces.
+    fn config(self, alloc: Global) -> Result<Config, AllocError>
+        ensures { IfOk result (λ config. config ≡ limits_of self) }
+    {
+        let mut spaces = Vec::new(alloc);
+        spaces.push(Text::copy_of(alloc, "/")?)?;
+        spaces.push(Text::copy_of(alloc, "/admin")?)?;
+        Ok(Config {
+            clients: self.clients,
+            capacity: self.capacity,
+            bytes: self.bytes,
+            log: self.log,
+            saved: self.saved,
+            keep: self.keep,
+            first_offset: self.first_offset,
+            spaces,
+        })
+    }
+
+    /// A server with these limits, and its pass. Refused as `BadConfig`, then for `Memory`.
+    pub(crate) fn server<C: Ledger, T: Ledger>(
+        self,
+        alloc: Global,
+        commands: Blank,
+        taken: Blank,
+    ) -> Result<(Core<C, T>, Pass<C, T>), CoreError>
+        requires commands { (commands.name ≡ C.name) × (commands.parts ≡ C.parts) × (commands.parts ≡ 65536) }
+        requires taken { (taken.name ≡ T.name) × (taken.parts ≡ T.parts) × (taken.parts ≡ 65536) }
+    {
+        match self.config(alloc) {
+            Ok(config) => Core::new(alloc, config, TIMING, NUMBERS, commands, taken),
+            Err(_) => Err(CoreFault::Memory.at_once()),
+        }
+    }
+}
