@@ -1,5 +1,6 @@
 //! The faults that end a run.
 
+use effects::{CoreError, CoreFault};
 use journal::HubError;
 use std::alloc::AllocError;
 use thiserror::Error;
@@ -16,6 +17,9 @@ pub enum Fault {
     /// The hub refused a command that it has to accept.
     #[error("the hub refused a command: {0:?}")]
     Refused(HubError),
+    /// The core refused an event that it has to accept.
+    #[error("the core refused an event: {0:?}")]
+    RefusedEvent(CoreFault),
     /// A broadcast found no place in an outbox that was emptied in time.
     #[error("a broadcast was dropped")]
     Dropped,
@@ -35,6 +39,15 @@ impl From<HubError> for Fault {
         match refusal {
             HubError::Memory => Fault::Memory,
             refusal => Fault::Refused(refusal),
+        }
+    }
+}
+
+impl From<CoreError> for Fault {
+    fn from(error: CoreError) -> Fault {
+        match error.fault {
+            CoreFault::Memory => Fault::Memory,
+            fault => Fault::RefusedEvent(fault),
         }
     }
 }

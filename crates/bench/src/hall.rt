@@ -44,7 +44,7 @@ const LATE: u64 = 1_000_000;
 const PAYLOAD: &str = "[\"news\",\"01234567890123456789012345678901234567890123456789012\"]";
 
 /// The limits of a hub for so many clients.
-fn config(alloc: Global, clients: u64) -> Result<Config, HubError> {
+pub fn config(alloc: Global, clients: u64) -> Result<Config, HubError> {
     let mut spaces = Vec::new(alloc);
     spaces.push(Text::copy_of(alloc, "/")?)?;
     spaces.push(Text::copy_of(alloc, FEW)?)?;

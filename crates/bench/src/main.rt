@@ -1,8 +1,9 @@
-//! Measures the hub: `bench` prints the counts of small runs, which are the same each time, and
-//! `bench SOCKETS CASTS` what the hub's commands cost among so many sockets.
+//! Measures the server: `bench` prints the counts of small runs, which are the same each time, and
+//! `bench SOCKETS CASTS` what the hub's commands and clients' events cost among so many sockets.
 #![tactic(auto)]
 
 mod crowd;
+mod events;
 mod fault;
 mod figures;
 mod gauge;

@@ -1,8 +1,10 @@
 //! The lines that are printed.
 
+use crate::events::EventTask;
 use crate::fault::Fault;
 use crate::figures::{Measured, Scale, Task};
-use crate::{figures, gauge};
+use crate::{events, figures, gauge};
+use journal::Totals;
 use std::rt::{Clock, Files};
 use std::{fmt, io};
 
@@ -24,11 +26,30 @@ const TASKS: [Task; 14] = [
     Task::Seal,
 ];
 
+/// And of clients' events.
+const EVENTS: [EventTask; 2] = [EventTask::Posts, EventTask::Takes];
+
 /// How much the run without arguments does.
 const SMALL: Scale = Scale {
     sockets: 300,
     casts: 10,
 };
+
+/// The hub's counts as they are printed.
+#[derive(Clone, Copy)]
+struct Counts(Totals);
+
+impl fmt::Display for Counts {
+    fn fmt<W: fmt::Write>(&self, f: &mut fmt::Formatter<W>) -> fmt::Result {
+        let totals = self.0;
+        let (commands, placed, taken) = (totals.commands, totals.placed, totals.taken);
+        let (discarded, waiting) = (totals.discarded, totals.waiting);
+        write!(
+            f,
+            "commands {commands}, placed {placed}, taken {taken}, discarded {discarded}, waiting {waiting}"
+        )
+    }
+}
 
 /// A number that may not be known.
 #[derive(Clone, Copy)]
@@ -61,10 +82,15 @@ impl fmt::Display for Figure {
 ///   recovered and taken: 3,124; each session that comes back has 65 placed and taken, so 19,800
 ///   were placed, 19,500 taken and 300 discarded;
 /// - a seal: 900 + 64 casts to all; 300 + 64 * 300 were placed, 300 taken, the others wait. It hands
-///   out the 64 steps since the seal before them.
+///   out the 64 steps since the seal before them;
+/// - posts to a room of 16: 900 + 16 joins + 10 casts + 15 takes; 300 + 150 are placed and taken;
+/// - takes of 64: 900 + 16 joins + 64 casts + 15 takes; 300 + 960 are placed and taken.
 pub fn print_counts<R: Clock + Print + AllocGlobal>(rt: &R) -> Result<(), Fault> {
     for task in TASKS {
         print_count(rt, task)?;
+    }
+    for task in EVENTS {
+        print_event_count(rt, task)?;
     }
     Ok(())
 }
@@ -72,11 +98,13 @@ pub fn print_counts<R: Clock + Print + AllocGlobal>(rt: &R) -> Result<(), Fault>
 fn print_count<R: Clock + Print + AllocGlobal>(rt: &R, task: Task) -> Result<(), Fault> {
     let (measured, totals) = figures::measure(rt, rt.alloc(), task, SMALL)?;
     let (counted, number) = (task.counted(), measured.number);
-    let (commands, placed, taken) = (totals.commands, totals.placed, totals.taken);
-    let (discarded, waiting) = (totals.discarded, totals.waiting);
-    written(println!(rt;
-        "{task}: {counted} {number}, commands {commands}, placed {placed}, taken {taken}, discarded {discarded}, waiting {waiting}"
-    ))
+    written(println!(rt; "{task}: {counted} {number}, {}", Counts(totals)))
+}
+
+fn print_event_count<R: Clock + Print + AllocGlobal>(rt: &R, task: EventTask) -> Result<(), Fault> {
+    let (measured, totals) = events::measure(rt, rt.alloc(), task, SMALL)?;
+    let (counted, number) = (task.counted(), measured.number);
+    written(println!(rt; "{task}: {counted} {number}, {}", Counts(totals)))
 }
 
 /// Prints what each task costs. Memory comes first, while the process has had no other hub.
@@ -87,6 +115,12 @@ pub fn print_figures<R: Clock + Files + Print + AllocGlobal>(
     print_memory(rt, scale.sockets)?;
     for task in TASKS {
         print_figure(rt, task, scale)?;
+    }
+    for task in EVENTS {
+        let (measured, _totals) = events::measure(rt, rt.alloc(), task, scale)?;
+        let rate = Figure(gauge::per_second(measured.number, measured.time));
+        let counted = task.counted();
+        written(println!(rt; "{task}: {rate} {counted} a second"))?;
     }
     Ok(())
 }

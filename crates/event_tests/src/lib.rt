@@ -1,0 +1,9 @@
+//! Tests of the core.
+#![tactic(auto)]
+
+#[cfg(test)]
+mod made;
+#[cfg(test)]
+mod packets;
+#[cfg(test)]
+mod turns;
