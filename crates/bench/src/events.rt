@@ -88,25 +88,62 @@ fn measure_in<C: Ledger, T: Ledger, R: Clock>(
     requires taken { (taken.name ≡ T.name) × (taken.parts ≡ T.parts) × (taken.parts ≡ 65536) }
 {
     let mut server = new_server::<C, T>(alloc, scale.sockets, commands, taken)?;
-    let members = fill(alloc, &mut server, scale.sockets)?;
-    let mut posts = Measured {
-        number: 0,
-        time: Duration::ZERO,
-    };
-    let mut takes = posts;
-    for first in (0..rounded(task, scale.casts)).step_by(BATCH as usize) {
-        let times = rounded(task, scale.casts).saturating_sub(first).min(BATCH);
-        posts = more(posts, times, time_posts(rt, alloc, &mut server, times)?);
-        let time = time_takes(rt, alloc, &mut server, members.as_slice())?;
-        takes = more(takes, members.len() as u64, time);
+    let measured = act(rt, alloc, &mut server, task, scale)?;
+    match server.core.settle(&mut server.pass) {
+        Ok(totals) => Ok((measured, totals)),
+        Err(_) => Err(Fault::Unsettled),
     }
-    let Ok(totals) = server.core.settle(&mut server.pass) else {
-        return Err(Fault::Unsettled);
-    };
+}
+
+/// Does a task.
+fn act<C: Ledger, T: Ledger, R: Clock>(
+    rt: &R,
+    alloc: Global,
+    server: &mut Server<C, T>,
+    task: EventTask,
+    scale: Scale,
+) -> Result<Measured, Fault> {
+    let members = fill(alloc, server, scale.sockets)?;
+    let members = members.as_slice();
+    let events = rounded(task, scale.casts);
     match task {
-        EventTask::Posts => Ok((posts, totals)),
-        EventTask::Takes => Ok((takes, totals)),
+        EventTask::Posts => measure_posts(rt, alloc, server, members, events),
+        EventTask::Takes => measure_takes(rt, alloc, server, members, events),
     }
+}
+
+fn measure_posts<C: Ledger, T: Ledger, R: Clock>(
+    rt: &R,
+    alloc: Global,
+    server: &mut Server<C, T>,
+    members: &[u128],
+    events: u64,
+) -> Result<Measured, Fault> {
+    let mut time = Duration::ZERO;
+    for first in (0..events).step_by(BATCH as usize) {
+        let times = events.saturating_sub(first).min(BATCH);
+        time = time.saturating_add(time_posts(rt, alloc, server, times)?);
+        let _takes = time_takes(rt, alloc, server, members)?;
+    }
+    let number = events;
+    Ok(Measured { number, time })
+}
+
+fn measure_takes<C: Ledger, T: Ledger, R: Clock>(
+    rt: &R,
+    alloc: Global,
+    server: &mut Server<C, T>,
+    members: &[u128],
+    events: u64,
+) -> Result<Measured, Fault> {
+    let mut time = Duration::ZERO;
+    let mut number = 0u64;
+    for _ in (0..events).step_by(BATCH as usize) {
+        let _posts = time_posts(rt, alloc, server, BATCH)?;
+        time = time.saturating_add(time_takes(rt, alloc, server, members)?);
+        number = number.saturating_add(members.len() as u64);
+    }
+    Ok(Measured { number, time })
 }
 
 /// How many events are posted: for takes, each time as many as one carries.
@@ -114,13 +151,6 @@ fn rounded(task: EventTask, posts: u64) -> u64 {
     match task {
         EventTask::Posts => posts,
         EventTask::Takes => posts.div_ceil(BATCH).saturating_mul(BATCH),
-    }
-}
-
-fn more(measured: Measured, number: u64, time: Duration) -> Measured {
-    Measured {
-        number: measured.number.saturating_add(number),
-        time: measured.time.saturating_add(time),
     }
 }
 

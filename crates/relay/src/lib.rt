@@ -7,6 +7,3 @@ mod word;
 
 pub use counter::Counter;
 pub use relay_app::RelayApp;
-
-#[cfg(test)]
-mod tests;
