@@ -136,6 +136,7 @@ impl Line {
     /// A probe over a WebSocket begins.
     pub fn probe(&mut self) -> Result<(), ClockError>
         ensures answer { ForEachHistory self.old (λ o h. result ≡ ok_unless (probe_refusal (transport o (clock_calls h)))) }
+        ensures reached { HasHistory self.old }
         ensures advances { OnOk result (Advances self.old (Probed ∷ []) self.new) }
         ensures unchanged { OnErr result (self.new ≡ self.old) }
     {
@@ -145,6 +146,7 @@ impl Line {
     /// The client speaks over the WebSocket from now on.
     pub fn upgrade(&mut self) -> Result<(), ClockError>
         ensures answer { ForEachHistory self.old (λ o h. result ≡ ok_unless (unprobed_refusal (transport o (clock_calls h)))) }
+        ensures reached { HasHistory self.old }
         ensures advances { OnOk result (Advances self.old (Upgraded ∷ []) self.new) }
         ensures unchanged { OnErr result (self.new ≡ self.old) }
     {
@@ -154,6 +156,7 @@ impl Line {
     /// The probe failed, and the client polls on.
     pub fn probe_lost(&mut self) -> Result<(), ClockError>
         ensures answer { ForEachHistory self.old (λ o h. result ≡ ok_unless (unprobed_refusal (transport o (clock_calls h)))) }
+        ensures reached { HasHistory self.old }
         ensures advances { OnOk result (Advances self.old (ProbeLost ∷ []) self.new) }
         ensures unchanged { OnErr result (self.new ≡ self.old) }
     {
