@@ -29,10 +29,11 @@ use Rattle.journal.specs.Plain.{Limits, PlainBroadcast, PlainCast}
 use Rattle.journal.specs.Broadcast.{event_header}
 use Rattle.journal.specs.Casting.{refusal_of, IsCastOf}
 use Rattle.journal.specs.Membership.{place_of, is_space}
-use Rattle.journal.specs.Outboxes.{answer}
+use Rattle.journal.specs.Outboxes.{answer, farewell}
 use Rattle.journal.proofs.SocketsLemmas.{neither}
+use Rattle.effects.specs.declared.app.Inquiry as inquiry
 use Rattle.effects.specs.declared.app.Reply as reply
-use Rattle.effects.specs.Effects.{IsReply, is_unsendable, reply_header}
+use Rattle.effects.specs.Effects.{IsReply, IsInquiry, is_unsendable, reply_header, inquiry_header}
 use Rattle.effects.specs.Following.{is_clean}
 
 -- the separator stands nowhere in the text
@@ -158,6 +159,13 @@ lacks-offset payload (Some o) none =
 pub clean-disconnect : (space : List ℕ) → IsWhole space → Lacks (disconnect_text space)
 clean-disconnect space whole = both (codes "1") (space_text space) refl (lacks-space space (lacks space whole))
 
+-- what a client is told whose socket in a namespace of the hub is ended
+pub clean-farewell : (limits : Limits) (space : List ℕ) → is_space limits (place_of limits space) ≡ true → IsWhole space → is_clean (farewell limits (place_of limits space)) ≡ true
+unfolding farewell
+clean-farewell limits space is whole =
+    let none : Lacks (disconnect_text (get_or limits.spaces (place_of limits space) [])) = rw (space-at limits space is) (clean-disconnect space whole) in
+    ap not none
+
 -- ---- broadcasts
 
 few-digits : (kind : Kind) (count : ℕ) → count < 2 ^ 64 → Lacks (count_text kind count)
@@ -197,3 +205,15 @@ clean-reply space id r entry small fine is named whole =
     (lacks space named)
     (lacks-decimal id small)
     (lacks r.payload whole))
+
+-- ---- questions
+
+pub clean-inquiry : (space : List ℕ) (id : ℕ) (q : inquiry.Inquiry) (entry : Entry) → id < 2 ^ 64 → is_unsendable q.payload q.attachments ≡ false → IsInquiry space id q entry → IsWhole space → IsWhole q.payload → is_clean entry ≡ true
+clean-inquiry space id q entry small fine is named whole =
+    let few = (neither (not (list_any is_bracket q.payload)) (nat_lt 32 (length q.attachments)) fine).1 in
+    ap not
+    (lacks-plain (inquiry_header space id q) entry.text is.text
+    (few-digits (inquiry_header space id q).kind (length q.attachments) (grind (arith, nat_tests, few)))
+    (lacks space named)
+    (lacks-decimal id small)
+    (lacks q.payload whole))

@@ -1,4 +1,5 @@
 mod ActLemmas
+mod AskLemmas
 mod CleanLemmas
 mod RefusalLemmas
 mod RunsLemmas

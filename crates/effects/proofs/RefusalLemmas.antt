@@ -1,5 +1,5 @@
 -- Which refusals of a command can come for an open client and a connected socket.
-use Rattle.std.proofs.Common.{inl, inr, ◌≡◌, ℕ, refl, sym, ◌∙◌, ap, Option, None, Some}
+use Rattle.std.proofs.Common.{inl, inr, ◌⊎◌, ◌≡◌, ℕ, refl, sym, ◌∙◌, ap, Option, None, Some}
 use Rattle.std.specs.Prelude.{unwrap_or}
 use Rattle.journal.specs.declared.error.HubError.{HubError}
 use Rattle.journal.specs.declared.error.HubError.TheVariants as hub
@@ -15,3 +15,8 @@ stops h now what e is fault = on (refusal h (moment_at h now) what) refl is
     on : (o : Option HubError) → refusal h (moment_at h now) what ≡ o → e ≡ unwrap_or o hub.Memory → StopsAt h now what (fault_of e)
     on None found same = inl (ap fault_of same)
     on (Some x) found same = inr (e, found ∙ ap Some (sym same), fault, refl)
+
+-- an error whose refusal is found late: it may be want of memory in its place
+pub stops-late : (h : History) (now : ℕ) (what : What) (e : HubError) → (e ≡ hub.Memory) ⊎ (Some e ≡ refusal h (moment_at h now) what) → IsFault e → StopsAt h now what (fault_of e)
+stops-late h now what e (inl short) fault = inl (ap fault_of short)
+stops-late h now what e (inr is) fault = inr (e, sym is, fault, refl)

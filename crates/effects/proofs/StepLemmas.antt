@@ -9,12 +9,12 @@ use Rattle.journal.specs.declared.socket.Socket.{Socket}
 use Rattle.journal.specs.declared.step.Step.{Step}
 use Rattle.journal.specs.declared.step.What.{What}
 use Rattle.journal.specs.declared.step.What.TheVariants.{Opened, Attached, Recovered, Cast, Told, AllEnded}
-use Rattle.journal.specs.Plain.{PlainBase, PlainCast, PlainCastDone, Limits}
+use Rattle.journal.specs.Plain.{PlainBase, PlainCast, PlainCastDone, PlainDismissal, Limits}
 use Rattle.journal.specs.Journal.{History, moment_at, with_step}
 use Rattle.journal.specs.Casting.{IsCast}
 use Rattle.journal.specs.Log.{log}
 use Rattle.journal.specs.Membership.{opens, closes, is_open, connects, ends, sockets, sid_of, has_id, socket_with, is_connected}
-use Rattle.journal.specs.Outboxes.{answer, begins, put, entries_for, entries_of, placements}
+use Rattle.journal.specs.Outboxes.{answer, farewell, begins, put, entries_for, entries_of, placements}
 use Rattle.journal.specs.Entries.{AllPass, own_entries}
 use Rattle.journal.proofs.EpochsSocketsLemmas.{is_open-step}
 use Rattle.journal.proofs.MembershipLemmas.{is_open-opened, socket_with-quiet}
@@ -22,7 +22,8 @@ use Rattle.journal.proofs.SocketsLemmas.{neither}
 use Rattle.hub.specs.Pass.{PlainHub, PlainPass, Rises}
 use Rattle.effects.specs.declared.app.Who.{Who}
 use Rattle.effects.specs.Commands.{IsSeated}
-use Rattle.effects.specs.Following.{is_clean, is_own, is_cast, CastsNothing, Follows, WorksFor, is_listed, Spares}
+use Rattle.effects.specs.Effects.{is_among}
+use Rattle.effects.specs.Following.{is_clean, is_own, is_work, is_cast, CastsNothing, Follows, GoesOn, TurnsFor, WorksFor, is_listed, Spares}
 
 pub itself : (c : ℕ) → (c == c) ≡ true
 itself c = grind (arith, nat_tests)
@@ -36,26 +37,40 @@ rises-on : (f g h : PlainHub) (p q r : PlainPass) → Rises f g p q → Rises g 
 rises-on f g h p q r first next =
     record { commands = omega (arith, first.commands, next.commands); taken = omega (arith, first.taken, next.taken); parts = next.parts ∙ first.parts }
 
-follows-on : (c now : ℕ) (what : What) (f g h : History) → Follows c f g → h ≡ with_step g now what → is_own c what ≡ true → AllPass is_clean (own_entries g.limits what) → Follows c f h
-follows-on c now what f g h before step own clean =
-    record {
-      steps = step_at g now what ∷ before.steps;
-      base = ap (λ (k : History). k.base) step ∙ before.base;
-      limits = ap (λ (k : History). k.limits) step ∙ before.limits;
-      journal = ap (λ (k : History). k.journal) step ∙ ap (λ (j : List Step). step_at g now what ∷ j) before.journal;
-      own = (own, before.own);
-      clean = (subst (λ (limits : Limits). AllPass is_clean (own_entries limits what)) before.limits clean, before.clean);
-    }
+-- what a step may be
+module _ (kind : What → Bool) where
+  follows-on : (now : ℕ) (what : What) (f g h : History) → Follows kind f g → h ≡ with_step g now what → kind what ≡ true → AllPass is_clean (own_entries g.limits what) → Follows kind f h
+  follows-on now what f g h before step own clean =
+      record {
+        steps = step_at g now what ∷ before.steps;
+        base = ap (λ (k : History). k.base) step ∙ before.base;
+        limits = ap (λ (k : History). k.limits) step ∙ before.limits;
+        journal = ap (λ (k : History). k.journal) step ∙ ap (λ (j : List Step). step_at g now what ∷ j) before.journal;
+        own = (own, before.own);
+        clean = (subst (λ (limits : Limits). AllPass is_clean (own_entries limits what)) before.limits clean, before.clean);
+      }
 
+  goes-on : (now : ℕ) (what : What) (g h : PlainHub) (q r : PlainPass) → h.history ≡ with_step g.history now what → h.rest ≡ g.rest → Rises g h q r
+      → kind what ≡ true → AllPass is_clean (own_entries g.history.limits what)
+      → (f : PlainHub) (p : PlainPass) → GoesOn kind f g p q → GoesOn kind f h p r
+  goes-on now what g h q r step rest rises own clean f p before =
+      record {
+        follows = follows-on now what f.history g.history h.history before.follows step own clean;
+        rises = rises-on f g h p q r before.rises rises;
+        rest = rest ∙ before.rest;
+      }
+
+-- a command of an event's work
 pub works-on : (c now : ℕ) (what : What) (g h : PlainHub) (q r : PlainPass) → h.history ≡ with_step g.history now what → h.rest ≡ g.rest → Rises g h q r
-    → is_own c what ≡ true → AllPass is_clean (own_entries g.history.limits what)
+    → is_work c what ≡ true → AllPass is_clean (own_entries g.history.limits what)
     → (f : PlainHub) (p : PlainPass) → WorksFor c f g p q → WorksFor c f h p r
-works-on c now what g h q r step rest rises own clean f p before =
-    record {
-      follows = follows-on c now what f.history g.history h.history before.follows step own clean;
-      rises = rises-on f g h p q r before.rises rises;
-      rest = rest ∙ before.rest;
-    }
+works-on c now what g h q r step rest rises own clean f p before = goes-on (is_work c) now what g h q r step rest rises own clean f p before
+
+-- a command that opens the client or takes its entries
+pub turns-on : (c now : ℕ) (what : What) (g h : PlainHub) (q r : PlainPass) → h.history ≡ with_step g.history now what → h.rest ≡ g.rest → Rises g h q r
+    → is_own c what ≡ true → AllPass is_clean (own_entries g.history.limits what)
+    → (f : PlainHub) (p : PlainPass) → TurnsFor c f g p q → TurnsFor c f h p r
+turns-on c now what g h q r step rest rises own clean f p before = goes-on (is_own c) now what g h q r step rest rises own clean f p before
 
 -- ---- clients and sockets
 
@@ -109,6 +124,36 @@ module _ (h k : History) (now : ℕ) (what : What) (made : k ≡ with_step h now
   pub connected-then : (s : Socket) → connects what ≡ s ∷ [] → is_connected sid_of k.base k.journal s.sid ≡ true
   connected-then s is = rw made (connected-now h.base (step_at h now what) h.journal s is)
 
+-- a socket that isn't among those that end is found as before
+found-still : (s : ℕ) (ended : List ℕ) → is_among s ended ≡ false → (ks : List Socket) → is_some (find (has_id sid_of s) ks) ≡ true
+    → is_some (find (has_id sid_of s) (filter (λ k. not (is_among k.sid ended)) ks)) ≡ true
+found-still s ended stays [] is = is
+found-still s ended stays (k ∷ ks) is = on (k.sid == s) (is_among k.sid ended) refl refl is (found-still s ended stays ks)
+  where
+    kept : List Socket
+    kept = filter (λ l. not (is_among l.sid ended)) ks
+
+    here : (k.sid == s) ≡ true → is_among k.sid ended ≡ true → ⊥
+    here same gone = let e : k.sid ≡ s = grind (arith, nat_tests, same) in absurd (cc (sym gone ∙ ap (λ x. is_among x ended) e ∙ stays))
+
+    on : (a b : Bool) → (k.sid == s) ≡ a → is_among k.sid ended ≡ b → is_some (if a then Some k else find (has_id sid_of s) ks) ≡ true
+        → (is_some (find (has_id sid_of s) ks) ≡ true → is_some (find (has_id sid_of s) kept) ≡ true)
+        → is_some (find (has_id sid_of s) (if not b then k ∷ kept else kept)) ≡ true
+    on true true same gone is rest = absurd (here same gone)
+    on true false same gone is rest = rw same refl
+    on false true same gone is rest = rest is
+    on false false same gone is rest = rw same (rest is)
+
+-- and stays seated
+pub seated-among : (h k : History) (now : ℕ) (e : PlainDismissal) (made : k ≡ with_step h now (AllEnded e)) (who : Who) → IsSeated who h → is_among who.sid e.ended ≡ false → IsSeated who k
+unfolding socket_with sockets
+seated-among h k now e made who seated stays =
+    record {
+      open_client = open-still h k now (AllEnded e) made who.client seated.open_client refl;
+      connected = rw (made, append-nil (filter (λ k. not (is_among k.sid e.ended)) (sockets h.base h.journal))) (found-still who.sid e.ended stays (sockets h.base h.journal) seated.connected);
+      in_space = rw made seated.in_space;
+    }
+
 pub opened-then : (h k : History) (now c : ℕ) → k ≡ with_step h now (Opened c) → is_open k.base k.journal c ≡ true
 opened-then h k now c made = rw made (is_open-opened h.base (moment_at h now) c h.journal c ∙ rw (itself c) (either (is_open h.base h.journal c)))
 
@@ -135,7 +180,7 @@ puts-none c d base limits before (Recovered r) own isnt other =
     none-for r.socket.client d (answer limits r.socket ∷ entries_of (log base limits before) r.missed) (apart r.socket.client c d own other)
 puts-none c d base limits before (Told m) own isnt other = none-for m.client d (m.entry ∷ []) (apart m.client c d own other)
 puts-none c d base limits before (Cast b) own isnt other = absurd (cc isnt)
-puts-none c d base limits before (AllEnded e) own isnt other = absurd (cc own)
+puts-none c d base limits before (AllEnded e) own isnt other = absurd (cc isnt)
 puts-none c d base limits before _ own isnt other = refl
 
 same-placements : (c d : ℕ) (base : PlainBase) (limits : Limits) (step : Step) (before : List Step) → is_own c step.what ≡ true → is_cast step.what ≡ false → d ≢ c
@@ -157,7 +202,7 @@ same-after c d base limits (step ∷ steps) before own nothing other =
     same-placements c d base limits step (steps ++ before) own.0 nothing.0 other ∙ same-after c d base limits steps before own.1 nothing.1 other
 
 -- an event without a broadcast puts nothing for another client
-pub spared : (c : ℕ) (h g : History) (follows : Follows c h g) → CastsNothing follows.steps → Spares c h g []
+pub spared : (c : ℕ) (h g : History) (follows : Follows (is_own c) h g) → CastsNothing follows.steps → Spares c h g []
 spared c h g follows nothing d other unlisted =
     rw (follows.base, follows.limits, follows.journal) (same-after c d h.base h.limits follows.steps h.journal follows.own nothing other)
 
@@ -172,6 +217,20 @@ pub spares-cast : (c now : ℕ) (cast : PlainCast) (done : PlainCastDone) (h k :
 spares-cast c now cast done h k was g lists before d other unlisted =
     let apart = unlisted-in d done.clients lists unlisted in
     rw was.step ((was.right (moment_at h now)).others d (sym (was.clients_are d) ∙ apart.1) ∙ before d other apart.0)
+
+-- those who aren't told that sockets end are put nothing
+untold : (d : ℕ) (entry : Entry) (cs : List ℕ) → list_any (λ e. e == d) cs ≡ false → entries_for d (map (λ c. (c, entry)) cs) ≡ []
+untold d entry [] none = refl
+untold d entry (c ∷ cs) none = let both = neither (c == d) (list_any (λ e. e == d) cs) none in rw both.0 (untold d entry cs both.1)
+
+pub spares-dismissed : (c now : ℕ) (e : PlainDismissal) (h k : History) → k ≡ with_step h now (AllEnded e) → (g : History) (lists : List (List ℕ)) → Spares c g h lists → Spares c g k (lists ++ e.told ∷ [])
+unfolding placements put
+spares-dismissed c now e h k made g lists before d other unlisted =
+    let apart = unlisted-in d e.told lists unlisted in
+    rw made
+    (ap (λ (es : List Entry). placements h.base h.limits h.journal d ++ es) (untold d (farewell h.limits e.space) e.told apart.1)
+    ∙ append-nil (placements h.base h.limits h.journal d)
+    ∙ before d other apart.0)
 
 -- among the others it doesn't matter whether the client itself is listed
 others-any : (c d : ℕ) → d ≢ c → (ids : List ℕ) → list_any (λ e. e == d) (filter (λ e. not (e == c)) ids) ≡ list_any (λ e. e == d) ids

@@ -7,7 +7,7 @@ use Rattle.effects.specs.declared.app.Verdict.TheVariants.{Accept, Refuse}
 use Rattle.effects.specs.declared.app.Arrived.{Arrived}
 use Rattle.effects.specs.declared.app.Arrived.TheVariants.{Event, Answer}
 use Rattle.effects.specs.declared.app.Effect.{Effect}
-use Rattle.effects.specs.declared.app.Effect.TheVariants.{Emit, Reply}
+use Rattle.effects.specs.declared.app.Effect.TheVariants.{Emit, EmitAsk, Reply}
 
 -- the socket is connected and these effects follow, or it is refused with a message
 pub data PlainVerdict : Type 0 where
@@ -23,9 +23,10 @@ abbrev pub IsCleanArrival : Arrived → Type 0
 IsCleanArrival (Event message) = IsWhole message.payload
 IsCleanArrival (Answer answer) = IsWhole answer.payload
 
--- no payload that is emitted or replied holds it
+-- no payload that is emitted, asked or replied holds it
 abbrev pub IsCleanEffect : Effect → Type 0
 IsCleanEffect (Emit emission) = IsWhole emission.payload
+IsCleanEffect (EmitAsk inquiry) = IsWhole inquiry.payload
 IsCleanEffect (Reply reply) = IsWhole reply.payload
 IsCleanEffect _ = Unit {0}
 

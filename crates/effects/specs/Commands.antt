@@ -1,5 +1,6 @@
 -- How an event uses the commands of the hub, and which of their refusals end it.
-use Rattle.std.specs.Prelude.{◌≡◌, ◌⊎◌, ℕ, true, List, None, Some}
+use Rattle.std.specs.Prelude.{◌≡◌, ◌⊎◌, ℕ, ◌+◌, true, List, length, None, Some}
+use Rattle.journal.specs.declared.answers.Swept.{Swept}
 use Rattle.journal.specs.declared.error.HubError.{HubError}
 use Rattle.journal.specs.declared.error.HubError.TheVariants as hub
 use Rattle.journal.specs.declared.error.RecoveryRefusal.{RecoveryRefusal}
@@ -9,6 +10,8 @@ use Rattle.journal.specs.Plain.{PlainRecovery}
 use Rattle.journal.specs.Recovery.{recovery_of}
 use Rattle.journal.specs.Journal.{History, moment_at, with_step}
 use Rattle.journal.specs.Command.{refusal}
+use Rattle.journal.specs.Log.{log}
+use Rattle.journal.specs.Sessions.{sessions}
 use Rattle.journal.specs.Membership.{place_of, is_space, is_open, is_connected, sid_of}
 use Rattle.effects.specs.declared.app.Who.{Who}
 use Rattle.effects.specs.declared.fault.CoreFault.{CoreFault}
@@ -59,3 +62,8 @@ return_of c space pid offset h = recovery_of h.base h.limits h.journal c (place_
 -- the session can't come back, or what it missed has no place in the client's outbox
 abbrev pub CannotReturn : History → ℕ → What → Type 0
 CannotReturn h now what = ((why : RecoveryRefusal) × IsRefused h now what (hub.NotRecoverable why)) ⊎ IsRefused h now what hub.OutboxFull
+
+-- so many entries of the log and so many saved sessions are gone
+pub record Drops (dropped : Swept) (before after : History) : Type 0 where
+  pub log : length (log before.base before.limits before.journal) ≡ length (log after.base after.limits after.journal) + dropped.log
+  pub saved : length (sessions before.base before.limits before.journal) ≡ length (sessions after.base after.limits after.journal) + dropped.saved

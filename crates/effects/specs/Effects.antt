@@ -1,23 +1,30 @@
--- What the app's effects do (Socket.IO protocol 5, "Sending and receiving data" and "Disconnection from a namespace";
--- Socket.IO server documentation, "Rooms").
+-- What the app's effects do (Socket.IO protocol 5, "Sending and receiving data", "Acknowledgement" and "Disconnection from
+-- a namespace"; Socket.IO server documentation, "Rooms" and "Utility methods").
 use Rattle.std.specs.Prelude.{◌≡◌, ◌⊎◌, ℕ, ◌+◌, ◌==◌, min, Bool, true, false, not, ◌||◌, List, [], ◌∷◌, ◌++◌, length, filter, nat_lt, is_none, Option, None, Some, slice_get, take, if◌then◌else◌}
 use Rattle.std.specs.List.{list_any}
 use Rattle.std.specs.Option.{option_or}
 use Rattle.room_maps.specs.declared.error.RoomError.{RoomError}
 use Rattle.sio_wire.specs.declared.entry.Entry.{Entry}
 use Rattle.sio_wire.specs.declared.header.Header.{Header}
-use Rattle.sio_wire.specs.declared.kind.Kind.TheVariants.{Ack, BinaryAck}
+use Rattle.sio_wire.specs.declared.kind.Kind.TheVariants.{Ack, BinaryAck, Event, BinaryEvent}
 use Rattle.sio_wire.specs.Header.{Plain}
 use Rattle.sio_wire.specs.Offset.{is_bracket}
 use Rattle.sio_wire.specs.Disconnect.{disconnect_text}
 use Rattle.journal.specs.declared.error.HubError.TheVariants as hub
 use Rattle.journal.specs.declared.step.What.{What}
 use Rattle.journal.specs.declared.step.What.TheVariants as what
-use Rattle.journal.specs.Plain.{PlainCast, PlainCastDone}
+use Rattle.journal.specs.Plain.{PlainCast, PlainCastDone, PlainDismissal}
 use Rattle.journal.specs.Journal.{History}
 use Rattle.journal.specs.Casting.{refusal_of, IsCast, IsSpentBy}
+use Rattle.journal.specs.ManySockets.{joining, leaving, dismissal}
+use Rattle.ack_book.specs.declared.error.AckError.TheVariants as ack
+use Rattle.ack_book.specs.Book.{ask_refusal}
+use Rattle.ack_book.specs.Questions.{next_id}
+use Rattle.connection.specs.History.{Call, Asked, Answered, Left, book_calls}
+use Rattle.connection.specs.Line.{PlainLine, ForEachHistory, Advances}
 use Rattle.effects.specs.declared.app.Effect.{Effect}
-use Rattle.effects.specs.declared.app.Effect.TheVariants.{Join, Leave, Emit, Reply, Disconnect}
+use Rattle.effects.specs.declared.app.Effect.TheVariants.{Join, Leave, Emit, EmitAsk, Reply, Disconnect, AllJoin, AllLeave, AllEnd}
+use Rattle.effects.specs.declared.app.Inquiry as inquiry
 use Rattle.effects.specs.declared.app.Reply as reply
 use Rattle.effects.specs.declared.app.Who.{Who}
 use Rattle.effects.specs.declared.cause.Cause.{Cause}
@@ -26,20 +33,23 @@ use Rattle.effects.specs.declared.act.Turn.{Turn}
 use Rattle.effects.specs.declared.fault.CoreFault.{CoreFault}
 use Rattle.effects.specs.declared.fault.CoreFault.TheVariants.{Memory, Spent, BadEffect}
 use Rattle.effects.specs.Emission.{PlainEmission}
-use Rattle.journal.specs.Membership.{is_open}
+use Rattle.effects.specs.Selection.{PlainSelection}
+use Rattle.journal.specs.Membership.{is_open, place_of}
 use Rattle.effects.specs.Commands.{Makes, IsRefused, StopsAt, IsSeated}
 use Rattle.hub.specs.Pass.{PlainHub}
 use Rattle.effects.specs.Plain.{PlainDone}
 use Rattle.effects.specs.Runs.{Runs}
 
--- where an event stands between two effects of a packet: the hub's history, what was done of the event, and of the packet
+-- where an event stands between two effects of a packet: the hub's history, the client's line, what was done of the event,
+-- and of the packet
 pub record Scene : Type 0 where
   pub history : History
+  pub line : PlainLine
   pub done : PlainDone
   pub turn : Turn
 
-abbrev pub scene : PlainHub → PlainDone → Turn → Scene
-scene hub done turn = record { history = hub.history; done = done; turn = turn }
+abbrev pub scene : PlainHub → PlainLine → PlainDone → Turn → Scene
+scene hub line done turn = record { history = hub.history; line = line; done = done; turn = turn }
 
 -- ---- what is done
 
@@ -71,6 +81,7 @@ is_unsendable payload attachments = not (list_any is_bracket payload) || nat_lt 
 -- the effect can't be done by itself: what it sends can't be sent, or no reply is asked for, or one was given
 abbrev pub is_wrong : (asked : Option ℕ) → Turn → Effect → Bool
 is_wrong asked turn (Emit e) = is_unsendable e.payload e.attachments
+is_wrong asked turn (EmitAsk q) = is_unsendable q.payload q.attachments
 is_wrong asked turn (Reply r) = (turn.replied || is_none asked) || is_unsendable r.payload r.attachments
 is_wrong asked turn _ = false
 
@@ -112,7 +123,36 @@ Replies who id r now s t = (entry : Entry) × IsReply who.space id r entry
     × ((Makes s.history now (what.Told (record { client = who.client; entry = entry })) t.history
     × (t ≡ record (counted s) { history = t.history; turn = record (counted s).turn { replied = true } }))
     ⊎ (IsRefused s.history now (what.Told (record { client = who.client; entry = entry })) hub.OutboxFull
-    × Closes who.client now OutboxFull s.history t.history s.done t.done × (t.turn ≡ s.turn)))
+    × Closes who.client now OutboxFull s.history t.history s.done t.done × (t.turn ≡ s.turn) × (t.line ≡ s.line)))
+
+-- the question with this id
+abbrev pub inquiry_header : List ℕ → (id : ℕ) → inquiry.Inquiry → Header
+inquiry_header space id q =
+    record { kind = if length q.attachments == 0 then Event else BinaryEvent; space = space; id = Some id; payload = q.payload; count = length q.attachments }
+
+pub record IsInquiry (space : List ℕ) (id : ℕ) (q : inquiry.Inquiry) (entry : Entry) : Type 0 where
+  pub text : Plain (inquiry_header space id q) entry.text
+  pub attachments : entry.attachments ≡ q.attachments
+
+-- the socket's next question has this id
+abbrev pub IsNextId : PlainLine → (sid id : ℕ) → Type 0
+IsNextId line sid id = ForEachHistory line (λ o h. id ≡ next_id 0 (book_calls sid h))
+
+-- the question is asked, and runs out after its time, at the greatest moment at the latest
+abbrev pub asked_of : Who → ℕ → inquiry.Inquiry → Call
+asked_of who now q = Asked who.sid q.tag (min (now + q.wait) 18446744073709551615)
+
+-- and it is forgotten again: nobody was told
+abbrev pub asked_in_vain : Who → ℕ → inquiry.Inquiry → (id : ℕ) → List Call
+asked_in_vain who now q id = Answered who.sid id ∷ asked_of who now q ∷ []
+
+-- the client is asked, or closed where its outbox has no place for the question
+abbrev pub Asks : Who → inquiry.Inquiry → ℕ → Scene → Scene → Type 0
+Asks who q now s t = (id : ℕ) × IsNextId s.line who.sid id × (entry : Entry) × IsInquiry who.space id q entry
+    × ((Makes s.history now (what.Told (record { client = who.client; entry = entry })) t.history
+    × Advances s.line (asked_of who now q ∷ []) t.line × (t ≡ record (counted s) { history = t.history; line = t.line }))
+    ⊎ (IsRefused s.history now (what.Told (record { client = who.client; entry = entry })) hub.OutboxFull
+    × Closes who.client now OutboxFull s.history t.history s.done t.done × (t.turn ≡ s.turn) × Advances s.line (asked_in_vain who now q id) t.line))
 
 -- the client is told that the socket ends, where its outbox has a place for that
 abbrev pub goodbye : Who → What
@@ -123,7 +163,31 @@ SaysGoodbye who now h g = Makes h now (goodbye who) g ⊎ (IsRefused h now (good
 
 abbrev pub Disconnects : Who → ℕ → Scene → Scene → Type 0
 Disconnects who now s t = (between : History) × SaysGoodbye who now s.history between × Makes between now (what.Ended who.sid) t.history
-    × (t ≡ record (counted s) { history = t.history; turn = record (counted s).turn { ended = true } })
+    × Advances s.line (Left who.sid ∷ []) t.line
+    × (t ≡ record (counted s) { history = t.history; line = t.line; turn = record (counted s).turn { ended = true } })
+
+-- ---- effects on all sockets of the namespace that match
+
+abbrev pub all_joined : Who → PlainSelection → (room : List ℕ) → History → What
+all_joined who m room h = what.AllJoined (joining h (place_of h.limits who.space) m.rooms m.excepted room)
+
+abbrev pub all_left : Who → PlainSelection → (room : List ℕ) → History → What
+all_left who m room h = what.AllLeft (leaving h (place_of h.limits who.space) m.rooms m.excepted room)
+
+abbrev pub dismissed : Who → PlainSelection → History → PlainDismissal
+dismissed who m h = dismissal h (place_of h.limits who.space) m.rooms m.excepted
+
+-- the acting socket is one of those that end
+abbrev pub is_among : ℕ → List ℕ → Bool
+is_among sid ended = list_any (λ s. sid == s) ended
+
+-- the sockets end; where the acting one is among them, its questions go
+abbrev pub EndsAll : Who → PlainSelection → ℕ → Scene → Scene → Type 0
+EndsAll who m now s t = let d = dismissed who m s.history in
+    Makes s.history now (what.AllEnded d) t.history
+    × (t.turn ≡ record (counted s).turn { ended = is_among who.sid d.ended })
+    × (t.done ≡ told who.client d.told (one_more s.done))
+    × elim (is_among who.sid d.ended) [ true ↦ Advances s.line (Left who.sid ∷ []) t.line | false ↦ t.line ≡ s.line ]
 
 -- what the effect does where it is allowed
 abbrev pub Acts : Who → (asked : Option ℕ) → ℕ → Scene → Effect → Scene → Type 0
@@ -131,7 +195,11 @@ Acts who asked now s (Join room) t = ChangesRooms (what.Joined who.sid room) now
 Acts who asked now s (Leave room) t = ChangesRooms (what.Left who.sid room) now s t
 Acts who asked now s (Emit e) t = Emits who e now s t
 Acts who asked now s (Reply r) t = (id : ℕ) × (asked ≡ Some id) × Replies who id r now s t
+Acts who asked now s (EmitAsk q) t = Asks who q now s t
 Acts who asked now s Disconnect t = Disconnects who now s t
+Acts who asked now s (AllJoin m room) t = ChangesRooms (all_joined who m room s.history) now s t
+Acts who asked now s (AllLeave m room) t = ChangesRooms (all_left who m room s.history) now s t
+Acts who asked now s (AllEnd m) t = EndsAll who m now s t
 
 -- an effect in its turn: after the client was closed nothing more is done
 abbrev pub ActsInTurn : Who → (asked : Option ℕ) → ℕ → Scene → Effect → Scene → Type 0
@@ -155,27 +223,47 @@ Fails who asked now h (Leave room) fault = StopsAt h now (what.Left who.sid room
 Fails who asked now h (Emit e) fault = (fault ≡ Memory) ⊎ ((fault ≡ Spent) × IsSpentBy h (cast_of who e))
 Fails who asked now h (Reply r) fault = (fault ≡ Memory) ⊎ ((id : ℕ) × (asked ≡ Some id) × (entry : Entry) × IsReply who.space id r entry × FailsToTell who now h entry fault)
 Fails who asked now h Disconnect fault = (fault ≡ Memory) ⊎ StopsAt h now (goodbye who) fault ⊎ StopsAt h now (what.Ended who.sid) fault
+Fails who asked now h (AllJoin m room) fault = StopsAt h now (all_joined who m room h) fault
+Fails who asked now h (AllLeave m room) fault = StopsAt h now (all_left who m room h) fault
+Fails who asked now h (AllEnd m) fault = (fault ≡ Memory) ⊎ StopsAt h now (what.AllEnded (dismissed who m h)) fault
+Fails who asked now h (EmitAsk q) fault = ⊥
+
+-- the socket's book has no id left, or no memory
+abbrev pub HasNoId : PlainLine → (sid : ℕ) → CoreFault → Type 0
+HasNoId line sid fault = (fault ≡ Memory) ⊎ ((fault ≡ Spent) × ForEachHistory line (λ o h. ask_refusal 0 (book_calls sid h) ≡ Some ack.Spent))
+
+-- a question that is allowed isn't asked, or is asked and forgotten, since nobody can be told
+abbrev pub FailsToAsk : Who → inquiry.Inquiry → ℕ → Scene → CoreFault → History → PlainLine → Type 0
+FailsToAsk who q now s fault g l = (g ≡ s.history)
+    × ((HasNoId s.line who.sid fault × Advances s.line [] l)
+    ⊎ ((id : ℕ) × IsNextId s.line who.sid id × Advances s.line (asked_in_vain who now q id) l
+    × ((fault ≡ Memory) ⊎ ((entry : Entry) × IsInquiry who.space id q entry × FailsToTell who now g entry fault))))
 
 -- the hub's history then: of a disconnection the client may have been told already
 abbrev pub IsLeft : Who → ℕ → Effect → History → History → Type 0
 IsLeft who now Disconnect h g = (g ≡ h) ⊎ SaysGoodbye who now h g
 IsLeft who now _ h g = g ≡ h
 
+-- an effect that is allowed isn't done, and leaves the hub and the client's line so
+abbrev pub FailsLeaving : Who → (asked : Option ℕ) → ℕ → Scene → Effect → CoreFault → History → PlainLine → Type 0
+FailsLeaving who asked now s (EmitAsk q) fault g l = FailsToAsk who q now s fault g l
+FailsLeaving who asked now s effect fault g l = Fails who asked now g effect fault × IsLeft who now effect s.history g × (l ≡ s.line)
+
 -- the effect ends the event with this fault
-abbrev pub Stops : Who → (asked : Option ℕ) → ℕ → Scene → Effect → CoreFault → History → Type 0
-Stops who asked now s effect fault g = (s.done.closed ≡ None)
-    × (((fault ≡ BadEffect) × (is_bad asked s.turn effect ≡ true) × (g ≡ s.history))
-    ⊎ ((is_bad asked s.turn effect ≡ false) × Fails who asked now g effect fault × IsLeft who now effect s.history g))
+abbrev pub Stops : Who → (asked : Option ℕ) → ℕ → Scene → Effect → CoreFault → History → PlainLine → Type 0
+Stops who asked now s effect fault g l = (s.done.closed ≡ None)
+    × (((fault ≡ BadEffect) × (is_bad asked s.turn effect ≡ true) × (g ≡ s.history) × (l ≡ s.line))
+    ⊎ ((is_bad asked s.turn effect ≡ false) × FailsLeaving who asked now s effect fault g l))
 
 -- so many of the effects were done, and the next one ends the event
-abbrev pub StopsAfter : Who → (asked : Option ℕ) → ℕ → List Effect → Scene → CoreFault → (count : ℕ) → History → Type 0
-StopsAfter who asked now effects s fault count g =
+abbrev pub StopsAfter : Who → (asked : Option ℕ) → ℕ → List Effect → Scene → CoreFault → (count : ℕ) → History → PlainLine → Type 0
+StopsAfter who asked now effects s fault count g l =
     (done : ℕ) × (at : Scene) × Runs (ActsInTurn who asked now) (take done effects) s at × (at.turn.count ≡ count)
-    × (effect : Effect) × (slice_get effects done ≡ Some effect) × Stops who asked now at effect fault g
+    × (effect : Effect) × (slice_get effects done ≡ Some effect) × Stops who asked now at effect fault g l
 
 -- all effects of a packet, in order
-abbrev pub ActsAll : Who → (asked : Option ℕ) → ℕ → List Effect → Scene → History → PlainDone → Type 0
-ActsAll who asked now effects s g done = (t : Scene) × Runs (ActsInTurn who asked now) effects s t × (t.history ≡ g) × (t.done ≡ done)
+abbrev pub ActsAll : Who → (asked : Option ℕ) → ℕ → List Effect → Scene → History → PlainLine → PlainDone → Type 0
+ActsAll who asked now effects s g l done = (t : Scene) × Runs (ActsInTurn who asked now) effects s t × (t.history ≡ g) × (t.line ≡ l) × (t.done ≡ done)
 
 -- the client is open unless it was closed, and its socket is connected unless it was disconnected
 pub record StandsWith (who : Who) (s : Scene) : Type 0 where

@@ -6,3 +6,4 @@ pub mod Emission
 pub mod Following
 pub mod Plain
 pub mod Runs
+pub mod Selection

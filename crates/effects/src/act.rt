@@ -1,8 +1,9 @@
-//! What the app's effects do (Socket.IO protocol 5, "Sending and receiving data"; Socket.IO server
-//! documentation, "Rooms").
+//! What the app's effects do (Socket.IO protocol 5, "Sending and receiving data" and "Disconnection
+//! from a namespace"; Socket.IO server documentation, "Rooms").
 
 ghost use Rattle.std.specs.Prelude.{◌≡◌, ◌+◌, ◌<◌, ◌≤◌, ◌^◌, ◌==◌, ℕ, true, false, not, None, Some, [], ◌∷◌, length, filter, min, IfOk, IfErr, OnOk, OnErr, string_bytes, is_some, is_none};
 ghost use Rattle.eio_wire.specs.Payload.{IsWhole};
+ghost use Rattle.connection.specs.Line.{PlainLine};
 ghost use Rattle.journal.specs.Membership.{is_open};
 ghost use Rattle.journal.specs.Casting.{refusal_of};
 ghost use Rattle.hub.specs.Pass.{PlainHub, PlainPass};
@@ -17,11 +18,14 @@ ghost use Rattle.effects.specs.Runs.{Runs};
 ghost use Rattle.effects.specs.declared.cause.Cause.TheVariants.{OutboxFull};
 
 use crate::app::{Effect, Reply, Who};
+use crate::ask::ask;
 use crate::cause::Cause;
 use crate::commands;
 use crate::done::Done;
 use crate::emission::Emission;
 use crate::fault::CoreFault;
+use crate::many::{end_all, join_all, leave_all};
+use connection::Line;
 use hub::{Hub, Pass};
 use journal::Cast;
 use room_maps::{Room, RoomError};
@@ -62,12 +66,14 @@ fn is_wrong(asked: Option<u64>, turn: &Turn, effect: &Effect) -> bool
                 || asked.is_none()
                 || is_unsendable(reply.payload.as_str(), &reply.attachments)
         }
+        Effect::EmitAsk(inquiry) => is_unsendable(inquiry.payload.as_str(), &inquiry.attachments),
         Effect::Join(_) | Effect::Leave(_) | Effect::Disconnect => false,
+        Effect::AllJoin(_, _) | Effect::AllLeave(_, _) | Effect::AllEnd(_) => false,
     }
 }
 
 /// Counts one effect more that was done.
-fn count(turn: &mut Turn, done: &mut Done)
+pub(crate) fn count(turn: &mut Turn, done: &mut Done)
     requires room { turn.old.count + 1 < 2 ^ 64 }
     ensures turn { turn.new ≡ record turn.old { count = turn.old.count + 1 } }
     ensures done { done.new ≡ one_more done.old }
@@ -77,7 +83,7 @@ fn count(turn: &mut Turn, done: &mut Done)
 }
 
 /// Notes why an effect was skipped, where it was and where it is the first.
-fn note(refused: Option<RoomError>, done: &mut Done)
+pub(crate) fn note(refused: Option<RoomError>, done: &mut Done)
     ensures { done.new ≡ noted refused done.old }
 {
     if done.skipped.is_none() {
@@ -131,7 +137,7 @@ fn cast_of(alloc: Global, who: &Who, emission: Emission) -> Result<Cast, CoreFau
 }
 
 /// Keeps the clients but one.
-fn retain_others(ids: &mut Vec<u128>, client: u128)
+pub(crate) fn retain_others(ids: &mut Vec<u128>, client: u128)
     ensures { ids.new.items ≡ filter (λ d. not (d == client)) ids.old.items }
 {
     ids.retain(|id| *id != client);
@@ -152,7 +158,7 @@ fn emit<C: Ledger, T: Ledger>(
     requires seated { IsSeated who.now hub.old.history }
     requires sendable { is_unsendable emission.payload emission.attachments ≡ false }
     requires clean { IsWhole who.now.space × IsWhole emission.payload }
-    ensures ok { OnOk result (Emits who.now emission now (scene hub.old done.old turn.old) (scene hub.new done.new turn.new)) }
+    ensures ok { OnOk result ((l : PlainLine) → Emits who.now emission now (scene hub.old l done.old turn.old) (scene hub.new l done.new turn.new)) }
     ensures err { IfErr result (λ f. Fails who.now None now hub.new.history (Effect.Emit emission) f) }
     ensures unchanged { OnErr result (hub.new ≡ hub.old) }
     ensures seated { IsSeated who.now hub.new.history }
@@ -217,7 +223,7 @@ fn reply<C: Ledger, T: Ledger>(
     requires fresh { done.old.closed ≡ None }
     requires sendable { is_unsendable reply.payload reply.attachments ≡ false }
     requires clean { IsWhole who.now.space × IsWhole reply.payload }
-    ensures ok { OnOk result (Replies who.now id reply now (scene hub.old done.old turn.old) (scene hub.new done.new turn.new)) }
+    ensures ok { OnOk result ((l : PlainLine) → Replies who.now id reply now (scene hub.old l done.old turn.old) (scene hub.new l done.new turn.new)) }
     ensures err { IfErr result (λ f. Fails who.now (Some id) now hub.new.history (Effect.Reply reply) f) }
     ensures unchanged { OnErr result (hub.new ≡ hub.old) }
     ensures seated { done.new.closed ≡ None → IsSeated who.now hub.new.history }
@@ -234,11 +240,12 @@ fn reply<C: Ledger, T: Ledger>(
     close_for(alloc, hub, pass, who.client, Cause::OutboxFull, now, done)
 }
 
-/// Disconnects the socket, and tells the client so where its outbox has a place.
+/// Disconnects the socket, and tells the client so where its outbox has a place. Its questions go.
 fn disconnect<C: Ledger, T: Ledger>(
     alloc: Global,
     hub: &mut Hub<C, T>,
     pass: &mut Pass<C, T>,
+    line: &mut Line,
     who: &Who,
     now: u64,
     turn: &mut Turn,
@@ -247,10 +254,10 @@ fn disconnect<C: Ledger, T: Ledger>(
     requires room { turn.old.count + 1 < 2 ^ 64 }
     requires seated { IsSeated who.now hub.old.history }
     requires clean { IsWhole who.now.space }
-    ensures ok { OnOk result (Disconnects who.now now (scene hub.old done.old turn.old) (scene hub.new done.new turn.new)) }
+    ensures ok { OnOk result (Disconnects who.now now (scene hub.old line.old done.old turn.old) (scene hub.new line.new done.new turn.new)) }
     ensures err { IfErr result (λ f. Fails who.now None now hub.new.history Effect.Disconnect f) }
     ensures left { OnErr result (IsLeft who.now now Effect.Disconnect hub.old.history hub.new.history) }
-    ensures same { OnErr result (turn.new ≡ turn.old) }
+    ensures same { OnErr result ((turn.new ≡ turn.old) × (line.new ≡ line.old)) }
     ensures open_still { is_open hub.new.history.base hub.new.history.journal who.now.client ≡ true }
     ensures works { (h : PlainHub) (p : PlainPass) → WorksFor who.now.client h hub.old p pass.old → WorksFor who.now.client h hub.new p pass.new }
     ensures spares { (h : History) → Spares who.now.client h hub.old.history done.old.clients → Spares who.now.client h hub.new.history done.new.clients }
@@ -265,6 +272,7 @@ fn disconnect<C: Ledger, T: Ledger>(
     };
     commands::tell(alloc, hub, pass, who.client, entry, now)?;
     commands::end(alloc, hub, pass, who.client, who.sid, now)?;
+    line.leave(who.sid);
     count(turn, done);
     turn.ended = true;
     Ok(())
@@ -283,7 +291,7 @@ fn join<C: Ledger, T: Ledger>(
 ) -> Result<(), CoreFault>
     requires room { turn.old.count + 1 < 2 ^ 64 }
     requires seated { IsSeated who.now hub.old.history }
-    ensures ok { OnOk result (ChangesRooms (What.Joined who.now.sid room) now (scene hub.old done.old turn.old) (scene hub.new done.new turn.new)) }
+    ensures ok { OnOk result ((l : PlainLine) → ChangesRooms (What.Joined who.now.sid room) now (scene hub.old l done.old turn.old) (scene hub.new l done.new turn.new)) }
     ensures err { IfErr result (λ f. StopsAt hub.new.history now (What.Joined who.now.sid room) f) }
     ensures unchanged { OnErr result (hub.new ≡ hub.old) }
     ensures seated { IsSeated who.now hub.new.history }
@@ -309,7 +317,7 @@ fn leave<C: Ledger, T: Ledger>(
 ) -> Result<(), CoreFault>
     requires room { turn.old.count + 1 < 2 ^ 64 }
     requires seated { IsSeated who.now hub.old.history }
-    ensures ok { OnOk result (ChangesRooms (What.Left who.now.sid room) now (scene hub.old done.old turn.old) (scene hub.new done.new turn.new)) }
+    ensures ok { OnOk result ((l : PlainLine) → ChangesRooms (What.Left who.now.sid room) now (scene hub.old l done.old turn.old) (scene hub.new l done.new turn.new)) }
     ensures err { IfErr result (λ f. StopsAt hub.new.history now (What.Left who.now.sid room) f) }
     ensures unchanged { OnErr result (hub.new ≡ hub.old) }
     ensures seated { IsSeated who.now hub.new.history }
@@ -327,6 +335,7 @@ fn act<C: Ledger, T: Ledger>(
     alloc: Global,
     hub: &mut Hub<C, T>,
     pass: &mut Pass<C, T>,
+    line: &mut Line,
     who: &Who,
     asked: Option<u64>,
     now: u64,
@@ -335,11 +344,11 @@ fn act<C: Ledger, T: Ledger>(
     done: &mut Done,
 ) -> Result<(), CoreFault>
     requires room { turn.old.count + 1 < 2 ^ 64 }
-    requires stands { StandsWith who.now (scene hub.old done.old turn.old) }
+    requires stands { StandsWith who.now (scene hub.old line.old done.old turn.old) }
     requires clean { IsWhole who.now.space × IsCleanEffect effect }
-    ensures ok { OnOk result (ActsInTurn who.now asked now (scene hub.old done.old turn.old) effect (scene hub.new done.new turn.new)) }
-    ensures err { IfErr result (λ f. Stops who.now asked now (scene hub.old done.old turn.old) effect f hub.new.history) }
-    ensures stands { OnOk result (StandsWith who.now (scene hub.new done.new turn.new)) }
+    ensures ok { OnOk result (ActsInTurn who.now asked now (scene hub.old line.old done.old turn.old) effect (scene hub.new line.new done.new turn.new)) }
+    ensures err { IfErr result (λ f. Stops who.now asked now (scene hub.old line.old done.old turn.old) effect f hub.new.history line.new) }
+    ensures stands { OnOk result (StandsWith who.now (scene hub.new line.new done.new turn.new)) }
     ensures open_still { OnErr result (is_open hub.new.history.base hub.new.history.journal who.now.client ≡ true) }
     ensures few { OnOk result (turn.new.count ≤ turn.old.count + 1) }
     ensures works { (h : PlainHub) (p : PlainPass) → WorksFor who.now.client h hub.old p pass.old → WorksFor who.now.client h hub.new p pass.new }
@@ -359,7 +368,17 @@ fn act<C: Ledger, T: Ledger>(
             Some(id) => reply(alloc, hub, pass, who, id, answer, now, turn, done),
             None => unreachable!(),
         },
-        Effect::Disconnect => disconnect(alloc, hub, pass, who, now, turn, done),
+        Effect::EmitAsk(inquiry) => ask(alloc, hub, pass, line, who, inquiry, now, turn, done),
+        Effect::Disconnect => disconnect(alloc, hub, pass, line, who, now, turn, done),
+        Effect::AllJoin(selection, room) => {
+            join_all(alloc, hub, pass, who, selection, room, now, turn, done)
+        }
+        Effect::AllLeave(selection, room) => {
+            leave_all(alloc, hub, pass, who, selection, room, now, turn, done)
+        }
+        Effect::AllEnd(selection) => {
+            end_all(alloc, hub, pass, line, who, selection, now, turn, done)
+        }
     }
 }
 
@@ -369,6 +388,7 @@ pub fn act_all<C: Ledger, T: Ledger>(
     alloc: Global,
     hub: &mut Hub<C, T>,
     pass: &mut Pass<C, T>,
+    line: &mut Line,
     who: &Who,
     asked: Option<u64>,
     now: u64,
@@ -380,8 +400,8 @@ pub fn act_all<C: Ledger, T: Ledger>(
     requires seated { IsSeated who.now hub.old.history }
     requires fresh { done.old.closed ≡ None }
     requires clean { IsWhole who.now.space × AllClean effects.items }
-    ensures ok { OnOk result (ActsAll who.now asked now effects.items (scene hub.old done.old (record { count = before; replied = false; ended = false })) hub.new.history done.new) }
-    ensures err { IfErr result (λ e. StopsAfter who.now asked now effects.items (scene hub.old done.old (record { count = before; replied = false; ended = false })) e.0 e.1 hub.new.history) }
+    ensures ok { OnOk result (ActsAll who.now asked now effects.items (scene hub.old line.old done.old (record { count = before; replied = false; ended = false })) hub.new.history line.new done.new) }
+    ensures err { IfErr result (λ e. StopsAfter who.now asked now effects.items (scene hub.old line.old done.old (record { count = before; replied = false; ended = false })) e.0 e.1 hub.new.history line.new) }
     ensures open_still { OnOk result (is_open hub.new.history.base hub.new.history.journal who.now.client ≡ is_none done.new.closed) }
     ensures open_after { OnErr result (is_open hub.new.history.base hub.new.history.journal who.now.client ≡ true) }
     ensures works { (h : PlainHub) (p : PlainPass) → WorksFor who.now.client h hub.old p pass.old → WorksFor who.now.client h hub.new p pass.new }
@@ -394,7 +414,9 @@ pub fn act_all<C: Ledger, T: Ledger>(
     };
     for effect in effects {
         let count = turn.count;
-        match act(alloc, hub, pass, who, asked, now, effect, &mut turn, done) {
+        match act(
+            alloc, hub, pass, line, who, asked, now, effect, &mut turn, done,
+        ) {
             Ok(()) => {}
             Err(fault) => return Err((fault, count)),
         }

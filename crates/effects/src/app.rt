@@ -7,6 +7,7 @@ ghost use Rattle.effects.specs.declared.app.Who.{Who};
 ghost use Rattle.effects.specs.App.{PlainVerdict, plain_verdict, IsCleanVerdict, IsCleanArrival, AllClean};
 
 use crate::emission::Emission;
+use crate::selection::Selection;
 use room_maps::{Room, Sid};
 use sio_wire::Attachments;
 use std::alloc::{AllocError, Global};
@@ -72,10 +73,32 @@ pub enum Effect {
     Leave(Room),
     /// An event is sent to the sockets of some rooms.
     Emit(Emission),
+    /// The socket is asked a question, whose answer the app gets.
+    EmitAsk(Inquiry),
     /// The event that arrived is acknowledged.
     Reply(Reply),
     /// The socket is told so and disconnected.
     Disconnect,
+    /// All these sockets join a room, or none does.
+    AllJoin(Selection, Room),
+    /// All these sockets leave a room, or none does.
+    AllLeave(Selection, Room),
+    /// All these sockets are told so and disconnected. Where the acting socket is among them, no
+    /// effect may follow.
+    AllEnd(Selection),
+}
+
+/// An event that asks for an acknowledgement.
+#[derive(Drop)]
+pub struct Inquiry {
+    /// The event as a JSON array.
+    pub payload: Text,
+    /// What the placeholders of the payload stand for.
+    pub attachments: Attachments,
+    /// What the answer is handed to the app with.
+    pub tag: u64,
+    /// How long an answer is waited for, in milliseconds.
+    pub wait: u64,
 }
 
 /// The acknowledgement of an event.

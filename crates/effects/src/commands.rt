@@ -12,13 +12,16 @@ ghost use Rattle.journal.specs.Journal.{History};
 ghost use Rattle.journal.specs.Casting.{refusal_of, IsCast, IsSpentBy};
 ghost use Rattle.hub.specs.Pass.{PlainHub, PlainPass};
 ghost use Rattle.effects.specs.declared.app.Who.{Who};
-ghost use Rattle.effects.specs.Commands.{Makes, IsRefused, StopsAt, IsSeated, seat, return_of, CannotReturn};
-ghost use Rattle.effects.specs.Following.{WorksFor, Spares, is_clean};
+ghost use Rattle.effects.specs.Commands.{Makes, IsRefused, StopsAt, IsSeated, seat, return_of, CannotReturn, Drops};
+ghost use Rattle.effects.specs.Following.{TurnsFor, WorksFor, Spares, is_clean};
+
+mod many;
 
 use crate::app::Who;
 use crate::fault::CoreFault;
 use hub::{Hub, Pass};
-use journal::{Cast, CastDone, HubError};
+use journal::{Cast, CastDone, HubError, Swept};
+pub use many::{end_all, join_all, leave_all};
 use recovery::Pid;
 use room_maps::{Room, RoomError, Sid};
 use sio_wire::Entry;
@@ -37,7 +40,7 @@ pub fn open<C: Ledger, T: Ledger>(
     ensures err { IfErr result (λ f. StopsAt hub.old.history now (What.Opened client) f) }
     ensures unchanged { OnErr result (hub.new ≡ hub.old) }
     ensures opened { OnOk result (is_open hub.new.history.base hub.new.history.journal client ≡ true) }
-    ensures works { (h : PlainHub) (p : PlainPass) → WorksFor client h hub.old p pass.old → WorksFor client h hub.new p pass.new }
+    ensures turns { (h : PlainHub) (p : PlainPass) → TurnsFor client h hub.old p pass.old → TurnsFor client h hub.new p pass.new }
     ensures spares { (h : History) (lists : List (List ℕ)) → Spares client h hub.old.history lists → Spares client h hub.new.history lists }
 {
     match hub.open(alloc, pass, client, now) {
@@ -301,7 +304,7 @@ pub fn take<C: Ledger, T: Ledger>(
     ensures err { let h = hub.old.history in IfErr result (λ f. StopsAt h now (What.Took client most (min most (length (waiting h.base h.limits h.journal client)))) f) }
     ensures unchanged { OnErr result (hub.new ≡ hub.old) }
     ensures open_still { is_open hub.new.history.base hub.new.history.journal client ≡ true }
-    ensures works { (h : PlainHub) (p : PlainPass) → WorksFor client h hub.old p pass.old → WorksFor client h hub.new p pass.new }
+    ensures turns { (h : PlainHub) (p : PlainPass) → TurnsFor client h hub.old p pass.old → TurnsFor client h hub.new p pass.new }
     ensures spares { (h : History) (lists : List (List ℕ)) → Spares client h hub.old.history lists → Spares client h hub.new.history lists }
 {
     match hub.take(alloc, pass, client, most, now) {
@@ -309,6 +312,27 @@ pub fn take<C: Ledger, T: Ledger>(
             drop(entries);
             Ok(())
         }
+        Err(error) => Err(CoreFault::of(error)),
+    }
+}
+
+/// Drops what the hub keeps no longer: old entries of the log and old saved sessions. It is of no
+/// client, and so its step may be one of any client's event.
+pub fn sweep<C: Ledger, T: Ledger>(
+    alloc: Global,
+    hub: &mut Hub<C, T>,
+    pass: &mut Pass<C, T>,
+    now: u64,
+) -> Result<Swept, CoreFault>
+    ensures ok { OnOk result (Makes hub.old.history now What.Swept hub.new.history) }
+    ensures dropped { IfOk result (λ dropped. Drops dropped hub.old.history hub.new.history) }
+    ensures err { IfErr result (λ f. StopsAt hub.old.history now What.Swept f) }
+    ensures unchanged { OnErr result (hub.new ≡ hub.old) }
+    ensures works { (client : ℕ) (h : PlainHub) (p : PlainPass) → WorksFor client h hub.old p pass.old → WorksFor client h hub.new p pass.new }
+    ensures spares { (client : ℕ) (h : History) (lists : List (List ℕ)) → Spares client h hub.old.history lists → Spares client h hub.new.history lists }
+{
+    match hub.sweep(alloc, pass, now) {
+        Ok(swept) => Ok(swept),
         Err(error) => Err(CoreFault::of(error)),
     }
 }

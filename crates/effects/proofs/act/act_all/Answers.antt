@@ -32,8 +32,8 @@ loop-effect-preserved g c = record {
 pub returns-in-Err-clause-err : goal.returns-in-Err-clause-err
 returns-in-Err-clause-err g c =
     let yielded = c.loop-effect.yielded in
-    let start = scene c.args.hub.now c.args.done.now (record { count = c.args.before; replied = false; ended = false }) in
-    let at = scene c.loop-effect.hub c.loop-effect.done c.loop-effect.turn in (
+    let start = scene c.args.hub.now c.args.line.now c.args.done.now (record { count = c.args.before; replied = false; ended = false }) in
+    let at = scene c.loop-effect.hub c.loop-effect.line c.loop-effect.done c.loop-effect.turn in (
       length yielded,
       at,
       subst (λ (xs : List Effect). Runs (ActsInTurn c.args.who.now c.args.asked c.args.now) xs start at) (sym (take-done c.args.effects.items yielded _ c.loop-effect.invariant.split)) c.loop-effect.invariant.run,

@@ -27,7 +27,7 @@ done-is g c =
     (c.retain_others.ensures ∙ ap (λ (done : PlainCastDone). filter (λ d. not (d == c.args.who.now.client)) done.clients) c.cast_done.view_is)
 
 pub returns-clause-ok : goal.returns-clause-ok
-returns-clause-ok g c = (
+returns-clause-ok g c = λ l. (
   sendable c.args.hub.now.history c.args.who.now c.args.emission c.requires.seated.in_space c.requires.sendable,
   c.in_ok-cast_done.cast_done,
   rw c.in_ok-cast.ensures.ok at c.in_ok-cast_done.ensures.done,

@@ -1,0 +1,86 @@
+-- The question that was asked last is open; why a book has no id.
+use Rattle.std.proofs.Common.{◌≡◌, ◌⊎◌, inl, inr, ℕ, ◌==◌, Bool, true, false, cond, List, [], ◌∷◌, ◌++◌, refl, sym, subst, is_some, Option, None, Some, Result, Ok, Err, OnOk, OnErr, IfErr, IfSome}
+use Rattle.std.specs.Map.{lookup}
+use Rattle.ack_book.specs.declared.book.Question.{Question}
+use Rattle.ack_book.specs.declared.error.AckError.{AckError}
+use Rattle.ack_book.specs.declared.error.AckError.TheVariants as ack
+use Rattle.ack_book.specs.Book.{ask_refusal, answer_of}
+use Rattle.ack_book.specs.Questions.{next_id, open_questions, question_at}
+use Rattle.connection.specs.History.{Call, Asked, Answered, book_calls}
+use Rattle.connection.specs.Line.{PlainLine, LeadsTo, ForEachHistory, Advances}
+use Rattle.sio_wire.specs.declared.entry.Entry.{Entry}
+use Rattle.journal.specs.declared.error.HubError.TheVariants as hub
+use Rattle.journal.specs.declared.step.What.TheVariants as what
+use Rattle.journal.specs.Journal.{History}
+use Rattle.effects.specs.declared.app.Inquiry as inquiry
+use Rattle.effects.specs.declared.app.Who.{Who}
+use Rattle.effects.specs.declared.cause.Cause.TheVariants.{OutboxFull}
+use Rattle.effects.specs.declared.fault.CoreFault.{CoreFault}
+use Rattle.effects.specs.declared.fault.CoreFault.TheVariants.{Memory}
+use Rattle.effects.specs.Commands.{IsRefused, StopsAt}
+use Rattle.effects.specs.Effects.{Scene, Closes, IsInquiry, IsNextId, asked_in_vain, Asks, FailsToTell, FailsToAsk}
+use Rattle.effects.specs.Plain.{PlainDone}
+use Rattle.effects.proofs.StepLemmas.{itself}
+
+found-last : (id : ℕ) (q : Question) (es : List (ℕ × Question)) → is_some (lookup (λ key. id == key) (es ++ (id, q) ∷ [])) ≡ true
+found-last id q [] = rw (itself id) refl
+found-last id q (e ∷ es) = on (id == e.0) (found-last id q es)
+  where
+    on : (b : Bool) → is_some (lookup (λ key. id == key) (es ++ (id, q) ∷ [])) ≡ true → is_some (cond b (Some e.1) (lookup (λ key. id == key) (es ++ (id, q) ∷ []))) ≡ true
+    on true rest = refl
+    on false rest = rest
+
+asked-open : (sid tag until : ℕ) (h : List Call) (id : ℕ) → id ≡ next_id 0 (book_calls sid h) → is_some (question_at 0 (book_calls sid (Asked sid tag until ∷ h)) id) ≡ true
+unfolding book_calls open_questions
+asked-open sid tag until h id next =
+    rw (itself sid, next) (found-last (next_id 0 (book_calls sid h)) (record { tag = tag; until = until }) (open_questions 0 (book_calls sid h)))
+
+-- it can be answered, and so it is forgotten
+pub forgets : (l old new : PlainLine) (sid id tag until : ℕ) (r : Result ℕ AckError) → IsNextId l sid id → Advances l (Asked sid tag until ∷ []) old
+    → ForEachHistory old (λ o h. r ≡ answer_of (question_at 0 (book_calls sid h) id)) → OnOk r (Advances old (Answered sid id ∷ []) new)
+    → Advances l (Answered sid id ∷ Asked sid tag until ∷ []) new
+forgets l old new sid id tag until r next advances answers goes o h leads =
+    let there = advances o h leads in
+    on r (question_at 0 (book_calls sid (Asked sid tag until ∷ h)) id) (asked-open sid tag until h id (next o h leads)) (answers o (Asked sid tag until ∷ h) there) goes
+  where
+    on : (r : Result ℕ AckError) (q : Option Question) → is_some q ≡ true → r ≡ answer_of q → OnOk r (Advances old (Answered sid id ∷ []) new) → LeadsTo o (Answered sid id ∷ Asked sid tag until ∷ h) new
+    on (Ok t) q some is goes = goes o (Asked sid tag until ∷ h) (advances o h leads)
+    on (Err e) (Some q) some is goes = absurd (cc is)
+    on (Err e) None some is goes = absurd (cc some)
+
+-- a book that answers Spent has no id left
+pub spent-book : (l : PlainLine) (sid : ℕ) (r : Result ℕ AckError) → r ≡ Err ack.Spent
+    → ForEachHistory l (λ o h. IfSome (ask_refusal 0 (book_calls sid h)) (λ e. r ≡ Err e))
+    → ForEachHistory l (λ o h. ask_refusal 0 (book_calls sid h) ≡ None → IfErr r (λ e. e ≡ ack.Memory))
+    → ForEachHistory l (λ o h. ask_refusal 0 (book_calls sid h) ≡ Some ack.Spent)
+spent-book l sid r is refused short o h leads = on (ask_refusal 0 (book_calls sid h)) r is (refused o h leads) (short o h leads)
+  where
+    on : (o : Option AckError) (r : Result ℕ AckError) → r ≡ Err ack.Spent → IfSome o (λ e. r ≡ Err e) → (o ≡ None → IfErr r (λ e. e ≡ ack.Memory)) → o ≡ Some ack.Spent
+    on None (Err e) is refused short = absurd (cc (is, short refl))
+    on None (Ok x) is refused short = absurd (cc is)
+    on (Some e) r is refused short = cc (is, refused)
+
+-- ---- nobody is told
+
+module _ (who : Who) (q : inquiry.Inquiry) (now id : ℕ) (s : Scene) (g : History) (l : PlainLine) (next : IsNextId s.line who.sid id) (vain : Advances s.line (asked_in_vain who now q id) l) where
+  -- the outbox has no place for the question, and the client is closed
+  pub asks-full : {X : Type 0} (r : Result X CoreFault) (done : PlainDone) (entry : Entry) → IsInquiry who.space id q entry
+      → IsRefused s.history now (what.Told (record { client = who.client; entry = entry })) hub.OutboxFull
+      → OnOk r (Closes who.client now OutboxFull s.history g s.done done) → OnOk r (Asks who q now s (record { history = g; line = l; done = done; turn = s.turn }))
+  asks-full (Ok x) done entry is refused closes = (id, next, entry, is, inr (refused, closes, refl, vain))
+  asks-full (Err f) done entry is refused closes = tt
+
+  -- or it isn't
+  pub asks-open : {X : Type 0} (r : Result X CoreFault) (entry : Entry) → IsInquiry who.space id q entry
+      → IsRefused s.history now (what.Told (record { client = who.client; entry = entry })) hub.OutboxFull
+      → IfErr r (λ f. StopsAt s.history now (what.Closed who.client) f) → OnErr r (g ≡ s.history) → IfErr r (λ f. FailsToAsk who q now s f g l)
+  asks-open (Ok x) entry is refused stops same = tt
+  asks-open (Err f) entry is refused stops same =
+      (same, inr (id, next, vain, inr (entry, is, subst (λ (h : History). FailsToTell who now h entry f) (sym same) (inr (refused, stops)))))
+
+  -- there is no memory for the entry, or the command that tells it isn't done
+  pub asks-untold : (f : CoreFault) → (f ≡ Memory) ⊎ ((entry : Entry) × IsInquiry who.space id q entry × StopsAt s.history now (what.Told (record { client = who.client; entry = entry })) f)
+      → g ≡ s.history → FailsToAsk who q now s f g l
+  asks-untold f (inl short) same = (same, inr (id, next, vain, inl short))
+  asks-untold f (inr (entry, is, stops)) same =
+      (same, inr (id, next, vain, inr (entry, is, subst (λ (h : History). FailsToTell who now h entry f) (sym same) (inl stops))))
