@@ -29,7 +29,7 @@ use Rattle.effects.specs.Commands.{Makes, IsRefused, StopsAt, seat, return_of, C
 use Rattle.effects.specs.Effects.{ActsAll, StopsAfter, one_more}
 use Rattle.effects.specs.Following.{is_clean}
 use Rattle.effects.specs.Plain.{PlainDone}
-use Rattle.dispatch.specs.Packets.{Stage, stage, Upshot, ClosesFor, Refuses, Connects, AsksApp, ComesBack, Names, AsksToConnect, refusal_entry, newcomer, draws_two, scene_at, DoesAll, KeepsLine}
+use Rattle.dispatch.specs.Packets.{Stage, stage, Upshot, ClosesFor, Refuses, Connects, AsksApp, ComesBack, Names, AsksToConnect, refusal_entry, newcomer, draws_two, scene_at, DoesAll}
 
 -- ---- the text of a refusal holds no U+001E
 
@@ -111,9 +111,9 @@ refuses-full c now space message s (Err e) t refused closes = inr (refused, clos
 
 -- all of the effects are done, or they stop at one
 pub does-all : (who : Who) (asked : Option ℕ) (now : ℕ) (effects : List Effect) (before : ℕ) (s : Stage) (result : Upshot) (t : Stage)
-    → OnOk result (ActsAll who asked now effects (scene_at s before) t.history t.done)
-    → IfErr result (λ e. StopsAfter who asked now effects (scene_at s before) e.0 e.1 t.history)
-    → KeepsLine s t → DoesAll who asked now effects before s result t
+    → OnOk result (ActsAll who asked now effects (scene_at s before) t.history t.line t.done)
+    → IfErr result (λ e. StopsAfter who asked now effects (scene_at s before) e.0 e.1 t.history t.line)
+    → t.ids ≡ s.ids → DoesAll who asked now effects before s result t
 does-all who asked now effects before s (Ok done) t acts stops keeps = (acts, keeps)
 does-all who asked now effects before s (Err e) t acts stops keeps = (stops, keeps)
 
@@ -130,21 +130,21 @@ one-more-is old packets effects skipped ignored closed lists next view counted =
 pub drawn-two : (first second third : ℕ → ℕ) → second ≡ (λ k. first (k + 1)) → third ≡ (λ k. second (k + 1)) → third ≡ (λ k. first (k + 2))
 drawn-two first second third once twice = twice ∙ ap (λ (ids : ℕ → ℕ). λ k. ids (k + 1)) once ∙ simp unary_clauses
 
-pub connects-done : (c : ℕ) (space : List ℕ) (effects : List Effect) (now : ℕ) (s : Stage) (result : Upshot) (sid pid : ℕ) (history g : History) (line : PlainLine) (ids : ℕ → ℕ) (between done : PlainDone)
+pub connects-done : (c : ℕ) (space : List ℕ) (effects : List Effect) (now : ℕ) (s : Stage) (result : Upshot) (sid pid : ℕ) (history g : History) (line after : PlainLine) (ids : ℕ → ℕ) (between done : PlainDone)
     → sid ≡ s.ids 0 → pid ≡ s.ids 1 → ids ≡ (λ k. s.ids (k + 2)) → between ≡ one_more s.done
     → Makes s.history now (what.Attached (seat (record { client = c; space = space; sid = sid }) pid s.history)) history
     → Advances s.line (Entered sid ∷ []) line
-    → OnOk result (ActsAll (record { client = c; space = space; sid = sid }) None now effects (record { history = history; done = between; turn = record { count = 1; replied = false; ended = false } }) g done)
-    → IfErr result (λ e. StopsAfter (record { client = c; space = space; sid = sid }) None now effects (record { history = history; done = between; turn = record { count = 1; replied = false; ended = false } }) e.0 e.1 g)
-    → Connects c space effects now s result (stage g line ids done)
-connects-done c space effects now s result sid pid history g line ids between done sid-is pid-is ids-is between-is made entered acts stops =
+    → OnOk result (ActsAll (record { client = c; space = space; sid = sid }) None now effects (record { history = history; line = line; done = between; turn = record { count = 1; replied = false; ended = false } }) g after done)
+    → IfErr result (λ e. StopsAfter (record { client = c; space = space; sid = sid }) None now effects (record { history = history; line = line; done = between; turn = record { count = 1; replied = false; ended = false } }) e.0 e.1 g after)
+    → Connects c space effects now s result (stage g after ids done)
+connects-done c space effects now s result sid pid history g line after ids between done sid-is pid-is ids-is between-is made entered acts stops =
     inl (
       history,
       line,
       rw (sid-is, pid-is) at made,
       rw sid-is at entered,
-      does-all (newcomer c space s) None now effects 1 (record (draws_two s) { history = history; line = line; done = one_more s.done }) result (stage g line ids done)
-          (rw (sid-is, between-is) at acts) (rw (sid-is, between-is) at stops) (refl, ids-is),
+      does-all (newcomer c space s) None now effects 1 (record (draws_two s) { history = history; line = line; done = one_more s.done }) result (stage g after ids done)
+          (rw (sid-is, between-is) at acts) (rw (sid-is, between-is) at stops) ids-is,
     )
 
 -- the client is closed, since its outbox has no place for the answer

@@ -18,7 +18,7 @@ use Rattle.effects.specs.declared.app.Who.{Who}
 use Rattle.effects.specs.declared.cause.Cause.{Cause}
 use Rattle.effects.specs.declared.cause.Cause.TheVariants as cause
 use Rattle.effects.specs.App.{PlainVerdict}
-use Rattle.effects.specs.Effects.{Scene, is_bad, ChangesRooms, Acts, ActsInTurn}
+use Rattle.effects.specs.Effects.{Scene, is_bad, all_joined, all_left, ChangesRooms, Acts, ActsInTurn}
 use Rattle.journal.specs.declared.step.What.{What}
 use Rattle.effects.specs.Plain.{PlainDone}
 use Rattle.effects.specs.Runs.{Runs}
@@ -36,8 +36,13 @@ acts-keeps who asked now s (effect.Join room) t acts = acts-keeps-rooms _ now s 
 acts-keeps who asked now s (effect.Leave room) t acts = acts-keeps-rooms _ now s t acts
 acts-keeps who asked now s (effect.Emit e) t (fine, done, cast, is) = ap (λ (u : Scene). u.done.packets) is
 acts-keeps who asked now s (effect.Reply r) t (id, is_asked, (entry, right, inl (made, is))) = ap (λ (u : Scene). u.done.packets) is
-acts-keeps who asked now s (effect.Reply r) t (id, is_asked, (entry, right, inr (refused, closes, turn))) = ap (λ (d : PlainDone). d.packets) closes.1
-acts-keeps who asked now s effect.Disconnect t (between, says, made, is) = ap (λ (u : Scene). u.done.packets) is
+acts-keeps who asked now s (effect.Reply r) t (id, is_asked, (entry, right, inr (refused, closes, turn, line))) = ap (λ (d : PlainDone). d.packets) closes.1
+acts-keeps who asked now s (effect.EmitAsk q) t (id, next, entry, right, inl (made, advances, is)) = ap (λ (u : Scene). u.done.packets) is
+acts-keeps who asked now s (effect.EmitAsk q) t (id, next, entry, right, inr (refused, closes, same, advances)) = ap (λ (d : PlainDone). d.packets) closes.1
+acts-keeps who asked now s effect.Disconnect t (between, says, made, gone, is) = ap (λ (u : Scene). u.done.packets) is
+acts-keeps who asked now s (effect.AllJoin m room) t acts = acts-keeps-rooms (all_joined who m room s.history) now s t acts
+acts-keeps who asked now s (effect.AllLeave m room) t acts = acts-keeps-rooms (all_left who m room s.history) now s t acts
+acts-keeps who asked now s (effect.AllEnd m) t (made, turn, done, books) = ap (λ (d : PlainDone). d.packets) done
 
 turn-keeps : (who : Who) (asked : Option ℕ) (now : ℕ) (s : Scene) (e : Effect) (t : Scene) → ActsInTurn who asked now s e t → t.done.packets ≡ s.done.packets
 turn-keeps who asked now s e t acts = on s.done.closed acts
@@ -72,7 +77,7 @@ refuses-keeps c now space message s d t (inl (made, done, line)) = ap (λ (d : P
 refuses-keeps c now space message s d t (inr (refused, closes)) = closes-keeps c now cause.OutboxFull s d t closes
 
 does-keeps : (who : Who) (asked : Option ℕ) (now : ℕ) (effects : List Effect) (before : ℕ) (s : Stage) (d : Unit {0}) (t : Stage) → DoesAll who asked now effects before s (Ok d) t → Keeps s t
-does-keeps who asked now effects before s d t ((at, run, history, done), line) =
+does-keeps who asked now effects before s d t ((at, run, history, lines, done), ids) =
     ap (λ (d : PlainDone). d.packets) (sym done) ∙ runs-keep who asked now effects (scene_at s before) at run
 
 module _ (decides : Who → Arrived → List Effect → Type 0) where

@@ -1,6 +1,10 @@
 mod ConnectLemmas
 mod CountLemmas
+mod FrameLemmas
+mod HandedLemmas
 mod PacketLemmas
 mod ServerLemmas
 mod TakeLemmas
 mod TurnLemmas
+mod UpgradeLemmas
+mod UpkeepLemmas

@@ -19,11 +19,13 @@ use Rattle.effects.specs.declared.app.Arrived.{Arrived}
 use Rattle.effects.specs.declared.app.Effect.{Effect}
 use Rattle.effects.specs.declared.app.Who.{Who}
 use Rattle.effects.specs.App.{PlainVerdict}
-use Rattle.effects.specs.Following.{is_clean, Follows, WorksFor, Spares}
+use Rattle.effects.specs.Following.{is_clean, is_own, Follows, TurnsFor, WorksFor, Spares}
 use Rattle.dispatch.specs.declared.event.Event.{Event}
+use Rattle.dispatch.specs.declared.event.Event.TheVariants as event
+use Rattle.dispatch.specs.Answers.{Answer}
+use Rattle.dispatch.specs.Machine.{Does, Machine, IsOf, listed}
 use Rattle.dispatch.specs.Place.{Place, PlainCore, Agree, IsClean}
-use Rattle.dispatch.specs.Machine.{Answer, Does, Machine, listed, speaker}
-use Rattle.dispatch.proofs.TurnLemmas.{works-none}
+use Rattle.dispatch.proofs.TurnLemmas.{works-none, turns-none, turns-of}
 
 -- ---- a new core
 
@@ -43,7 +45,7 @@ clean-fresh limits h is = rw is (record { base_clients = tt; base_log = tt; step
 -- ---- an event
 
 -- the steps of an event bring in only entries without U+001E
-pub clean-after : (c : ℕ) (h g : History) → IsClean h → Follows c h g → IsClean g
+pub clean-after : (c : ℕ) (h g : History) → IsClean h → Follows (is_own c) h g → IsClean g
 clean-after c h g clean follows = rw (follows.base, follows.limits, follows.journal) (record {
   base_clients = clean.base_clients;
   base_log = clean.base_log;
@@ -58,25 +60,56 @@ spares-none c h lists = λ d other out. refl
 spares-more : (c : ℕ) (h g : History) (lists : List (List ℕ)) → Spares c h g [] → Spares c h g lists
 spares-more c h g lists spares = λ d other out. spares d other refl
 
--- the event is this one, and its turn goes on from each hub that worked for its client
-pub works-as : (event named : Event) (ids : ℕ → ℕ) (old new : PlainHub) (p q : PlainPass) → event ≡ named
-    → ((h : PlainHub) (r : PlainPass) → WorksFor (speaker named ids) h old r p → WorksFor (speaker named ids) h new r q) → WorksFor (speaker event ids) old new p q
-works-as event named ids old new p q is on =
-    subst (λ (e : Event). WorksFor (speaker e ids) old new p q) (sym is) (on old p (works-none (speaker named ids) old p))
+-- the event is this one, and of this client alone; its turn goes on from each hub that worked for the client
+module _ (event named : Event) (ids : ℕ → ℕ) (c : ℕ) (is : event ≡ named) (own : (d : ℕ) → IsOf named ids d → d ≡ c) where
+  its-own : (d : ℕ) → IsOf event ids d → c ≡ d
+  its-own d of = sym (own d (subst (λ (e : Event). IsOf e ids d) is of))
 
--- its turn lists no other client
-pub spares-as : (event named : Event) (ids : ℕ → ℕ) (h g : History) (answer : Answer) → event ≡ named
-    → ((f : History) → Spares (speaker named ids) f h [] → Spares (speaker named ids) f g []) → IfOk answer (λ o. Spares (speaker event ids) h g (listed o))
-spares-as event named ids h g (Ok o) is on =
-    subst (λ (e : Event). Spares (speaker e ids) h g (listed o)) (sym is) (spares-more (speaker named ids) h g (listed o) (on h (spares-none (speaker named ids) h [])))
-spares-as event named ids h g (Err e) is on = tt
+  pub turns-as : (old new : PlainHub) (p q : PlainPass) → ((h : PlainHub) (r : PlainPass) → TurnsFor c h old r p → TurnsFor c h new r q)
+      → (d : ℕ) → IsOf event ids d → TurnsFor d old new p q
+  turns-as old new p q on d of = subst (λ (e : ℕ). TurnsFor e old new p q) (its-own d of) (on old p (turns-none c old p))
 
--- its turn lists those that it reached
-pub spares-listed : (event named : Event) (ids : ℕ → ℕ) (h g : History) (answer : Answer) → event ≡ named
-    → IfOk answer (λ o. (f : History) → Spares (speaker named ids) f h [] → Spares (speaker named ids) f g (listed o)) → IfOk answer (λ o. Spares (speaker event ids) h g (listed o))
-spares-listed event named ids h g (Ok o) is on =
-    subst (λ (e : Event). Spares (speaker e ids) h g (listed o)) (sym is) (on h (spares-none (speaker named ids) h []))
-spares-listed event named ids h g (Err e) is on = tt
+  pub works-as : (old new : PlainHub) (p q : PlainPass) → ((h : PlainHub) (r : PlainPass) → WorksFor c h old r p → WorksFor c h new r q)
+      → (d : ℕ) → IsOf event ids d → TurnsFor d old new p q
+  works-as old new p q on d of = subst (λ (e : ℕ). TurnsFor e old new p q) (its-own d of) (turns-of c old new p q (on old p (works-none c old p)))
+
+  -- its turn lists those that it reached
+  pub spares-listed : (h g : History) (answer : Answer) → IfOk answer (λ o. (f : History) → Spares c f h [] → Spares c f g (listed o))
+      → IfOk answer (λ o. (d : ℕ) → IsOf event ids d → Spares d h g (listed o))
+  spares-listed h g (Ok o) on = λ d of. subst (λ (e : ℕ). Spares e h g (listed o)) (its-own d of) (on h (spares-none c h []))
+  spares-listed h g (Err e) on = tt
+
+  -- or no other client
+  pub spares-as : (h g : History) (answer : Answer) → ((f : History) → Spares c f h [] → Spares c f g [])
+      → IfOk answer (λ o. (d : ℕ) → IsOf event ids d → Spares d h g (listed o))
+  spares-as h g (Ok o) on = λ d of. subst (λ (e : ℕ). Spares e h g (listed o)) (its-own d of) (spares-more c h g (listed o) (on h (spares-none c h [])))
+  spares-as h g (Err e) on = tt
+
+-- each event is of some client
+pub of-some : (event : Event) (ids : ℕ → ℕ) → (c : ℕ) × IsOf event ids c
+of-some (event.Opened socket) ids = (ids 0, refl)
+of-some (event.Post c body) ids = (c, refl)
+of-some (event.Frame c frame) ids = (c, refl)
+of-some (event.PollBegin c) ids = (c, refl)
+of-some (event.PollEnd c) ids = (c, refl)
+of-some (event.PollTake c most) ids = (c, refl)
+of-some (event.FrameTake c most) ids = (c, refl)
+of-some (event.Probe c) ids = (c, refl)
+of-some (event.Upgraded c) ids = (c, refl)
+of-some (event.ProbeLost c) ids = (c, refl)
+of-some (event.TransportLost c) ids = (c, refl)
+of-some (event.Tick c) ids = (c, refl)
+of-some event.Sweep ids = (0, tt)
+
+-- the event is a sweep, which is of each client
+pub works-each : (event : Event) (ids : ℕ → ℕ) (old new : PlainHub) (p q : PlainPass) → ((c : ℕ) (h : PlainHub) (r : PlainPass) → WorksFor c h old r p → WorksFor c h new r q)
+    → (c : ℕ) → IsOf event ids c → TurnsFor c old new p q
+works-each event ids old new p q on c of = turns-of c old new p q (on c old p (works-none c old p))
+
+pub spares-each : (event : Event) (ids : ℕ → ℕ) (h g : History) (answer : Answer) → ((c : ℕ) (f : History) → Spares c f h [] → Spares c f g [])
+    → IfOk answer (λ o. (c : ℕ) → IsOf event ids c → Spares c h g (listed o))
+spares-each event ids h g (Ok o) on = λ c of. spares-more c h g (listed o) (on c h (spares-none c h []))
+spares-each event ids h g (Err e) on = tt
 
 -- ---- a seal
 

@@ -1,5 +1,5 @@
 -- A line stands for each open client after an event, too.
-use Rattle.std.proofs.Common.{◌≡◌, ℕ, ◌==◌, Bool, true, false, ◌&&◌, ◌||◌, List, [], ◌∷◌, ◌++◌, refl, sym, ◌∙◌, ap, subst, arith, nat_eq, Option, None, Some, is_some, Err, inr}
+use Rattle.std.proofs.Common.{◌≡◌, ℕ, ◌+◌, ◌==◌, Bool, true, false, ◌&&◌, ◌||◌, List, [], ◌∷◌, ◌++◌, refl, sym, ◌∙◌, ap, subst, arith, nat_eq, Option, None, Some, is_some, Err, inr}
 use Rattle.std.specs.List.{AllByRecursion}
 use Rattle.std.specs.Set.{is_member}
 use Rattle.std.proofs.lemmas.Bool.Decides.{nat_tests}
@@ -8,7 +8,7 @@ use Rattle.connection.specs.Line.{PlainLine}
 use Rattle.journal.specs.declared.error.HubError.TheVariants as hub
 use Rattle.journal.specs.declared.step.Step.{Step}
 use Rattle.journal.specs.declared.step.What.{What}
-use Rattle.journal.specs.declared.step.What.TheVariants.{Opened, Parked, Closed}
+use Rattle.journal.specs.declared.step.What.TheVariants.{Opened, Attached, Recovered, Joined, Left, AllJoined, AllLeft, Cast, Told, Took, Parked, Ended, AllEnded, Closed, Swept}
 use Rattle.journal.specs.Plain.{PlainBase}
 use Rattle.journal.specs.Journal.{History}
 use Rattle.journal.specs.Membership.{opens, closes, is_open}
@@ -21,18 +21,56 @@ use Rattle.effects.specs.declared.fault.CoreError.{CoreError}
 use Rattle.effects.specs.declared.fault.CoreFault.TheVariants.{IdTaken}
 use Rattle.effects.specs.App.{PlainVerdict}
 use Rattle.effects.specs.Commands.{StopsAt}
-use Rattle.effects.specs.Following.{is_own, Follows, WorksFor}
-use Rattle.dispatch.specs.Machine.{nothing_done, WorksOn}
+use Rattle.effects.specs.Following.{is_own, is_work, Follows, GoesOn, TurnsFor, WorksFor}
+use Rattle.dispatch.specs.Answers.{nothing_done}
+use Rattle.dispatch.specs.Machine.{WorksOn}
 use Rattle.dispatch.specs.Packets.{Stage, stage, BreaksAfter}
 use Rattle.dispatch.specs.Place.{Place, line_of, place, KeepsOthers, Agree}
 
 -- nothing was done yet
-pub works-none : (c : ℕ) (h : PlainHub) (p : PlainPass) → WorksFor c h h p p
-works-none c h p = record {
+pub goes-none : (kind : What → Bool) (h : PlainHub) (p : PlainPass) → GoesOn kind h h p p
+goes-none kind h p = record {
   follows = record { steps = []; base = refl; limits = refl; journal = refl; own = tt; clean = tt };
   rises = record { commands = refl; taken = refl; parts = refl };
   rest = refl;
 }
+
+pub works-none : (c : ℕ) (h : PlainHub) (p : PlainPass) → WorksFor c h h p p
+works-none c h p = goes-none (is_work c) h p
+
+pub turns-none : (c : ℕ) (h : PlainHub) (p : PlainPass) → TurnsFor c h h p p
+turns-none c h p = goes-none (is_own c) h p
+
+-- work for a client is of its event
+work-own : (c : ℕ) (what : What) → is_work c what ≡ true → is_own c what ≡ true
+work-own c (Opened d) work = absurd (cc work)
+work-own c (Took d most n) work = absurd (cc work)
+work-own c (Attached k) work = work
+work-own c (Recovered r) work = work
+work-own c (Joined s room) work = work
+work-own c (Left s room) work = work
+work-own c (AllJoined m) work = work
+work-own c (AllLeft m) work = work
+work-own c (Cast b) work = work
+work-own c (Told m) work = work
+work-own c (Parked d) work = work
+work-own c (Ended s) work = work
+work-own c (AllEnded d) work = work
+work-own c (Closed d) work = work
+work-own c Swept work = work
+
+all-own : (c : ℕ) (steps : List Step) → AllByRecursion (λ (step : Step). is_work c step.what ≡ true) steps → AllByRecursion (λ (step : Step). is_own c step.what ≡ true) steps
+all-own c [] work = tt
+all-own c (step ∷ steps) work = (work-own c step.what work.0, all-own c steps work.1)
+
+pub turns-of : (c : ℕ) (h g : PlainHub) (p q : PlainPass) → WorksFor c h g p q → TurnsFor c h g p q
+turns-of c h g p q works =
+    let f = works.follows in
+    record {
+      follows = record { steps = f.steps; base = f.base; limits = f.limits; journal = f.journal; own = all-own c f.steps f.own; clean = f.clean };
+      rises = works.rises;
+      rest = works.rest;
+    }
 
 -- ---- the other clients
 
@@ -64,7 +102,7 @@ others-after c d base (step ∷ steps) before own other =
     ∙ others-after c d base steps before own.1 other
 
 -- another client is open as it was before an event of this one
-pub open-others : (c : ℕ) (h g : History) → Follows c h g → (d : ℕ) → (c == d) ≡ false → is_open g.base g.journal d ≡ is_open h.base h.journal d
+pub open-others : (c : ℕ) (h g : History) → Follows (is_own c) h g → (d : ℕ) → (c == d) ≡ false → is_open g.base g.journal d ≡ is_open h.base h.journal d
 open-others c h g follows d other =
     ap (λ (base : PlainBase). is_open base g.journal d) follows.base
     ∙ ap (λ (journal : List Step). is_open h.base journal d) follows.journal
@@ -73,7 +111,7 @@ open-others c h g follows d other =
 -- ---- the lines
 
 -- where the client of the event has a line just where it is open, all clients have
-pub agree-after : (c : ℕ) (h g : History) (old new : List (ℕ × PlainLine)) → Agree h old → Follows c h g → KeepsOthers c (place h old) (place g new)
+pub agree-after : (c : ℕ) (h g : History) (old new : List (ℕ × PlainLine)) → Agree h old → Follows (is_own c) h g → KeepsOthers c (place h old) (place g new)
     → is_some (line_of new c) ≡ is_open g.base g.journal c → Agree g new
 agree-after c h g old new agree follows others own d = on (c == d) refl
   where
@@ -85,15 +123,22 @@ agree-after c h g old new agree follows others own d = on (c == d) refl
     on false is = ap (λ (o : Option PlainLine). is_some o) (others d is) ∙ agree d ∙ sym (open-others c h g follows d is)
 
 -- where the client isn't open any more and has no line
-pub agree-gone : (c : ℕ) (h g : History) (old new : List (ℕ × PlainLine)) → Agree h old → Follows c h g → KeepsOthers c (place h old) (place g new)
+pub agree-gone : (c : ℕ) (h g : History) (old new : List (ℕ × PlainLine)) → Agree h old → Follows (is_own c) h g → KeepsOthers c (place h old) (place g new)
     → line_of new c ≡ None → is_open g.base g.journal c ≡ false → Agree g new
 agree-gone c h g old new agree follows others gone closed =
     agree-after c h g old new agree follows others (ap (λ (o : Option PlainLine). is_some o) gone ∙ sym closed)
 
 -- where it is open still and has one
-pub agree-still : (c : ℕ) (h g : History) (old new : List (ℕ × PlainLine)) → Agree h old → Follows c h g → KeepsOthers c (place h old) (place g new)
+pub agree-still : (c : ℕ) (h g : History) (old new : List (ℕ × PlainLine)) → Agree h old → Follows (is_own c) h g → KeepsOthers c (place h old) (place g new)
     → is_some (line_of new c) ≡ true → is_open g.base g.journal c ≡ true → Agree g new
 agree-still c h g old new agree follows others has open_still = agree-after c h g old new agree follows others (has ∙ sym open_still)
+
+-- after steps that are of each client
+pub agree-each : (h g : History) → ((c : ℕ) → Follows (is_own c) h g) → (lines : List (ℕ × PlainLine)) → Agree h lines → Agree g lines
+agree-each h g follows lines agree d = agree d ∙ sym (open-others (d + 1) h g (follows (d + 1)) d (next d))
+  where
+    next : (d : ℕ) → (d + 1 == d) ≡ false
+    next d = grind (arith, nat_tests)
 
 -- a client that is open isn't opened
 pub not-again : (h : History) (now c : ℕ) → is_open h.base h.journal c ≡ true → StopsAt h now (Opened c) IdTaken

@@ -1,4 +1,9 @@
+pub mod Answers
+pub mod Frames
+pub mod Handed
 pub mod Machine
 pub mod Packets
 pub mod Place
 pub mod Takes
+pub mod Upgrade
+pub mod Upkeep

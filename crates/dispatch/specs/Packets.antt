@@ -92,11 +92,11 @@ Refuses c now space message s (Err e) t =
 
 -- the scene before a packet's effects, of which so many are done
 abbrev pub scene_at : Stage → (before : ℕ) → Scene
-scene_at s before = record { history = s.history; done = s.done; turn = record { count = before; replied = false; ended = false } }
+scene_at s before = record { history = s.history; line = s.line; done = s.done; turn = record { count = before; replied = false; ended = false } }
 
 abbrev pub DoesAll : Who → (asked : Option ℕ) → ℕ → List Effect → (before : ℕ) → Stage → Upshot → Stage → Type 0
-DoesAll who asked now effects before s (Ok done) t = ActsAll who asked now effects (scene_at s before) t.history t.done × KeepsLine s t
-DoesAll who asked now effects before s (Err e) t = StopsAfter who asked now effects (scene_at s before) e.0 e.1 t.history × KeepsLine s t
+DoesAll who asked now effects before s (Ok done) t = ActsAll who asked now effects (scene_at s before) t.history t.line t.done × (t.ids ≡ s.ids)
+DoesAll who asked now effects before s (Err e) t = StopsAfter who asked now effects (scene_at s before) e.0 e.1 t.history t.line × (t.ids ≡ s.ids)
 
 -- there is no memory for what was to be done
 abbrev pub IsShort : Stage → Upshot → Stage → Type 0

@@ -1,5 +1,5 @@
 -- What a take carries to a client (Engine.IO protocol 4, "HTTP long-polling" and "Heartbeat").
-use Rattle.std.specs.Prelude.{◌≡◌, ◌⊎◌, ℕ, Bool, true, false, List, [], ◌∷◌, ◌++◌, map, length, take, All, ◌<◌, Result, Ok, Err, if◌then◌else◌}
+use Rattle.std.specs.Prelude.{◌≡◌, ◌≢◌, ◌⊎◌, ℕ, Bool, true, false, List, [], ◌∷◌, ◌++◌, map, length, take, All, ◌<◌, Result, Ok, Err, if◌then◌else◌}
 use Rattle.std.specs.List.{flat_map}
 use Rattle.eio_wire.specs.declared.packet.Packet.{Packet}
 use Rattle.eio_wire.specs.declared.packet.Packet.TheVariants.{Ping, Message, Binary, Noop}
@@ -24,6 +24,10 @@ use Rattle.dispatch.specs.declared.outcome.Outcome.TheVariants as outcome
 -- whichever calls led to the line: the client speaks over this transport, a GET waits or not, a ping is due or not
 abbrev pub IsOn : Transport → PlainLine → Type 0
 IsOn on line = ForEachHistory line (λ o h. on ≡ transport o (clock_calls h))
+
+-- the client polls, whether it probes a WebSocket or not
+abbrev pub Polls : PlainLine → Type 0
+Polls line = ForEachHistory line (λ o h. transport o (clock_calls h) ≢ Socket)
 
 abbrev pub IsGetting : Bool → PlainLine → Type 0
 IsGetting getting line = ForEachHistory line (λ o h. getting ≡ is_getting h)
@@ -77,9 +81,12 @@ TellsNoop (Ok (outcome.Payload text)) h g old new = Payload (Noop [] ∷ []) tex
 TellsNoop (Ok _) h g old new = ⊥
 TellsNoop (Err e) h g old new = TakesNone Memory e h g old new
 
--- what a payload does to the line: the GET is answered, and a ping that was due is carried
+-- what a payload does to the line: a ping that was due is carried, and the GET is answered
+abbrev pub ping_calls : (ping : Bool) → List Call
+ping_calls ping = if ping then PingCarried ∷ [] else []
+
 abbrev pub calls_of : (ping : Bool) → List Call
-calls_of ping = GetEnded ∷ (if ping then PingCarried ∷ [] else [])
+calls_of ping = GetEnded ∷ ping_calls ping
 
 -- the payload is written, and then the entries are taken
 abbrev pub Carries : (c most : ℕ) → ℕ → (ping : Bool) → Take → (h g : History) → (old new : PlainLine) → Type 0

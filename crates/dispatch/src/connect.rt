@@ -93,7 +93,7 @@ fn accept<C: Ledger, T: Ledger, I: IdSource>(
         Ok(true) => {
             line.enter(sid);
             done.effects = done.effects.saturating_add(1);
-            act_all(alloc, hub, pass, &who, None, now, wanted, 1, done)
+            act_all(alloc, hub, pass, line, &who, None, now, wanted, 1, done)
         }
         Ok(false) => close_for(alloc, hub, pass, client, Cause::OutboxFull, now, done),
         Err(fault) => Err((fault, 0)),

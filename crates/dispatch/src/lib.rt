@@ -4,12 +4,15 @@
 
 mod connect;
 mod event;
+mod frames;
 mod outcome;
 mod packets;
 mod server;
 mod takes;
 mod turns;
+mod upgrade;
+mod upkeep;
 
-pub use event::Event;
-pub use outcome::{Opening, Outcome};
+pub use event::{Event, WsFrame};
+pub use outcome::{Frames, Opening, Outcome};
 pub use server::Core;

@@ -82,6 +82,7 @@ fn decide<C: Ledger, T: Ledger, A: App>(
     alloc: Global,
     hub: &mut Hub<C, T>,
     pass: &mut Pass<C, T>,
+    line: &mut Line,
     app: &A,
     who: &Who,
     arrived: &Arrived,
@@ -93,14 +94,14 @@ fn decide<C: Ledger, T: Ledger, A: App>(
     requires fresh { done.old.closed ≡ None }
     requires clean { IsWhole who.now.space }
     requires whole { IsCleanArrival arrived.now }
-    ensures does { (l : PlainLine) (ids : ℕ → ℕ) → Decides (A.decides app.now) who.now arrived.now asked now (stage hub.old.history l ids done.old) result (stage hub.new.history l ids done.new) }
+    ensures does { (ids : ℕ → ℕ) → Decides (A.decides app.now) who.now arrived.now asked now (stage hub.old.history line.old ids done.old) result (stage hub.new.history line.new ids done.new) }
     ensures open_still { OnOk result (is_open hub.new.history.base hub.new.history.journal who.now.client ≡ is_none done.new.closed) }
     ensures open_after { OnErr result (is_open hub.new.history.base hub.new.history.journal who.now.client ≡ true) }
     ensures works { (h : PlainHub) (p : PlainPass) → WorksFor who.now.client h hub.old p pass.old → WorksFor who.now.client h hub.new p pass.new }
     ensures spares { OnOk result ((h : History) → Spares who.now.client h hub.old.history done.old.clients → Spares who.now.client h hub.new.history done.new.clients) }
 {
     match app.decides(alloc, who, arrived) {
-        Ok(wanted) => act_all(alloc, hub, pass, who, asked, now, wanted, 0, done),
+        Ok(wanted) => act_all(alloc, hub, pass, line, who, asked, now, wanted, 0, done),
         Err(_) => Err((CoreFault::Memory, 0)),
     }
 }
@@ -166,7 +167,7 @@ fn take_answer<C: Ledger, T: Ledger, A: App>(
         payload,
         attachments,
     });
-    decide(alloc, hub, pass, app, who, &arrived, None, now, done)
+    decide(alloc, hub, pass, line, app, who, &arrived, None, now, done)
 }
 
 /// Hears an event of a socket.
@@ -174,6 +175,7 @@ fn hear<C: Ledger, T: Ledger, A: App>(
     alloc: Global,
     hub: &mut Hub<C, T>,
     pass: &mut Pass<C, T>,
+    line: &mut Line,
     app: &A,
     who: &Who,
     asked: Option<u64>,
@@ -186,7 +188,7 @@ fn hear<C: Ledger, T: Ledger, A: App>(
     requires fresh { done.old.closed ≡ None }
     requires clean { IsWhole who.now.space }
     requires whole { IsWhole payload }
-    ensures does { (l : PlainLine) (ids : ℕ → ℕ) → HearsEvent (A.decides app.now) who.now asked payload attachments now (stage hub.old.history l ids done.old) result (stage hub.new.history l ids done.new) }
+    ensures does { (ids : ℕ → ℕ) → HearsEvent (A.decides app.now) who.now asked payload attachments now (stage hub.old.history line.old ids done.old) result (stage hub.new.history line.new ids done.new) }
     ensures open_still { OnOk result (is_open hub.new.history.base hub.new.history.journal who.now.client ≡ is_none done.new.closed) }
     ensures open_after { OnErr result (is_open hub.new.history.base hub.new.history.journal who.now.client ≡ true) }
     ensures works { (h : PlainHub) (p : PlainPass) → WorksFor who.now.client h hub.old p pass.old → WorksFor who.now.client h hub.new p pass.new }
@@ -197,7 +199,7 @@ fn hear<C: Ledger, T: Ledger, A: App>(
         attachments,
         asked: asked.is_some(),
     });
-    decide(alloc, hub, pass, app, who, &arrived, asked, now, done)
+    decide(alloc, hub, pass, line, app, who, &arrived, asked, now, done)
 }
 
 /// What a packet of a connected socket does.
@@ -232,6 +234,7 @@ fn serve<C: Ledger, T: Ledger, A: App>(
                 alloc,
                 hub,
                 pass,
+                line,
                 app,
                 who,
                 id,

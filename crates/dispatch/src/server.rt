@@ -1,6 +1,6 @@
 //! The whole state of the server, and what each event does to it.
 
-ghost use Rattle.std.specs.Prelude.{◌≡◌, ◌+◌, ◌-◌, ◌<◌, [], Some, None, is_some, IsOk, IfOk, IfErr, IfSome, OnOk, OnErr};
+ghost use Rattle.std.specs.Prelude.{◌≡◌, ℕ, ◌+◌, ◌-◌, ◌<◌, List, [], ◌∷◌, Some, None, is_some, IsOk, IfOk, IfErr, IfSome, OnOk, OnErr};
 ghost use Rattle.std.specs.Ordering.{nat_cmp};
 ghost use Rattle.terms.specs.Listing.{ListsRising};
 ghost use Rattle.journal.specs.Config.{config_refusal, empty_base};
@@ -8,16 +8,18 @@ ghost use Rattle.journal.specs.Legal.{IsLegal};
 ghost use Rattle.journal.specs.Membership.{is_open};
 ghost use Rattle.journal.specs.Seal.{IsSealed, SaysTheSame};
 ghost use Rattle.journal.specs.Totals as counted;
-ghost use Rattle.hub.specs.Pass.{commands_of, taken_of};
-ghost use Rattle.effects.specs.Following.{WorksFor, Spares};
+ghost use Rattle.hub.specs.Pass.{AtLeast, commands_of, taken_of};
+ghost use Rattle.effects.specs.Following.{TurnsFor, Spares};
 ghost use Rattle.connection.specs.Line.{PlainLine};
 ghost use Rattle.dispatch.specs.Place.{line_of, place, Agree, IsClean};
 ghost use Rattle.dispatch.specs.Takes.{IsOn};
-ghost use Rattle.dispatch.specs.Machine.{Does, Machine, at_once, fault_of_config, listed, speaker};
+ghost use Rattle.dispatch.specs.Answers.{at_once, fault_of_config};
+ghost use Rattle.dispatch.specs.Handed.{Turn, Handed};
+ghost use Rattle.dispatch.specs.Machine.{Does, Machine, IsOf, listed};
 
 use crate::event::Event;
 use crate::outcome::Outcome;
-use crate::turns;
+use crate::{frames, turns, upgrade, upkeep};
 use connection::Line;
 use effects::{App, CoreError, CoreFault, IdSource};
 use eio_wire::Numbers;
@@ -64,6 +66,7 @@ impl<C: Ledger, T: Ledger> Core<C, T> {
         requires taken { (taken.name ≡ T.name) × (taken.parts ≡ T.parts) × (taken.parts ≡ 65536) }
         ensures config { OnOk result (config_refusal config ≡ None) }
         ensures core { IfOk result (λ made. made.0 ≡ record { hub = record { history = record { base = empty_base config.first_offset; limits = config; journal = [] }; rest = 65535 }; lines = []; timing = timing; numbers = numbers }) }
+        ensures handed { IfOk result (λ made. (c : ℕ) → Handed c [] made.0.hub.history) }
         ensures pass { IfOk result (λ made. made.1 ≡ record { commands = 0; taken = 0; parts = 1 }) }
         ensures err { IfErr result (λ e. e ≡ at_once (fault_of_config (config_refusal config))) }
     {
@@ -94,8 +97,9 @@ impl<C: Ledger, T: Ledger> Core<C, T> {
     ) -> Result<Outcome, CoreError>
         ensures does { Does (A.decides app.now) (A.allows app.now) now self.old.timing self.old.numbers event.now (place self.old.hub.history self.old.lines) (I.stream ids.old) result (place self.new.hub.history self.new.lines) (I.stream ids.new) }
         ensures settings { (self.new.timing ≡ self.old.timing) × (self.new.numbers ≡ self.old.numbers) }
-        ensures works { WorksFor (speaker event.now (I.stream ids.old)) self.old.hub self.new.hub pass.old pass.new }
-        ensures spares { IfOk result (λ o. Spares (speaker event.now (I.stream ids.old)) self.old.hub.history self.new.hub.history (listed o)) }
+        ensures handed { (c : ℕ) (turns : List Turn) → Handed c turns self.old.hub.history → Handed c ((event.now, result) ∷ turns) self.new.hub.history }
+        ensures turns { (c : ℕ) → IsOf event.now (I.stream ids.old) c → TurnsFor c self.old.hub self.new.hub pass.old pass.new }
+        ensures spares { IfOk result (λ o. (c : ℕ) → IsOf event.now (I.stream ids.old) c → Spares c self.old.hub.history self.new.hub.history (listed o)) }
     {
         apply_to(
             alloc,
@@ -176,6 +180,14 @@ impl<C: Ledger, T: Ledger> Core<C, T> {
         self.hub.new_pass()
     }
 
+    /// Changes nothing. It tells that the hub's counts are at least what the pass has counted.
+    pub fn audit(&mut self, pass: &mut Pass<C, T>)
+        ensures same { (self.new ≡ self.old) × (pass.new ≡ pass.old) }
+        ensures at_least { AtLeast self.old.hub pass.old }
+    {
+        self.hub.audit(pass);
+    }
+
     /// The hub's counts, where the pass has all of its commands and all that it handed out, and else
     /// what the pass lacks. It lacks nothing where every other pass was absorbed. Changes nothing.
     pub fn settle(&mut self, pass: &mut Pass<C, T>) -> Result<Totals, NotAll>
@@ -220,8 +232,9 @@ fn apply_to<C: Ledger, T: Ledger, A: App, I: IdSource>(
     requires clean { IsClean hub.old.history }
     ensures does { Does (A.decides app.now) (A.allows app.now) now timing numbers.now event.now (place hub.old.history lines.old.entries) (I.stream ids.old) result (place hub.new.history lines.new.entries) (I.stream ids.new) }
     ensures agree { Agree hub.new.history lines.new.entries }
-    ensures works { WorksFor (speaker event.now (I.stream ids.old)) hub.old hub.new pass.old pass.new }
-    ensures spares { IfOk result (λ o. Spares (speaker event.now (I.stream ids.old)) hub.old.history hub.new.history (listed o)) }
+    ensures handed { (c : ℕ) (turns : List Turn) → Handed c turns hub.old.history → Handed c ((event.now, result) ∷ turns) hub.new.history }
+    ensures turns { (c : ℕ) → IsOf event.now (I.stream ids.old) c → TurnsFor c hub.old hub.new pass.old pass.new }
+    ensures spares { IfOk result (λ o. (c : ℕ) → IsOf event.now (I.stream ids.old) c → Spares c hub.old.history hub.new.history (listed o)) }
 {
     match event {
         Event::Opened { socket } => turns::open(
@@ -238,11 +251,22 @@ fn apply_to<C: Ledger, T: Ledger, A: App, I: IdSource>(
             now,
             ids,
         ),
+        Event::Frame { client, frame } => {
+            frames::hear(alloc, hub, pass, lines, app, *client, frame, now, ids)
+        }
         Event::PollBegin { client } => turns::begin(alloc, hub, pass, lines, *client, now),
         Event::PollEnd { client } => turns::end(alloc, lines, *client),
         Event::PollTake { client, most } => {
             turns::take(alloc, hub, pass, lines, *client, *most, now)
         }
+        Event::FrameTake { client, most } => {
+            frames::take(alloc, hub, pass, lines, *client, *most, now)
+        }
+        Event::Probe { client } => upgrade::probe(alloc, lines, *client),
+        Event::Upgraded { client } => upgrade::upgrade(alloc, lines, *client),
+        Event::ProbeLost { client } => upgrade::probe_lost(alloc, lines, *client),
         Event::TransportLost { client } => turns::lose(alloc, hub, pass, lines, *client, now),
+        Event::Tick { client } => upkeep::tick(alloc, hub, pass, lines, *client, now),
+        Event::Sweep => upkeep::sweep(alloc, hub, pass, now),
     }
 }

@@ -8,7 +8,7 @@ ghost use Rattle.journal.specs.Membership.{is_open};
 ghost use Rattle.hub.specs.Pass.{PlainHub, PlainPass};
 ghost use Rattle.connection.specs.History.{GetEnded};
 ghost use Rattle.connection.specs.Line.{Advances};
-ghost use Rattle.effects.specs.Following.{WorksFor, Spares};
+ghost use Rattle.effects.specs.Following.{TurnsFor, Spares};
 ghost use Rattle.dispatch.specs.Place.{IsClean};
 ghost use Rattle.dispatch.specs.Takes.{packets_of, handed, carried, Counts, FailsToCount, TellsNoop, calls_of, Carries, TakesWaiting, TakesFor, AllWhole};
 
@@ -46,7 +46,7 @@ fn first_packets(alloc: Global, ping: bool) -> Result<Vec<Packet>, AllocError>
 }
 
 /// The packets that a take of at most so many entries carries.
-fn packets_for<C: Ledger, T: Ledger>(
+pub(crate) fn packets_for<C: Ledger, T: Ledger>(
     alloc: Global,
     hub: &Hub<C, T>,
     client: u128,
@@ -91,7 +91,7 @@ fn noop(alloc: Global, line: &mut Line) -> Result<Outcome, CoreFault>
 }
 
 /// Counts the entries that are handed out, where there are some.
-fn count<C: Ledger, T: Ledger>(
+pub(crate) fn count<C: Ledger, T: Ledger>(
     alloc: Global,
     hub: &mut Hub<C, T>,
     pass: &mut Pass<C, T>,
@@ -103,7 +103,7 @@ fn count<C: Ledger, T: Ledger>(
     ensures ok { OnOk result (Counts client most now hub.old.history hub.new.history) }
     ensures err { IfErr result (λ f. FailsToCount client most now hub.old.history f × (hub.new ≡ hub.old)) }
     ensures open_still { is_open hub.new.history.base hub.new.history.journal client ≡ true }
-    ensures works { (h : PlainHub) (p : PlainPass) → WorksFor client h hub.old p pass.old → WorksFor client h hub.new p pass.new }
+    ensures turns { (h : PlainHub) (p : PlainPass) → TurnsFor client h hub.old p pass.old → TurnsFor client h hub.new p pass.new }
     ensures spares { (h : History) → Spares client h hub.old.history [] → Spares client h hub.new.history [] }
 {
     if most == 0 || hub.state().front(client, 0).is_none() {
@@ -140,7 +140,7 @@ fn carry<C: Ledger, T: Ledger>(
     requires whole { AllWhole packets.now }
     ensures does { Carries client most now ping result hub.old.history hub.new.history line.old line.new }
     ensures open_still { is_open hub.new.history.base hub.new.history.journal client ≡ true }
-    ensures works { (h : PlainHub) (p : PlainPass) → WorksFor client h hub.old p pass.old → WorksFor client h hub.new p pass.new }
+    ensures turns { (h : PlainHub) (p : PlainPass) → TurnsFor client h hub.old p pass.old → TurnsFor client h hub.new p pass.new }
     ensures spares { (h : History) → Spares client h hub.old.history [] → Spares client h hub.new.history [] }
 {
     let text = payload_of(alloc, packets)?;
@@ -165,7 +165,7 @@ fn take_waiting<C: Ledger, T: Ledger>(
     requires clean { IsClean hub.old.history }
     ensures does { TakesWaiting transport ping client most now result hub.old.history hub.new.history line.old line.new }
     ensures open_still { is_open hub.new.history.base hub.new.history.journal client ≡ true }
-    ensures works { (h : PlainHub) (p : PlainPass) → WorksFor client h hub.old p pass.old → WorksFor client h hub.new p pass.new }
+    ensures turns { (h : PlainHub) (p : PlainPass) → TurnsFor client h hub.old p pass.old → TurnsFor client h hub.new p pass.new }
     ensures spares { (h : History) → Spares client h hub.old.history [] → Spares client h hub.new.history [] }
 {
     let packets = packets_for(alloc, hub, client, ping, most)?;
@@ -202,7 +202,7 @@ pub(crate) fn poll_take<C: Ledger, T: Ledger>(
     requires clean { IsClean hub.old.history }
     ensures does { TakesFor client most now result hub.old.history hub.new.history line.old line.new }
     ensures open_still { is_open hub.new.history.base hub.new.history.journal client ≡ true }
-    ensures works { (h : PlainHub) (p : PlainPass) → WorksFor client h hub.old p pass.old → WorksFor client h hub.new p pass.new }
+    ensures turns { (h : PlainHub) (p : PlainPass) → TurnsFor client h hub.old p pass.old → TurnsFor client h hub.new p pass.new }
     ensures spares { (h : History) → Spares client h hub.old.history [] → Spares client h hub.new.history [] }
 {
     let transport = line.transport();

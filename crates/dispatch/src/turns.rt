@@ -8,10 +8,11 @@ ghost use Rattle.journal.specs.declared.step.What.TheVariants as step;
 ghost use Rattle.connection.specs.Line.{PlainLine};
 ghost use Rattle.hub.specs.Pass.{PlainHub, PlainPass};
 ghost use Rattle.effects.specs.Commands.{Makes, IsRefused, StopsAt};
-ghost use Rattle.effects.specs.Following.{WorksFor, Spares};
+ghost use Rattle.effects.specs.Following.{TurnsFor, WorksFor, Spares};
 ghost use Rattle.dispatch.specs.Place.{PlainCore, line_of, place, Agree, IsClean};
 ghost use Rattle.dispatch.specs.Takes.{IsOn};
-ghost use Rattle.dispatch.specs.Machine.{Opens, ClosesUnread, Begins, Ends, Takes, Loses, ForClient, WorksOn, Posts, Refused, PostsFor, listed};
+ghost use Rattle.dispatch.specs.Answers.{ClosesUnread, ForClient};
+ghost use Rattle.dispatch.specs.Machine.{Opens, Begins, Ends, Takes, Loses, WorksOn, PostsFor, listed};
 
 use crate::outcome::{Opening, Outcome};
 use crate::packets::handle_all;
@@ -42,7 +43,7 @@ pub(crate) fn open<C: Ledger, T: Ledger, I: IdSource>(
     ensures does { Opens timing numbers.now now socket (I.stream ids.old 0) (place hub.old.history lines.old.entries) result (place hub.new.history lines.new.entries) }
     ensures drawn { I.stream ids.new ≡ (λ k. I.stream ids.old (k + 1)) }
     ensures agree { Agree hub.new.history lines.new.entries }
-    ensures works { (h : PlainHub) (p : PlainPass) → WorksFor (I.stream ids.old 0) h hub.old p pass.old → WorksFor (I.stream ids.old 0) h hub.new p pass.new }
+    ensures turns { (h : PlainHub) (p : PlainPass) → TurnsFor (I.stream ids.old 0) h hub.old p pass.old → TurnsFor (I.stream ids.old 0) h hub.new p pass.new }
     ensures spares { (h : History) → Spares (I.stream ids.old 0) h hub.old.history [] → Spares (I.stream ids.old 0) h hub.new.history [] }
 {
     let client = ids.draw();
@@ -67,7 +68,7 @@ fn open_as<C: Ledger, T: Ledger>(
     requires agree { Agree hub.old.history lines.old.entries }
     ensures does { Opens timing numbers.now now socket client (place hub.old.history lines.old.entries) result (place hub.new.history lines.new.entries) }
     ensures agree { Agree hub.new.history lines.new.entries }
-    ensures works { (h : PlainHub) (p : PlainPass) → WorksFor client h hub.old p pass.old → WorksFor client h hub.new p pass.new }
+    ensures turns { (h : PlainHub) (p : PlainPass) → TurnsFor client h hub.old p pass.old → TurnsFor client h hub.new p pass.new }
     ensures spares { (h : History) → Spares client h hub.old.history [] → Spares client h hub.new.history [] }
 {
     if let Some(_) = lines.get(&client) {
@@ -106,7 +107,7 @@ fn put(lines: &mut BTreeMap<u128, Line>, client: u128, line: Line) -> Result<(),
 }
 
 /// Forgets the client's line.
-fn forget(lines: &mut BTreeMap<u128, Line>, client: u128)
+pub(crate) fn forget(lines: &mut BTreeMap<u128, Line>, client: u128)
     ensures gone { line_of lines.new.entries client ≡ None }
     ensures others { (d : ℕ) → client == d ≡ false → line_of lines.new.entries d ≡ line_of lines.old.entries d }
 {
@@ -114,7 +115,7 @@ fn forget(lines: &mut BTreeMap<u128, Line>, client: u128)
 }
 
 /// Closes a client of whose event nothing was worked on.
-fn close_unread<C: Ledger, T: Ledger>(
+pub(crate) fn close_unread<C: Ledger, T: Ledger>(
     alloc: Global,
     hub: &mut Hub<C, T>,
     pass: &mut Pass<C, T>,
@@ -185,7 +186,7 @@ pub(crate) fn post<C: Ledger, T: Ledger, A: App, I: IdSource>(
 }
 
 /// Works on packets, and drops the line of a client that one of them closes.
-fn work_on<C: Ledger, T: Ledger, A: App, I: IdSource>(
+pub(crate) fn work_on<C: Ledger, T: Ledger, A: App, I: IdSource>(
     alloc: Global,
     hub: &mut Hub<C, T>,
     pass: &mut Pass<C, T>,
@@ -288,7 +289,7 @@ pub(crate) fn take<C: Ledger, T: Ledger>(
     requires clean { IsClean hub.old.history }
     ensures does { ForClient client (λ line. Takes now client most line (place hub.old.history lines.old.entries) result (place hub.new.history lines.new.entries)) CoreFault.UnknownClient (place hub.old.history lines.old.entries) result (place hub.new.history lines.new.entries) }
     ensures agree { Agree hub.new.history lines.new.entries }
-    ensures works { (h : PlainHub) (p : PlainPass) → WorksFor client h hub.old p pass.old → WorksFor client h hub.new p pass.new }
+    ensures turns { (h : PlainHub) (p : PlainPass) → TurnsFor client h hub.old p pass.old → TurnsFor client h hub.new p pass.new }
     ensures spares { (h : History) → Spares client h hub.old.history [] → Spares client h hub.new.history [] }
 {
     let Some(line) = lines.get_mut(&client) else {
@@ -329,7 +330,7 @@ pub(crate) fn lose<C: Ledger, T: Ledger>(
 }
 
 /// Saves the sessions of a client, and says so, or closes it where they have no place.
-fn park_or_close<C: Ledger, T: Ledger>(
+pub(crate) fn park_or_close<C: Ledger, T: Ledger>(
     alloc: Global,
     hub: &mut Hub<C, T>,
     pass: &mut Pass<C, T>,

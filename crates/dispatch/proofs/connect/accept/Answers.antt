@@ -10,7 +10,7 @@ use Rattle.dispatch.proofs.connect.accept.Goals as goal
 pub returns-in-Ok-true-clause-does : goal.returns-in-Ok-true-clause-does
 returns-in-Ok-true-clause-does g c =
     connects-done c.args.client c.args.space c.args.wanted.items c.args.now (stage c.args.hub.now.history c.args.line.now (g.I.IdSource.stream c.args.ids.now) c.args.done.now) c.act_all.result
-    c.new-sid.result c.new-pid.result c.attach.new.hub.history c.act_all.new.hub.history c.enter.new.self (g.I.IdSource.stream c.draw-2.new.self) _ c.act_all.new.done
+    c.new-sid.result c.new-pid.result c.attach.new.hub.history c.act_all.new.hub.history c.enter.new.self c.act_all.new.line (g.I.IdSource.stream c.draw-2.new.self) _ c.act_all.new.done
     (c.new-sid.ensures ∙ c.draw.ensures.first)
     (c.new-pid.ensures ∙ c.draw-2.ensures.first ∙ ap (λ (ids : ℕ → ℕ). ids 0) c.draw.ensures.rest)
     (drawn-two (g.I.IdSource.stream c.args.ids.now) (g.I.IdSource.stream c.draw.new.self) (g.I.IdSource.stream c.draw-2.new.self) c.draw.ensures.rest c.draw-2.ensures.rest)

@@ -1,12 +1,12 @@
 use Rattle.std.proofs.Common.{[]}
-use Rattle.dispatch.proofs.TurnLemmas.{works-none, agree-gone}
+use Rattle.dispatch.proofs.TurnLemmas.{works-none, turns-of, agree-gone}
 use Rattle.dispatch.proofs.turns.close_unread.Goals as goal
 
 pub returns-in-Ok-clause-agree : goal.returns-in-Ok-clause-agree
 returns-in-Ok-clause-agree g c =
-    let works = c.close.ensures.works c.args.hub.now c.args.pass.now (works-none c.args.client c.args.hub.now c.args.pass.now) in
+    let turns = turns-of c.args.client _ _ _ _ (c.close.ensures.works c.args.hub.now c.args.pass.now (works-none c.args.client c.args.hub.now c.args.pass.now)) in
     agree-gone c.args.client c.args.hub.now.history c.close.new.hub.history c.args.lines.now.entries c.forget.new.lines.entries
-    c.requires.agree works.follows c.forget.ensures.others c.forget.ensures.gone c.in-Ok.ensures.closed
+    c.requires.agree turns.follows c.forget.ensures.others c.forget.ensures.gone c.in-Ok.ensures.closed
 
 pub returns-in-Ok-clause-spares : goal.returns-in-Ok-clause-spares
 returns-in-Ok-clause-spares g c = λ h before. c.close.ensures.spares h [] before

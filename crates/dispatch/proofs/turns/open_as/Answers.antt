@@ -1,6 +1,6 @@
 use Rattle.std.proofs.Common.{rules, [], ◌≡◌, true, is_some, sym, ◌∙◌, refl}
 use Rattle.dispatch.specs.Place.{line_of}
-use Rattle.dispatch.proofs.TurnLemmas.{works-none, agree-still, not-again}
+use Rattle.dispatch.proofs.TurnLemmas.{turns-none, agree-still, not-again}
 use Rattle.dispatch.proofs.turns.open_as.Goals as goal
 
 pub returns-in-Some-clause-does : goal.returns-in-Some-clause-does
@@ -10,10 +10,10 @@ returns-in-Some-clause-does g c =
 
 pub returns-in-Ok-open-clause-agree : goal.returns-in-Ok-open-clause-agree
 returns-in-Ok-open-clause-agree g c =
-    let works = c.open.ensures.works c.args.hub.now c.args.pass.now (works-none c.args.client c.args.hub.now c.args.pass.now) in
+    let turns = c.open.ensures.turns c.args.hub.now c.args.pass.now (turns-none c.args.client c.args.hub.now c.args.pass.now) in
     let has : is_some (line_of c.put.new.lines.entries c.args.client) ≡ true = search rules in
     agree-still c.args.client c.args.hub.now.history c.open.new.hub.history c.args.lines.now.entries c.put.new.lines.entries
-    c.requires.agree works.follows c.put.ensures.others has c.in-Ok-open.ensures.opened
+    c.requires.agree turns.follows c.put.ensures.others has c.in-Ok-open.ensures.opened
 
 pub returns-in-Ok-open-clause-spares : goal.returns-in-Ok-open-clause-spares
 returns-in-Ok-open-clause-spares g c = λ h before. c.open.ensures.spares h [] before

@@ -1,0 +1,359 @@
+-- What an event adds to what a client was handed.
+use Rattle.std.proofs.Common.{inl, inr, ◌≡◌, ℕ, zero, suc, ◌+◌, ◌≤◌, ◌==◌, Bool, true, false, List, [], ◌∷◌, ◌++◌, length, take, drop, refl, sym, ◌∙◌, ap, subst, arith, append-nil, append_assoc, length-append, Option, None, Some, Ok, Err}
+use Rattle.std.specs.List.{AllByRecursion}
+use Rattle.std.proofs.lemmas.Bool.Decides.{nat_tests}
+use Rattle.std.proofs.lemmas.List.{drop-append-le, drop-drop}
+use Rattle.eio_wire.specs.declared.handshake.Numbers.{Numbers}
+use Rattle.eio_wire.specs.declared.packet.Packet.{Packet}
+use Rattle.session_clock.specs.declared.timing.Timing.{Timing}
+use Rattle.session_clock.specs.declared.transport.Transport.{Transport}
+use Rattle.session_clock.specs.declared.transport.Transport.TheVariants.{Polling, Probing, Socket}
+use Rattle.sio_wire.specs.declared.entry.Entry.{Entry}
+use Rattle.connection.specs.Line.{PlainLine}
+use Rattle.journal.specs.declared.step.Step.{Step}
+use Rattle.journal.specs.declared.step.What.{What}
+use Rattle.journal.specs.declared.step.What.TheVariants.{Opened, Took}
+use Rattle.journal.specs.Config.{empty_base}
+use Rattle.journal.specs.Plain.{Limits, PlainBase}
+use Rattle.journal.specs.Journal.{History, moment_at}
+use Rattle.journal.specs.Outboxes.{put, entries_for, begins, taken_by, placements, taken, waiting}
+use Rattle.effects.specs.declared.fault.CoreFault.{CoreFault}
+use Rattle.effects.specs.declared.fault.CoreFault.TheVariants.{UnknownClient, WrongTransport}
+use Rattle.effects.specs.Commands.{Makes}
+use Rattle.effects.specs.Following.{is_work, Follows}
+use Rattle.dispatch.specs.declared.event.Event.{Event}
+use Rattle.dispatch.specs.declared.event.Event.TheVariants as event
+use Rattle.dispatch.specs.declared.outcome.Outcome.TheVariants as outcome
+use Rattle.dispatch.specs.Answers.{Answer, Refused, ForClient}
+use Rattle.dispatch.specs.Frames.{Sends, SendsWaiting, SendsOn, SendsFor}
+use Rattle.dispatch.specs.Machine.{Opens, Takes, TakesFrames}
+use Rattle.dispatch.specs.Place.{Place, HasLine}
+use Rattle.dispatch.specs.Takes.{Take, handed, carried, Counts, IsShort, TellsNoop, Carries, FindsNothing, TakesWaiting, TakesOn, TakesFor}
+use Rattle.dispatch.specs.Handed.{Turn, opens, takes, Holds, HandsOut, HandedOut, AreHanded, Handed}
+
+-- ---- a step
+
+-- entries that are handed out are no more than were put
+within : (es p : List Entry) (t : ℕ) → es ++ drop t p ≡ p → t ≡ length es → t ≤ length p
+within es p t whole count = let long = ap length whole in omega (arith, long, count, length-append es (drop t p))
+
+-- more is put at the end
+put-more : (es p more : List Entry) (t : ℕ) → es ++ drop t p ≡ p → t ≡ length es → es ++ drop t (p ++ more) ≡ p ++ more
+put-more es p more t whole count =
+    ap (λ (xs : List Entry). es ++ xs) (drop-append-le t p more (within es p t whole count))
+    ∙ sym (append_assoc es (drop t p) more)
+    ∙ ap (λ (xs : List Entry). xs ++ more) whole
+
+module _ (base : PlainBase) (limits : Limits) (before : List Step) (step : Step) (c : ℕ) (es : List Entry)
+    (whole : es ++ waiting base limits before c ≡ placements base limits before c) (count : taken base before c ≡ length es) where
+  -- a step that takes nothing of the client and doesn't open it
+  quiet-whole : begins c step.what ≡ false → taken_by c step.what ≡ 0 → es ++ waiting base limits (step ∷ before) c ≡ placements base limits (step ∷ before) c
+  unfolding waiting taken placements
+  quiet-whole old none =
+      let t = taken base before c in
+      let same : t + 0 ≡ t = omega arith in
+      rw (old, none, same) (put-more es (placements base limits before c) (entries_for c (put base limits before step.what)) t whole count)
+
+  quiet-count : begins c step.what ≡ false → taken_by c step.what ≡ 0 → taken base (step ∷ before) c ≡ length es
+  unfolding taken
+  quiet-count old none = let same : taken base before c + 0 ≡ taken base before c = omega arith in rw (old, none, same) count
+
+-- ---- an event's work
+
+opens-none : (c d : ℕ) (what : What) → is_work c what ≡ true → begins d what ≡ false
+opens-none c d (Opened e) work = absurd (cc work)
+opens-none c d _ work = refl
+
+takes-none : (c d : ℕ) (what : What) → is_work c what ≡ true → taken_by d what ≡ 0
+takes-none c d (Took e most n) work = absurd (cc work)
+takes-none c d _ work = refl
+
+abbrev Out : PlainBase → Limits → List Step → ℕ → List Entry → Type 0
+Out base limits journal c es = (es ++ waiting base limits journal c ≡ placements base limits journal c) × (taken base journal c ≡ length es)
+
+work-on : (base : PlainBase) (limits : Limits) (d c : ℕ) (es : List Entry) (steps before : List Step) → AllByRecursion (λ (step : Step). is_work d step.what ≡ true) steps
+    → Out base limits before c es → Out base limits (steps ++ before) c es
+work-on base limits d c es [] before work out = out
+work-on base limits d c es (step ∷ steps) before work out =
+    let was = work-on base limits d c es steps before work.1 out in
+    let old = opens-none d c step.what work.0 in
+    let none = takes-none d c step.what work.0 in
+    (quiet-whole base limits (steps ++ before) step c es was.0 was.1 old none, quiet-count base limits (steps ++ before) step c es was.0 was.1 old none)
+
+pub work-hands-nothing : (d : ℕ) (h g : History) → Follows (is_work d) h g → (c : ℕ) (es : List Entry) → AreHanded c h es → AreHanded c g es
+work-hands-nothing d h g follows c es handed =
+    let out = work-on h.base h.limits d c es follows.steps h.journal follows.own (handed.whole, handed.count) in
+    rw (follows.base, follows.limits, follows.journal) (record { whole = out.0; count = out.1 })
+
+-- nothing changed
+same-handed : (h g : History) → g ≡ h → (c : ℕ) (es : List Entry) → AreHanded c h es → AreHanded c g es
+same-handed h g same c es handed = subst (λ (k : History). AreHanded c k es) (sym same) handed
+
+-- ---- a client that is opened
+
+fresh : (base : PlainBase) (limits : Limits) (before : List Step) (step : Step) (c : ℕ) → begins c step.what ≡ true → Out base limits (step ∷ before) c []
+unfolding waiting taken placements
+fresh base limits before step c is = rw is (refl, refl)
+
+opened-fresh : (h g : History) (now c : ℕ) → Makes h now (Opened c) g → (d : ℕ) → (c == d) ≡ true → AreHanded d g []
+opened-fresh h g now c made d is =
+    let out = fresh h.base h.limits h.journal (record { at = moment_at h now; what = Opened c }) d is in
+    rw made.1 (record { whole = out.0; count = out.1 })
+
+opened-others : (h g : History) (now c : ℕ) → Makes h now (Opened c) g → (d : ℕ) → (c == d) ≡ false → (es : List Entry) → AreHanded d h es → AreHanded d g es
+opened-others h g now c made d other es was =
+    let step : Step = record { at = moment_at h now; what = Opened c } in
+    rw made.1 (record {
+      whole = quiet-whole h.base h.limits h.journal step d es was.whole was.count other refl;
+      count = quiet-count h.base h.limits h.journal step d es was.whole was.count other refl;
+    })
+
+-- ---- a take
+
+itself : (c : ℕ) → (c == c) ≡ true
+itself c = grind (arith, nat_tests)
+
+-- what a take leaves behind it
+rest-of : (most : ℕ) (w : List Entry) → take most w ++ drop (length (take most w)) w ≡ w
+rest-of zero w = refl
+rest-of (suc most) [] = refl
+rest-of (suc most) (x ∷ w) = ap (λ (xs : List Entry). x ∷ xs) (rest-of most w)
+
+took-whole : (base : PlainBase) (limits : Limits) (before : List Step) (at c most n : ℕ) (es : List Entry) → es ++ waiting base limits before c ≡ placements base limits before c
+    → n ≡ length (take most (waiting base limits before c))
+    → (es ++ take most (waiting base limits before c)) ++ waiting base limits (record { at = at; what = Took c most n } ∷ before) c ≡ placements base limits (record { at = at; what = Took c most n } ∷ before) c
+unfolding waiting taken placements put
+took-whole base limits before at c most n es whole long =
+    let t = taken base before c in
+    let p = placements base limits before c in
+    let w = drop t p in
+    rw (itself c, append-nil p)
+    (append_assoc es (take most w) (drop (t + n) p)
+    ∙ ap (λ (xs : List Entry). es ++ (take most w ++ xs)) (sym (drop-drop n t p))
+    ∙ ap (λ (k : ℕ). es ++ (take most w ++ drop k w)) long
+    ∙ ap (λ (xs : List Entry). es ++ xs) (rest-of most w)
+    ∙ whole)
+
+took-count : (base : PlainBase) (before : List Step) (at c most n : ℕ) (es more : List Entry) → taken base before c ≡ length es → n ≡ length more
+    → taken base (record { at = at; what = Took c most n } ∷ before) c ≡ length (es ++ more)
+unfolding taken
+took-count base before at c most n es more count long = rw (itself c) (omega (arith, count, long, length-append es more))
+
+took-none : (c d most n : ℕ) → (c == d) ≡ false → taken_by d (Took c most n) ≡ 0
+took-none c d most n other = rw other refl
+
+-- these entries more are handed out to a client, and none to others
+record Gives (c : ℕ) (h g : History) (more : List Entry) : Type 0 where
+  own : (es : List Entry) → AreHanded c h es → AreHanded c g (es ++ more)
+  others : (d : ℕ) → (c == d) ≡ false → (es : List Entry) → AreHanded d h es → AreHanded d g es
+
+gives-none : (c : ℕ) (h g : History) → g ≡ h → Gives c h g []
+gives-none c h g same = record {
+  own = λ es handed. subst (λ (xs : List Entry). AreHanded c g xs) (sym (append-nil es)) (same-handed h g same c es handed);
+  others = λ d other es handed. same-handed h g same d es handed;
+}
+
+took-gives : (h g : History) (now c most n : ℕ) → Makes h now (Took c most n) g → n ≡ length (handed h c most) → Gives c h g (handed h c most)
+took-gives h g now c most n made long =
+    let step : Step = record { at = moment_at h now; what = Took c most n } in
+    record {
+      own = λ es was. rw made.1 (record {
+        whole = took-whole h.base h.limits h.journal (moment_at h now) c most n es was.whole long;
+        count = took-count h.base h.journal (moment_at h now) c most n es (handed h c most) was.count long;
+      });
+      others = λ d other es was. rw made.1 (record {
+        whole = quiet-whole h.base h.limits h.journal step d es was.whole was.count refl (took-none c d most n other);
+        count = quiet-count h.base h.limits h.journal step d es was.whole was.count refl (took-none c d most n other);
+      });
+    }
+
+abbrev CountsOf : (c most now : ℕ) → (h g : History) → List Entry → Type 0
+CountsOf c most now h g es = elim es [ [] ↦ g ≡ h | entry ∷ entries ↦ Makes h now (Took c most (length (entry ∷ entries))) g ]
+
+counts-gives : (c most now : ℕ) (h g : History) → Counts c most now h g → Gives c h g (handed h c most)
+counts-gives c most now h g counts = on (handed h c most) refl counts
+  where
+    on : (es : List Entry) → handed h c most ≡ es → CountsOf c most now h g es → Gives c h g (handed h c most)
+    on [] none same = rw none (gives-none c h g same)
+    on (entry ∷ entries) some made = took-gives h g now c most (length (entry ∷ entries)) made (ap length (sym some))
+
+-- what the answer holds is what is given
+abbrev HoldsTaken : Take → List Entry → Type 0
+HoldsTaken (Ok outcome) entries = Holds outcome entries
+HoldsTaken (Err e) entries = entries ≡ []
+
+abbrev Hands : ℕ → Take → (h g : History) → Type 0
+Hands c r h g = (more : List Entry) × HoldsTaken r more × Gives c h g more
+
+short-hands : (c : ℕ) (r : Take) (h g : History) (old new : PlainLine) → IsShort r h g old new → Hands c r h g
+short-hands c (Ok outcome) h g old new short = absurd short
+short-hands c (Err e) h g old new short = ([], refl, gives-none c h g short.1)
+
+noop-hands : (c : ℕ) (r : Take) (h g : History) (old new : PlainLine) → TellsNoop r h g old new → Hands c r h g
+noop-hands c (Ok (outcome.Payload text)) h g old new tells = ([], inl (tells.0, refl), gives-none c h g tells.1)
+noop-hands c (Ok _) h g old new tells = absurd tells
+noop-hands c (Err e) h g old new tells = ([], refl, gives-none c h g tells.1)
+
+nothing-hands : (c : ℕ) (r : Take) (h g : History) → r ≡ Ok outcome.Nothing → g ≡ h → Hands c r h g
+nothing-hands c r h g is same = rw is ([], refl, gives-none c h g same)
+
+refused-hands : (c : ℕ) (r : Take) (h g : History) (fault : CoreFault) → r ≡ Err fault → g ≡ h → Hands c r h g
+refused-hands c r h g fault is same = rw is ([], refl, gives-none c h g same)
+
+finds-hands : (on : Transport) (c : ℕ) (r : Take) (h g : History) (old new : PlainLine) → FindsNothing on r h g old new → Hands c r h g
+finds-hands Probing c r h g old new finds = noop-hands c r h g old new finds
+finds-hands Polling c r h g old new finds = nothing-hands c r h g finds.0 finds.1
+finds-hands Socket c r h g old new finds = nothing-hands c r h g finds.0 finds.1
+
+carries-hands : (c most now : ℕ) (ping : Bool) (r : Take) (h g : History) (old new : PlainLine) → Carries c most now ping r h g old new → Hands c r h g
+carries-hands c most now ping (Ok (outcome.Payload text)) h g old new carries = (handed h c most, inr (ping, carries.0), counts-gives c most now h g carries.1)
+carries-hands c most now ping (Ok _) h g old new carries = absurd carries
+carries-hands c most now ping (Err e) h g old new carries = ([], refl, gives-none c h g carries.2.1)
+
+sends-hands : (c most now : ℕ) (ping : Bool) (r : Take) (h g : History) (old new : PlainLine) → Sends c most now ping r h g old new → Hands c r h g
+sends-hands c most now ping (Ok (outcome.Frames frames)) h g old new sends = (handed h c most, (ping, sends.0), counts-gives c most now h g sends.1)
+sends-hands c most now ping (Ok _) h g old new sends = absurd sends
+sends-hands c most now ping (Err e) h g old new sends = ([], refl, gives-none c h g sends.2.1)
+
+abbrev WaitsOf : (on : Transport) (ping : Bool) (c most now : ℕ) (r : Take) (h g : History) (old new : PlainLine) → List Packet → Type 0
+WaitsOf on ping c most now r h g old new packets = elim packets [ [] ↦ FindsNothing on r h g old new | packet ∷ others ↦ Carries c most now ping r h g old new ]
+
+waiting-hands : (on : Transport) (ping : Bool) (c most now : ℕ) (r : Take) (h g : History) (old new : PlainLine) → TakesWaiting on ping c most now r h g old new → Hands c r h g
+waiting-hands on ping c most now r h g old new (inl short) = short-hands c r h g old new short
+waiting-hands on ping c most now r h g old new (inr row) = by (carried ping (handed h c most)) row
+  where
+    by : (packets : List Packet) → WaitsOf on ping c most now r h g old new packets → Hands c r h g
+    by [] row = finds-hands on c r h g old new row
+    by (packet ∷ others) row = carries-hands c most now ping r h g old new row
+
+abbrev SendsOf : (ping : Bool) (c most now : ℕ) (r : Take) (h g : History) (old new : PlainLine) → List Packet → Type 0
+SendsOf ping c most now r h g old new packets = elim packets [ [] ↦ (r ≡ Ok outcome.Nothing) × (g ≡ h) × (new ≡ old) | packet ∷ others ↦ Sends c most now ping r h g old new ]
+
+sending-hands : (ping : Bool) (c most now : ℕ) (r : Take) (h g : History) (old new : PlainLine) → SendsWaiting ping c most now r h g old new → Hands c r h g
+sending-hands ping c most now r h g old new (inl short) = short-hands c r h g old new short
+sending-hands ping c most now r h g old new (inr row) = by (carried ping (handed h c most)) row
+  where
+    by : (packets : List Packet) → SendsOf ping c most now r h g old new packets → Hands c r h g
+    by [] row = nothing-hands c r h g row.0 row.1
+    by (packet ∷ others) row = sends-hands c most now ping r h g old new row
+
+takes-hands : (c most now : ℕ) (r : Take) (h g : History) (old new : PlainLine) → TakesFor c most now r h g old new → Hands c r h g
+takes-hands c most now r h g old new row = by row.0 row.1 row.2 row.6
+  where
+    by : (on : Transport) (getting ping : Bool) → TakesOn on getting ping c most now r h g old new → Hands c r h g
+    by Socket true ping row = noop-hands c r h g old new row
+    by Socket false ping row = refused-hands c r h g WrongTransport row.0 row.1
+    by Polling getting ping row = waiting-hands Polling ping c most now r h g old new row
+    by Probing getting ping row = waiting-hands Probing ping c most now r h g old new row
+
+frames-hands : (c most now : ℕ) (r : Take) (h g : History) (old new : PlainLine) → SendsFor c most now r h g old new → Hands c r h g
+frames-hands c most now r h g old new row = by row.0 row.1 row.4
+  where
+    by : (on : Transport) (ping : Bool) → SendsOn on ping c most now r h g old new → Hands c r h g
+    by Socket ping row = sending-hands ping c most now r h g old new row
+    by Polling ping row = refused-hands c r h g WrongTransport row.0 row.1
+    by Probing ping row = refused-hands c r h g WrongTransport row.0 row.1
+
+-- ---- a turn
+
+abbrev Given : ℕ → Answer → (h g : History) → Type 0
+Given c answer h g = (more : List Entry) × HandsOut answer more × Gives c h g more
+
+abbrev RowOf : (row : PlainLine → Type 0) (s : Place) (answer : Answer) (t : Place) → Option PlainLine → Type 0
+RowOf row s answer t o = elim o [ None ↦ Refused UnknownClient s answer t | Some line ↦ row line ]
+
+abbrev AfterOf : (row : PlainLine → Type 0) → Option PlainLine → Type 0
+AfterOf row o = elim o [ None ↦ ⊥ | Some line ↦ row line ]
+
+by-client : (c : ℕ) (row : PlainLine → Type 0) (s : Place) (answer : Answer) (t : Place) → ((line : PlainLine) → row line → Given c answer s.history t.history)
+    → ForClient c row UnknownClient s answer t → Given c answer s.history t.history
+by-client c row s answer t each does = by (s.lines c) does
+  where
+    by : (o : Option PlainLine) → RowOf row s answer t o → Given c answer s.history t.history
+    by None refused = rw refused.0 ([], refl, gives-none c s.history t.history refused.1)
+    by (Some line) does = each line does
+
+by-line : (c : ℕ) (row : PlainLine → Type 0) (X : Type 0) (s t : Place) → ((after : PlainLine) → row after → X) → HasLine c row s t → X
+by-line c row X s t each has = by (t.lines c) has.0
+  where
+    by : (o : Option PlainLine) → AfterOf row o → X
+    by None none = absurd none
+    by (Some after) is = each after is
+
+take-given : (now c most : ℕ) (line : PlainLine) (s : Place) (answer : Answer) (t : Place) → Takes now c most line s answer t → Given c answer s.history t.history
+take-given now c most line s (Ok o) t does =
+    by-line c (λ after. TakesFor c most now (Ok o) s.history t.history line after) (Given c (Ok o) s.history t.history) s t (λ after row. takes-hands c most now (Ok o) s.history t.history line after row) does
+take-given now c most line s (Err e) t does =
+    by-line c (λ after. TakesFor c most now (Err e.fault) s.history t.history line after) (Given c (Err e) s.history t.history) s t (λ after row. takes-hands c most now (Err e.fault) s.history t.history line after row) does.1
+
+frames-given : (now c most : ℕ) (line : PlainLine) (s : Place) (answer : Answer) (t : Place) → TakesFrames now c most line s answer t → Given c answer s.history t.history
+frames-given now c most line s (Ok o) t does =
+    by-line c (λ after. SendsFor c most now (Ok o) s.history t.history line after) (Given c (Ok o) s.history t.history) s t (λ after row. frames-hands c most now (Ok o) s.history t.history line after row) does
+frames-given now c most line s (Err e) t does =
+    by-line c (λ after. SendsFor c most now (Err e.fault) s.history t.history line after) (Given c (Err e) s.history t.history) s t (λ after row. frames-hands c most now (Err e.fault) s.history t.history line after row) does.1
+
+-- an event that neither opens a client nor takes anything
+pub handed-work : (it named : Event) (c : ℕ) (answer : Answer) (h g : History) → it ≡ named → ((d : ℕ) → opens d named answer ≡ false) → ((d : ℕ) → takes d named ≡ false) → Follows (is_work c) h g
+    → (d : ℕ) (turns : List Turn) → Handed d turns h → Handed d ((it, answer) ∷ turns) g
+unfolding HandedOut
+handed-work it named c answer h g is opened none follows d turns was =
+    record {
+      entries = was.entries;
+      out = subst (λ (x : Event). HandedOut d ((x, answer) ∷ turns) was.entries) (sym is) (rw (opened d, none d, HandedOut) was.out);
+      are = work-hands-nothing c h g follows d was.entries was.are;
+    }
+
+given-turn : (it named : Event) (c : ℕ) (answer : Answer) (h g : History) → it ≡ named → ((d : ℕ) → opens d named answer ≡ false) → ((d : ℕ) → takes d named ≡ (c == d)) → Given c answer h g
+    → (d : ℕ) (turns : List Turn) → Handed d turns h → Handed d ((it, answer) ∷ turns) g
+unfolding HandedOut
+given-turn it named c answer h g is opened none given d turns was = by (c == d) refl
+  where
+    by : (b : Bool) → (c == d) ≡ b → Handed d ((it, answer) ∷ turns) g
+    by true same =
+        let one : c ≡ d = grind (arith, nat_tests, same) in
+        record {
+          entries = was.entries ++ given.0;
+          out = subst (λ (x : Event). HandedOut d ((x, answer) ∷ turns) (was.entries ++ given.0)) (sym is) (rw (opened d, none d, same, HandedOut) (was.entries, given.0, was.out, given.1, refl));
+          are = subst (λ (e : ℕ). AreHanded e h was.entries → AreHanded e g (was.entries ++ given.0)) one (given.2.own was.entries) was.are;
+        }
+    by false other = record {
+      entries = was.entries;
+      out = subst (λ (x : Event). HandedOut d ((x, answer) ∷ turns) was.entries) (sym is) (rw (opened d, none d, other, HandedOut) was.out);
+      are = given.2.others d other was.entries was.are;
+    }
+
+pub handed-take : (it : Event) (now c most : ℕ) (s : Place) (answer : Answer) (t : Place) → it ≡ event.PollTake c most → ForClient c (λ line. Takes now c most line s answer t) UnknownClient s answer t
+    → (d : ℕ) (turns : List Turn) → Handed d turns s.history → Handed d ((it, answer) ∷ turns) t.history
+handed-take it now c most s answer t is does =
+    given-turn it (event.PollTake c most) c answer s.history t.history is (λ d. refl) (λ d. refl)
+    (by-client c (λ line. Takes now c most line s answer t) s answer t (λ line row. take-given now c most line s answer t row) does)
+
+pub handed-frames : (it : Event) (now c most : ℕ) (s : Place) (answer : Answer) (t : Place) → it ≡ event.FrameTake c most → ForClient c (λ line. TakesFrames now c most line s answer t) UnknownClient s answer t
+    → (d : ℕ) (turns : List Turn) → Handed d turns s.history → Handed d ((it, answer) ∷ turns) t.history
+handed-frames it now c most s answer t is does =
+    given-turn it (event.FrameTake c most) c answer s.history t.history is (λ d. refl) (λ d. refl)
+    (by-client c (λ line. TakesFrames now c most line s answer t) s answer t (λ line row. frames-given now c most line s answer t row) does)
+
+pub handed-open : (it : Event) (timing : Timing) (numbers : Numbers) (now : ℕ) (socket : Bool) (c : ℕ) (s : Place) (answer : Answer) (t : Place) → it ≡ event.Opened socket
+    → Opens timing numbers now socket c s answer t → (d : ℕ) (turns : List Turn) → Handed d turns s.history → Handed d ((it, answer) ∷ turns) t.history
+unfolding HandedOut
+handed-open it timing numbers now socket c s (Ok (outcome.Opened o)) t is does d turns was = by (c == d) refl
+  where
+    by : (b : Bool) → (c == d) ≡ b → Handed d ((it, Ok (outcome.Opened o)) ∷ turns) t.history
+    by true same = record { entries = []; out = subst (λ (x : Event). HandedOut d ((x, Ok (outcome.Opened o)) ∷ turns) []) (sym is) (rw (does.0, same, HandedOut) refl); are = opened-fresh s.history t.history now c does.2 d same }
+    by false other = record { entries = was.entries; out = subst (λ (x : Event). HandedOut d ((x, Ok (outcome.Opened o)) ∷ turns) was.entries) (sym is) (rw (does.0, other, HandedOut) was.out); are = opened-others s.history t.history now c does.2 d other was.entries was.are }
+handed-open it timing numbers now socket c s (Ok _) t is does d turns was = absurd does
+handed-open it timing numbers now socket c s (Err e) t is does d turns was =
+    record { entries = was.entries; out = subst (λ (x : Event). HandedOut d ((x, Err e) ∷ turns) was.entries) (sym is) was.out; are = same-handed s.history t.history does.1.1 d was.entries was.are }
+
+-- ---- a new core
+
+nothing-out : (base : PlainBase) (limits : Limits) (c : ℕ) → base.clients ≡ [] → Out base limits [] c []
+unfolding waiting taken placements
+nothing-out base limits c none = rw none (refl, refl)
+
+pub handed-fresh : (limits : Limits) (h : History) → h ≡ record { base = empty_base limits.first_offset; limits = limits; journal = [] } → (c : ℕ) → Handed c [] h
+unfolding HandedOut
+handed-fresh limits h is c =
+    let out = nothing-out (empty_base limits.first_offset) limits c refl in
+    rw is (record { entries = []; out = refl; are = record { whole = out.0; count = out.1 } })

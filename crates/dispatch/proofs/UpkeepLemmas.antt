@@ -1,0 +1,31 @@
+-- What a tick does, from what its parts do.
+use Rattle.std.proofs.Common.{◌≡◌, ℕ, Bool, true, false, List, [], ◌∷◌, inl, inr, refl, Some, Result, Ok, Err, OnOk, IfOk}
+use Rattle.session_clock.specs.declared.timing.Due.{Due}
+use Rattle.connection.specs.History.{Ticked}
+use Rattle.connection.specs.Line.{PlainLine, Advances}
+use Rattle.journal.specs.declared.error.HubError.TheVariants as hub
+use Rattle.journal.specs.declared.step.What.TheVariants as what
+use Rattle.journal.specs.Journal.{History}
+use Rattle.effects.specs.declared.fault.CoreFault.{CoreFault}
+use Rattle.effects.specs.declared.fault.CoreFault.TheVariants.{UnknownClient}
+use Rattle.effects.specs.Commands.{Makes, IsRefused}
+use Rattle.dispatch.specs.Answers.{Answer, ForClient, AdvancesLine}
+use Rattle.dispatch.specs.Place.{Place, line_of, place, KeepsOthers}
+use Rattle.dispatch.specs.Upkeep.{ParksOrCloses, IsDue, TicksOn, Ticks}
+
+-- the sessions were saved or the client was closed
+pub parked-or-closed : (r : Result Bool CoreFault) (h g : History) (now c : ℕ) → IfOk r (λ saved. saved ≡ true → Makes h now (what.Parked c) g)
+    → IfOk r (λ saved. saved ≡ false → IsRefused h now (what.Parked c) hub.SavedFull × Makes h now (what.Closed c) g) → OnOk r (ParksOrCloses h now c g)
+parked-or-closed (Ok true) h g now c saved closed = inl (saved refl)
+parked-or-closed (Ok false) h g now c saved closed = inr (closed refl)
+parked-or-closed (Err e) h g now c saved closed = tt
+
+-- what is due to a client that is known is done
+pub ticks : (now c : ℕ) (line : PlainLine) (h : History) (old : List (ℕ × PlainLine)) (answer : Answer) (t : Place) (told due : Due) → line_of old c ≡ Some line → told ≡ due → IsDue told now line
+    → TicksOn due now c line (place h old) answer t → ForClient c (λ l. Ticks now c l (place h old) answer t) UnknownClient (place h old) answer t
+ticks now c line h old answer t told due known is says row = rw (known, ForClient) (due, rw is at says, row)
+
+-- the line with the tick on it
+pub ticked : (now c : ℕ) (line after : PlainLine) (h g : History) (old new : List (ℕ × PlainLine)) (told due : Due) → g ≡ h → line_of new c ≡ Some after → KeepsOthers c (place h old) (place g new) → told ≡ due
+    → Advances line (Ticked now told ∷ []) after → AdvancesLine c line (Ticked now due ∷ []) (place h old) (place g new)
+ticked now c line after h g old new told due same has others is advances = (same, (rw has (rw is at advances), others))

@@ -1,0 +1,65 @@
+-- What the takes of a client hand out: put end to end, and with what still waits at the end, it is all that was put for the
+-- client since it was opened.
+use Rattle.std.specs.Prelude.{◌≡◌, ◌⊎◌, ℕ, ◌==◌, Bool, true, false, List, [], ◌∷◌, ◌++◌, length, Ok, Err}
+use Rattle.std.specs.List.{AllZip}
+use Rattle.eio_wire.specs.declared.packet.Packet.TheVariants.{Noop}
+use Rattle.eio_wire.specs.Payload.{Payload}
+use Rattle.sio_wire.specs.declared.entry.Entry.{Entry}
+use Rattle.journal.specs.Journal.{History}
+use Rattle.journal.specs.Outboxes.{placements, taken, waiting}
+use Rattle.dispatch.specs.declared.event.Event.{Event}
+use Rattle.dispatch.specs.declared.event.Event.TheVariants as event
+use Rattle.dispatch.specs.declared.outcome.Outcome.{Outcome}
+use Rattle.dispatch.specs.declared.outcome.Outcome.TheVariants as outcome
+use Rattle.dispatch.specs.Answers.{Answer}
+use Rattle.dispatch.specs.Frames.{IsSentAs}
+use Rattle.dispatch.specs.Takes.{carried}
+
+-- an event and its answer
+abbrev pub Turn : Type 0
+Turn = Event × Answer
+
+-- the client was opened
+abbrev pub opens : ℕ → Event → Answer → Bool
+opens c (event.Opened socket) (Ok (outcome.Opened o)) = o.client == c
+opens c _ answer = false
+
+-- something was to be taken for the client
+abbrev pub takes : ℕ → Event → Bool
+takes c (event.PollTake d most) = d == c
+takes c (event.FrameTake d most) = d == c
+takes c _ = false
+
+-- the entries that an outcome holds; the payload that only tells a GET that there is nothing holds none
+abbrev pub Holds : Outcome → List Entry → Type 0
+Holds (outcome.Payload text) entries = (Payload (Noop [] ∷ []) text × (entries ≡ [])) ⊎ ((ping : Bool) × Payload (carried ping entries) text)
+Holds (outcome.Frames frames) entries = (ping : Bool) × AllZip IsSentAs (carried ping entries) frames
+Holds _ entries = entries ≡ []
+
+-- an event that ended with an error hands out nothing
+abbrev pub HandsOut : Answer → List Entry → Type 0
+HandsOut (Ok outcome) entries = Holds outcome entries
+HandsOut (Err e) entries = entries ≡ []
+
+-- what the takes of a client handed out since it was opened, put end to end; the newest turn stands first
+unfoldable pub HandedOut : ℕ → List Turn → List Entry → Type 0
+HandedOut c [] entries = entries ≡ []
+HandedOut c (turn ∷ before) entries = elim (opens c turn.0 turn.1) [
+  | true ↦ entries ≡ []
+  | false ↦ elim (takes c turn.0) [
+    | false ↦ HandedOut c before entries
+    | true ↦ (earlier : List Entry) × (more : List Entry) × HandedOut c before earlier × HandsOut turn.1 more × (entries ≡ earlier ++ more)
+  ]
+]
+
+-- these entries were handed out: with those that wait at their end they are all that was put for the client since it was
+-- opened, in order and each once; and they are as many as the hub has counted
+pub record AreHanded (c : ℕ) (h : History) (entries : List Entry) : Type 0 where
+  pub whole : entries ++ waiting h.base h.limits h.journal c ≡ placements h.base h.limits h.journal c
+  pub count : taken h.base h.journal c ≡ length entries
+
+-- what the client's takes handed out in these turns is so
+pub record Handed (c : ℕ) (turns : List Turn) (h : History) : Type 0 where
+  pub entries : List Entry
+  pub out : HandedOut c turns entries
+  pub are : AreHanded c h entries

@@ -1,0 +1,59 @@
+-- What the passing of time brings: a client's heartbeat and its end (Engine.IO protocol 4, "Heartbeat"; Socket.IO server
+-- documentation, "connectTimeout"), and the sweep of what is kept no longer (the same, "Connection state recovery").
+use Rattle.std.specs.Prelude.{◌≡◌, ◌⊎◌, ℕ, true, false, [], ◌∷◌, None, Some, Ok, Err}
+use Rattle.session_clock.specs.declared.timing.Due.{Due}
+use Rattle.session_clock.specs.declared.timing.Due.TheVariants.{Nothing, SendPing, PingTimeout, ConnectTimeout}
+use Rattle.session_clock.specs.Heartbeat.{due}
+use Rattle.connection.specs.History.{Ticked, clock_calls}
+use Rattle.connection.specs.Line.{PlainLine, ForEachHistory}
+use Rattle.journal.specs.declared.error.HubError.TheVariants as hub
+use Rattle.journal.specs.declared.step.What.TheVariants as what
+use Rattle.journal.specs.Journal.{History}
+use Rattle.effects.specs.declared.cause.Cause.TheVariants as cause
+use Rattle.effects.specs.declared.fault.CoreFault.{CoreFault}
+use Rattle.effects.specs.Commands.{Makes, IsRefused, StopsAt, Drops}
+use Rattle.dispatch.specs.declared.outcome.Outcome.TheVariants as outcome
+use Rattle.dispatch.specs.Answers.{Answer, at_once, ChangesNone, AdvancesLine}
+use Rattle.dispatch.specs.Place.{Place, LosesLine, KeepsLines}
+
+-- ---- a client that is gone
+
+-- its sessions are saved, or where they have no place it is closed
+abbrev pub ParksOrCloses : History → ℕ → ℕ → History → Type 0
+ParksOrCloses h now c g = Makes h now (what.Parked c) g ⊎ (IsRefused h now (what.Parked c) hub.SavedFull × Makes h now (what.Closed c) g)
+
+-- neither is done
+abbrev pub FailsToPark : History → ℕ → ℕ → CoreFault → Type 0
+FailsToPark h now c fault = StopsAt h now (what.Parked c) fault ⊎ (IsRefused h now (what.Parked c) hub.SavedFull × StopsAt h now (what.Closed c) fault)
+
+-- ---- a tick
+
+-- whichever calls led to the line: this is due to its client
+abbrev pub IsDue : Due → ℕ → PlainLine → Type 0
+IsDue what now line = ForEachHistory line (λ o h. what ≡ due o (clock_calls h) now)
+
+-- a silent client's sessions are saved, one that joined nothing is closed; where the hub doesn't do so the line stays, but
+-- the tick stands in its history, with the questions that ran out forgotten
+abbrev pub TicksOn : Due → ℕ → ℕ → PlainLine → Place → Answer → Place → Type 0
+TicksOn Nothing now c line s answer t = (answer ≡ Ok (outcome.Ticked false None)) × AdvancesLine c line (Ticked now Nothing ∷ []) s t
+TicksOn SendPing now c line s answer t = (answer ≡ Ok (outcome.Ticked true None)) × AdvancesLine c line (Ticked now SendPing ∷ []) s t
+TicksOn PingTimeout now c line s (Ok o) t =
+    (o ≡ outcome.Ticked false (Some cause.PingTimeout)) × ParksOrCloses s.history now c t.history × LosesLine c s t
+TicksOn PingTimeout now c line s (Err e) t =
+    (e ≡ at_once e.fault) × FailsToPark s.history now c e.fault × AdvancesLine c line (Ticked now PingTimeout ∷ []) s t
+TicksOn ConnectTimeout now c line s (Ok o) t =
+    (o ≡ outcome.Ticked false (Some cause.ConnectTimeout)) × Makes s.history now (what.Closed c) t.history × LosesLine c s t
+TicksOn ConnectTimeout now c line s (Err e) t =
+    (e ≡ at_once e.fault) × StopsAt s.history now (what.Closed c) e.fault × AdvancesLine c line (Ticked now ConnectTimeout ∷ []) s t
+
+-- what is due to the client is done
+abbrev pub Ticks : ℕ → ℕ → PlainLine → Place → Answer → Place → Type 0
+Ticks now c line s answer t = (what : Due) × IsDue what now line × TicksOn what now c line s answer t
+
+-- ---- a sweep
+
+-- old entries of the log and old saved sessions are gone, and the answer says how many
+abbrev pub Sweeps : ℕ → Place → Answer → Place → Type 0
+Sweeps now s (Ok (outcome.Swept dropped)) t = Makes s.history now what.Swept t.history × Drops dropped s.history t.history × KeepsLines s t
+Sweeps now s (Ok _) t = ⊥
+Sweeps now s (Err e) t = StopsAt s.history now what.Swept e.fault × ChangesNone e s t
