@@ -10,8 +10,8 @@ use Rattle.effects.specs.declared.app.Arrived.{Arrived}
 use Rattle.effects.specs.declared.app.Arrived.TheVariants.{Event}
 use Rattle.effects.specs.declared.app.Effect.{Effect}
 use Rattle.relay.specs.declared.word.Word.{Word}
-use Rattle.relay.specs.declared.word.Word.TheVariants.{Join, Leave, Say, Two, But, Quiet, All, Bye, Other}
-use Rattle.relay.specs.Relay.{effects_of, effect_for, to_two, to_one_but, listed, farewell, reply, texts_of, word_in, room_in}
+use Rattle.relay.specs.declared.word.Word.TheVariants.{Join, Leave, Say, Two, But, Quiet, All, Ask, Bye, Pull, Push, Kick, Other}
+use Rattle.relay.specs.Relay.{effects_of, effect_for, to_two, to_one_but, pull, push, listed, farewell, reply, texts_of, word_in, room_in}
 
 all_append : {A : Type 0} (P : A → Type 0) (xs ys : List A) → AllByRecursion P xs → AllByRecursion P ys → AllByRecursion P (xs ++ ys)
 all_append P [] ys front back = back
@@ -25,6 +25,14 @@ clean-one_but : (own r : List ℕ) (q : Option (List ℕ)) (m : Message) → IsW
 clean-one_but own r (Some q) m whole = (whole, tt)
 clean-one_but own r None m whole = tt
 
+clean-pull : (r : List ℕ) (q : Option (List ℕ)) → AllClean (listed (pull r q))
+clean-pull r (Some q) = (tt, tt)
+clean-pull r None = tt
+
+clean-push : (r : List ℕ) (q : Option (List ℕ)) → AllClean (listed (push r q))
+clean-push r (Some q) = (tt, tt)
+clean-push r None = tt
+
 clean-first : (own : List ℕ) (w : Word) (r q : Option (List ℕ)) (m : Message) → IsWhole m.payload → AllClean (listed (effect_for own w r q m))
 clean-first own Join (Some r) q m whole = (tt, tt)
 clean-first own Leave (Some r) q m whole = (tt, tt)
@@ -34,6 +42,14 @@ clean-first own But (Some r) q m whole = clean-one_but own r q m whole
 clean-first own Quiet (Some r) q m whole = (whole, tt)
 clean-first own All (Some r) q m whole = (whole, tt)
 clean-first own All None q m whole = (whole, tt)
+clean-first own Ask (Some r) q m whole = (whole, tt)
+clean-first own Ask None q m whole = (whole, tt)
+clean-first own Pull (Some r) q m whole = clean-pull r q
+clean-first own Push (Some r) q m whole = clean-push r q
+clean-first own Kick (Some r) q m whole = (tt, tt)
+clean-first own Pull None q m whole = tt
+clean-first own Push None q m whole = tt
+clean-first own Kick None q m whole = tt
 clean-first own Bye (Some r) q m whole = tt
 clean-first own Other (Some r) q m whole = tt
 clean-first own Join None q m whole = tt
@@ -61,6 +77,10 @@ clean-farewell Two = tt
 clean-farewell But = tt
 clean-farewell Quiet = tt
 clean-farewell All = tt
+clean-farewell Ask = tt
+clean-farewell Pull = tt
+clean-farewell Push = tt
+clean-farewell Kick = tt
 clean-farewell Other = tt
 
 clean-effects : (own : List ℕ) (m : Message) → IsWhole m.payload → AllClean (effects_of own m)

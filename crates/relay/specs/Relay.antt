@@ -43,7 +43,11 @@ word_of name =
     else if bytes_eq name (codes "but") then word.But
     else if bytes_eq name (codes "quiet") then word.Quiet
     else if bytes_eq name (codes "all") then word.All
+    else if bytes_eq name (codes "ask") then word.Ask
     else if bytes_eq name (codes "bye") then word.Bye
+    else if bytes_eq name (codes "pull") then word.Pull
+    else if bytes_eq name (codes "push") then word.Push
+    else if bytes_eq name (codes "kick") then word.Kick
     else word.Other
 
 abbrev pub word_or_other : Option (Option (List ℕ)) → Word
@@ -79,6 +83,19 @@ abbrev pub to_one_but : (own room : List ℕ) → Option (List ℕ) → Message 
 to_one_but own r (Some q) m = Some (emit (r ∷ []) (q ∷ own ∷ []) true m)
 to_one_but own r None m = None
 
+-- the event as it came, as a question to its socket; an answer is waited for ten seconds
+abbrev pub ask : Message → Effect
+ask m = effect.EmitAsk (record { payload = m.payload; attachments = m.attachments; tag = 0; wait = 10000 })
+
+-- the sockets of a room join a second one, or leave it
+abbrev pub pull : (room : List ℕ) → Option (List ℕ) → Option Effect
+pull r (Some q) = Some (effect.AllJoin (record { rooms = r ∷ []; excepted = [] }) q)
+pull r None = None
+
+abbrev pub push : (room : List ℕ) → Option (List ℕ) → Option Effect
+push r (Some q) = Some (effect.AllLeave (record { rooms = r ∷ []; excepted = [] }) q)
+push r None = None
+
 -- by what is asked for and the first two rooms
 abbrev pub effect_for : (own : List ℕ) → Word → (r q : Option (List ℕ)) → Message → Option Effect
 effect_for own word.Join (Some r) q m = Some (effect.Join r)
@@ -88,6 +105,10 @@ effect_for own word.Two (Some r) q m = to_two own r q m
 effect_for own word.But (Some r) q m = to_one_but own r q m
 effect_for own word.Quiet (Some r) q m = Some (emit (r ∷ []) (own ∷ []) false m)
 effect_for own word.All r q m = Some (emit [] [] true m)
+effect_for own word.Ask r q m = Some (ask m)
+effect_for own word.Pull (Some r) q m = pull r q
+effect_for own word.Push (Some r) q m = push r q
+effect_for own word.Kick (Some r) q m = Some (effect.AllEnd (record { rooms = r ∷ []; excepted = own ∷ [] }))
 effect_for own _ r q m = None
 
 -- what an event does before it is acknowledged
@@ -103,6 +124,10 @@ abbrev pub listed : Option Effect → List Effect
 listed (Some e) = e ∷ []
 listed None = []
 
+-- where it was asked for
+abbrev pub answer : Bool → List Effect
+answer asked = if asked then reply ∷ [] else []
+
 abbrev pub farewell : Word → List Effect
 farewell word.Bye = effect.Disconnect ∷ []
 farewell _ = []
@@ -110,7 +135,7 @@ farewell _ = []
 -- the effects of an event: where it was asked, the acknowledgement comes last but for the disconnection
 abbrev pub effects_of : (own : List ℕ) → Message → List Effect
 effects_of own m = listed (first_effect own (texts_of m.payload) m)
-    ++ (if m.asked then reply ∷ [] else [])
+    ++ answer m.asked
     ++ farewell (word_in (texts_of m.payload))
 
 -- what the app decides: an answer to a question has no effects

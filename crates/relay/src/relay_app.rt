@@ -1,13 +1,13 @@
 //! The demonstration app: what it does with each event.
 
-ghost use Rattle.std.specs.Prelude.{◌≡◌, ◌∷◌, [], IfOk, Some, None, true, false, option_map};
+ghost use Rattle.std.specs.Prelude.{◌≡◌, ◌∷◌, ◌++◌, [], IfOk, OnOk, Some, None, true, false, option_map};
 ghost use Rattle.eio_wire.specs.Payload.{IsWhole};
 ghost use Rattle.room_maps.specs.Room.{own_room};
 ghost use Rattle.relay.specs.Relay as table;
 ghost use Rattle.relay.specs.Relay.{texts_of};
 
 use crate::word::{Word, room_in, word_in};
-use effects::{App, Arrived, Effect, Emission, Message, Reply, Verdict, Who};
+use effects::{App, Arrived, Effect, Emission, Inquiry, Message, Reply, Selection, Verdict, Who};
 use room_maps::Room;
 use sio_wire::{Attachments, SioError, names};
 use std::alloc::{AllocError, Global};
@@ -55,18 +55,41 @@ fn decide(alloc: Global, own: Room, message: &Message) -> Result<Vec<Effect>, Al
     ensures { IfOk result (λ effects. effects.items ≡ table.effects_of own message.now) }
 {
     let texts = texts_of(alloc, message.payload.as_str())?;
-    let word = word_in(&texts);
     let mut effects = Vec::new(alloc);
-    if let Some(effect) = first_effect(alloc, own, &texts, message)? {
+    push_first(&mut effects, first_effect(alloc, own, &texts, message)?)?;
+    push_reply(alloc, &mut effects, message.asked)?;
+    push_farewell(&mut effects, word_in(&texts))?;
+    Ok(effects)
+}
+
+/// Adds the effect, if there is one.
+fn push_first(effects: &mut Vec<Effect>, effect: Option<Effect>) -> Result<(), AllocError>
+    ensures { OnOk result (effects.new.items ≡ effects.old.items ++ table.listed effect) }
+{
+    if let Some(effect) = effect {
         effects.push(effect)?;
     }
-    if message.asked {
+    Ok(())
+}
+
+/// Adds the acknowledgement, where it is asked for.
+fn push_reply(alloc: Global, effects: &mut Vec<Effect>, asked: bool) -> Result<(), AllocError>
+    ensures { OnOk result (effects.new.items ≡ effects.old.items ++ table.answer asked) }
+{
+    if asked {
         effects.push(Effect::Reply(reply(alloc)?))?;
     }
+    Ok(())
+}
+
+/// Adds the disconnection, where the event asks for it.
+fn push_farewell(effects: &mut Vec<Effect>, word: Word) -> Result<(), AllocError>
+    ensures { OnOk result (effects.new.items ≡ effects.old.items ++ table.farewell word) }
+{
     if word == Word::Bye {
         effects.push(Effect::Disconnect)?;
     }
-    Ok(effects)
+    Ok(())
 }
 
 /// The texts among an event's elements. A payload that is no array has none.
@@ -98,6 +121,10 @@ fn first_effect(
         (Word::Two, Some(room)) => to_two(alloc, own, room, room_in(texts, 2), message),
         (Word::But, Some(room)) => to_one_but(alloc, own, room, room_in(texts, 2), message),
         (Word::All, _) => Ok(Some(emit(alloc, &[], &[], true, message)?)),
+        (Word::Ask, _) => Ok(Some(ask(alloc, message)?)),
+        (Word::Pull, Some(room)) => pull(alloc, room, room_in(texts, 2)),
+        (Word::Push, Some(room)) => push(alloc, room, room_in(texts, 2)),
+        (Word::Kick, Some(room)) => Ok(Some(Effect::AllEnd(select(alloc, &[room], &[own])?))),
         _ => Ok(None),
     }
 }
@@ -132,6 +159,48 @@ fn to_one_but(
         Some(second) => Ok(Some(emit(alloc, &[room], &[second, own], true, message)?)),
         None => Ok(None),
     }
+}
+
+/// The event as it came, as a question to its socket.
+fn ask(alloc: Global, message: &Message) -> Result<Effect, AllocError>
+    ensures { IfOk result (λ effect. effect ≡ table.ask message.now) }
+{
+    Ok(Effect::EmitAsk(Inquiry {
+        payload: message.payload.clone()?,
+        attachments: message.attachments.clone()?,
+        tag: 0,
+        wait: 10_000,
+    }))
+}
+
+/// The sockets of a room join a second one, where that is known.
+fn pull(alloc: Global, room: Room, second: Option<Room>) -> Result<Option<Effect>, AllocError>
+    ensures { IfOk result (λ effect. effect ≡ table.pull room second) }
+{
+    match second {
+        Some(second) => Ok(Some(Effect::AllJoin(select(alloc, &[room], &[])?, second))),
+        None => Ok(None),
+    }
+}
+
+/// The sockets of a room leave a second one, where that is known.
+fn push(alloc: Global, room: Room, second: Option<Room>) -> Result<Option<Effect>, AllocError>
+    ensures { IfOk result (λ effect. effect ≡ table.push room second) }
+{
+    match second {
+        Some(second) => Ok(Some(Effect::AllLeave(select(alloc, &[room], &[])?, second))),
+        None => Ok(None),
+    }
+}
+
+/// The sockets of these rooms except those.
+fn select(alloc: Global, rooms: &[Room], excepted: &[Room]) -> Result<Selection, AllocError>
+    ensures { IfOk result (λ selection. selection ≡ record { rooms = rooms.now; excepted = excepted.now }) }
+{
+    Ok(Selection {
+        rooms: Vec::from_slice(alloc, rooms)?,
+        excepted: Vec::from_slice(alloc, excepted)?,
+    })
 }
 
 /// The event as it came, for these rooms except those.

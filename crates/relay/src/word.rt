@@ -23,8 +23,16 @@ pub enum Word {
     Quiet,
     /// That everybody gets it.
     All,
+    /// To be asked a question.
+    Ask,
     /// To be disconnected.
     Bye,
+    /// That the sockets of a room join another one.
+    Pull,
+    /// That the sockets of a room leave another one.
+    Push,
+    /// That the other sockets of a room are disconnected.
+    Kick,
     /// Nothing that the app knows.
     Other,
 }
@@ -41,7 +49,11 @@ pub(crate) fn word_of(name: &str) -> Word
         "but" => Word::But,
         "quiet" => Word::Quiet,
         "all" => Word::All,
+        "ask" => Word::Ask,
         "bye" => Word::Bye,
+        "pull" => Word::Pull,
+        "push" => Word::Push,
+        "kick" => Word::Kick,
         _ => Word::Other,
     }
 }
