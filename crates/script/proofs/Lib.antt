@@ -1,2 +1,3 @@
 pub mod ScriptLineLemmas
 pub mod PrintingLemmas
+pub mod HexadecimalLemmas

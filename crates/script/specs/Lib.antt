@@ -1,3 +1,4 @@
 pub mod ScriptLine
 pub mod Setup
+pub mod Events
 pub mod Printing

@@ -1,6 +1,8 @@
 -- What a script line prints.
-use Rattle.std.specs.Prelude.{ℕ, ◌==◌, ◌&&◌, not, Bool, true, false, if◌then◌else◌, List, [], ◌∷◌, ◌++◌, codes, Option, Some, None, decimal}
+use Rattle.std.specs.Prelude.{ℕ, ◌==◌, ◌&&◌, not, Bool, true, false, if◌then◌else◌, List, [], ◌∷◌, ◌++◌, codes, Option, Some, None, decimal, flat_map}
+use Rattle.hex.specs.Hex.{encode_lower}
 use Rattle.eio_wire.specs.Ids.{id_digits}
+use Rattle.journal.specs.declared.answers.Swept.{Swept}
 use Rattle.journal.specs.declared.totals.Totals.{Totals}
 use Rattle.room_maps.specs.declared.error.RoomError.{RoomError}
 use Rattle.room_maps.specs.declared.error.RoomError.TheVariants as room
@@ -9,6 +11,8 @@ use Rattle.effects.specs.declared.cause.Cause.TheVariants as cause
 use Rattle.effects.specs.declared.fault.CoreFault.{CoreFault}
 use Rattle.effects.specs.declared.fault.CoreFault.TheVariants as fault
 use Rattle.effects.specs.Plain.{PlainDone}
+use Rattle.dispatch.specs.declared.event.WsFrame.{WsFrame}
+use Rattle.dispatch.specs.declared.event.WsFrame.TheVariants as frame
 use Rattle.dispatch.specs.declared.outcome.Outcome.{Outcome}
 use Rattle.dispatch.specs.declared.outcome.Outcome.TheVariants as outcome
 use Rattle.script.specs.declared.printing.Posted.{Posted}
@@ -80,6 +84,10 @@ is_double_get _ = false
 abbrev pub posted_of : PlainDone → Posted
 posted_of d = record { read = not ((d.packets == 0) && is_unread d.closed); skipped = d.skipped; ignored = d.ignored; closed = d.closed }
 
+-- what is told of a frame, which was read also where it is no packet
+abbrev pub heard_of : PlainDone → Posted
+heard_of d = record { read = true; skipped = d.skipped; ignored = d.ignored; closed = d.closed }
+
 -- that an effect was skipped, and why
 abbrev pub skipped_text : Option RoomError → List ℕ
 skipped_text None = []
@@ -94,10 +102,33 @@ abbrev pub closed_text : Option Cause → List ℕ
 closed_text None = []
 closed_text (Some cause) = codes ", closed: " ++ cause_name cause
 
--- what became of a payload
+-- what became of a payload or a frame
 abbrev pub posted_text : Posted → List ℕ
 posted_text p = (if p.read then codes "ok" else codes "400") ++ skipped_text p.skipped
     ++ ignored_text p.ignored ++ closed_text p.closed
+
+-- what is due to a client, or why it was given up
+abbrev pub due_text : (ping : Bool) → Option Cause → List ℕ
+due_text ping (Some cause) = codes "closed: " ++ cause_name cause
+due_text ping None = if ping then codes "ping" else codes "nothing"
+
+-- the line of a frame: its text, or its bytes as pairs of lower-case hexadecimal digits
+abbrev pub frame_text : (name : List ℕ) → WsFrame → List ℕ
+frame_text name (frame.Text text) = name ++ codes " text " ++ text
+frame_text name (frame.Bytes bytes) = name ++ codes " bytes " ++ encode_lower bytes
+
+-- the lines of more frames, each after an LF
+abbrev pub more_text : (name : List ℕ) → List WsFrame → List ℕ
+more_text name frames = flat_map (λ frame. 10 ∷ frame_text name frame) frames
+
+-- the lines of frames
+abbrev pub frames_text : (name : List ℕ) → List WsFrame → List ℕ
+frames_text name [] = []
+frames_text name (first ∷ rest) = frame_text name first ++ more_text name rest
+
+-- what the server dropped
+abbrev pub swept_text : Swept → List ℕ
+swept_text s = codes "swept log " ++ decimal s.log ++ codes ", saved " ++ decimal s.saved
 
 -- what the server has counted
 abbrev pub totals_text : Totals → List ℕ
@@ -117,11 +148,15 @@ answer_text answer.Ok = codes "ok"
 answer_text (answer.Closed cause) = codes "closed: " ++ cause_name cause
 answer_text (answer.Taken name (Some payload)) = name.now ++ codes " " ++ payload
 answer_text (answer.Taken name None) = name.now ++ codes " -"
+answer_text (answer.Frames lines) = lines
+answer_text (answer.Probed name text) = name.now ++ codes " " ++ text
+answer_text (answer.Ticked name ping closed) = name.now ++ codes " " ++ due_text ping closed
 answer_text answer.NotSaved = codes "ok, not saved: SavedFull"
 answer_text (answer.Members (Some ids)) = codes "members" ++ ids
 answer_text (answer.Members None) = codes "members -"
 answer_text (answer.Totals totals) = totals_text totals
 answer_text (answer.Sealed steps) = codes "sealed " ++ decimal steps
+answer_text (answer.Swept swept) = swept_text swept
 answer_text (answer.Refused fault) = codes "refused: " ++ fault_name fault
 answer_text answer.UnknownNamespace = codes "refused: UnknownNamespace"
 answer_text answer.BadLine = codes "bad line"
@@ -136,5 +171,14 @@ outcome_text name (outcome.Opened opening) = name ++ codes " " ++ opening.text
 outcome_text name (outcome.Done done) = done_text done
 outcome_text name outcome.Begun = codes "ok"
 outcome_text name (outcome.Payload text) = name ++ codes " " ++ text
+outcome_text name (outcome.Frames frames) = frames_text name frames
 outcome_text name outcome.Nothing = name ++ codes " -"
+outcome_text name (outcome.Probed text) = name ++ codes " " ++ text
 outcome_text name (outcome.Lost saved) = if saved then codes "ok" else codes "ok, not saved: SavedFull"
+outcome_text name (outcome.Ticked ping closed) = name ++ codes " " ++ due_text ping closed
+outcome_text name (outcome.Swept swept) = swept_text swept
+
+-- what is printed of a frame's outcome for the client of this name
+abbrev pub heard_text : (name : List ℕ) → Outcome → List ℕ
+heard_text name (outcome.Done done) = posted_text (heard_of done)
+heard_text name other = outcome_text name other

@@ -7,8 +7,10 @@ use Rattle.std.specs.Str.{IsUtf8}
 use Rattle.std.specs.Str.Parse.{IsNumeral, digits_value}
 use Rattle.script.specs.declared.script_line.Key.{Key}
 use Rattle.script.specs.declared.script_line.Key.TheVariants.{Capacity, Clients, Bytes, Log, Saved, Keep, FirstOffset}
+use Rattle.script.specs.declared.script_line.Notice.{Notice as NoticeWord}
+use Rattle.script.specs.declared.script_line.Notice.TheVariants as notice
 use Rattle.script.specs.declared.script_line.ScriptLine.{ScriptLine}
-use Rattle.script.specs.declared.script_line.ScriptLine.TheVariants.{Config, At, Open, OpenSocket, Text, Get, Unget, Take, Lost, Members, Totals, Seal, Nothing, Bad}
+use Rattle.script.specs.declared.script_line.ScriptLine.TheVariants.{Config, At, Open, OpenSocket, Text, Frame, Bytes as ByteFrame, Notice, Take, Members, Totals, Seal, Sweep, Nothing, Bad}
 
 -- the space between the words of a line
 abbrev pub SPACE : ℕ
@@ -56,6 +58,16 @@ key_text Saved = codes "saved"
 key_text Keep = codes "keep"
 key_text FirstOffset = codes "first-offset"
 
+-- the word that says this of a client
+abbrev pub notice_text : NoticeWord → List ℕ
+notice_text notice.Get = codes "get"
+notice_text notice.Unget = codes "unget"
+notice_text notice.Probe = codes "probe"
+notice_text notice.Upgrade = codes "upgrade"
+notice_text notice.Unprobe = codes "unprobe"
+notice_text notice.Lost = codes "lost"
+notice_text notice.Tick = codes "tick"
+
 -- the line takes so many entries: 64, or as many as it names, but not 0
 abbrev pub SpellsTake : List ℕ → (name : List ℕ) → (most : ℕ) → Type 0
 SpellsTake text name most = ((text ≡ codes "take" ++ SPACE ∷ name) × (most ≡ MOST_TAKEN))
@@ -68,13 +80,14 @@ Spells text (At moment) = (digits : List ℕ) × IsNumber digits moment × (text
 Spells text (Open name) = IsName name.now × (text ≡ codes "open" ++ SPACE ∷ name.now)
 Spells text (OpenSocket name) = IsName name.now × (text ≡ codes "open" ++ SPACE ∷ name.now ++ SPACE ∷ codes "socket")
 Spells text (Text name rest) = IsName name.now × (text ≡ codes "text" ++ SPACE ∷ name.now ++ SPACE ∷ rest.now)
-Spells text (Get name) = IsName name.now × (text ≡ codes "get" ++ SPACE ∷ name.now)
-Spells text (Unget name) = IsName name.now × (text ≡ codes "unget" ++ SPACE ∷ name.now)
+Spells text (Frame name rest) = IsName name.now × (text ≡ codes "frame" ++ SPACE ∷ name.now ++ SPACE ∷ rest.now)
+Spells text (ByteFrame name hex) = IsName name.now × (text ≡ codes "bytes" ++ SPACE ∷ name.now ++ SPACE ∷ hex.now)
+Spells text (Notice word name) = IsName name.now × (text ≡ notice_text word ++ SPACE ∷ name.now)
 Spells text (Take name most) = IsName name.now × SpellsTake text name.now most
-Spells text (Lost name) = IsName name.now × (text ≡ codes "lost" ++ SPACE ∷ name.now)
 Spells text (Members space room) = IsWord space.now × (text ≡ codes "members" ++ SPACE ∷ space.now ++ SPACE ∷ room.now)
 Spells text Totals = text ≡ codes "totals"
 Spells text Seal = text ≡ codes "seal"
+Spells text Sweep = text ≡ codes "sweep"
 Spells text Nothing = IsSilent text
 Spells text Bad = ⊥
 
@@ -85,6 +98,7 @@ pub record IsNoServerLine (text : List ℕ) : Type 0 where
   pub members : (space room : Bor (List ℕ)) → ¬ Spells text (Members space room)
   pub totals : ¬ Spells text Totals
   pub seal : ¬ Spells text Seal
+  pub sweep : ¬ Spells text Sweep
 
 -- the text spells no line that opens a client
 pub record IsNoOpenLine (text : List ℕ) : Type 0 where
@@ -95,14 +109,22 @@ pub record IsNoOpenLine (text : List ℕ) : Type 0 where
 abbrev pub IsNoTakeLine : List ℕ → Type 0
 IsNoTakeLine text = (name : Bor (List ℕ)) (most : ℕ) → ¬ Spells text (Take name most)
 
+-- the text spells no line that says something of a client by one word
+abbrev pub IsNoNoticeLine : List ℕ → Type 0
+IsNoNoticeLine text = (word : NoticeWord) (name : Bor (List ℕ)) → ¬ Spells text (Notice word name)
+
+-- the text spells no line by which a client sends something
+pub record IsNoSendingLine (text : List ℕ) : Type 0 where
+  pub posting : (name rest : Bor (List ℕ)) → ¬ Spells text (Text name rest)
+  pub framing : (name rest : Bor (List ℕ)) → ¬ Spells text (Frame name rest)
+  pub byte_framing : (name hex : Bor (List ℕ)) → ¬ Spells text (ByteFrame name hex)
+
 -- the text spells no line about one client
 pub record IsNoClientLine (text : List ℕ) : Type 0 where
   pub opening : IsNoOpenLine text
   pub taking : IsNoTakeLine text
-  pub posting : (name rest : Bor (List ℕ)) → ¬ Spells text (Text name rest)
-  pub getting : (name : Bor (List ℕ)) → ¬ Spells text (Get name)
-  pub ungetting : (name : Bor (List ℕ)) → ¬ Spells text (Unget name)
-  pub losing : (name : Bor (List ℕ)) → ¬ Spells text (Lost name)
+  pub noticing : IsNoNoticeLine text
+  pub sending : IsNoSendingLine text
 
 -- what a text is read as: the line that it spells, or a bad line where it spells none
 abbrev pub ReadsAs : List ℕ → ScriptLine → Type 0

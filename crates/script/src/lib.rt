@@ -2,6 +2,7 @@
 //! answered to a writer.
 #![tactic(auto)]
 
+mod events;
 mod faults;
 mod play;
 mod printing;
@@ -12,7 +13,7 @@ mod setup;
 pub use faults::RunError;
 pub use printing::Answer;
 pub use run::run_script;
-pub use script_line::{Key, ScriptLine, read_line};
+pub use script_line::{Key, Notice, ScriptLine, read_line};
 
 #[cfg(test)]
 mod tests;

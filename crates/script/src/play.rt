@@ -1,20 +1,23 @@
 //! What a line of a script does to the server.
 
-ghost use Rattle.std.specs.Prelude.{◌≡◌, ◌<◌, IsOkUnless, None, Some, Ok, length};
+ghost use Rattle.std.specs.Prelude.{◌≡◌, ◌≢◌, ◌<◌, ℕ, List, IfOk, IsOkUnless, None, Some, Ok, length};
 ghost use Rattle.std.specs.BTreeMap.{get_by_text};
+ghost use Rattle.terms.specs.Bytes.{IsBytes};
+ghost use Rattle.hex.specs.Hex.{encode_lower};
 ghost use Rattle.script.specs.declared.faults.RunError.TheVariants.{Memory};
-ghost use Rattle.script.specs.Printing.{answer_text, outcome_text};
+ghost use Rattle.script.specs.Printing.{answer_text, outcome_text, heard_text};
 
+use crate::events::{bytes_of, event_of, take_of};
 use crate::faults::RunError;
-use crate::printing::{Answer, Posted, id_list};
-use crate::script_line::ScriptLine;
-use dispatch::{Core, Event, Outcome};
+use crate::printing::{Answer, Posted, frame_lines, id_list};
+use crate::script_line::{Notice, ScriptLine};
+use dispatch::{Core, Event, Outcome, WsFrame};
 use effects::{Cause, CoreFault};
 use hub::Pass;
 use journal::HubError;
 use relay::{Counter, RelayApp};
 use room_maps::Room;
-use std::alloc::Global;
+use std::alloc::{AllocError, Global};
 use std::collections::BTreeMap;
 use std::sync::ledger::Ledger;
 use terms::Text;
@@ -59,13 +62,14 @@ impl<C: Ledger, T: Ledger> Play<C, T> {
             ScriptLine::Open(name) => Ok(Some(self.open(alloc, name, false)?)),
             ScriptLine::OpenSocket(name) => Ok(Some(self.open(alloc, name, true)?)),
             ScriptLine::Text(name, rest) => Ok(Some(self.text(alloc, name, rest)?)),
-            ScriptLine::Get(name) => Ok(Some(self.get(alloc, name)?)),
-            ScriptLine::Unget(name) => Ok(Some(self.unget(alloc, name)?)),
+            ScriptLine::Frame(name, rest) => Ok(Some(self.text_frame(alloc, name, rest)?)),
+            ScriptLine::Bytes(name, hex) => Ok(Some(self.byte_frame(alloc, name, hex)?)),
+            ScriptLine::Notice(notice, name) => Ok(Some(self.notice(alloc, notice, name)?)),
             ScriptLine::Take(name, most) => Ok(Some(self.take(alloc, name, most)?)),
-            ScriptLine::Lost(name) => Ok(Some(self.lost(alloc, name)?)),
             ScriptLine::Members(space, room) => Ok(Some(self.members(alloc, space, room)?)),
             ScriptLine::Totals => Ok(Some(Answer::Totals(self.core.hub().state().totals()))),
             ScriptLine::Seal => Ok(Some(self.seal(alloc)?)),
+            ScriptLine::Sweep => Ok(Some(self.sweep(alloc)?)),
             ScriptLine::Nothing => Ok(None),
             ScriptLine::Config(..) | ScriptLine::Bad => Ok(Some(Answer::BadLine)),
         }
@@ -104,7 +108,7 @@ impl<C: Ledger, T: Ledger> Play<C, T> {
         ensures { IsOkUnless result Memory }
     {
         match self.apply(alloc, event)? {
-            Ok(outcome) => Ok(answer_of(name, outcome)),
+            Ok(outcome) => Ok(answer_of(alloc, name, outcome)?),
             Err(fault) => Ok(Answer::Refused(fault)),
         }
     }
@@ -124,7 +128,7 @@ impl<C: Ledger, T: Ledger> Play<C, T> {
                 self.clients.insert(key, opening.client)?;
                 Ok(Answer::Opened(name, opening.text))
             }
-            Ok(outcome) => Ok(answer_of(name, outcome)),
+            Ok(outcome) => Ok(answer_of(alloc, name, outcome)?),
             Err(fault) => Ok(Answer::Refused(fault)),
         }
     }
@@ -146,26 +150,73 @@ impl<C: Ledger, T: Ledger> Play<C, T> {
         self.done(alloc, name, &Event::Post { client, body })
     }
 
-    /// A GET of the client of this name waits.
-    fn get<'a>(&mut self, alloc: Global, name: &'a str) -> Result<Answer<'a>, RunError>
+    /// Hands the server a text frame from the client of this name.
+    fn text_frame<'a>(
+        &mut self,
+        alloc: Global,
+        name: &'a str,
+        text: &str,
+    ) -> Result<Answer<'a>, RunError>
         ensures unknown { get_by_text self.old.clients name.entry.now ≡ None → result ≡ Ok Answer.BadLine }
         ensures err { IsOkUnless result Memory }
     {
         let Some(client) = self.clients.get(name).copied() else {
             return Ok(Answer::BadLine);
         };
-        self.done(alloc, name, &Event::PollBegin { client })
+        let frame = WsFrame::Text(Text::copy_of(alloc, text)?);
+        self.heard(alloc, name, client, frame)
     }
 
-    /// The GET of the client of this name waits no more.
-    fn unget<'a>(&mut self, alloc: Global, name: &'a str) -> Result<Answer<'a>, RunError>
+    /// Hands the server a binary frame from the client of this name, where the text has its bytes.
+    fn byte_frame<'a>(
+        &mut self,
+        alloc: Global,
+        name: &'a str,
+        hex: &str,
+    ) -> Result<Answer<'a>, RunError>
+        ensures unknown { get_by_text self.old.clients name.entry.now ≡ None → result ≡ Ok Answer.BadLine }
+        ensures no_bytes { ((bytes : List ℕ) → IsBytes bytes → hex.now ≢ encode_lower bytes) → IfOk result (λ answer. answer ≡ Answer.BadLine) }
+        ensures err { IsOkUnless result Memory }
+    {
+        let Some(client) = self.clients.get(name).copied() else {
+            return Ok(Answer::BadLine);
+        };
+        match bytes_of(alloc, hex)? {
+            Some(bytes) => self.heard(alloc, name, client, WsFrame::Bytes(bytes)),
+            None => Ok(Answer::BadLine),
+        }
+    }
+
+    /// What the client of this name is answered at its frame.
+    fn heard<'a>(
+        &mut self,
+        alloc: Global,
+        name: &'a str,
+        client: u128,
+        frame: WsFrame,
+    ) -> Result<Answer<'a>, RunError>
+        ensures { IsOkUnless result Memory }
+    {
+        match self.apply(alloc, &Event::Frame { client, frame })? {
+            Ok(outcome) => Ok(answer_of_frame(alloc, name, outcome)?),
+            Err(fault) => Ok(Answer::Refused(fault)),
+        }
+    }
+
+    /// What a line says of the client of this name happens.
+    fn notice<'a>(
+        &mut self,
+        alloc: Global,
+        notice: Notice,
+        name: &'a str,
+    ) -> Result<Answer<'a>, RunError>
         ensures unknown { get_by_text self.old.clients name.entry.now ≡ None → result ≡ Ok Answer.BadLine }
         ensures err { IsOkUnless result Memory }
     {
         let Some(client) = self.clients.get(name).copied() else {
             return Ok(Answer::BadLine);
         };
-        self.done(alloc, name, &Event::PollEnd { client })
+        self.done(alloc, name, &event_of(notice, client))
     }
 
     /// Takes what waits for the client of this name.
@@ -181,18 +232,8 @@ impl<C: Ledger, T: Ledger> Play<C, T> {
         let Some(client) = self.clients.get(name).copied() else {
             return Ok(Answer::BadLine);
         };
-        self.done(alloc, name, &Event::PollTake { client, most })
-    }
-
-    /// The connection of the client of this name is lost.
-    fn lost<'a>(&mut self, alloc: Global, name: &'a str) -> Result<Answer<'a>, RunError>
-        ensures unknown { get_by_text self.old.clients name.entry.now ≡ None → result ≡ Ok Answer.BadLine }
-        ensures err { IsOkUnless result Memory }
-    {
-        let Some(client) = self.clients.get(name).copied() else {
-            return Ok(Answer::BadLine);
-        };
-        self.done(alloc, name, &Event::TransportLost { client })
+        let event = take_of(self.core.transport(client), client, most);
+        self.done(alloc, name, &event)
     }
 
     /// The sockets of a namespace that are in a room, whose name has at most 64 bytes.
@@ -211,6 +252,13 @@ impl<C: Ledger, T: Ledger> Play<C, T> {
         }
     }
 
+    /// What the server keeps no longer is dropped. That is of no client, and prints no name.
+    fn sweep(&mut self, alloc: Global) -> Result<Answer<'static>, RunError>
+        ensures { IsOkUnless result Memory }
+    {
+        self.done(alloc, "", &Event::Sweep)
+    }
+
     /// Ends an epoch.
     fn seal(&mut self, alloc: Global) -> Result<Answer<'static>, RunError>
         ensures { IsOkUnless result Memory }
@@ -224,19 +272,40 @@ impl<C: Ledger, T: Ledger> Play<C, T> {
 
 /// What is printed of an outcome for the client of this name. A second GET that waits has closed the
 /// client, and no payload does so for that cause.
-fn answer_of<'a>(name: &'a str, outcome: Outcome) -> Answer<'a>
-    ensures { answer_text result ≡ outcome_text name.entry.now outcome }
+fn answer_of<'a>(alloc: Global, name: &'a str, outcome: Outcome) -> Result<Answer<'a>, AllocError>
+    ensures { IfOk result (λ answer. answer_text answer ≡ outcome_text name.entry.now outcome) }
 {
     match outcome {
-        Outcome::Opened(opening) => Answer::Opened(name, opening.text),
+        Outcome::Opened(opening) => Ok(Answer::Opened(name, opening.text)),
         Outcome::Done(done) => match done.closed {
-            Some(Cause::DoubleGet) => Answer::Closed(Cause::DoubleGet),
-            _ => Answer::Posted(Posted::of(&done)),
+            Some(Cause::DoubleGet) => Ok(Answer::Closed(Cause::DoubleGet)),
+            _ => Ok(Answer::Posted(Posted::of(&done))),
         },
-        Outcome::Begun => Answer::Ok,
-        Outcome::Payload(text) => Answer::Taken(name, Some(text)),
-        Outcome::Nothing => Answer::Taken(name, None),
-        Outcome::Lost { saved: true } => Answer::Ok,
-        Outcome::Lost { saved: false } => Answer::NotSaved,
+        Outcome::Begun => Ok(Answer::Ok),
+        Outcome::Payload(text) => Ok(Answer::Taken(name, Some(text))),
+        Outcome::Frames(frames) => {
+            let lines = frame_lines(alloc, name, frames.as_slice())?;
+            Ok(Answer::Frames(lines))
+        }
+        Outcome::Nothing => Ok(Answer::Taken(name, None)),
+        Outcome::Probed(text) => Ok(Answer::Probed(name, text)),
+        Outcome::Lost { saved: true } => Ok(Answer::Ok),
+        Outcome::Lost { saved: false } => Ok(Answer::NotSaved),
+        Outcome::Ticked { ping, closed } => Ok(Answer::Ticked { name, ping, closed }),
+        Outcome::Swept(swept) => Ok(Answer::Swept(swept)),
+    }
+}
+
+/// What is printed of a frame's outcome for the client of this name.
+fn answer_of_frame<'a>(
+    alloc: Global,
+    name: &'a str,
+    outcome: Outcome,
+) -> Result<Answer<'a>, AllocError>
+    ensures { IfOk result (λ answer. answer_text answer ≡ heard_text name.entry.now outcome) }
+{
+    match outcome {
+        Outcome::Done(done) => Ok(Answer::Posted(Posted::of_frame(&done))),
+        other => answer_of(alloc, name, other),
     }
 }

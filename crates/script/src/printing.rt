@@ -3,11 +3,12 @@
 ghost use Rattle.std.specs.Prelude.{◌≡◌, ◌∷◌, ◌++◌, Some, IfOk, OnOk, if◌then◌else◌, codes, string_bytes};
 ghost use Rattle.eio_wire.specs.Ids.{id_digits};
 ghost use Rattle.script.specs.ScriptLine.{SPACE};
-ghost use Rattle.script.specs.Printing.{cause_name, fault_name, reason_name, ignored_text, ids_text, is_unread, posted_of};
+ghost use Rattle.script.specs.Printing.{cause_name, fault_name, reason_name, ignored_text, ids_text, frame_text, more_text, frames_text, is_unread, posted_of, heard_of};
 
+use dispatch::WsFrame;
 use effects::{Cause, CoreFault, Done};
 use eio_wire::id_text;
-use journal::Totals;
+use journal::{Swept, Totals};
 use room_maps::{RoomError, Sid};
 use std::alloc::{AllocError, Global};
 use std::fmt;
@@ -18,7 +19,7 @@ use terms::{Text, ascii_text};
 pub enum Answer<'a> {
     /// A client was opened under this name; it was sent this open packet.
     Opened(&'a str, Text),
-    /// What became of a payload.
+    /// What became of a payload or a frame.
     Posted(Posted),
     /// It was done, and there is no more to say of it.
     Ok,
@@ -26,6 +27,16 @@ pub enum Answer<'a> {
     Closed(Cause),
     /// The payload that waited for the client of this name, if any did.
     Taken(&'a str, Option<Text>),
+    /// The frames that waited for a client, each in a line of its own.
+    Frames(Text),
+    /// The client of this name probes; it was sent this text.
+    Probed(&'a str, Text),
+    /// A ping is due to the client of this name or not, and why it was given up, where it was.
+    Ticked {
+        name: &'a str,
+        ping: bool,
+        closed: Option<Cause>,
+    },
     /// The client is gone, and its sessions have no place.
     NotSaved,
     /// The ids of sockets, with a space before each, or `None` where there are none.
@@ -34,6 +45,8 @@ pub enum Answer<'a> {
     Totals(Totals),
     /// The number of steps that an epoch has.
     Sealed(usize),
+    /// What the server dropped.
+    Swept(Swept),
     /// The server refused the event.
     Refused(CoreFault),
     /// There is no such namespace.
@@ -42,7 +55,7 @@ pub enum Answer<'a> {
     BadLine,
 }
 
-/// What became of a payload.
+/// What became of a payload or a frame.
 #[derive(Clone, Copy, Debug)]
 pub struct Posted {
     /// Whether it was read.
@@ -62,6 +75,18 @@ impl Posted {
     {
         Posted {
             read: done.packets != 0 || !is_unread(done.closed),
+            skipped: done.skipped,
+            ignored: done.ignored,
+            closed: done.closed,
+        }
+    }
+
+    /// What is told of a frame that was heard. One that is no packet was read too.
+    pub(crate) fn of_frame(done: &Done) -> Posted
+        ensures { result ≡ heard_of done.now }
+    {
+        Posted {
+            read: true,
             skipped: done.skipped,
             ignored: done.ignored,
             closed: done.closed,
@@ -99,6 +124,57 @@ fn push_id(list: &mut String, sid: Sid) -> Result<(), AllocError>
     Ok(())
 }
 
+/// The frames for the client of this name, each in a line of its own.
+pub(crate) fn frame_lines(alloc: Global, name: &str, frames: &[WsFrame]) -> Result<Text, AllocError>
+    ensures { IfOk result (λ lines. lines ≡ frames_text name.now frames.now) }
+{
+    let mut lines = String::new(alloc);
+    let Some((first, rest)) = frames.split_first() else {
+        return Ok(Text::from_string(lines));
+    };
+    push_frame(alloc, &mut lines, name, first)?;
+    push_more(alloc, &mut lines, name, rest)?;
+    Ok(Text::from_string(lines))
+}
+
+/// Adds the lines of more frames.
+fn push_more(
+    alloc: Global,
+    lines: &mut String,
+    name: &str,
+    frames: &[WsFrame],
+) -> Result<(), AllocError>
+    ensures { OnOk result (string_bytes lines.new ≡ string_bytes lines.old ++ more_text name.now frames.now) }
+{
+    for frame in frames {
+        lines.push_str("\n")?;
+        push_frame(alloc, lines, name, frame)?;
+    }
+    Ok(())
+}
+
+/// Adds the line of a frame.
+fn push_frame(
+    alloc: Global,
+    lines: &mut String,
+    name: &str,
+    frame: &WsFrame,
+) -> Result<(), AllocError>
+    ensures { OnOk result (string_bytes lines.new ≡ string_bytes lines.old ++ frame_text name.now frame.now) }
+{
+    lines.push_str(name)?;
+    match frame {
+        WsFrame::Text(text) => {
+            lines.push_str(" text ")?;
+            lines.push_str(text.as_str())
+        }
+        WsFrame::Bytes(bytes) => {
+            lines.push_str(" bytes ")?;
+            lines.push_str(hex::encode(alloc, bytes.as_slice())?.as_str())
+        }
+    }
+}
+
 impl fmt::Display for Answer<'_> {
     ghost use Rattle.script.specs.Printing.{answer_text};
 
@@ -112,11 +188,19 @@ impl fmt::Display for Answer<'_> {
             Answer::Closed(cause) => write!(f, "closed: {}", cause_name(*cause)),
             Answer::Taken(name, Some(payload)) => write!(f, "{name} {}", payload.as_str()),
             Answer::Taken(name, None) => write!(f, "{name} -"),
+            Answer::Frames(lines) => f.write_str(lines.as_str()),
+            Answer::Probed(name, text) => write!(f, "{name} {}", text.as_str()),
+            Answer::Ticked { name, ping, closed } => { write!(f, "{name} {}", Due(*ping, *closed)) }
             Answer::NotSaved => f.write_str("ok, not saved: SavedFull"),
             Answer::Members(Some(ids)) => write!(f, "members{}", ids.as_str()),
             Answer::Members(None) => f.write_str("members -"),
             Answer::Totals(totals) => write!(f, "{}", Counted(*totals)),
             Answer::Sealed(steps) => write!(f, "sealed {steps}"),
+            Answer::Swept(swept) => {
+                let log = swept.log;
+                let saved = swept.saved;
+                write!(f, "swept log {log}, saved {saved}")
+            }
             Answer::Refused(fault) => write!(f, "refused: {}", fault_name(*fault)),
             Answer::UnknownNamespace => f.write_str("refused: UnknownNamespace"),
             Answer::BadLine => f.write_str("bad line"),
@@ -144,6 +228,24 @@ impl fmt::Display for Counted {
             f,
             "commands {commands}, placed {placed}, dropped {dropped}, taken {taken}, discarded {discarded}, waiting {waiting}"
         )
+    }
+}
+
+/// Whether a ping is due, and why the client was given up, as it is printed of a tick.
+#[derive(Clone, Copy)]
+struct Due(bool, Option<Cause>);
+
+impl fmt::Display for Due {
+    ghost use Rattle.script.specs.Printing.{due_text};
+
+    ghost output = { λ due. Some (due_text due.0 due.1) };
+
+    fn fmt<W: fmt::Write>(&self, f: &mut fmt::Formatter<W>) -> fmt::Result {
+        match (self.1, self.0) {
+            (Some(cause), _) => write!(f, "closed: {}", cause_name(cause)),
+            (None, true) => f.write_str("ping"),
+            (None, false) => f.write_str("nothing"),
+        }
     }
 }
 

@@ -1,7 +1,7 @@
 //! One line of a script.
 
 ghost use Rattle.std.specs.Prelude.{◌≡◌, ◌≢◌, ◌++◌, ◌∷◌, ◌↔◌, ℕ, List, IsTrue, IfSome, IfNone};
-ghost use Rattle.script.specs.ScriptLine.{IsName, IsNumber, IsWord, IsSilent, IsReadAs, ReadsAs, Spells, IsNoServerLine, IsNoClientLine, IsNoOpenLine, IsNoTakeLine, SPACE, key_text};
+ghost use Rattle.script.specs.ScriptLine.{IsName, IsNumber, IsWord, IsSilent, IsReadAs, ReadsAs, Spells, IsNoServerLine, IsNoClientLine, IsNoOpenLine, IsNoTakeLine, IsNoNoticeLine, IsNoSendingLine, SPACE, key_text, notice_text};
 
 /// How many entries a `take` hands out at most that names no number.
 const MOST_TAKEN: usize = 64;
@@ -18,6 +18,25 @@ pub enum Key {
     FirstOffset,
 }
 
+/// What a line says of a client by one word.
+#[derive(Clone, Copy, Debug, PartialEq, Eq)]
+pub enum Notice {
+    /// `get`: a GET of the client waits.
+    Get,
+    /// `unget`: it waits no more.
+    Unget,
+    /// `probe`: the client probes a WebSocket.
+    Probe,
+    /// `upgrade`: the client speaks over the WebSocket from now on.
+    Upgrade,
+    /// `unprobe`: the probe failed.
+    Unprobe,
+    /// `lost`: the client's connection is lost.
+    Lost,
+    /// `tick`: it is asked what is due to the client.
+    Tick,
+}
+
 /// What one line of a script asks for. A line is UTF-8; a carriage return belongs to it.
 #[derive(Clone, Copy, Debug)]
 pub enum ScriptLine<'a> {
@@ -31,20 +50,22 @@ pub enum ScriptLine<'a> {
     OpenSocket(&'a str),
     /// `text NAME REST`: the payload REST, which may be empty, from the client.
     Text(&'a str, &'a str),
-    /// `get NAME`: a GET of the client waits.
-    Get(&'a str),
-    /// `unget NAME`: it waits no more.
-    Unget(&'a str),
+    /// `frame NAME REST`: the text frame REST over the client's WebSocket.
+    Frame(&'a str, &'a str),
+    /// `bytes NAME HEX`: a binary frame over it, as the hexadecimal digits that are the whole rest.
+    Bytes(&'a str, &'a str),
+    /// `get NAME`, or another word and a name.
+    Notice(Notice, &'a str),
     /// `take NAME` or `take NAME N`: what waits for the client, at most so many entries.
     Take(&'a str, usize),
-    /// `lost NAME`: the client's connection is lost.
-    Lost(&'a str),
     /// `members SPACE ROOM`: the sockets of a namespace in a room, whose name is the whole rest.
     Members(&'a str, &'a str),
     /// `totals`: what the server has counted.
     Totals,
     /// `seal`: the end of an epoch.
     Seal,
+    /// `sweep`: what the server keeps no longer is dropped.
+    Sweep,
     /// A blank line or a comment, which begins with `#`.
     Nothing,
     /// Any other line.
@@ -84,6 +105,7 @@ fn read_server_line(text: &str) -> Option<ScriptLine<'_>>
     match text {
         "totals" => return Some(ScriptLine::Totals),
         "seal" => return Some(ScriptLine::Seal),
+        "sweep" => return Some(ScriptLine::Sweep),
         _ => {}
     }
     if let Some(moment) = number_after("at", text) {
@@ -107,17 +129,10 @@ fn read_client_line(text: &str) -> Option<ScriptLine<'_>>
     if let Some(line) = read_take(text) {
         return Some(line);
     }
-    if let Some(name) = name_after("get", text) {
-        return Some(ScriptLine::Get(name));
+    if let Some(line) = read_notice(text) {
+        return Some(line);
     }
-    if let Some(name) = name_after("unget", text) {
-        return Some(ScriptLine::Unget(name));
-    }
-    if let Some(name) = name_after("lost", text) {
-        return Some(ScriptLine::Lost(name));
-    }
-    let (name, rest) = name_and_rest_after("text", text)?;
-    Some(ScriptLine::Text(name, rest))
+    read_sending(text)
 }
 
 /// A line that opens a client.
@@ -147,6 +162,35 @@ fn read_take(text: &str) -> Option<ScriptLine<'_>>
         0 => None,
         most => Some(ScriptLine::Take(name, most as usize)),
     }
+}
+
+/// A line that says something of a client by one word.
+fn read_notice(text: &str) -> Option<ScriptLine<'_>>
+    ensures some { IfSome result (λ line. Spells text.now line) }
+    ensures none { IfNone result (IsNoNoticeLine text.now) }
+{
+    let (word, name) = text.split_once(' ')?;
+    let notice = notice_of(word)?;
+    if is_name(name) {
+        Some(ScriptLine::Notice(notice, name))
+    } else {
+        None
+    }
+}
+
+/// A line by which a client sends something.
+fn read_sending(text: &str) -> Option<ScriptLine<'_>>
+    ensures some { IfSome result (λ line. Spells text.now line) }
+    ensures none { IfNone result (IsNoSendingLine text.now) }
+{
+    if let Some((name, rest)) = name_and_rest_after("text", text) {
+        return Some(ScriptLine::Text(name, rest));
+    }
+    if let Some((name, rest)) = name_and_rest_after("frame", text) {
+        return Some(ScriptLine::Frame(name, rest));
+    }
+    let (name, hex) = name_and_rest_after("bytes", text)?;
+    Some(ScriptLine::Bytes(name, hex))
 }
 
 /// Whether the line is blank or a comment.
@@ -248,6 +292,23 @@ fn read_key(word: &str) -> Option<Key>
         "saved" => Some(Key::Saved),
         "keep" => Some(Key::Keep),
         "first-offset" => Some(Key::FirstOffset),
+        _ => None,
+    }
+}
+
+/// What this word says of a client.
+fn notice_of(word: &str) -> Option<Notice>
+    ensures some { IfSome result (λ notice. word.now ≡ notice_text notice) }
+    ensures none { IfNone result ((notice : Notice) → word.now ≢ notice_text notice) }
+{
+    match word {
+        "get" => Some(Notice::Get),
+        "unget" => Some(Notice::Unget),
+        "probe" => Some(Notice::Probe),
+        "upgrade" => Some(Notice::Upgrade),
+        "unprobe" => Some(Notice::Unprobe),
+        "lost" => Some(Notice::Lost),
+        "tick" => Some(Notice::Tick),
         _ => None,
     }
 }

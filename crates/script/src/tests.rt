@@ -9,3 +9,5 @@ mod limits;
 mod lines;
 mod payloads;
 mod sessions;
+mod sockets;
+mod upkeep;

@@ -109,7 +109,7 @@ lost A
             r#"A 0{"sid":"00000000000000000000000000000001","upgrades":[],"pingInterval":25000,"pingTimeout":20000,"maxPayload":1000000}
 refused: WrongTransport
 refused: WrongTransport
-refused: WrongTransport
+A -
 ok
 ok
 refused: UnknownClient

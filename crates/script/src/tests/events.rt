@@ -186,6 +186,61 @@ B 40/admin,{\"sid\":\"00000000000000000000000000000007\",\"pid\":\"0000000000000
 ",
         ),
         (
+            "a question is answered once",
+            "",
+            r#"text A 42["ask","n"]
+take A
+text A 430["yes"]
+text A 430["yes"]
+"#,
+            r#"ok
+A 420["ask","n"]
+ok
+ok, ignored
+"#,
+        ),
+        (
+            "a question runs out after ten seconds",
+            "",
+            r#"text A 42["ask","n"]
+take A
+at 10001
+tick A
+text A 430["yes"]
+"#,
+            r#"ok
+A 420["ask","n"]
+A nothing
+ok, ignored
+"#,
+        ),
+        (
+            "all sockets of a room join another one, leave it and end, but for the one that wants it",
+            "",
+            r#"text A 42["pull","r","q"]
+members / q
+text A 42["push","r","q"]
+members / q
+text A 42["push","r","00000000000000000000000000000005"]
+text A 42["kick","r"]
+take B
+members / r
+text B 42["x"]
+totals
+"#,
+            "ok
+members 00000000000000000000000000000003 00000000000000000000000000000005
+ok
+members -
+ok, skipped: OwnRoom
+ok
+B 41
+members 00000000000000000000000000000003
+ok, closed: NotJoined
+commands 13, placed 3, dropped 0, taken 3, discarded 0, waiting 0
+",
+        ),
+        (
             "a GET that waits is ended by what is taken, and not by nothing",
             "",
             r#"get A

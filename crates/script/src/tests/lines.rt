@@ -20,13 +20,13 @@ fn lines_that_are_not_served(rt: HostRuntime) {
         ("an unknown word, without its LF", b"close A", 1),
         (
             "a word alone",
-            b"open\ntext\ntake\nget\nunget\nlost\nat\nconfig\nmembers\n",
-            9,
+            b"open\ntext\ntake\nget\nunget\nlost\nframe\nbytes\nprobe\nupgrade\nunprobe\ntick\nat\nconfig\nmembers\n",
+            15,
         ),
         (
             "an empty name",
-            b"open \ntake \nget \nunget \nlost \ntext  40\nopen  socket\ntake  1\n",
-            8,
+            b"open \ntake \nget \nunget \nlost \nprobe \ntick \ntext  40\nframe  40\nbytes  00\nopen  socket\ntake  1\n",
+            12,
         ),
         ("a word in capitals", b"OPEN A\nTotals\nSEAL\n", 3),
         ("a space before the word", b" open A\n totals\n", 2),
@@ -34,10 +34,14 @@ fn lines_that_are_not_served(rt: HostRuntime) {
         ("a tab after the word", b"open\tA\n", 1),
         (
             "a space after the line",
-            b"open A \ntotals \nseal \nat 1 \nget A \nopen A socket \ntake A 1 \n",
-            7,
+            b"open A \ntotals \nseal \nat 1 \nget A \nopen A socket \ntake A 1 \nsweep \nprobe A \ntick A \n",
+            10,
         ),
-        ("a word after totals and seal", b"totals A\nseal 1\n", 2),
+        (
+            "a word after totals, seal and sweep",
+            b"totals A\nseal 1\nsweep A\n",
+            3,
+        ),
         (
             "a name of seventeen letters",
             b"open abcdefghijklMNOPQ\n",
@@ -100,15 +104,19 @@ fn lines_that_are_not_served(rt: HostRuntime) {
         ),
         (
             "names never opened",
-            b"text A 40\ntake A\ntake A 1\nget A\nunget A\nlost A\n",
-            6,
+            b"text A 40\ntake A\ntake A 1\nget A\nunget A\nlost A\nframe A 40\nbytes A 00\nprobe A\nupgrade A\nunprobe A\ntick A\n",
+            12,
         ),
         (
-            "lines that aren't served yet",
-            b"open_\nframe A 40\nbytes A 00\nprobe A\nupgrade A\nunprobe A\ntick A\nsweep\n",
+            "words that begin or end by one that is served",
+            b"open_\nframes A 40\nbyte A 00\nprobes A\nup A\nunun A\nticks A\nsweeps\n",
             8,
         ),
-        ("a payload without its space", b"text A\n", 1),
+        (
+            "a payload or a frame without its space",
+            b"text A\nframe A\nbytes A\n",
+            3,
+        ),
         ("no space at all", b"openA\n", 1),
     ];
     for (shows, script, bad) in cases {
