@@ -6,4 +6,6 @@ mod made;
 #[cfg(test)]
 mod packets;
 #[cfg(test)]
+mod sockets;
+#[cfg(test)]
 mod turns;

@@ -6,7 +6,7 @@ use dispatch::{Core, Event, Outcome};
 use effects::{Cause, CoreError, CoreFault, Done};
 use eio_wire::Numbers;
 use hub::Pass;
-use journal::Config;
+use journal::{Config, Swept};
 use relay::{Counter, RelayApp};
 use room_maps::RoomError;
 use session_clock::Timing;
@@ -77,8 +77,12 @@ pub enum Seen {
     Done(SeenDone),
     Begun,
     Payload,
+    Frames(usize),
     Nothing,
+    Probed,
     Lost { saved: bool },
+    Ticked { ping: bool, closed: Option<Cause> },
+    Swept(Swept),
 }
 
 /// What the tests compare of what was done. The receivers are those of the last broadcast: how many,
@@ -117,8 +121,15 @@ pub fn look_at(outcome: &Outcome) -> Seen {
         Outcome::Done(done) => Seen::Done(seen_done(done)),
         Outcome::Begun => Seen::Begun,
         Outcome::Payload(_) => Seen::Payload,
+        Outcome::Frames(frames) => Seen::Frames(frames.as_slice().len()),
         Outcome::Nothing => Seen::Nothing,
+        Outcome::Probed(_) => Seen::Probed,
         Outcome::Lost { saved } => Seen::Lost { saved: *saved },
+        Outcome::Ticked { ping, closed } => Seen::Ticked {
+            ping: *ping,
+            closed: *closed,
+        },
+        Outcome::Swept(swept) => Seen::Swept(*swept),
     }
 }
 
