@@ -6,10 +6,19 @@ const DEFAULTS: Timing = Timing {
     connect_timeout: 45_000,
 };
 
+/// The first of the moments at which something else is due.
+fn first_wrong(clock: &mut Clock, moments: &[(u64, Due)]) -> Option<u64> {
+    for (now, due) in moments {
+        if clock.tick(*now) != *due {
+            return Some(*now);
+        }
+    }
+    None
+}
+
 #[test]
 fn no_pong(rt: HostRuntime) {
-    let mut clock = Clock::open(0, DEFAULTS, false);
-    let cases = [
+    const MOMENTS: [(u64, Due); 6] = [
         (24_999, Due::Nothing),
         (25_000, Due::SendPing),
         (25_000, Due::Nothing),
@@ -17,63 +26,99 @@ fn no_pong(rt: HostRuntime) {
         (45_000, Due::PingTimeout),
         (45_000, Due::PingTimeout),
     ];
-    for (now, want) in cases {
-        assert_eq!(rt; clock.tick(now), want, "at {now}");
-    }
+    let mut clock = Clock::open(0, DEFAULTS, false);
+    assert!(rt; first_wrong(&mut clock, &MOMENTS) == None);
+}
+
+/// The first wrong moment before a pong in time, or after it.
+fn first_wrong_about_a_pong(
+    clock: &mut Clock,
+    before: &[(u64, Due)],
+    after: &[(u64, Due)],
+) -> Option<u64> {
+    let wrong = first_wrong(clock, before);
+    clock.pong(44_999);
+    wrong.or(first_wrong(clock, after))
 }
 
 #[test]
 fn pong_in_time(rt: HostRuntime) {
-    let mut clock = Clock::open(0, DEFAULTS, false);
-    clock.joined();
-    assert_eq!(rt; clock.tick(25_000), Due::SendPing);
-    clock.pong(44_999);
-    let cases = [
+    const BEFORE: [(u64, Due); 1] = [(25_000, Due::SendPing)];
+    const AFTER: [(u64, Due); 3] = [
         (45_000, Due::Nothing),
         (69_998, Due::Nothing),
         (69_999, Due::SendPing),
     ];
-    for (now, want) in cases {
-        assert_eq!(rt; clock.tick(now), want, "at {now}");
-    }
+    let mut clock = Clock::open(0, DEFAULTS, false);
+    clock.joined();
+    assert!(rt; first_wrong_about_a_pong(&mut clock, &BEFORE, &AFTER) == None);
 }
 
 #[test]
 fn pong_but_nothing_joined(rt: HostRuntime) {
+    const BEFORE: [(u64, Due); 1] = [(25_000, Due::SendPing)];
+    const AFTER: [(u64, Due); 1] = [(45_000, Due::ConnectTimeout)];
     let mut clock = Clock::open(0, DEFAULTS, false);
-    assert_eq!(rt; clock.tick(25_000), Due::SendPing);
-    clock.pong(44_999);
-    assert_eq!(rt; clock.tick(45_000), Due::ConnectTimeout);
+    assert!(rt; first_wrong_about_a_pong(&mut clock, &BEFORE, &AFTER) == None);
 }
 
 #[test]
 fn earlier_and_greatest_moments(rt: HostRuntime) {
-    let mut clock = Clock::open(0, DEFAULTS, false);
-    assert_eq!(rt; clock.tick(30_000), Due::SendPing);
-    assert_eq!(rt; clock.tick(10), Due::Nothing);
-    let want = ClockState {
+    const MOMENTS: [(u64, Due); 2] = [(30_000, Due::SendPing), (10, Due::Nothing)];
+    const LATE: [(u64, Due); 1] = [(u64::MAX, Due::Nothing)];
+    const WANT: ClockState = ClockState {
         transport: Transport::Polling,
         awaiting: true,
         joined: false,
         last: 30_000,
     };
-    assert_eq!(rt; clock.state(), want);
+    let mut clock = Clock::open(0, DEFAULTS, false);
+    assert!(rt; first_wrong(&mut clock, &MOMENTS) == None && clock.state() == WANT);
     let mut late = Clock::open(u64::MAX - 1, DEFAULTS, true);
-    assert_eq!(rt; late.tick(u64::MAX), Due::Nothing);
-    assert_eq!(rt; late.state().transport, Transport::Socket);
+    assert!(rt; first_wrong(&mut late, &LATE) == None);
+    assert!(rt; late.state().transport == Transport::Socket);
+}
+
+/// What happens to a transport.
+#[derive(Clone, Copy)]
+enum Move {
+    Probe,
+    Lose,
+    Upgrade,
+}
+
+fn moved(clock: &mut Clock, to: Move) -> Result<(), ClockError> {
+    match to {
+        Move::Probe => clock.probe(),
+        Move::Lose => clock.probe_lost(),
+        Move::Upgrade => clock.upgrade(),
+    }
+}
+
+/// The place of the first of the moves that is answered otherwise.
+fn first_wrong_move(clock: &mut Clock, moves: &[(Move, Result<(), ClockError>)]) -> Option<usize> {
+    for (place, (to, answer)) in moves.iter().enumerate() {
+        if moved(clock, *to) != *answer {
+            return Some(place);
+        }
+    }
+    None
 }
 
 #[test]
 fn upgrade_after_a_lost_probe(rt: HostRuntime) {
+    const MOVES: [(Move, Result<(), ClockError>); 10] = [
+        (Move::Upgrade, Err(ClockError::NotProbing)),
+        (Move::Lose, Err(ClockError::NotProbing)),
+        (Move::Probe, Ok(())),
+        (Move::Probe, Err(ClockError::AlreadyProbing)),
+        (Move::Lose, Ok(())),
+        (Move::Probe, Ok(())),
+        (Move::Upgrade, Ok(())),
+        (Move::Probe, Err(ClockError::AlreadyUpgraded)),
+        (Move::Upgrade, Err(ClockError::AlreadyUpgraded)),
+        (Move::Lose, Err(ClockError::AlreadyUpgraded)),
+    ];
     let mut clock = Clock::open(0, DEFAULTS, false);
-    assert_eq!(rt; clock.upgrade(), Err(ClockError::NotProbing));
-    assert_eq!(rt; clock.probe_lost(), Err(ClockError::NotProbing));
-    assert_eq!(rt; clock.probe(), Ok(()));
-    assert_eq!(rt; clock.probe(), Err(ClockError::AlreadyProbing));
-    assert_eq!(rt; clock.probe_lost(), Ok(()));
-    assert_eq!(rt; clock.probe(), Ok(()));
-    assert_eq!(rt; clock.upgrade(), Ok(()));
-    assert_eq!(rt; clock.probe(), Err(ClockError::AlreadyUpgraded));
-    assert_eq!(rt; clock.upgrade(), Err(ClockError::AlreadyUpgraded));
-    assert_eq!(rt; clock.probe_lost(), Err(ClockError::AlreadyUpgraded));
+    assert!(rt; first_wrong_move(&mut clock, &MOVES) == None);
 }

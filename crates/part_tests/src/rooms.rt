@@ -102,14 +102,11 @@ fn leave_together(rooms: &mut Rooms, alloc: Global, sids: &[Sid], change: Change
 #[test]
 fn names_of_rooms(rt: HostRuntime) {
     assert!(rt; Room::read("").is_some());
-    assert_eq!(rt; room(LONGEST).bytes(), LONGEST.as_bytes());
+    assert!(rt; room(LONGEST).bytes() == LONGEST.as_bytes());
     assert!(rt;
         Room::read("01234567890123456789012345678901234567890123456789012345678901234").is_none()
     );
-    assert_eq!(rt;
-        Room::own(Sid::new(0xab)).bytes(),
-        "000000000000000000000000000000ab".as_bytes()
-    );
+    assert!(rt; Room::own(Sid::new(0xab)).bytes() == "000000000000000000000000000000ab".as_bytes());
 }
 
 #[test]
@@ -129,9 +126,9 @@ fn expect_joined(rt: &(impl Abort + AllocGlobal), rooms: &mut Rooms, one: Sid, r
         assert!(rt; are_members(rooms, alloc, r, &[]));
         joined = rooms.join(alloc, one, r);
     }
-    assert_eq!(rt; joined, Ok(()));
+    assert!(rt; joined == Ok(()));
     assert!(rt; rooms.is_in(one, r));
-    assert_eq!(rt; rooms.join(alloc, one, r), Err(RoomError::AlreadyIn));
+    assert!(rt; rooms.join(alloc, one, r) == Err(RoomError::AlreadyIn));
     assert!(rt; are_rooms_of(rooms, alloc, one, &[Room::own(one), r]));
     assert!(rt; are_members(rooms, alloc, r, &[one]));
     assert!(rt; are_addressees(rooms, alloc, &[r], &[r], &[]));
@@ -145,16 +142,16 @@ fn expect_refusals(
     r: Room,
 ) {
     let alloc = rt.alloc();
-    assert_eq!(rt; rooms.leave(one, Room::own(one)), Err(RoomError::OwnRoom));
-    assert_eq!(rt; rooms.leave(one, room("q")), Err(RoomError::NotIn));
-    assert_eq!(rt; rooms.join(alloc, two, r), Err(RoomError::UnknownSocket));
-    assert_eq!(rt; rooms.enter(alloc, one), Err(RoomError::SidTaken));
+    assert!(rt; rooms.leave(one, Room::own(one)) == Err(RoomError::OwnRoom));
+    assert!(rt; rooms.leave(one, room("q")) == Err(RoomError::NotIn));
+    assert!(rt; rooms.join(alloc, two, r) == Err(RoomError::UnknownSocket));
+    assert!(rt; rooms.enter(alloc, one) == Err(RoomError::SidTaken));
 }
 
 fn expect_ended(rt: &(impl Abort + AllocGlobal), rooms: &mut Rooms, one: Sid, r: Room) {
-    assert_eq!(rt; rooms.end(one), Ok(()));
+    assert!(rt; rooms.end(one) == Ok(()));
     assert!(rt; are_members(rooms, rt.alloc(), r, &[]));
-    assert_eq!(rt; rooms.end(one), Err(RoomError::UnknownSocket));
+    assert!(rt; rooms.end(one) == Err(RoomError::UnknownSocket));
 }
 
 #[test]
@@ -168,7 +165,7 @@ fn broadcasts(rt: HostRuntime) {
         &[r, Room::own(two), q, Room::own(one), r],
     );
     expect_addressed(&rt, &rooms, [one, two], [q, r]);
-    assert_eq!(rt; rooms.leave(two, r), Ok(()));
+    assert!(rt; rooms.leave(two, r) == Ok(()));
     assert!(rt; are_addressees(&rooms, rt.alloc(), &[r], &[], &[]));
 }
 
@@ -178,10 +175,10 @@ fn expect_entered(rt: &(impl Abort + AllocGlobal), rooms: &mut Rooms, two: Sid, 
     let mut entered = rooms.enter_all(alloc, two, all);
     if entered == Err(RoomError::Memory) {
         assert!(rt; are_addressees(rooms, alloc, all, &[], &[Sid::new(1)]));
-        assert_eq!(rt; rooms.end(two), Err(RoomError::UnknownSocket));
+        assert!(rt; rooms.end(two) == Err(RoomError::UnknownSocket));
         entered = rooms.enter_all(alloc, two, all);
     }
-    assert_eq!(rt; entered, Ok(()));
+    assert!(rt; entered == Ok(()));
 }
 
 fn expect_addressed(
@@ -233,8 +230,8 @@ fn expect_joined_together(rt: &(impl Abort + AllocGlobal), rooms: &mut Rooms, r:
 /// Both maps have the three sockets in `r`, and nobody in `q`.
 fn expect_mirrored(rt: &impl Abort, rooms: &Rooms, r: Room, q: Room) {
     let (of_socket, of_room) = rooms.mirrors();
-    assert_eq!(rt; of_socket.len(), 3);
-    assert_eq!(rt; of_room.len(), 4);
+    assert!(rt; of_socket.len() == 3);
+    assert!(rt; of_room.len() == 4);
     assert!(rt; of_room.get(&q).is_none());
     for sid in [Sid::new(1), Sid::new(2), Sid::new(3)] {
         assert!(rt;
@@ -338,13 +335,10 @@ fn expect_full(rt: &(impl Abort + AllocGlobal), rooms: &mut Rooms, one: Sid) {
     for number in 1000u64..1255 {
         let named = Room::own(Sid::new(u128::from(number)));
         if rooms.join(alloc, one, named).is_err() {
-            assert_eq!(rt; rooms.join(alloc, one, named), Ok(()));
+            assert!(rt; rooms.join(alloc, one, named) == Ok(()));
         }
     }
-    assert_eq!(rt;
-        rooms.join(alloc, one, room("r")),
-        Err(RoomError::TooManyRooms)
-    );
+    assert!(rt; rooms.join(alloc, one, room("r")) == Err(RoomError::TooManyRooms));
 }
 
 /// Socket 1 is full, and in the own room of 1000, socket 2 isn't, and there is no socket 9.
@@ -371,7 +365,7 @@ fn expect_full_together(rt: &(impl Abort + AllocGlobal), rooms: &mut Rooms, r: R
         answer: &[two],
     };
     assert!(rt; join_together(rooms, alloc, &[one, two], joined));
-    assert_eq!(rt; rooms.leave(one, inside), Ok(()));
+    assert!(rt; rooms.leave(one, inside) == Ok(()));
     assert!(rt; !rooms.is_in(one, inside));
     let last = Change {
         room: r,

@@ -113,7 +113,7 @@ fn expect_waiting(
 ) -> Result<(), SioError> {
     let packet = text(assembler, rt.alloc(), frame)?;
     assert!(rt; packet.is_none(), "a packet at {frame}");
-    assert_eq!(rt; assembler.waiting(), waiting, "at {frame}");
+    assert!(rt; assembler.waiting() == waiting, "at {frame}");
     Ok(())
 }
 
@@ -164,20 +164,47 @@ fn entry_of(packet: SioPacket) -> Entry {
 
 #[test]
 fn each_kind_read_and_written(rt: HostRuntime) -> Result<(), SioError> {
-    let connect = (Kind::Connect, "/admin", None, "{}", 0);
-    expect_read(&rt, "0/admin,{}", connect, "0/admin,{}")?;
-    let disconnect = (Kind::Disconnect, "/admin", None, "", 0);
-    expect_read(&rt, "1/admin", disconnect, "1/admin,")?;
-    let event = (Kind::Event, "/", Some(12), "[1]", 0);
-    expect_read(&rt, "2/,012[1]", event, "212[1]")?;
-    let ack = (Kind::Ack, "/admin", Some(13), "[]", 0);
-    expect_read(&rt, "3/admin,13[]", ack, "3/admin,13[]")?;
-    let refusal = (Kind::ConnectError, "/", None, "\"no\"", 0);
-    expect_read(&rt, "4\"no\"", refusal, "4\"no\"")?;
-    let binary_event = (Kind::BinaryEvent, "/", None, "[1]", 32);
-    expect_read(&rt, "532-[1]", binary_event, "532-[1]")?;
-    let binary_ack = (Kind::BinaryAck, "/", Some(0), "[]", 0);
-    expect_read(&rt, "600-0[]", binary_ack, "60-0[]")
+    const CASES: [(&str, Fields<'static>, &str); 7] = [
+        (
+            "0/admin,{}",
+            (Kind::Connect, "/admin", None, "{}", 0),
+            "0/admin,{}",
+        ),
+        (
+            "1/admin",
+            (Kind::Disconnect, "/admin", None, "", 0),
+            "1/admin,",
+        ),
+        (
+            "2/,012[1]",
+            (Kind::Event, "/", Some(12), "[1]", 0),
+            "212[1]",
+        ),
+        (
+            "3/admin,13[]",
+            (Kind::Ack, "/admin", Some(13), "[]", 0),
+            "3/admin,13[]",
+        ),
+        (
+            "4\"no\"",
+            (Kind::ConnectError, "/", None, "\"no\"", 0),
+            "4\"no\"",
+        ),
+        (
+            "532-[1]",
+            (Kind::BinaryEvent, "/", None, "[1]", 32),
+            "532-[1]",
+        ),
+        (
+            "600-0[]",
+            (Kind::BinaryAck, "/", Some(0), "[]", 0),
+            "60-0[]",
+        ),
+    ];
+    for (text, want, plain) in CASES {
+        expect_read(&rt, text, want, plain)?;
+    }
+    Ok(())
 }
 
 #[test]
@@ -209,26 +236,27 @@ fn faults_of_texts(rt: HostRuntime) {
         ),
     ];
     for (text, want) in cases {
-        assert_eq!(rt; read(alloc, text).err(), Some(want), "at {text}");
+        assert!(rt; fault_of(alloc, text) == Some(want), "at {text}");
     }
+}
+
+fn fault_of(alloc: Global, text: &str) -> Option<SioError> {
+    read(alloc, text).err()
 }
 
 #[test]
 fn nested_too_deep(rt: HostRuntime) {
     let text =
         "2[[[[[[[[[[[[[[[[[[[[[[[[[[[[[[[[[[[[[[[[[[[[[[[[[[[[[[[[[[[[[[[[[[[[[[[[[[[[[[[[[[[[[[[[[[[[[[[[[[[[[[[[[[[[[[[[[[[[[[[[[[[[[[[[]]]]]]]]]]]]]]]]]]]]]]]]]]]]]]]]]]]]]]]]]]]]]]]]]]]]]]]]]]]]]]]]]]]]]]]]]]]]]]]]]]]]]]]]]]]]]]]]]]]]]]]]]]]]]]]]]]]]]]]]]]]]]]]]";
-    assert_eq!(rt; read(rt.alloc(), text).err(), Some(SioError::BadJson));
+    assert!(rt; fault_of(rt.alloc(), text) == Some(SioError::BadJson));
 }
 
 #[test]
 fn offsets_added_and_read(rt: HostRuntime) -> Result<(), SioError> {
     let alloc = rt.alloc();
     let text = offset_added(alloc, "[\"say\",[1]]", u64::MAX)?;
-    assert_eq!(rt; text.as_str(), "[\"say\",[1],\"ffffffffffffffff\"]");
-    assert_eq!(rt;
-        offset_added(alloc, "[1", 1).err(),
-        Some(SioError::BadShape)
-    );
+    assert!(rt; text.as_str() == "[\"say\",[1],\"ffffffffffffffff\"]");
+    assert!(rt; offset_added(alloc, "[1", 1).err() == Some(SioError::BadShape));
     let cases = [
         ("0000000000000001", Some(1)),
         ("ffffffffffffffff", Some(u64::MAX)),
@@ -238,7 +266,7 @@ fn offsets_added_and_read(rt: HostRuntime) -> Result<(), SioError> {
         ("000000000000000A", None),
     ];
     for (text, want) in cases {
-        assert_eq!(rt; read_offset(text), want, "at {text}");
+        assert!(rt; read_offset(text) == want, "at {text}");
     }
     Ok(())
 }
@@ -248,23 +276,23 @@ fn answer_to_a_connect(rt: HostRuntime) -> Result<(), SioError> {
     let text = connected(rt.alloc(), "/admin", 2, 3)?;
     let want =
         "0/admin,{\"sid\":\"00000000000000000000000000000002\",\"pid\":\"00000000000000000000000000000003\"}";
-    assert_eq!(rt; text.as_str(), want);
+    assert!(rt; text.as_str() == want);
     Ok(())
 }
 
 #[test]
 fn refusal_of_a_connect(rt: HostRuntime) -> Result<(), SioError> {
     let text = refused(rt.alloc(), "/", "\"no\"")?;
-    assert_eq!(rt; text.as_str(), "4{\"message\":\"\\\"no\\\"\"}");
+    assert!(rt; text.as_str() == "4{\"message\":\"\\\"no\\\"\"}");
     Ok(())
 }
 
 #[test]
 fn end_of_a_socket(rt: HostRuntime) -> Result<(), SioError> {
     let text = ended(rt.alloc(), "/")?;
-    assert_eq!(rt; text.as_str(), "1");
+    assert!(rt; text.as_str() == "1");
     let text = ended(rt.alloc(), "/admin")?;
-    assert_eq!(rt; text.as_str(), "1/admin,");
+    assert!(rt; text.as_str() == "1/admin,");
     Ok(())
 }
 
@@ -286,8 +314,8 @@ fn expect_say(rt: &impl Abort, found: &[Option<Text>]) {
 #[test]
 fn texts_of_no_event(rt: HostRuntime) {
     let alloc = rt.alloc();
-    assert_eq!(rt; named(alloc, "{").err(), Some(SioError::BadJson));
-    assert_eq!(rt; named(alloc, "{}").err(), Some(SioError::BadShape));
+    assert!(rt; named(alloc, "{").err() == Some(SioError::BadJson));
+    assert!(rt; named(alloc, "{}").err() == Some(SioError::BadShape));
 }
 
 #[test]
@@ -310,7 +338,7 @@ fn no_session_named(rt: HostRuntime) -> Result<(), SioError> {
     for payload in ["", "{\"pid\":\"a\"}", "{\"pid\":\"a\",\"offset\":1}"] {
         assert!(rt; !names_session(alloc, payload)?, "at {payload}");
     }
-    assert_eq!(rt; names_session(alloc, "{").err(), Some(SioError::BadJson));
+    assert!(rt; names_session(alloc, "{").err() == Some(SioError::BadJson));
     Ok(())
 }
 
@@ -338,9 +366,9 @@ fn work_on_packet(
     )?;
     expect_packet(rt, assembler, &[1, 2, 3, 4], payload)?;
     let unawaited = Some(SioError::BinaryUnawaited);
-    assert_eq!(rt; binary_fault(assembler, alloc, b"\x01"), unawaited);
-    assert_eq!(rt; text_fault(assembler, alloc, "2[\"x\"]"), unawaited);
-    assert_eq!(rt; assembler.waiting(), 0);
+    assert!(rt; binary_fault(assembler, alloc, b"\x01") == unawaited);
+    assert!(rt; text_fault(assembler, alloc, "2[\"x\"]") == unawaited);
+    assert!(rt; assembler.waiting() == 0);
     Ok(())
 }
 
@@ -376,8 +404,8 @@ fn work_before_its_time(
     let alloc = rt.alloc();
     expect_waiting(rt, assembler, "51-[1]", 1)?;
     let early = Some(SioError::TextAwaitingBinary);
-    assert_eq!(rt; text_fault(assembler, alloc, "2[1]"), early);
-    assert_eq!(rt; binary_fault(assembler, alloc, b""), early);
-    assert_eq!(rt; assembler.waiting(), 0);
+    assert!(rt; text_fault(assembler, alloc, "2[1]") == early);
+    assert!(rt; binary_fault(assembler, alloc, b"") == early);
+    assert!(rt; assembler.waiting() == 0);
     Ok(())
 }
