@@ -1,0 +1,13 @@
+pub mod AnswerLemmas
+pub mod FieldLemmas
+pub mod HeadEndLemmas
+pub mod HeadLemmas
+pub mod LengthLemmas
+pub mod LineLemmas
+pub mod OpeningLemmas
+pub mod ParsedLemmas
+pub mod RequestLemmas
+pub mod RouteLemmas
+pub mod TakenLemmas
+pub mod TargetLemmas
+pub mod WireLemmas

@@ -1,0 +1,139 @@
+-- The bytes in which a head has to end.
+use Rattle.std.proofs.Common.{◌≡◌, ◌≢◌, ◌≤◌, ◌<◌, ◌+◌, ◌-◌, ℕ, Bool, true, false, List, ◌++◌, length, take, drop, min, refl, sym, ap, ◌∙◌, inl, inr, arith, rules, length-append, length-take, take-append-drop, append_assoc, Result, Ok, Err}
+use Rattle.std.specs.Prelude.{◌⊎◌, IfOk, IfErr}
+use Rattle.std.proofs.lemmas.List.{take_all}
+use Rattle.std.proofs.lemmas.List.Sums.{fold-append}
+use Rattle.std.proofs.Math.Seq.{take-append-add}
+use Rattle.httparse.specs.Grammar.{RequestHead, ReadsRequest, MayBecomeRequest, print_request}
+use Rattle.httparse.specs.Spans.{RequestOverflows}
+use Rattle.http_edge.specs.Reading.{front, HasEmptyLine, HasNoHead, HasHead, StartsWith, LacksLength, NamesTooMuch, IsFault, IsUnfinished}
+use Rattle.http_edge.specs.Head.{IsHeadOf, IsOpening, HasParsed, Begins, Decided}
+use Rattle.http_edge.specs.Line.{next, walk}
+use Rattle.http_edge.specs.Stages.{StepsTo, so_far, fed}
+use Rattle.http_edge.specs.declared.head.Head.{Head}
+use Rattle.http_edge.specs.declared.stage.Stage.{Stage}
+use Rattle.http_edge.specs.declared.stage.Step.{Step}
+use Rattle.http_edge.specs.declared.stage.Step.TheVariants.{More}
+use Rattle.http_edge.specs.declared.line.Line.{Line}
+use Rattle.http_edge.specs.declared.line.Line.TheVariants.{Blank, Empty}
+use Rattle.http_edge.specs.declared.error.EdgeError.{EdgeError}
+use Rattle.http_edge.specs.declared.error.EdgeError.TheVariants.{Memory, Device, EarlyEnd, BadHead, HeadTooLong, BodyTooLong, NoLength, NotUtf8, TurnsSpent}
+use Rattle.http_edge.proofs.LineLemmas.{finds_empty, empty_found}
+
+-- ---- the walk
+
+walk_more : (line : Line) (bytes more : List ℕ) → line ≡ walk Blank bytes → walk Blank (bytes ++ more) ≡ walk line more
+walk_more line bytes more is = rw is (fold-append next Blank bytes more)
+
+-- all that came was walked over, and no empty line was found
+pub unfinished : (bytes piece : List ℕ) (line after : Line) (room : ℕ) → IsOpening line bytes → room ≡ 16384 - length bytes → length piece < room
+    → after ≡ walk line (take (min room (length piece)) piece) → after ≢ Empty → IsUnfinished (bytes ++ piece)
+unfinished bytes piece line after room is room_is short walked other =
+    let all : take (min room (length piece)) piece ≡ piece = take_all _ _ (grind (arith, short)) in
+    inl (
+      grind (arith, length-append, short, room_is),
+      λ h. other (walked ∙ rw all (sym (walk_more line bytes piece is.walked) ∙ finds_empty (bytes ++ piece) h)),
+    )
+
+pub still_opening : (bytes piece : List ℕ) (line after : Line) (room : ℕ) → IsOpening line bytes → room ≡ 16384 - length bytes → length piece < room
+    → after ≡ walk line (take (min room (length piece)) piece) → after ≢ Empty → IsOpening after (bytes ++ piece)
+still_opening bytes piece line after room is room_is short walked other =
+    let all : take (min room (length piece)) piece ≡ piece = take_all _ _ (grind (arith, short)) in
+    record {
+      walked = walked ∙ rw all (sym (walk_more line bytes piece is.walked));
+      unended = other;
+      short = grind (arith, length-append, short, room_is);
+    }
+
+take_least : (room : ℕ) (piece : List ℕ) (n : ℕ) → n ≡ min room (length piece) → (room ≤ length piece) ⊎ (length piece ≤ room) → take n piece ≡ take room piece
+take_least room piece n is (inl less) = ap (λ k. take k piece) (grind (arith, is, less))
+take_least room piece n is (inr more) = take_all n piece (grind (arith, is, more)) ∙ sym (take_all room piece more)
+
+take_min : (room : ℕ) (piece : List ℕ) → take (min room (length piece)) piece ≡ take room piece
+take_min room piece = take_least room piece _ refl (grind arith)
+
+-- the walk over the bytes in which a head has to end
+pub walked_front : (bytes piece : List ℕ) (line after : Line) (room : ℕ) → IsOpening line bytes → room ≡ 16384 - length bytes
+    → after ≡ walk line (take (min room (length piece)) piece) → after ≡ walk Blank (front (bytes ++ piece))
+walked_front bytes piece line after room is room_is walked =
+    let sum : 16384 ≡ length bytes + room = grind (arith, room_is, is.short) in
+    let cut : front (bytes ++ piece) ≡ bytes ++ take room piece = ap (λ n. take n (bytes ++ piece)) sum ∙ take-append-add bytes piece room in
+    walked ∙ rw (take_min room piece) (rw cut (sym (walk_more line bytes (take room piece) is.walked)))
+
+-- ---- what was found in them
+
+lifted : (bytes : List ℕ) (h : RequestHead) (rest : List ℕ) → ReadsRequest (front bytes) h rest → length h.fields ≤ 100 → StartsWith bytes h (rest ++ drop 16384 bytes)
+lifted bytes h rest reads few = record {
+  reads = (reads.0, sym (take-append-drop 16384 bytes) ∙ rw reads.1 (append_assoc (print_request h) rest (drop 16384 bytes)));
+  few = few;
+  short = grind (arith, length-take 16384 bytes, ap length reads.1, length-append (print_request h) rest);
+}
+
+pub begins_front : (head : Head) (bytes : List ℕ) → HasParsed (front bytes) (λ h. IsHeadOf head h) → Begins head bytes
+begins_front head bytes p = (p.0, p.1 ++ drop 16384 bytes, lifted bytes p.0 p.1 p.2 p.3, p.4)
+
+has_head : (P : RequestHead → Type 0) (bytes : List ℕ) → HasParsed (front bytes) P → HasHead (λ h rest. P h) bytes
+has_head P bytes p = (p.0, p.1 ++ drop 16384 bytes, lifted bytes p.0 p.1 p.2 p.3, p.4)
+
+bad_head : (ended : Bool) (bytes : List ℕ) → Decided ended bytes → (ended ≡ false → RequestOverflows 100 (front bytes))
+    → HasEmptyLine (front bytes) ⊎ ((16384 ≤ length bytes) × RequestOverflows 100 (front bytes))
+bad_head true bytes decided over = inl decided
+bad_head false bytes decided over = inr (decided.0, over refl)
+
+too_long_head : (ended : Bool) (bytes : List ℕ) → Decided ended bytes → (ended ≡ false) × MayBecomeRequest (front bytes) → IsFault HeadTooLong bytes
+too_long_head true bytes decided long = absurd (search (rules, long.0))
+too_long_head false bytes decided long = (decided.0, decided.1, long.1)
+
+-- the bytes in which a head has to end, as they are cut off
+pub cut_front : (bytes : List ℕ) → take (min 16384 (length bytes)) bytes ≡ front bytes
+cut_front bytes = take_min 16384 bytes
+
+decided_by : (ended : Bool) (line : Line) (bytes : List ℕ) → line ≡ walk Blank (front bytes) → (ended ≡ true → line ≡ Empty) → (ended ≡ false → line ≢ Empty)
+    → (ended ≡ false → 16384 ≤ length bytes) → Decided ended bytes
+decided_by true line bytes walked empty other many = empty_found (front bytes) (sym walked ∙ empty refl)
+decided_by false line bytes walked empty other many = (many refl, λ h. other refl (walked ∙ finds_empty (front bytes) h))
+
+pub decided : (ended : Bool) (bytes piece : List ℕ) (line after : Line) (room : ℕ) → IsOpening line bytes → room ≡ 16384 - length bytes
+    → after ≡ walk line (take (min room (length piece)) piece) → (ended ≡ true → after ≡ Empty) → (ended ≡ false → after ≢ Empty)
+    → (ended ≡ false → room ≤ length piece) → Decided ended (bytes ++ piece)
+decided ended bytes piece line after room is room_is walked empty other many =
+    decided_by ended after (bytes ++ piece) (walked_front bytes piece line after room is room_is walked) empty other
+    (λ e. grind (arith, length-append bytes piece, many e, room_is))
+
+pub head_fault : (e : EdgeError) (ended : Bool) (bytes : List ℕ) → Decided ended bytes
+    → (e ≡ BadHead → HasNoHead (front bytes) × (ended ≡ false → RequestOverflows 100 (front bytes)))
+    → (e ≡ HeadTooLong → (ended ≡ false) × MayBecomeRequest (front bytes))
+    → (e ≡ NoLength → HasParsed (front bytes) LacksLength) → (e ≡ BodyTooLong → HasParsed (front bytes) NamesTooMuch)
+    → ((e ≡ Memory) ⊎ (e ≡ BadHead) ⊎ (e ≡ HeadTooLong) ⊎ (e ≡ NoLength) ⊎ (e ≡ BodyTooLong)) → IsFault e bytes
+head_fault Memory ended bytes decided bad long unnamed much kinds = tt
+head_fault Device ended bytes decided bad long unnamed much kinds = absurd (grind (rules, kinds))
+head_fault EarlyEnd ended bytes decided bad long unnamed much kinds = absurd (grind (rules, kinds))
+head_fault BadHead ended bytes decided bad long unnamed much kinds =
+    let b = bad refl in
+    (b.0, bad_head ended bytes decided b.1)
+head_fault HeadTooLong ended bytes decided bad long unnamed much kinds = too_long_head ended bytes decided (long refl)
+head_fault BodyTooLong ended bytes decided bad long unnamed much kinds = has_head NamesTooMuch bytes (much refl)
+head_fault NoLength ended bytes decided bad long unnamed much kinds = has_head LacksLength bytes (unnamed refl)
+head_fault NotUtf8 ended bytes decided bad long unnamed much kinds = absurd (grind (rules, kinds))
+head_fault TurnsSpent ended bytes decided bad long unnamed much kinds = absurd (grind (rules, kinds))
+
+-- ---- one piece more
+
+pub more_fed : (old : Result (List ℕ) EdgeError) (stage : Stage) (r : Result Step EdgeError) (piece : List ℕ) → r ≡ Ok (More stage)
+    → ((bytes : List ℕ) → old ≡ Ok bytes → StepsTo (bytes ++ piece) r) → ((fault : EdgeError) → old ≡ Err fault → r ≡ Err fault) → so_far stage ≡ fed old piece
+more_fed (Ok bytes) stage r piece is step failed = (rw is at (step bytes refl)).1
+more_fed (Err e) stage r piece is step failed = let f = sym is ∙ failed e refl in cc
+
+-- ---- what is found in them is found in all of them
+
+pub begins_ok : (r : Result Head EdgeError) (bytes cut : List ℕ) → cut ≡ front bytes → IfOk r (λ head. HasParsed cut (λ h. IsHeadOf head h)) → IfOk r (λ head. Begins head bytes)
+begins_ok (Ok head) bytes cut is p = begins_front head bytes (rw is at p)
+begins_ok (Err e) bytes cut is p = tt
+
+pub fault_err : (r : Result Head EdgeError) (ended : Bool) (bytes cut : List ℕ) → cut ≡ front bytes → Decided ended bytes
+    → IfErr r (λ e. e ≡ BadHead → HasNoHead cut × (ended ≡ false → RequestOverflows 100 cut))
+    → IfErr r (λ e. e ≡ HeadTooLong → (ended ≡ false) × MayBecomeRequest cut)
+    → IfErr r (λ e. e ≡ NoLength → HasParsed cut LacksLength) → IfErr r (λ e. e ≡ BodyTooLong → HasParsed cut NamesTooMuch)
+    → IfErr r (λ e. (e ≡ Memory) ⊎ (e ≡ BadHead) ⊎ (e ≡ HeadTooLong) ⊎ (e ≡ NoLength) ⊎ (e ≡ BodyTooLong)) → IfErr r (λ e. IsFault e bytes)
+fault_err (Ok head) ended bytes cut is decided bad long unnamed much kinds = tt
+fault_err (Err e) ended bytes cut is decided bad long unnamed much kinds = head_fault e ended bytes decided (rw is at bad) (rw is at long) (rw is at unnamed) (rw is at much) kinds

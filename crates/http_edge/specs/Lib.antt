@@ -1,0 +1,10 @@
+pub mod Answer
+pub mod Written
+pub mod Request
+pub mod Values
+pub mod Reading
+pub mod Line
+pub mod Head
+pub mod Stages
+pub mod Taken
+pub mod Routes

@@ -1,0 +1,10 @@
+-- What a look for the values of one name has found.
+use Rattle.std.specs.Prelude.{◌≡◌, ◌≤◌, ℕ, List, [], ◌∷◌, length}
+use Rattle.http_edge.specs.declared.fields.Values.{Values}
+use Rattle.http_edge.specs.declared.fields.Values.TheVariants.{Nothing, One, Many}
+
+-- none, one, or more
+abbrev pub TellsValues : Values → List (List ℕ) → Type 0
+TellsValues Nothing found = found ≡ []
+TellsValues (One text) found = found ≡ text.now ∷ []
+TellsValues Many found = 2 ≤ length found

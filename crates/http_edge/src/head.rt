@@ -1,0 +1,119 @@
+//! A head, read by `httparse` (RFC 9112, sections 2, 3 and 5).
+
+ghost use Rattle.std.specs.Prelude.{◌≡◌, ◌⊎◌, ◌≤◌, ℕ, List, Bool, true, false, take, length, map, All, IfOk, IfErr, OnErr, IsUtf8, ◌<◌, codes, bytes_eq, string_bytes};
+ghost use Rattle.httparse.specs.Grammar.{RequestHead, ReadsRequest, MayBecomeRequest};
+ghost use Rattle.httparse.specs.Spans.{IsRequestWithin, IsRequestOf, IsRequestAt, IsHeaderWithin, RequestOverflows, header_bytes};
+ghost use Rattle.http_edge.specs.Request.{NamesLength, IsTargetOf, fields_of};
+ghost use Rattle.http_edge.specs.Reading.{HasNoHead, LacksLength, NamesTooMuch};
+ghost use Rattle.http_edge.specs.Head.{IsHeadOf, HasParsed};
+ghost use Rattle.http_edge.specs.declared.error.EdgeError.TheVariants.{Memory, BadHead, HeadTooLong, NoLength, BodyTooLong};
+
+use crate::error::EdgeError;
+use crate::fields::{asks_upgrade, body_length, origin_of};
+use httparse::Status;
+use httparse::spans::{EMPTY_HEADER_SPAN, HeaderSpan, RequestSpans, parse_request};
+use std::alloc::{AllocError, Global};
+
+/// How many fields a head may have.
+const FIELDS: usize = 100;
+
+/// What is kept of a head.
+#[derive(Debug, Drop)]
+pub(crate) struct Head {
+    pub(crate) method: String,
+    pub(crate) path: String,
+    pub(crate) query: String,
+    pub(crate) upgrade: bool,
+    pub(crate) origin: Option<String>,
+    /// How many bytes the head has, and then its body.
+    pub(crate) len: usize,
+    pub(crate) body_len: usize,
+}
+
+// The bytes as a text, which they are.
+fn text_from(alloc: Global, bytes: &[u8]) -> Result<String, AllocError>
+    requires { IsUtf8 bytes.now }
+    ensures { IfOk result (λ text. string_bytes text ≡ bytes.now) }
+{
+    String::from_str(alloc, std::str::from_utf8(bytes).unwrap())
+}
+
+// A target's path and query.
+fn split_target(alloc: Global, target: &str) -> Result<(String, String), AllocError>
+    ensures { IfOk result (λ parts. IsTargetOf target.now (string_bytes parts.0) (string_bytes parts.1)) }
+{
+    match target.split_once('?') {
+        Some((path, query)) => Ok((
+            String::from_str(alloc, path)?,
+            String::from_str(alloc, query)?,
+        )),
+        None => Ok((String::from_str(alloc, target)?, String::new(alloc))),
+    }
+}
+
+// The length of the body that belongs to a head.
+fn length_for(method: &str, bytes: &[u8], fields: &[HeaderSpan]) -> Result<usize, EdgeError>
+    requires { All (IsHeaderWithin (length bytes.now)) fields.now }
+    ensures posted { bytes_eq method.now (codes "POST") ≡ true →
+        IfOk result (λ n. NamesLength (map (header_bytes bytes.now) fields.now) n × (n ≤ 1000000)) }
+    ensures other { bytes_eq method.now (codes "POST") ≡ false → IfOk result (λ n. n ≡ 0) }
+    ensures unnamed { IfErr result (λ e. e ≡ NoLength → (n : ℕ) → ¬ NamesLength (map (header_bytes bytes.now) fields.now) n) }
+    ensures too_long { IfErr result (λ e. e ≡ BodyTooLong → (n : ℕ) × NamesLength (map (header_bytes bytes.now) fields.now) n × (1000000 < n)) }
+    ensures only_posted { OnErr result (bytes_eq method.now (codes "POST") ≡ true) }
+    ensures kinds { IfErr result (λ e. (e ≡ NoLength) ⊎ (e ≡ BodyTooLong)) }
+{
+    if method == "POST" {
+        body_length(bytes, fields)
+    } else {
+        Ok(0)
+    }
+}
+
+// What is kept of the head that the spans show.
+fn head_of(
+    alloc: Global,
+    bytes: &[u8],
+    found: &RequestSpans,
+    spans: &[HeaderSpan],
+) -> Result<Head, EdgeError>
+    requires within { IsRequestWithin bytes.now spans.now found.now }
+    requires shown { IsRequestOf bytes.now spans.now found.now }
+    ensures head { (h : RequestHead) → IsRequestAt bytes.now spans.now found.now h → IfOk result (λ head. IsHeadOf head h) }
+    ensures unnamed { (h : RequestHead) → IsRequestAt bytes.now spans.now found.now h → IfErr result (λ e. e ≡ NoLength → LacksLength h) }
+    ensures too_long { (h : RequestHead) → IsRequestAt bytes.now spans.now found.now h → IfErr result (λ e. e ≡ BodyTooLong → NamesTooMuch h) }
+    ensures kinds { IfErr result (λ e. (e ≡ Memory) ⊎ (e ≡ NoLength) ⊎ (e ≡ BodyTooLong)) }
+{
+    let fields = &spans[..found.headers];
+    let method = text_from(alloc, found.method.of(bytes))?;
+    let body_len = length_for(method.as_str(), bytes, fields)?;
+    let target = text_from(alloc, found.path.of(bytes))?;
+    let (path, query) = split_target(alloc, target.as_str())?;
+    let upgrade = asks_upgrade(bytes, fields);
+    let origin = origin_of(alloc, bytes, fields)?;
+    Ok(Head {
+        method,
+        path,
+        query,
+        upgrade,
+        origin,
+        len: found.len,
+        body_len,
+    })
+}
+
+/// The head at the front of the bytes. Where it has ended, none that is found is a bad one.
+pub(crate) fn find_head(alloc: Global, bytes: &[u8], ended: bool) -> Result<Head, EdgeError>
+    ensures head { IfOk result (λ head. HasParsed bytes.now (λ h. IsHeadOf head h)) }
+    ensures bad { IfErr result (λ e. e ≡ BadHead → HasNoHead bytes.now × (ended ≡ false → RequestOverflows 100 bytes.now)) }
+    ensures long { IfErr result (λ e. e ≡ HeadTooLong → (ended ≡ false) × MayBecomeRequest bytes.now) }
+    ensures unnamed { IfErr result (λ e. e ≡ NoLength → HasParsed bytes.now LacksLength) }
+    ensures too_long { IfErr result (λ e. e ≡ BodyTooLong → HasParsed bytes.now NamesTooMuch) }
+    ensures kinds { IfErr result (λ e. (e ≡ Memory) ⊎ (e ≡ BadHead) ⊎ (e ≡ HeadTooLong) ⊎ (e ≡ NoLength) ⊎ (e ≡ BodyTooLong)) }
+{
+    let mut spans = [EMPTY_HEADER_SPAN; FIELDS];
+    match parse_request(bytes, &mut spans) {
+        Ok(Status::Complete(found)) => head_of(alloc, bytes, &found, &spans),
+        Ok(Status::Partial) if !ended => Err(EdgeError::HeadTooLong),
+        _ => Err(EdgeError::BadHead),
+    }
+}

@@ -1,0 +1,28 @@
+//! HTTP at the server's edge (RFC 9112): a request is read, its target looked up among the routes of
+//! Engine.IO, and an answer written.
+#![tactic(auto)]
+
+mod error;
+mod fields;
+mod gathered;
+mod head;
+mod laws;
+mod line;
+mod reading;
+mod replay;
+mod request;
+mod response;
+mod routes;
+mod stage;
+mod steps;
+mod wire;
+
+pub use error::EdgeError;
+pub use gathered::Gathered;
+pub use laws::heads_end;
+pub use reading::read_request;
+pub use replay::Replay;
+pub use request::Request;
+pub use response::{Status, write_response};
+pub use routes::{Refusal, Target, refusal_body, route};
+pub use wire::{Broken, OnStream, Wire};

@@ -1,0 +1,76 @@
+//! Reads a request from a wire.
+
+ghost use Rattle.std.specs.Prelude.{◌≡◌, ◌≢◌, ◌≤◌, ◌+◌, ◌-◌, ◌^◌, ℕ, List, Option, None, true, min, IsOk, IfOk, IfErr};
+ghost use Rattle.std.specs.Io.KnownBytes.{IsAtEnd};
+ghost use Rattle.http_edge.specs.Taken.{TakesRequest, TakesFault, TakesPart, TakesOn, ReadsMore};
+ghost use Rattle.http_edge.specs.declared.error.EdgeError.TheVariants.{Device, EarlyEnd, TurnsSpent};
+
+use crate::error::EdgeError;
+use crate::gathered::Gathered;
+use crate::request::Request;
+use crate::wire::Wire;
+use std::alloc::Global;
+
+/// How many bytes are asked for at once.
+const PIECE: usize = 4_096;
+
+/// Reads a request, by at most so many reads.
+pub fn read_request<W: Wire>(alloc: Global, wire: &mut W, turns: u64) -> Result<Request, EdgeError>
+    ensures request { IfOk result (λ q. TakesRequest (W.left wire.old) (W.left wire.new) q) }
+    ensures fault { IfErr result (λ e. TakesFault (W.left wire.old) (W.left wire.new) e) }
+    ensures broken { IfErr result (λ e. e ≡ Device → W.is_broken wire.new ≡ true) }
+    ensures ended { IfErr result (λ e. e ≡ EarlyEnd → IsAtEnd (W.left wire.new)) }
+    ensures counted { (count : ℕ) × (count ≤ turns) × ReadsMore (W.reads wire.old) (W.reads wire.new) count }
+    ensures spent { IfErr result (λ e. e ≡ TurnsSpent → ReadsMore (W.reads wire.old) (W.reads wire.new) turns) }
+{
+    let mut gathered = Gathered::new(alloc);
+    read_on(alloc, wire, &mut gathered, turns)
+}
+
+// Reads what is still lacking.
+fn read_on<W: Wire>(
+    alloc: Global,
+    wire: &mut W,
+    gathered: &mut Gathered,
+    turns: u64,
+) -> Result<Request, EdgeError>
+    requires { IsOk gathered.old }
+    ensures request { (start : Option (List ℕ)) → TakesPart start (W.left wire.old) gathered.old → IfOk result (λ q. TakesRequest start (W.left wire.new) q) }
+    ensures fault { (start : Option (List ℕ)) → TakesPart start (W.left wire.old) gathered.old → IfErr result (λ e. TakesFault start (W.left wire.new) e) }
+    ensures broken { IfErr result (λ e. e ≡ Device → W.is_broken wire.new ≡ true) }
+    ensures ended { IfErr result (λ e. e ≡ EarlyEnd → IsAtEnd (W.left wire.new)) }
+    ensures counted { (count : ℕ) × (count ≤ turns) × ReadsMore (W.reads wire.old) (W.reads wire.new) count }
+    ensures spent { IfErr result (λ e. e ≡ TurnsSpent → ReadsMore (W.reads wire.old) (W.reads wire.new) turns) }
+{
+    for _turn in 0..turns {
+        if let Some(request) = one_read(alloc, wire, gathered)? {
+            return Ok(request);
+        }
+    }
+    Err(EdgeError::TurnsSpent)
+}
+
+// One read, and what it leads to.
+fn one_read<W: Wire>(
+    alloc: Global,
+    wire: &mut W,
+    gathered: &mut Gathered,
+) -> Result<Option<Request>, EdgeError>
+    requires { IsOk gathered.old }
+    ensures goes_on { IfOk result (λ answer. answer ≡ None → IsOk gathered.new) }
+    ensures takes { (start : Option (List ℕ)) → TakesPart start (W.left wire.old) gathered.old
+        → TakesOn start (W.left wire.new) gathered.new result }
+    ensures broken { IfErr result (λ e. e ≡ Device → W.is_broken wire.new ≡ true) }
+    ensures ended { IfErr result (λ e. e ≡ EarlyEnd → IsAtEnd (W.left wire.new)) }
+    ensures unspent { IfErr result (λ e. e ≢ TurnsSpent) }
+    ensures counted { W.reads wire.new ≡ min (W.reads wire.old + 1) (2 ^ 64 - 1) }
+{
+    let mut piece = [0; PIECE];
+    let Ok(count) = wire.read(&mut piece) else {
+        return Err(EdgeError::Device);
+    };
+    if count == 0 {
+        return Err(EdgeError::EarlyEnd);
+    }
+    gathered.feed(alloc, &piece[..count])
+}

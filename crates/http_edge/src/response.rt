@@ -1,0 +1,140 @@
+//! An answer, written to a wire (RFC 9112, sections 4 to 6).
+
+ghost use Rattle.std.specs.Prelude.{◌≡◌, ◌⊎◌, ◌++◌, true, codes, IfOk, OnOk, OnErr, IfErr};
+ghost use Rattle.std.specs.Fmt.{decimal};
+ghost use Rattle.std.specs.String.{string_bytes};
+ghost use Rattle.std.specs.Io.KnownBytes.{Appends};
+ghost use Rattle.http_edge.specs.Answer as http;
+ghost use Rattle.http_edge.specs.Written.{AppendsFront};
+ghost use Rattle.http_edge.specs.declared.error.EdgeError.TheVariants.{Memory, Device};
+
+use crate::error::EdgeError;
+use crate::wire::{Broken, Wire};
+use std::alloc::{AllocError, Global};
+use std::fmt::Write;
+
+/// The status of an answer (RFC 9110, section 15).
+#[derive(Clone, Copy, Debug, PartialEq, Eq)]
+pub enum Status {
+    /// 200.
+    Success,
+    /// 400. Its body is JSON.
+    BadRequest,
+    /// 404.
+    NotFound,
+    /// 413.
+    TooLarge,
+    /// 503.
+    Unavailable,
+}
+
+impl Status {
+    /// The status as a number.
+    pub fn code(self) -> u16
+        ensures { result ≡ http.code_of self }
+    {
+        match self {
+            Status::Success => 200,
+            Status::BadRequest => 400,
+            Status::NotFound => 404,
+            Status::TooLarge => 413,
+            Status::Unavailable => 503,
+        }
+    }
+
+    fn reason(self) -> &'static str
+        ensures { result.now ≡ http.reason self }
+    {
+        match self {
+            Status::Success => "OK",
+            Status::BadRequest => "Bad Request",
+            Status::NotFound => "Not Found",
+            Status::TooLarge => "Payload Too Large",
+            Status::Unavailable => "Service Unavailable",
+        }
+    }
+
+    fn media_type(self) -> &'static str
+        ensures { result.now ≡ http.media_type self }
+    {
+        match self {
+            Status::BadRequest => "application/json",
+            _ => "text/plain; charset=UTF-8",
+        }
+    }
+}
+
+/// Writes the whole answer.
+pub fn write_response<W: Wire>(
+    alloc: Global,
+    wire: &mut W,
+    status: Status,
+    body: &str,
+) -> Result<(), EdgeError>
+    ensures whole { OnOk result (Appends (W.written wire.old) (W.written wire.new) (http.answer status body.now)) }
+    ensures kinds { IfErr result (λ e. (e ≡ Memory) ⊎ (e ≡ Device)) }
+
+    // Where memory was refused, nothing was asked of the wire.
+    ensures unwritten { IfErr result (λ e. e ≡ Memory → wire.new ≡ wire.old) }
+
+    // Where the wire broke, a first part of the answer was written.
+    ensures front { IfErr result (λ e. e ≡ Device → AppendsFront (W.written wire.old) (W.written wire.new) (http.answer status body.now)) }
+    ensures broken { IfErr result (λ e. e ≡ Device → W.is_broken wire.new ≡ true) }
+{
+    let Ok(text) = answer_text(alloc, status, body) else {
+        return Err(EdgeError::Memory);
+    };
+    match write_all(wire, text.as_str().as_bytes()) {
+        Ok(()) => Ok(()),
+        Err(Broken) => Err(EdgeError::Device),
+    }
+}
+
+// The bytes of an answer are text.
+#[tactic(auto, unfolding(crate::specs::Answer::answer))]
+fn answer_text(alloc: Global, status: Status, body: &str) -> Result<String, AllocError>
+    ensures { IfOk result (λ text. string_bytes text ≡ http.answer status body.now) }
+{
+    let mut text = String::new(alloc);
+    push_status_line(&mut text, status.code(), status.reason())?;
+    push_field(&mut text, "Content-Type", status.media_type())?;
+    push_length(&mut text, body.len())?;
+    push_field(&mut text, "Connection", "close")?;
+    text.push_str("\r\n")?;
+    text.push_str(body)?;
+    Ok(text)
+}
+
+fn push_status_line(text: &mut String, code: u16, reason: &str) -> Result<(), AllocError>
+    ensures { OnOk result (string_bytes text.new ≡ string_bytes text.old ++ http.status_line code reason.now) }
+{
+    write!(text, "HTTP/1.1 {code} {reason}\r\n")
+}
+
+fn push_field(text: &mut String, name: &str, value: &str) -> Result<(), AllocError>
+    ensures { OnOk result (string_bytes text.new ≡ string_bytes text.old ++ http.field name.now value.now) }
+{
+    text.push_str(name)?;
+    text.push_str(": ")?;
+    text.push_str(value)?;
+    text.push_str("\r\n")
+}
+
+fn push_length(text: &mut String, length: usize) -> Result<(), AllocError>
+    ensures { OnOk result (string_bytes text.new ≡ string_bytes text.old ++ http.field (codes "Content-Length") (decimal length)) }
+{
+    write!(text, "Content-Length: {length}\r\n")
+}
+
+// Writes all of the bytes, by as many writes as it takes.
+fn write_all<W: Wire>(wire: &mut W, bytes: &[u8]) -> Result<(), Broken>
+    ensures whole { OnOk result (Appends (W.written wire.old) (W.written wire.new) bytes.now) }
+    ensures front { OnErr result (AppendsFront (W.written wire.old) (W.written wire.new) bytes.now) }
+    ensures broken { OnErr result (W.is_broken wire.new ≡ true) }
+{
+    let mut start = 0;
+    while start < bytes.len() {
+        start += wire.write(&bytes[start..])?;
+    }
+    Ok(())
+}

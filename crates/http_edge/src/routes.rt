@@ -1,0 +1,159 @@
+//! What a request asks for: the routes of Engine.IO's one path.
+
+ghost use Rattle.std.specs.Prelude.{◌≡◌, ℕ, List, Option, Some, None, IfOk, IfErr, option_map, string_bytes};
+ghost use Rattle.std.specs.Cow.{cow_str_bytes};
+ghost use Rattle.http_edge.specs.Routes as routes;
+ghost use Rattle.http_edge.specs.Routes.{IsRouted, GivesId, value_of, is_value, under};
+ghost use Rattle.http_edge.specs.declared.error.EdgeError.TheVariants.{Memory};
+
+use crate::error::EdgeError;
+use crate::request::Request;
+use eio_wire::read_id;
+use std::alloc::{AllocError, Global};
+use std::borrow::CowStr;
+
+/// Why a request is answered by status 400.
+#[derive(Clone, Copy, Debug, PartialEq, Eq)]
+pub enum Refusal {
+    /// Code 0: a transport that is none.
+    UnknownTransport,
+    /// Code 1: no client has this id.
+    UnknownSession,
+    /// Code 2: a client opens by a GET.
+    BadMethod,
+    /// Code 3: all else.
+    BadRequest,
+    /// Code 5: another revision of the protocol.
+    UnsupportedVersion,
+}
+
+/// The body of status 400.
+pub fn refusal_body(refusal: Refusal) -> &'static str
+    ensures { result.now ≡ routes.refusal_text refusal }
+{
+    match refusal {
+        Refusal::UnknownTransport => "{\"code\":0,\"message\":\"Transport unknown\"}",
+        Refusal::UnknownSession => "{\"code\":1,\"message\":\"Session ID unknown\"}",
+        Refusal::BadMethod => "{\"code\":2,\"message\":\"Bad handshake method\"}",
+        Refusal::BadRequest => "{\"code\":3,\"message\":\"Bad request\"}",
+        Refusal::UnsupportedVersion => {
+            "{\"code\":5,\"message\":\"Unsupported protocol version\"}"
+        }
+    }
+}
+
+/// What a request asks for.
+#[derive(Clone, Copy, Debug, PartialEq, Eq)]
+pub enum Target {
+    /// Nothing that is here.
+    NotFound,
+    /// Nothing that is allowed.
+    Refuse(Refusal),
+    /// A new client, which polls.
+    OpenPoll,
+    /// A new client on a WebSocket.
+    OpenSocket,
+    /// What waits for this client.
+    Poll(u128),
+    /// This client's packets are brought.
+    Post(u128),
+    /// This client's transport is to become a WebSocket.
+    ProbeSocket(u128),
+}
+
+/// What the request asks for.
+pub fn route(alloc: Global, request: &Request) -> Result<Target, EdgeError>
+    ensures routed { IfOk result (λ target. IsRouted request.now target) }
+    ensures kinds { IfErr result (λ e. e ≡ Memory) }
+{
+    let query = request.query.as_str().as_bytes();
+    let transport = first_value(alloc, query, "transport")?;
+    let sid = first_value(alloc, query, "sid")?;
+    let version = first_value(alloc, query, "EIO")?;
+    Ok(choose(request, &transport, id_given(&sid), &version))
+}
+
+// The id that the `sid` of a query is: no `sid`, one that is no id, or an id.
+fn id_given(sid: &Option<String>) -> Option<Option<u128>>
+    ensures { GivesId (option_map string_bytes sid.now) result }
+{
+    match sid {
+        None => None,
+        Some(text) => Some(read_id(text.as_str())),
+    }
+}
+
+// The row of the table.
+#[tactic(auto, unfolding(crate::specs::Routes::table))]
+fn choose(
+    request: &Request,
+    transport: &Option<String>,
+    sid: Option<Option<u128>>,
+    version: &Option<String>,
+) -> Target
+    ensures { result ≡ routes.table (string_bytes request.now.path) (string_bytes request.now.method) request.now.upgrade
+        (option_map string_bytes transport.now) sid (option_map string_bytes version.now) }
+{
+    let path = request.path.as_str();
+    let get = request.method.as_str() == "GET";
+    let post = request.method.as_str() == "POST";
+    let socket = is_text(transport, "websocket");
+    if path != "/socket.io/" && path != "/socket.io" {
+        return Target::NotFound;
+    }
+    if !socket && !is_text(transport, "polling") {
+        return Target::Refuse(Refusal::UnknownTransport);
+    }
+    let upgrades = get && request.upgrade;
+    match sid {
+        Some(None) => Target::Refuse(Refusal::UnknownSession),
+        Some(Some(_)) if !get && !post => Target::Refuse(Refusal::BadRequest),
+        _ if socket && !upgrades => Target::Refuse(Refusal::BadRequest),
+        Some(Some(id)) if socket => Target::ProbeSocket(id),
+        Some(Some(id)) if get => Target::Poll(id),
+        Some(Some(id)) => Target::Post(id),
+        None if !get => Target::Refuse(Refusal::BadMethod),
+        None if !is_text(version, "4") => Target::Refuse(Refusal::UnsupportedVersion),
+        None if socket => Target::OpenSocket,
+        None => Target::OpenPoll,
+    }
+}
+
+fn is_text(value: &Option<String>, text: &str) -> bool
+    ensures { result ≡ is_value text.now (option_map string_bytes value.now) }
+{
+    match value {
+        Some(found) => found.as_str() == text,
+        None => false,
+    }
+}
+
+// The value of the query's first pair with this key.
+fn first_value(alloc: Global, query: &[u8], key: &str) -> Result<Option<String>, EdgeError>
+    ensures value { IfOk result (λ value. option_map string_bytes value ≡ value_of key.now query.now) }
+    ensures kinds { IfErr result (λ e. e ≡ Memory) }
+{
+    for pair in form_urlencoded::parse(alloc, query) {
+        let value = value_under(alloc, pair?, key)?;
+        if value.is_some() {
+            return Ok(value);
+        }
+    }
+    Ok(None)
+}
+
+// The pair's value, where its name is the key.
+fn value_under(
+    alloc: Global,
+    pair: (CowStr<'_>, CowStr<'_>),
+    key: &str,
+) -> Result<Option<String>, AllocError>
+    ensures { IfOk result (λ value. option_map string_bytes value ≡ under key.now (cow_str_bytes pair.entry.0) (cow_str_bytes pair.entry.1)) }
+{
+    let (name, value) = pair;
+    if name.as_str() == key {
+        Ok(Some(value.into_owned(alloc)?))
+    } else {
+        Ok(None)
+    }
+}
