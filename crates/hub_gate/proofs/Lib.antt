@@ -1,0 +1,3 @@
+mod FactsLemmas
+mod Growth
+mod Rounds

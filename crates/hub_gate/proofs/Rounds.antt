@@ -1,0 +1,19 @@
+-- One round, one attempt or one peer more.
+use Rattle.std.proofs.Common.{◌≡◌, ℕ, ◌+◌, List, [], ◌∷◌, ◌++◌, Bool, Option, Some, option_map, refl, sym, subst, arith, if◌then◌else◌}
+use Rattle.std.proofs.lemmas.List.Sums.{sum_by-append}
+use Rattle.std.specs.Iterator.{Yields}
+use Rattle.hub_gate.specs.Turns.{Round, Handled, client_of, failures, last_client}
+
+pub last_client-push : (known : Option (ℕ × ℕ)) (rounds : List Round) (r : Round)
+    → last_client known (rounds ++ r ∷ []) ≡ option_map (λ c. (c, r.now)) (client_of r.event r.got)
+last_client-push known [] r = refl
+last_client-push known (s ∷ rounds) r = last_client-push (option_map (λ c. (c, s.now)) (client_of s.event s.got)) rounds r
+
+pub failures-push : {P : Type 0} (handled : List (Handled P)) (h : Handled P) (b : Bool) → h.failed ≡ b → failures (handled ++ h ∷ []) ≡ failures handled + (if b then 1 else 0)
+failures-push {P} handled h b is =
+    let Q : Bool → Type 0 = λ c. failures (handled ++ h ∷ []) ≡ failures handled + (if c then 1 else 0) in
+    subst Q is (omega (arith, sum_by-append (λ (x : Handled P). (if x.failed then 1 else 0)) handled (h ∷ [])))
+
+pub yields-push : {S A : Type 0} (steps : S → Option A → S → Type 0) (s : S) (xs : List A) (t : S) (x : A) (u : S) → Yields steps s xs t → steps t (Some x) u → Yields steps s (xs ++ x ∷ []) u
+yields-push steps s [] t x u here step = (u, subst (λ w. steps w (Some x) u) (sym here) step, refl)
+yields-push steps s (y ∷ ys) t x u here step = (here.0, here.1, yields-push steps here.0 ys t x u here.2 step)

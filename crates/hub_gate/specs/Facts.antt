@@ -1,0 +1,45 @@
+-- What every core keeps, so that whoever takes its lock finds it.
+use Rattle.std.specs.Prelude.{◌≡◌, ◌⊎◌, ℕ, ◌≤◌, List, ◌∷◌, ◌++◌, length}
+use Rattle.room_maps.specs.Mirror.{SocketMap, RoomMap, IsMirrored}
+use Rattle.journal.specs.declared.step.Step.{Step}
+use Rattle.journal.specs.declared.step.What.TheVariants.{Cast}
+use Rattle.journal.specs.Plain.{Limits, PlainBroadcast}
+use Rattle.journal.specs.Journal.{History, history}
+use Rattle.journal.specs.Membership.{rooms}
+use Rattle.journal.specs.Broadcast.{RightCast}
+use Rattle.journal.specs.Legal.{IsLegal, IsSound}
+use Rattle.journal.specs.Seal.{PlainEpoch}
+use Rattle.journal.specs.Totals.{held}
+use Rattle.dispatch.specs.Place.{PlainCore, Agree, IsClean}
+
+-- two maps, of sockets to rooms and of rooms to sockets, hold the history's rooms and mirror each other; each socket is
+-- in its own room, and no room is empty (Socket.IO server documentation, "Rooms")
+pub record HasMirror (h : History) : Type 0 where
+  pub of_socket : SocketMap
+  pub of_room : RoomMap
+  pub mirrored : IsMirrored (rooms h.base h.journal) of_socket of_room
+
+-- each broadcast of the journal stands once in the outbox history of every addressee, or is counted as dropped
+abbrev pub CastsOnce : History → Type 0
+CastsOnce h = (later before : List Step) (step : Step) (b : PlainBroadcast)
+    → h.journal ≡ later ++ step ∷ before → step.what ≡ Cast b → RightCast h.base h.limits before step b
+
+-- each step was allowed by those before it; the room maps mirror each other; no session is both saved and connected and
+-- the log's offsets rise, among all that is sound; each broadcast is told once
+pub record IsKept (h : History) : Type 0 where
+  pub legal : IsLegal h.base h.limits h.journal
+  pub mirror : HasMirror h
+  pub sound : IsSound h.base h.limits h.journal
+  pub casts : CastsOnce h
+
+-- the hub's history has all this; there is a line for just the open clients, and no entry holds U+001E
+pub record IsSoundCore (core : PlainCore) : Type 0 where
+  pub kept : IsKept core.hub.history
+  pub lines : Agree core.hub.history core.lines
+  pub clean : IsClean core.hub.history
+
+-- a base and a journal that a core had, with so many steps or so many bytes in their entries
+pub record IsOfCore (least bytes : ℕ) (epoch : PlainEpoch) : Type 0 where
+  pub limits : Limits
+  pub kept : IsKept (history epoch.base limits epoch.journal)
+  pub enough : (least ≤ length epoch.journal) ⊎ (bytes ≤ held epoch.journal)

@@ -1,0 +1,166 @@
+-- What a worker does with its pass, its ids and its peers.
+use Rattle.std.specs.Prelude.{◌≡◌, ◌⊎◌, ℕ, ◌<◌, ◌≤◌, Bool, true, false, Option, Some, None, option_map, Result, Ok, Err, IfOk, is_ok, List, [], ◌∷◌, ◌++◌, length, map, min, sum_by, if◌then◌else◌}
+use Rattle.std.specs.Iterator.{Drains}
+use Rattle.std.specs.List.{FoldsTo}
+use Rattle.effects.specs.declared.app.Arrived.{Arrived}
+use Rattle.effects.specs.declared.app.Effect.{Effect}
+use Rattle.effects.specs.declared.app.Who.{Who}
+use Rattle.effects.specs.App.{PlainVerdict}
+use Rattle.effects.specs.Following.{TurnsFor, Spares}
+use Rattle.hub.specs.Pass.{PlainPass}
+use Rattle.dispatch.specs.declared.event.Event.{Event}
+use Rattle.dispatch.specs.declared.event.Event.TheVariants as event
+use Rattle.dispatch.specs.declared.outcome.Outcome.TheVariants as outcome
+use Rattle.dispatch.specs.Answers.{Answer}
+use Rattle.dispatch.specs.Handed.{Turn, Handed}
+use Rattle.dispatch.specs.Machine.{Does, IsOf, listed}
+use Rattle.dispatch.specs.Place.{PlainCore, place}
+use Rattle.hub_gate.specs.declared.peer.PeerFault.{PeerFault}
+
+-- what a worker works with: its pass, and the ids that its source will give
+pub record Desk : Type 0 where
+  pub pass : PlainPass
+  pub ids : ℕ → ℕ
+
+abbrev pub desk : PlainPass → (ids : ℕ → ℕ) → Desk
+desk pass ids = record { pass = pass; ids = ids }
+
+-- a pass that rose, if at all, under the lock: then its numbers are u64s
+pub record Grows (old new : PlainPass) : Type 0 where
+  pub commands : old.commands ≤ new.commands
+  pub commands_fit : old.commands < new.commands → new.commands ≤ 18446744073709551615
+  pub taken : old.taken ≤ new.taken
+  pub taken_fit : old.taken < new.taken → new.taken ≤ 18446744073709551615
+  pub parts : new.parts ≡ old.parts
+
+module _ (decides : Who → Arrived → List Effect → Type 0) (allows : (space payload : List ℕ) → PlainVerdict → Type 0) where
+  -- the event was applied to a core at its moment, with the worker's ids, and counted in its pass
+  pub record Applied (event : Event) (now : ℕ) (before : PlainCore) (old : Desk) (got : Answer) (after : PlainCore) (new : Desk) : Type 0 where
+    pub does : Does decides allows now before.timing before.numbers event (place before.hub.history before.lines) old.ids got (place after.hub.history after.lines) new.ids
+    pub settings : (after.timing ≡ before.timing) × (after.numbers ≡ before.numbers)
+    pub handed : (c : ℕ) (turns : List Turn) → Handed c turns before.hub.history → Handed c ((event, got) ∷ turns) after.hub.history
+    pub turns : (c : ℕ) → IsOf event old.ids c → TurnsFor c before.hub after.hub old.pass new.pass
+    pub spares : IfOk got (λ o. (c : ℕ) → IsOf event old.ids c → Spares c before.hub.history after.hub.history (listed o))
+
+-- ---- a connection that is lost
+
+-- the client that an event is of; for one that opens a client, the one that was opened; a sweep is of none
+abbrev pub client_of : Event → Answer → Option ℕ
+client_of (event.Opened socket) (Ok (outcome.Opened o)) = Some o.client
+client_of (event.Opened socket) got = None
+client_of (event.Post c body) got = Some c
+client_of (event.Frame c frame) got = Some c
+client_of (event.PollBegin c) got = Some c
+client_of (event.PollEnd c) got = Some c
+client_of (event.PollTake c most) got = Some c
+client_of (event.FrameTake c most) got = Some c
+client_of (event.Probe c) got = Some c
+client_of (event.Upgraded c) got = Some c
+client_of (event.ProbeLost c) got = Some c
+client_of (event.TransportLost c) got = Some c
+client_of (event.Tick c) got = Some c
+client_of event.Sweep got = None
+
+-- a turn at the core that a worker takes of its own: the core as it was lent, the answer, and the core as it was given back
+pub record Attempt : Type 0 where
+  pub before : PlainCore
+  pub got : Answer
+  pub after : PlainCore
+
+-- the last of the attempts was accepted
+abbrev pub IsAccepted : List Attempt → Type 0
+IsAccepted attempts = (before : List Attempt) × (last : Attempt) × (attempts ≡ before ++ last ∷ []) × (is_ok last.got ≡ true)
+
+module _ (decides : Who → Arrived → List Effect → Type 0) (allows : (space payload : List ℕ) → PlainVerdict → Type 0) where
+  -- the core was told that the client's connection is lost, up to three times until it accepted that
+  pub record TellsLost (client now : ℕ) (old new : Desk) : Type 0 where
+    pub attempts : List Attempt
+    pub told : FoldsTo (λ (d : Desk) (a : Attempt) (e : Desk). Applied decides allows (event.TransportLost client) now a.before d a.got a.after e) old attempts new
+    pub within : length attempts ≤ 3
+    pub until : IsAccepted attempts ⊎ (length attempts ≡ 3)
+
+  -- where there is no such client, nothing was done
+  abbrev pub Tells : Option (ℕ × ℕ) → Desk → Desk → Type 0
+  Tells None old new = new ≡ old
+  Tells (Some lost) old new = TellsLost lost.0 lost.1 old new
+
+  -- where no peer failed, nothing was done either
+  abbrev pub TellsWhere : (failed : Bool) → Option (ℕ × ℕ) → Desk → Desk → Type 0
+  TellsWhere true lost old new = Tells lost old new
+  TellsWhere false lost old new = new ≡ old
+
+-- ---- one peer
+
+-- one turn of a peer: its event and moment, the core as it was lent, the answer, the core as it was given back, and
+-- whether the peer heard the answer
+pub record Round : Type 0 where
+  pub event : Event
+  pub now : ℕ
+  pub before : PlainCore
+  pub got : Answer
+  pub after : PlainCore
+  pub heard : Bool
+
+-- the client of the last round, with its moment
+abbrev pub last_client : Option (ℕ × ℕ) → List Round → Option (ℕ × ℕ)
+last_client known [] = known
+last_client known (r ∷ rounds) = last_client (option_map (λ c. (c, r.now)) (client_of r.event r.got)) rounds
+
+-- the answer of the last round wasn't heard
+abbrev pub IsUnheard : List Round → Type 0
+IsUnheard rounds = (before : List Round) × (last : Round) × (rounds ≡ before ++ last ∷ []) × (last.heard ≡ false)
+
+module _ {P : Type 0} (gives : P → Result (Option (Event × ℕ)) PeerFault → P → Type 0) (hears : P → Answer → Result (Unit {0}) PeerFault → P → Type 0)
+    (decides : Who → Arrived → List Effect → Type 0) (allows : (space payload : List ℕ) → PlainVerdict → Type 0) where
+  -- the peer gave the event, it was applied to the core as it was lent, and the peer heard that very answer
+  pub record Serves (old : P × Desk) (r : Round) (new : P × Desk) : Type 0 where
+    pub asking : P
+    pub gave : gives old.0 (Ok (Some (r.event, r.now))) asking
+    pub applied : Applied decides allows r.event r.now r.before old.1 r.got r.after new.1
+    pub reply : Result (Unit {0}) PeerFault
+    pub heard_is : r.heard ≡ is_ok reply
+    pub told : hears asking r.got reply new.0
+
+  -- how it ends with a peer: it has no more events, or it fails, by its own fault or since its turns are spent
+  abbrev pub Ends : (turns : ℕ) → List Round → P → (failed : Bool) → P → Type 0
+  Ends turns rounds last false new = gives last (Ok None) new
+  Ends turns rounds last true new = ((fault : PeerFault) × gives last (Err fault) new) ⊎ ((new ≡ last) × (IsUnheard rounds ⊎ (length rounds ≡ turns)))
+
+  -- the peer's events, and no others, were applied in turn, until it ended; so many of them at the most
+  pub record Talks (turns : ℕ) (old : P × Desk) (failed : Bool) (lost : Option (ℕ × ℕ)) (new : P × Desk) : Type 0 where
+    pub rounds : List Round
+    pub last : P
+    pub talks : FoldsTo Serves old rounds (last, new.1)
+    pub within : length rounds ≤ turns
+    pub ends : Ends turns rounds last failed new.0
+    pub lost_is : lost ≡ last_client None rounds
+
+  -- the peer was served to its end; where it failed, the core was told that its client's connection is lost
+  pub record ServesAll (turns : ℕ) (old : P × Desk) (failed : Bool) (new : P × Desk) : Type 0 where
+    pub lost : Option (ℕ × ℕ)
+    pub between : Desk
+    pub talk : Talks turns old failed lost (new.0, between)
+    pub told : TellsWhere decides allows failed lost between new.1
+
+-- ---- one worker
+
+-- a peer that a worker was given, whether it failed, and what became of it
+pub record Handled (P : Type 0) : Type 0 where
+  pub given : P
+  pub failed : Bool
+  pub left : P
+
+-- how many of them failed
+abbrev pub failures : {P : Type 0} → List (Handled P) → ℕ
+failures handled = sum_by (λ h. (if h.failed then 1 else 0)) handled
+
+module _ {P S : Type 0} (next_gives : S → Option P → S → Type 0) (gives : P → Result (Option (Event × ℕ)) PeerFault → P → Type 0) (hears : P → Answer → Result (Unit {0}) PeerFault → P → Type 0)
+    (decides : Who → Arrived → List Effect → Type 0) (allows : (space payload : List ℕ) → PlainVerdict → Type 0) where
+  -- the worker served all peers of its source, each with its desk as the one before left it, and counted them; the
+  -- counts stay at the greatest usize
+  pub record WorksOff (turns : ℕ) (source : S) (old : Desk) (peers faults : ℕ) (new : Desk) : Type 0 where
+    pub handled : List (Handled P)
+    pub given : Drains next_gives source (map (λ h. h.given) handled)
+    pub served : FoldsTo (λ (d : Desk) (h : Handled P) (e : Desk). ServesAll gives hears decides allows turns (h.given, d) h.failed (h.left, e)) old handled new
+    pub peers_is : peers ≡ min (length handled) 18446744073709551615
+    pub faults_is : faults ≡ min (failures handled) 18446744073709551615

@@ -1,0 +1,12 @@
+//! The one lock around a core, and the workers that serve peers over it.
+#![tactic(auto)]
+
+mod locked;
+mod peer;
+mod serve;
+mod worker;
+
+pub use locked::Locked;
+pub use peer::{Peer, PeerFault, PeerSource, Queue, Turnstile};
+pub use serve::{Report, ServeError, serve_peers};
+pub use worker::{WorkerCounts, run_worker};

@@ -1,0 +1,176 @@
+//! The one lock around a core.
+
+ghost use Rattle.std.specs.Prelude.{◌≡◌, ◌<◌, ◌&&◌, nat_lt, length, IfOk, IfErr, OnErr, IfSome, IfNone};
+ghost use Rattle.std.specs.Sync.Mutex.{mutex_guard_value};
+ghost use Rattle.journal.specs.Seal.{IsSealed, SaysTheSame};
+ghost use Rattle.journal.specs.Totals.{held};
+ghost use Rattle.hub.specs.Pass.{AtLeast};
+ghost use Rattle.effects.specs.declared.fault.CoreFault.{CoreFault};
+ghost use Rattle.dispatch.specs.Answers.{at_once};
+ghost use Rattle.hub_gate.specs.Facts.{IsSoundCore, IsOfCore};
+ghost use Rattle.hub_gate.specs.Turns.{Applied, Grows, desk};
+
+use dispatch::{Core, Event, Outcome};
+use effects::{App, CoreError, CoreFault, IdSource};
+use hub::Pass;
+use journal::{Epoch, HubError};
+use std::alloc::Global;
+use std::snapshot::Snapshot;
+use std::sync::ledger::Ledger;
+use std::sync::{Mutex, MutexGuard, Wait};
+
+/// A core under its lock. Each event is one `Core::apply` under it, and no other lock stands around
+/// the state.
+#[derive(Drop)]
+pub struct Locked<C: Ledger, T: Ledger> {
+    core: Mutex<Core<C, T>>,
+}
+
+/// What one turn at the core did: the core as it was lent, the answer, and the core as it was given
+/// back. The cores are known to contracts alone, and take no bytes.
+#[derive(Drop)]
+pub(crate) struct Turn<C: Ledger, T: Ledger> {
+    pub(crate) before: Snapshot<Core<C, T>>,
+    pub(crate) got: Result<Outcome, CoreError>,
+    pub(crate) after: Snapshot<Core<C, T>>,
+}
+
+impl<C: Ledger, T: Ledger> Locked<C, T> {
+    /// Puts a core under its lock.
+    pub fn new(core: Core<C, T>) -> Locked<C, T> {
+        Locked {
+            core: Mutex::new(core),
+        }
+    }
+
+    /// The core without its lock.
+    pub fn into_core(self) -> Core<C, T>
+        ensures sound { IsSoundCore result }
+    {
+        let core = self.core.into_inner();
+        note_facts(&core);
+        core
+    }
+
+    /// Takes the lock and lends the core until the guard is dropped. It may wait.
+    pub fn look<R: Wait>(&self, rt: &R, pass: &mut Pass<C, T>) -> MutexGuard<'_, Core<C, T>>
+        ensures same { pass.new ≡ pass.old }
+        ensures at_least { AtLeast (mutex_guard_value result).hub pass.old }
+        ensures sound { IsSoundCore (mutex_guard_value result) }
+    {
+        let mut guard = self.core.lock(rt);
+        guard.audit(pass);
+        note_facts(&*guard);
+        guard
+    }
+
+    /// Seals the core where its journal has at least so many steps, or entries of at least so many
+    /// bytes in them. It may wait.
+    pub fn seal<R: Wait>(
+        &self,
+        rt: &R,
+        alloc: Global,
+        least: usize,
+        bytes: u64,
+    ) -> Result<Option<Epoch>, CoreError>
+        ensures epoch { IfOk result (λ sealed. IfSome sealed (λ epoch. IsOfCore least bytes epoch)) }
+        ensures memory { IfErr result (λ e. e ≡ at_once CoreFault.Memory) }
+    {
+        let mut guard = self.core.lock(rt);
+        seal_if_long(alloc, &mut *guard, least, bytes)
+    }
+
+    /// A pass that has counted nothing. Refused as `Spent` alone. It may wait.
+    pub(crate) fn new_pass<R: Wait>(&self, rt: &R) -> Result<Pass<C, T>, HubError>
+        ensures pass { IfOk result (λ pass. pass ≡ record { commands = 0; taken = 0; parts = 1 }) }
+        ensures spent { IfErr result (λ e. e ≡ HubError.Spent) }
+    {
+        let mut guard = self.core.lock(rt);
+        guard.new_pass()
+    }
+
+    /// Applies one event to the core, under the lock. It may wait.
+    pub(crate) fn turn<R: Wait, A: App, I: IdSource>(
+        &self,
+        rt: &R,
+        alloc: Global,
+        pass: &mut Pass<C, T>,
+        app: &A,
+        event: &Event,
+        now: u64,
+        ids: &mut I,
+    ) -> Turn<C, T>
+        ensures applied { Applied (A.decides app.now) (A.allows app.now) event.now now result.before.value (desk pass.old (I.stream ids.old)) result.got result.after.value (desk pass.new (I.stream ids.new)) }
+        ensures sound { IsSoundCore result.before.value }
+        ensures at_least { AtLeast result.before.value.hub pass.old }
+        ensures grows { Grows pass.old pass.new }
+    {
+        let mut guard = self.look(rt, pass);
+        let before = Snapshot::of(&*guard);
+        let got = apply_counted(alloc, &mut *guard, pass, app, event, now, ids);
+        let after = Snapshot::of(&*guard);
+        drop(guard);
+        Turn { before, got, after }
+    }
+}
+
+/// Changes nothing. It tells what every core keeps.
+fn note_facts<C: Ledger, T: Ledger>(core: &Core<C, T>)
+    ensures { IsSoundCore core.now }
+{
+    core.facts();
+    core.hub().state().facts();
+    let _maps = core.hub().state().mirrors();
+}
+
+/// Applies one event, and compares the pass with the core's counts.
+fn apply_counted<C: Ledger, T: Ledger, A: App, I: IdSource>(
+    alloc: Global,
+    core: &mut Core<C, T>,
+    pass: &mut Pass<C, T>,
+    app: &A,
+    event: &Event,
+    now: u64,
+    ids: &mut I,
+) -> Result<Outcome, CoreError>
+    requires { AtLeast core.old.hub pass.old }
+    ensures applied { Applied (A.decides app.now) (A.allows app.now) event.now now core.old (desk pass.old (I.stream ids.old)) result core.new (desk pass.new (I.stream ids.new)) }
+    ensures grows { Grows pass.old pass.new }
+{
+    let got = core.apply(alloc, pass, app, event, now, ids);
+    core.audit(pass);
+    got
+}
+
+/// Whether the journal has fewer steps, and entries of fewer bytes in them.
+fn is_short<C: Ledger, T: Ledger>(core: &Core<C, T>, least: usize, bytes: u64) -> bool
+    ensures { result ≡ (nat_lt (length core.now.hub.history.journal) least && nat_lt (held core.now.hub.history.journal) bytes) }
+{
+    let state = core.hub().state();
+    state.steps().len() < least && state.held() < bytes
+}
+
+/// Seals the core where its journal has at least so many steps, or entries of at least so many bytes
+/// in them; else it does nothing.
+fn seal_if_long<C: Ledger, T: Ledger>(
+    alloc: Global,
+    core: &mut Core<C, T>,
+    least: usize,
+    bytes: u64,
+) -> Result<Option<Epoch>, CoreError>
+    ensures short { IfOk result (λ sealed. IfNone sealed ((length core.old.hub.history.journal < least) × (held core.old.hub.history.journal < bytes) × (core.new ≡ core.old))) }
+    ensures long { IfOk result (λ sealed. IfSome sealed (λ epoch. (epoch ≡ record { base = core.old.hub.history.base; journal = core.old.hub.history.journal }) × IsSealed core.old.hub.history core.new.hub.history × SaysTheSame core.old.hub.history core.new.hub.history)) }
+    ensures epoch { IfOk result (λ sealed. IfSome sealed (λ epoch. IsOfCore least bytes epoch)) }
+    ensures memory { IfErr result (λ e. e ≡ at_once CoreFault.Memory) }
+    ensures unchanged { OnErr result (core.new ≡ core.old) }
+{
+    let short = is_short(core, least, bytes);
+    if short {
+        return Ok(None);
+    }
+    note_facts(core);
+    let Ok(epoch) = core.seal(alloc) else {
+        return Err(CoreFault::Memory.at_once());
+    };
+    Ok(Some(epoch))
+}

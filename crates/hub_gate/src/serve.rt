@@ -1,0 +1,288 @@
+//! A pool of workers, each in a thread of its own.
+
+ghost use Rattle.std.specs.Prelude.{◌≡◌, ◌+◌, ◌<◌, ◌≤◌, [], IfOk, IfErr, MatchResult, vec_len, vec_capacity, sum_by};
+ghost use Rattle.hub_gate.specs.Serving.{AreCounted, IsFromStarting, IsLackingFor, IsRefused};
+
+use crate::locked::Locked;
+use crate::peer::{Peer, Queue, Turnstile};
+use crate::worker::{WorkerCounts, run_worker};
+use effects::{App, IdSource};
+use hub::{NotAll, Pass};
+use journal::Totals;
+use std::alloc::{AllocError, Global};
+use std::sync::Wait;
+use std::sync::ledger::Ledger;
+use std::thread;
+use std::thread::Threads;
+use thiserror::Error;
+
+/// The most workers of a pool.
+const MOST: usize = 1_024;
+
+/// What a pool of workers did.
+#[derive(Drop)]
+pub struct Report {
+    /// The totals of the core, once all workers had ended.
+    pub totals: Totals,
+    /// What each worker did, in their order.
+    pub workers: Vec<WorkerCounts>,
+}
+
+/// Why a pool of workers has no report.
+#[derive(Clone, Copy, Debug, PartialEq, Eq, Error)]
+pub enum ServeError {
+    /// An allocation was refused. No worker was started.
+    #[error("out of memory")]
+    Memory,
+    /// A pool needs a worker.
+    #[error("no workers")]
+    NoWorkers,
+    /// It may have 1,024 at the most.
+    #[error("too many workers")]
+    TooManyWorkers,
+    /// A thread could not be made. The workers that were started served their peers.
+    #[error("a thread could not be started")]
+    Spawn,
+    /// Others raised the core's counts too, by as much as this.
+    #[error("books differ")]
+    NotAll(NotAll),
+    /// The core has no pass left.
+    #[error("no pass is left")]
+    Spent,
+}
+
+/// What one worker takes into its thread.
+#[derive(Drop)]
+struct Job<C: Ledger, T: Ledger, P, I> {
+    pass: Pass<C, T>,
+    queue: Queue<P>,
+    ids: I,
+    ghost nothing: { (pass.commands ≡ 0) × (pass.taken ≡ 0) },
+}
+
+/// What one worker hands back.
+#[derive(Drop)]
+struct Finished<C: Ledger, T: Ledger> {
+    pass: Pass<C, T>,
+    counts: WorkerCounts,
+    ghost counted: { (pass.commands ≡ counts.commands) × (pass.taken ≡ counts.taken) },
+}
+
+/// Serves all peers by so many workers, each in a thread of its own, and compares what they did with
+/// the totals. Peer i is dealt to worker i modulo their number, and `ids` holds a source for each of
+/// them. Each worker has a pass of its own, which the caller's absorbs at the end. Refused as
+/// `NoWorkers`, then as `TooManyWorkers`. Nothing is allocated once the first thread has started, but
+/// for the threads. It may wait.
+pub fn serve_peers<
+    R: Threads + Wait + Sync,
+    C: Ledger + Send,
+    T: Ledger + Send,
+    A: App + Sync,
+    P: Peer + Send + Drop,
+    G: Turnstile + Sync,
+    I: IdSource + Send + Drop,
+>(
+    rt: &R,
+    alloc: Global,
+    locked: &Locked<C, T>,
+    pass: &mut Pass<C, T>,
+    app: &A,
+    peers: Vec<P>,
+    workers: usize,
+    gate: &G,
+    ids: Vec<I>,
+    turns: u64,
+) -> Result<Report, ServeError>
+    requires { vec_len ids ≡ workers }
+    ensures workers { IfOk result (λ r. vec_len r.workers ≡ workers) }
+    ensures commands { IfOk result (λ r. r.totals.commands ≡ pass.old.commands + sum_by (λ w. w.commands) r.workers.items) }
+    ensures taken { IfOk result (λ r. r.totals.taken ≡ pass.old.taken + sum_by (λ w. w.taken) r.workers.items) }
+    ensures counted { IfOk result (λ r. AreCounted pass.new r.totals) }
+    ensures refused { MatchResult result (λ r. (0 < workers) × (workers ≤ 1024)) (λ e. IsRefused workers pass.old pass.new e) }
+{
+    if workers == 0 {
+        return Err(ServeError::NoWorkers);
+    }
+    if workers > MOST {
+        return Err(ServeError::TooManyWorkers);
+    }
+    let Ok(queues) = deal(alloc, peers, workers) else {
+        return Err(ServeError::Memory);
+    };
+    let Ok(counts) = Vec::with_capacity(alloc, workers) else {
+        return Err(ServeError::Memory);
+    };
+    let jobs = make_jobs(rt, alloc, locked, queues, ids)?;
+    let finished = run_all(rt, alloc, locked, app, gate, turns, jobs)?;
+    let workers = gather(pass, finished, counts);
+    let totals = settle(rt, locked, pass)?;
+    Ok(Report { totals, workers })
+}
+
+/// Deals peer i to queue i modulo their number.
+fn deal<P: Drop>(alloc: Global, peers: Vec<P>, workers: usize) -> Result<Vec<Vec<P>>, AllocError>
+    requires { 0 < workers }
+    ensures { IfOk result (λ v. vec_len v ≡ workers) }
+{
+    let mut queues = Vec::new(alloc);
+    for _worker in 0..workers {
+        queues.push(Vec::new(alloc))?;
+    }
+    let mut next = 0;
+    for peer in peers {
+        queues[next].push(peer)?;
+        next = if next + 1 == workers { 0 } else { next + 1 };
+    }
+    Ok(queues)
+}
+
+/// A pass, a queue and a source of ids for each worker.
+fn make_jobs<R: Wait, C: Ledger, T: Ledger, P: Drop, I: Drop>(
+    rt: &R,
+    alloc: Global,
+    locked: &Locked<C, T>,
+    queues: Vec<Vec<P>>,
+    ids: Vec<I>,
+) -> Result<Vec<Job<C, T, P, I>>, ServeError>
+    requires { vec_len queues ≡ vec_len ids }
+    ensures len { IfOk result (λ v. vec_len v ≡ vec_len queues) }
+    ensures error { IfErr result IsFromStarting }
+{
+    let mut jobs = Vec::new(alloc);
+    let mut ids = ids.into_iter();
+    for queue in queues {
+        let Some(source) = ids.next() else {
+            unreachable!()
+        };
+        let Ok(pass) = locked.new_pass(rt) else {
+            return Err(ServeError::Spent);
+        };
+        let job = Job {
+            pass,
+            queue: Queue::new(queue),
+            ids: source,
+        };
+        if jobs.push(job).is_err() {
+            return Err(ServeError::Memory);
+        }
+    }
+    Ok(jobs)
+}
+
+/// Runs each job in a thread of its own, and joins all.
+fn run_all<
+    R: Threads + Wait + Sync,
+    C: Ledger + Send,
+    T: Ledger + Send,
+    A: App + Sync,
+    P: Peer + Send + Drop,
+    G: Turnstile + Sync,
+    I: IdSource + Send + Drop,
+>(
+    rt: &R,
+    alloc: Global,
+    locked: &Locked<C, T>,
+    app: &A,
+    gate: &G,
+    turns: u64,
+    jobs: Vec<Job<C, T, P, I>>,
+) -> Result<Vec<Finished<C, T>>, ServeError>
+    ensures len { IfOk result (λ v. vec_len v ≡ vec_len jobs) }
+    ensures error { IfErr result IsFromStarting }
+{
+    thread::scope(
+        thread::scope_env(),
+        rt,
+        |scope| -> Result<Vec<Finished<C, T>>, ServeError>
+            ensures len { IfOk result (λ v. vec_len v ≡ vec_len jobs) }
+            ensures error { IfErr result IsFromStarting }
+        {
+            let Ok(mut handles) = Vec::with_capacity(alloc, jobs.len()) else {
+                return Err(ServeError::Memory);
+            };
+            let Ok(mut all) = Vec::with_capacity(alloc, jobs.len()) else {
+                return Err(ServeError::Memory);
+            };
+            let mut worker = 0usize;
+            for job in jobs {
+                let number = worker;
+                let started = scope.spawn(move || work(
+                    rt, alloc, locked, app, gate, turns, number, job,
+                ));
+                let Ok(handle) = started else {
+                    return Err(ServeError::Spawn);
+                };
+                handles.push_reserved(handle);
+                worker = worker.saturating_add(1);
+            }
+            for handle in handles {
+                all.push_reserved(handle.join(rt));
+            }
+            Ok(all)
+        },
+    )
+}
+
+/// One job, to its end.
+fn work<R: Wait, C: Ledger, T: Ledger, A: App, P: Peer + Drop, G: Turnstile, I: IdSource + Drop>(
+    rt: &R,
+    alloc: Global,
+    locked: &Locked<C, T>,
+    app: &A,
+    gate: &G,
+    turns: u64,
+    worker: usize,
+    job: Job<C, T, P, I>,
+) -> Finished<C, T> {
+    let Job {
+        pass,
+        mut queue,
+        mut ids,
+    } = job;
+    let (pass, counts) = run_worker(
+        rt, alloc, locked, pass, app, &mut queue, gate, worker, &mut ids, turns,
+    );
+    Finished { pass, counts }
+}
+
+/// Absorbs the passes of all workers, and lists their counts in the place that is kept for them.
+fn gather<C: Ledger, T: Ledger>(
+    pass: &mut Pass<C, T>,
+    finished: Vec<Finished<C, T>>,
+    counts: Vec<WorkerCounts>,
+) -> Vec<WorkerCounts>
+    requires none { (vec_len counts ≡ 0) × (counts.items ≡ []) }
+    requires room { vec_len finished ≤ vec_capacity counts }
+    ensures len { vec_len result ≡ vec_len finished }
+    ensures commands { pass.new.commands ≡ pass.old.commands + sum_by (λ w. w.commands) result.items }
+    ensures taken { pass.new.taken ≡ pass.old.taken + sum_by (λ w. w.taken) result.items }
+{
+    let mut counts = counts;
+    for one in finished {
+        let Finished {
+            pass: part,
+            counts: own,
+        } = one;
+        pass.absorb(part);
+        counts.push_reserved(own);
+    }
+    counts
+}
+
+/// The core's totals, where the pass has counted all of them.
+fn settle<R: Wait, C: Ledger, T: Ledger>(
+    rt: &R,
+    locked: &Locked<C, T>,
+    pass: &mut Pass<C, T>,
+) -> Result<Totals, ServeError>
+    ensures same { pass.new ≡ pass.old }
+    ensures counted { IfOk result (λ totals. AreCounted pass.old totals) }
+    ensures lacks { IfErr result (IsLackingFor pass.old) }
+{
+    let mut guard = locked.look(rt, pass);
+    let settled = guard.settle(pass);
+    match settled {
+        Ok(totals) => return Ok(totals),
+        Err(lack) => return Err(ServeError::NotAll(lack)),
+    }
+}
