@@ -56,7 +56,7 @@ fn expect_packet(
 
 #[test]
 fn texts(rt: HostRuntime) -> Result<(), Fail> {
-    let cases: [(&str, char, &[u8]); 7] = [
+    const CASES: [(&str, char, &[u8]); 7] = [
         ("0{}", '0', b"{}"),
         ("1", '1', b""),
         ("2", '2', b""),
@@ -65,7 +65,7 @@ fn texts(rt: HostRuntime) -> Result<(), Fail> {
         ("5", '5', b""),
         ("6", '6', b""),
     ];
-    for (text, kind, held) in cases {
+    for (text, kind, held) in CASES {
         expect_packet(&rt, text, kind, held)?;
     }
     Ok(())
@@ -74,13 +74,13 @@ fn texts(rt: HostRuntime) -> Result<(), Fail> {
 // RFC 4648's vectors, and the last two symbols of its alphabet.
 #[test]
 fn base64(rt: HostRuntime) -> Result<(), Fail> {
-    let cases: [(&str, &[u8]); 4] = [
+    const CASES: [(&str, &[u8]); 4] = [
         ("b", b""),
         ("bAQI=", b"\x01\x02"),
         ("bZm9vYmFy", b"foobar"),
         ("b+//+", b"\xfb\xff\xfe"),
     ];
-    for (text, held) in cases {
+    for (text, held) in CASES {
         expect_packet(&rt, text, 'b', held)?;
     }
     Ok(())
@@ -88,8 +88,7 @@ fn base64(rt: HostRuntime) -> Result<(), Fail> {
 
 #[test]
 fn faults(rt: HostRuntime) {
-    let alloc = rt.alloc();
-    let cases = [
+    const CASES: [(&str, WireError); 7] = [
         ("", WireError::Empty),
         ("4a\u{1e}", WireError::Empty),
         ("9x", WireError::BadType),
@@ -98,41 +97,48 @@ fn faults(rt: HostRuntime) {
         ("bAQI", WireError::BadBase64),
         ("bAQ", WireError::BadBase64),
     ];
-    for (text, fault) in cases {
-        assert!(rt; fault_of(alloc, text) == Some(fault), "of {text}");
+    for (text, fault) in CASES {
+        assert!(rt; fault_of(rt.alloc(), text) == Some(fault), "of {text}");
     }
 }
 
 fn fault_of(alloc: Global, text: &str) -> Option<WireError> {
-    ample(|| read_payload(alloc, text)).err()
+    read_all(alloc, text).err()
+}
+
+fn read_all(alloc: Global, text: &str) -> Result<Vec<Packet>, WireError> {
+    ample(|| read_payload(alloc, text))
+}
+
+fn write_all(alloc: Global, packets: &[Packet]) -> Result<String, WireError> {
+    ample(|| write_payload(alloc, packets))
 }
 
 #[test]
 fn payloads(rt: HostRuntime) -> Result<(), Fail> {
-    let alloc = rt.alloc();
-    let text = "4hello\u{1e}2\u{1e}4world\u{1e}bAQIDBA==";
-    let read = ample(|| read_payload(alloc, text))?;
-    expect_parts(&rt, read.as_slice());
-    let written = ample(|| write_payload(alloc, &read))?;
-    assert!(rt; written.as_str() == text);
+    const TEXT: &str = "4hello\u{1e}2\u{1e}4world\u{1e}bAQIDBA==";
+    let packets = read_all(rt.alloc(), TEXT)?;
+    expect_parts(&rt, packets.as_slice());
+    let written = write_all(rt.alloc(), packets.as_slice())?;
+    assert!(rt; written.as_str() == TEXT);
     Ok(())
 }
 
 fn expect_parts(rt: &impl Abort, packets: &[Packet]) {
-    let want: [(char, &[u8]); 4] = [
+    const WANT: [(char, &[u8]); 4] = [
         ('4', b"hello"),
         ('2', b""),
         ('4', b"world"),
         ('b', b"\x01\x02\x03\x04"),
     ];
-    assert!(rt; packets.len() == want.len());
-    for (packet, parts_wanted) in packets.iter().zip(want) {
+    assert!(rt; packets.len() == WANT.len());
+    for (packet, parts_wanted) in packets.iter().zip(WANT) {
         assert!(rt; parts(packet) == parts_wanted);
     }
 }
 
 fn unwritten(alloc: Global, packets: &[Packet]) -> Option<WireError> {
-    ample(|| write_payload(alloc, packets)).err()
+    write_all(alloc, packets).err()
 }
 
 #[test]
@@ -145,22 +151,31 @@ fn payloads_that_are_not_written(rt: HostRuntime) {
     }
 }
 
-#[test]
-fn open_packets(rt: HostRuntime) -> Result<(), Fail> {
-    let alloc = rt.alloc();
-    let numbers = Numbers {
+// The open packet of the client 1 that polls or not.
+fn open_packet(alloc: Global, polling: bool) -> Result<String, WireError> {
+    const NUMBERS: Numbers = Numbers {
         ping_interval: 25_000,
         ping_timeout: 20_000,
         max_payload: 1_000_000,
     };
-    let polling = ample(|| open_text(alloc, 1, true, &numbers))?;
+    ample(|| open_text(alloc, 1, polling, &NUMBERS))
+}
+
+#[test]
+fn open_packet_of_polling(rt: HostRuntime) -> Result<(), Fail> {
+    let text = open_packet(rt.alloc(), true)?;
     assert!(rt;
-        polling.as_str()
+        text.as_str()
             == "0{\"sid\":\"00000000000000000000000000000001\",\"upgrades\":[\"websocket\"],\"pingInterval\":25000,\"pingTimeout\":20000,\"maxPayload\":1000000}"
     );
-    let socket = ample(|| open_text(alloc, 1, false, &numbers))?;
+    Ok(())
+}
+
+#[test]
+fn open_packet_of_a_socket(rt: HostRuntime) -> Result<(), Fail> {
+    let text = open_packet(rt.alloc(), false)?;
     assert!(rt;
-        socket.as_str()
+        text.as_str()
             == "0{\"sid\":\"00000000000000000000000000000001\",\"upgrades\":[],\"pingInterval\":25000,\"pingTimeout\":20000,\"maxPayload\":1000000}"
     );
     Ok(())
@@ -173,7 +188,7 @@ fn ids(rt: HostRuntime) {
     assert!(rt; id_text(id).as_slice() == digits.as_bytes());
     assert!(rt; read_id(digits) == Some(id));
     assert!(rt; read_id("ffffffffffffffffffffffffffffffff") == Some(u128::MAX));
-    let none = [
+    const NONE: [&str; 6] = [
         "0123456789abcdef0000000000000ff",
         "0123456789abcdef000000000000000ff",
         "0123456789ABCDEF00000000000000FF",
@@ -181,7 +196,7 @@ fn ids(rt: HostRuntime) {
         "+123456789abcdef00000000000000ff",
         "",
     ];
-    for text in none {
+    for text in NONE {
         assert!(rt; read_id(text) == None, "of {text}");
     }
 }

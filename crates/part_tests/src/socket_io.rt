@@ -209,8 +209,7 @@ fn each_kind_read_and_written(rt: HostRuntime) -> Result<(), SioError> {
 
 #[test]
 fn faults_of_texts(rt: HostRuntime) {
-    let alloc = rt.alloc();
-    let cases = [
+    const CASES: [(&str, SioError); 17] = [
         ("", SioError::BadKind),
         ("7[1]", SioError::BadKind),
         ("51[1]", SioError::BadCount),
@@ -235,8 +234,8 @@ fn faults_of_texts(rt: HostRuntime) {
             SioError::BadPlaceholder,
         ),
     ];
-    for (text, want) in cases {
-        assert!(rt; fault_of(alloc, text) == Some(want), "at {text}");
+    for (text, want) in CASES {
+        assert!(rt; fault_of(rt.alloc(), text) == Some(want), "at {text}");
     }
 }
 
@@ -257,7 +256,7 @@ fn offsets_added_and_read(rt: HostRuntime) -> Result<(), SioError> {
     let text = offset_added(alloc, "[\"say\",[1]]", u64::MAX)?;
     assert!(rt; text.as_str() == "[\"say\",[1],\"ffffffffffffffff\"]");
     assert!(rt; offset_added(alloc, "[1", 1).err() == Some(SioError::BadShape));
-    let cases = [
+    const CASES: [(&str, Option<u64>); 6] = [
         ("0000000000000001", Some(1)),
         ("ffffffffffffffff", Some(u64::MAX)),
         ("1", None),
@@ -265,7 +264,7 @@ fn offsets_added_and_read(rt: HostRuntime) -> Result<(), SioError> {
         ("00000000000000001", None),
         ("000000000000000A", None),
     ];
-    for (text, want) in cases {
+    for (text, want) in CASES {
         assert!(rt; read_offset(text) == want, "at {text}");
     }
     Ok(())
