@@ -154,12 +154,13 @@ fn rounded(task: EventTask, posts: u64) -> u64 {
     }
 }
 
-fn new_server<C: Ledger, T: Ledger>(
+/// A core for so many clients, and its pass.
+pub fn new_core<C: Ledger, T: Ledger>(
     alloc: Global,
     clients: u64,
     commands: Blank,
     taken: Blank,
-) -> Result<Server<C, T>, Fault>
+) -> Result<(Core<C, T>, Pass<C, T>), Fault>
     requires commands { (commands.name ≡ C.name) × (commands.parts ≡ C.parts) × (commands.parts ≡ 65536) }
     requires taken { (taken.name ≡ T.name) × (taken.parts ≡ T.parts) × (taken.parts ≡ 65536) }
 {
@@ -174,7 +175,19 @@ fn new_server<C: Ledger, T: Ledger>(
         ping_timeout: 20_000,
         max_payload: 1_000_000,
     };
-    let (core, pass) = Core::new(alloc, limits, timing, numbers, commands, taken)?;
+    Ok(Core::new(alloc, limits, timing, numbers, commands, taken)?)
+}
+
+fn new_server<C: Ledger, T: Ledger>(
+    alloc: Global,
+    clients: u64,
+    commands: Blank,
+    taken: Blank,
+) -> Result<Server<C, T>, Fault>
+    requires commands { (commands.name ≡ C.name) × (commands.parts ≡ C.parts) × (commands.parts ≡ 65536) }
+    requires taken { (taken.name ≡ T.name) × (taken.parts ≡ T.parts) × (taken.parts ≡ 65536) }
+{
+    let (core, pass) = new_core(alloc, clients, commands, taken)?;
     Ok(Server {
         core,
         pass,

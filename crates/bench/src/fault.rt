@@ -26,6 +26,9 @@ pub enum Fault {
     /// The hub's counts aren't those of its only pass.
     #[error("the pass lacks a command")]
     Unsettled,
+    /// Workers did not serve all peers.
+    #[error("a pool of workers failed")]
+    Pool,
     /// The clock could not be read.
     #[error("the clock could not be read")]
     Clock,

@@ -1,13 +1,16 @@
-//! Measures the server: `bench` prints the counts of small runs, which are the same each time, and
-//! `bench SOCKETS CASTS` what the hub's commands and clients' events cost among so many sockets.
+//! Measures the server: `bench` prints the counts of small runs, which are the same each time,
+//! `bench SOCKETS CASTS` what the hub's commands and clients' events cost among so many sockets, and
+//! `bench BATCHES` what the lock costs where each of four rooms plays so many batches of events.
 #![tactic(auto)]
 
+mod bands;
 mod crowd;
 mod events;
 mod fault;
 mod figures;
 mod gauge;
 mod hall;
+mod pools;
 mod report;
 
 use fault::Fault;
@@ -15,9 +18,12 @@ use figures::Scale;
 use std::env;
 use std::process::ExitCode;
 use std::rt::{Clock, Env, Files};
+use std::sync::Wait;
+use std::thread::Threads;
 
 /// How the program is called.
-const USAGE: &str = "usage: bench [SOCKETS CASTS], with at least 256 sockets and at least one cast";
+const USAGE: &str =
+    "usage: bench [SOCKETS CASTS | BATCHES], with at least 256 sockets, and one cast or batch";
 
 /// The members of the greatest room, of which there must be as many sockets.
 const FEWEST_SOCKETS: u64 = 256;
@@ -27,6 +33,7 @@ const FEWEST_SOCKETS: u64 = 256;
 enum Wish {
     Counts,
     Figures(Scale),
+    Pools(u64),
 }
 
 fn main(rt: HostRuntime) -> ExitCode {
@@ -37,10 +44,13 @@ fn main(rt: HostRuntime) -> ExitCode {
 }
 
 /// Does what the arguments ask for.
-fn run<R: Env + Clock + Files + Print + AllocGlobal>(rt: &R) -> Result<(), Fault> {
+fn run<R: Env + Clock + Files + Threads + Wait + Sync + Print + AllocGlobal>(
+    rt: &R,
+) -> Result<(), Fault> {
     match read_arguments(rt)? {
         Wish::Counts => report::print_counts(rt),
         Wish::Figures(scale) => report::print_figures(rt, scale),
+        Wish::Pools(batches) => report::print_pools(rt, batches),
     }
 }
 
@@ -67,6 +77,7 @@ fn read_arguments<R: Env + AllocGlobal>(rt: &R) -> Result<Wish, Fault> {
 fn wish_of(words: &[String]) -> Result<Wish, Fault> {
     match words {
         [_program] => Ok(Wish::Counts),
+        [_program, batches] => Ok(Wish::Pools(number(batches.as_str(), 1)?)),
         [_program, sockets, casts] => Ok(Wish::Figures(Scale {
             sockets: number(sockets.as_str(), FEWEST_SOCKETS)?,
             casts: number(casts.as_str(), 1)?,

@@ -3,9 +3,12 @@
 use crate::events::EventTask;
 use crate::fault::Fault;
 use crate::figures::{Measured, Scale, Task};
-use crate::{events, figures, gauge};
+use crate::pools::{Pool, Served};
+use crate::{events, figures, gauge, pools};
 use journal::Totals;
 use std::rt::{Clock, Files};
+use std::sync::Wait;
+use std::thread::Threads;
 use std::{fmt, io};
 
 /// All that is measured by the clock.
@@ -28,6 +31,17 @@ const TASKS: [Task; 14] = [
 
 /// And of clients' events.
 const EVENTS: [EventTask; 2] = [EventTask::Posts, EventTask::Takes];
+
+/// And of workers.
+const POOLS: [Pool; 4] = [
+    Pool::Alone,
+    Pool::Workers(1),
+    Pool::Workers(2),
+    Pool::Workers(4),
+];
+
+/// How many batches of events each band plays in the run without arguments.
+const FEW_BATCHES: u64 = 2;
 
 /// How much the run without arguments does.
 const SMALL: Scale = Scale {
@@ -84,13 +98,20 @@ impl fmt::Display for Figure {
 /// - a seal: 900 + 64 casts to all; 300 + 64 * 300 were placed, 300 taken, the others wait. It hands
 ///   out the 64 steps since the seal before them;
 /// - posts to a room of 16: 900 + 16 joins + 10 casts + 15 takes; 300 + 150 are placed and taken;
-/// - takes of 64: 900 + 16 joins + 64 casts + 15 takes; 300 + 960 are placed and taken.
-pub fn print_counts<R: Clock + Print + AllocGlobal>(rt: &R) -> Result<(), Fault> {
+/// - takes of 64: 900 + 16 joins + 64 casts + 15 takes; 300 + 960 are placed and taken;
+/// - four bands, two batches each: 64 clients each opened, connected, taken and joined, in as many
+///   turns; 512 casts and 120 takes; 64 + 7,680 are placed and taken.
+pub fn print_counts<R: Clock + Threads + Wait + Sync + Print + AllocGlobal>(
+    rt: &R,
+) -> Result<(), Fault> {
     for task in TASKS {
         print_count(rt, task)?;
     }
     for task in EVENTS {
         print_event_count(rt, task)?;
+    }
+    for pool in POOLS {
+        print_pool_count(rt, pool)?;
     }
     Ok(())
 }
@@ -105,6 +126,35 @@ fn print_event_count<R: Clock + Print + AllocGlobal>(rt: &R, task: EventTask) ->
     let (measured, totals) = events::measure(rt, rt.alloc(), task, SMALL)?;
     let (counted, number) = (task.counted(), measured.number);
     written(println!(rt; "{task}: {counted} {number}, {}", Counts(totals)))
+}
+
+fn print_pool_count<R: Clock + Threads + Wait + Sync + Print + AllocGlobal>(
+    rt: &R,
+    pool: Pool,
+) -> Result<(), Fault> {
+    let (served, totals) = pools::measure(rt, rt.alloc(), pool, FEW_BATCHES)?;
+    let turns = served.turns.number;
+    written(println!(rt; "{pool}: turns {turns}, {}", Counts(totals)))
+}
+
+/// Prints what turns cost by one thread and by workers, where each band plays so many batches.
+pub fn print_pools<R: Clock + Threads + Wait + Sync + Print + AllocGlobal>(
+    rt: &R,
+    batches: u64,
+) -> Result<(), Fault> {
+    for pool in POOLS {
+        let (served, _totals) = pools::measure(rt, rt.alloc(), pool, batches)?;
+        print_pool(rt, pool, served)?;
+    }
+    Ok(())
+}
+
+fn print_pool<R: Print>(rt: &R, pool: Pool, served: Served) -> Result<(), Fault> {
+    let Served { measured, turns } = served;
+    let rate = Figure(gauge::per_second(measured.number, measured.time));
+    let average = Figure(turns.average());
+    let longest = turns.longest.as_micros();
+    written(println!(rt; "{pool}: {rate} turns a second, each {average} ns, at most {longest} us"))
 }
 
 /// Prints what each task costs. Memory comes first, while the process has had no other hub.
