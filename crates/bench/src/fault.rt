@@ -26,6 +26,9 @@ pub enum Fault {
     /// The hub's counts aren't those of its only pass.
     #[error("the pass lacks a command")]
     Unsettled,
+    /// A request was not read as it has to be.
+    #[error("a request was not read")]
+    Request,
     /// Workers did not serve all peers.
     #[error("a pool of workers failed")]
     Pool,

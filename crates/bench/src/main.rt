@@ -1,5 +1,5 @@
 //! Measures the server: `bench` prints the counts of small runs, which are the same each time,
-//! `bench SOCKETS CASTS` what the hub's commands and clients' events cost among so many sockets, and
+//! `bench SOCKETS CASTS` what the hub's commands, clients' events and requests cost, and
 //! `bench BATCHES` what the lock costs where each of four rooms plays so many batches of events.
 #![tactic(auto)]
 
@@ -12,6 +12,7 @@ mod gauge;
 mod hall;
 mod pools;
 mod report;
+mod requests;
 
 use fault::Fault;
 use figures::Scale;

@@ -4,7 +4,7 @@ use crate::events::EventTask;
 use crate::fault::Fault;
 use crate::figures::{Measured, Scale, Task};
 use crate::pools::{Pool, Served};
-use crate::{events, figures, gauge, pools};
+use crate::{events, figures, gauge, pools, requests};
 use journal::Totals;
 use std::rt::{Clock, Files};
 use std::sync::Wait;
@@ -172,7 +172,17 @@ pub fn print_figures<R: Clock + Files + Print + AllocGlobal>(
         let counted = task.counted();
         written(println!(rt; "{task}: {rate} {counted} a second"))?;
     }
+    for body in requests::BODIES {
+        print_requests(rt, body)?;
+    }
     Ok(())
+}
+
+fn print_requests<R: Clock + Print + AllocGlobal>(rt: &R, body: usize) -> Result<(), Fault> {
+    let measured = requests::measure(rt, rt.alloc(), body)?;
+    let rate = Figure(gauge::per_second(measured.number, measured.time));
+    let piece = requests::PIECE;
+    written(println!(rt; "requests of {body} bytes in pieces of {piece}: {rate} a second"))
 }
 
 fn print_memory<R: Files + Print + AllocGlobal>(rt: &R, clients: u64) -> Result<(), Fault> {
