@@ -1,10 +1,10 @@
 //! What the server keeps of one client beside the hub.
 #![tactic(auto, unfolding(crate::specs::History::frames, crate::specs::History::clock_calls, crate::specs::History::book_calls, crate::specs::History::is_getting, crate::specs::History::is_ping_due))]
 
-ghost use Rattle.std.specs.Prelude.{◌≡◌, ◌⊎◌, List, [], ◌∷◌, Some, None, Err, IfOk, IfErr, IfSome, OnOk, OnErr, IsErrOf};
+ghost use Rattle.std.specs.Prelude.{◌≡◌, ◌⊎◌, List, [], ◌∷◌, length, Some, None, Err, IfOk, IfErr, IfSome, OnOk, OnErr, IsErrOf};
 ghost use Rattle.terms.specs.Refusal.{ok_unless};
 ghost use Rattle.sio_wire.specs.declared.assembler.Progress.{Progress};
-ghost use Rattle.sio_wire.specs.Frames.{text as text_frame, binary as binary_frame, Accepts, RefusesText, binary_refusal};
+ghost use Rattle.sio_wire.specs.Frames.{text as text_frame, binary as binary_frame, Accepts, RefusesText, binary_refusal, exceeds};
 ghost use Rattle.session_clock.specs.Heartbeat.{due};
 ghost use Rattle.session_clock.specs.Upgrade.{transport, probe_refusal, unprobed_refusal};
 ghost use Rattle.ack_book.specs.Questions.{next_id, question_at};
@@ -113,6 +113,14 @@ impl Line {
             ⊎ ((binary_refusal self.old.assembler ≡ Some e) × (self.new ≡ record self.old { assembler = Progress.Failed e }))) }
     {
         self.assembler.binary(alloc, bytes)
+    }
+
+    /// Whether a message of these bytes, with the attachments that came so far, has more bytes than
+    /// the limit. Where none is awaited it hasn't.
+    pub fn exceeds(&self, bytes: &[u8], limit: usize) -> bool
+        ensures { result ≡ exceeds self.now.assembler limit (length bytes.now) }
+    {
+        self.assembler.exceeds(bytes, limit)
     }
 
     /// The client sent a pong. One that isn't awaited changes only the last moment.

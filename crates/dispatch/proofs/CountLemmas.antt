@@ -9,6 +9,7 @@ use Rattle.sio_wire.specs.declared.kind.Kind.{Kind}
 use Rattle.sio_wire.specs.declared.kind.Kind.TheVariants as kind
 use Rattle.sio_wire.specs.declared.error.SioError.{SioError}
 use Rattle.sio_wire.specs.declared.error.SioError.TheVariants as sio
+use Rattle.sio_wire.specs.Frames.{exceeds}
 use Rattle.journal.specs.declared.socket.Socket.{Socket}
 use Rattle.journal.specs.Membership.{place_of, is_space, socket_of}
 use Rattle.effects.specs.declared.app.Arrived.{Arrived}
@@ -22,7 +23,7 @@ use Rattle.effects.specs.Effects.{Scene, is_bad, all_joined, all_left, ChangesRo
 use Rattle.journal.specs.declared.step.What.{What}
 use Rattle.effects.specs.Plain.{PlainDone}
 use Rattle.effects.specs.Runs.{Runs}
-use Rattle.dispatch.specs.Packets.{Stage, Upshot, ClosesFor, ParksFor, Refuses, DoesAll, scene_at, Decides, TakesAnswer, TakesAck, Serves, ServesJoined, Connects, AsksApp, ComesBack, MayComeBack, AsksToConnect, Works, GoesOn, TakesText, TakesBinary, Handles, draws_two, begun, HandlesOrBreaks}
+use Rattle.dispatch.specs.Packets.{Stage, Upshot, ClosesFor, ParksFor, Refuses, DoesAll, scene_at, Decides, TakesAnswer, TakesAck, Serves, ServesJoined, Connects, AsksApp, ComesBack, MayComeBack, AsksToConnect, Works, GoesOn, TakesText, ReadsBinary, TakesBinary, Handles, draws_two, begun, HandlesOrBreaks}
 
 -- ---- the app's effects
 
@@ -170,10 +171,17 @@ module _ (decides : Who → Arrived → List Effect → Type 0) (allows : (space
   text-keeps c content now s d t (inr (inl (given, line, accepts, advances, on))) = goes-keeps c (Ok given) now (record s { line = line }) d t on
   text-keeps c content now s d t (inr (inr (e, refuses, on))) = goes-keeps c (Err e) now _ d t on
 
+  reads-keeps : (c : ℕ) (content : List ℕ) (now : ℕ) (s : Stage) (d : Unit {0}) (t : Stage) → ReadsBinary decides allows c content now s (Ok d) t → Keeps s t
+  reads-keeps c content now s d t (inl none) = absurd none
+  reads-keeps c content now s d t (inr (inl (given, line, accepts, advances, on))) = goes-keeps c (Ok given) now (record s { line = line }) d t on
+  reads-keeps c content now s d t (inr (inr (e, refuses, on))) = goes-keeps c (Err e) now _ d t on
+
   binary-keeps : (c : ℕ) (content : List ℕ) (now : ℕ) (s : Stage) (d : Unit {0}) (t : Stage) → TakesBinary decides allows c content now s (Ok d) t → Keeps s t
-  binary-keeps c content now s d t (inl none) = absurd none
-  binary-keeps c content now s d t (inr (inl (given, line, accepts, advances, on))) = goes-keeps c (Ok given) now (record s { line = line }) d t on
-  binary-keeps c content now s d t (inr (inr (e, refuses, on))) = goes-keeps c (Err e) now _ d t on
+  binary-keeps c content now s d t takes = on (exceeds s.line.assembler s.history.limits.bytes (length content)) takes
+    where
+      on : (b : Bool) → elim b as (λ (b : Bool). Type 0) [ true ↦ ClosesFor c now cause.TooLong s (Ok d) t | false ↦ ReadsBinary decides allows c content now s (Ok d) t ] → Keeps s t
+      on true closes = closes-keeps c now cause.TooLong s d t closes
+      on false reads = reads-keeps c content now s d t reads
 
   handles-keeps : (c : ℕ) (packet : Packet) (now : ℕ) (s : Stage) (d : Unit {0}) (t : Stage) → Handles decides allows c packet now s (Ok d) t → Keeps s t
   handles-keeps c (eio.Close content) now s d t parks = parks-keeps c now s d t parks

@@ -1,8 +1,8 @@
 -- What an event adds to what a client was handed.
-use Rattle.std.proofs.Common.{inl, inr, ◌≡◌, ℕ, zero, suc, ◌+◌, ◌≤◌, ◌==◌, Bool, true, false, List, [], ◌∷◌, ◌++◌, length, take, drop, refl, sym, ◌∙◌, ap, subst, arith, append-nil, append_assoc, length-append, Option, None, Some, Ok, Err}
+use Rattle.std.proofs.Common.{inl, inr, ◌≡◌, ℕ, zero, suc, ◌+◌, ◌≤◌, ◌<◌, ◌==◌, Bool, true, false, List, [], ◌∷◌, ◌++◌, length, take, drop, get_or, refl, sym, ◌∙◌, ap, subst, arith, append-nil, append_assoc, length-append, Option, None, Some, Result, Ok, Err, OnOk}
 use Rattle.std.specs.List.{AllByRecursion}
 use Rattle.std.proofs.lemmas.Bool.Decides.{nat_tests}
-use Rattle.std.proofs.lemmas.List.{drop-append-le, drop-drop}
+use Rattle.std.proofs.lemmas.List.{drop-append-le, drop-drop, length-take-le, take_more, take_all}
 use Rattle.eio_wire.specs.declared.handshake.Numbers.{Numbers}
 use Rattle.eio_wire.specs.declared.packet.Packet.{Packet}
 use Rattle.session_clock.specs.declared.timing.Timing.{Timing}
@@ -16,6 +16,7 @@ use Rattle.journal.specs.declared.step.What.TheVariants.{Opened, Took}
 use Rattle.journal.specs.Config.{empty_base}
 use Rattle.journal.specs.Plain.{Limits, PlainBase}
 use Rattle.journal.specs.Journal.{History, moment_at}
+use Rattle.journal.specs.Seal.{IsSealed}
 use Rattle.journal.specs.Outboxes.{put, entries_for, begins, taken_by, placements, taken, waiting}
 use Rattle.effects.specs.declared.fault.CoreFault.{CoreFault}
 use Rattle.effects.specs.declared.fault.CoreFault.TheVariants.{UnknownClient, WrongTransport}
@@ -29,7 +30,7 @@ use Rattle.dispatch.specs.Frames.{Sends, SendsWaiting, SendsOn, SendsFor}
 use Rattle.dispatch.specs.Machine.{Opens, Takes, TakesFrames}
 use Rattle.dispatch.specs.Place.{Place, HasLine}
 use Rattle.dispatch.specs.Takes.{Take, handed, carried, Counts, IsShort, TellsNoop, Carries, FindsNothing, TakesWaiting, TakesOn, TakesFor}
-use Rattle.dispatch.specs.Handed.{Turn, opens, takes, Holds, HandsOut, HandedOut, AreHanded, Handed}
+use Rattle.dispatch.specs.Handed.{Turn, turns_after, opens, takes, Holds, HandsOut, HandedOut, AreHanded, Handed}
 
 -- ---- a step
 
@@ -346,7 +347,39 @@ handed-open it timing numbers now socket c s (Ok _) t is does d turns was = absu
 handed-open it timing numbers now socket c s (Err e) t is does d turns was =
     record { entries = was.entries; out = subst (λ (x : Event). HandedOut d ((x, Err e) ∷ turns) was.entries) (sym is) was.out; are = same-handed s.history t.history does.1.1 d was.entries was.are }
 
--- ---- a new core
+-- ---- the events of a list
+
+-- one event more, which has its answer as those before it
+turns-more : (turns : List Turn) (events : List (Event × ℕ)) (answers : List Answer) (event : Event × ℕ) (answer : Answer) → length events ≡ length answers
+    → turns_after turns (events ++ event ∷ []) (answers ++ answer ∷ []) ≡ (event.0, answer) ∷ turns_after turns events answers
+turns-more turns [] [] event answer long = refl
+turns-more turns (first ∷ events) (said ∷ answers) event answer long = turns-more ((first.0, said) ∷ turns) events answers event answer (omega (arith, long))
+turns-more turns [] (said ∷ answers) event answer long = absurd (omega (arith, long))
+turns-more turns (first ∷ events) [] event answer long = absurd (omega (arith, long))
+
+-- what is handed out in each turn of a list, after those before it
+abbrev pub HandsOn : List (Event × ℕ) → List Answer → (h g : History) → Type 0
+HandsOn events answers h g = (c : ℕ) (turns : List Turn) → Handed c turns h → Handed c (turns_after turns events answers) g
+
+-- no event was done
+pub hands-start : (answers : List Answer) (h : History) → answers ≡ [] → HandsOn [] answers h h
+hands-start answers h none c turns was = was
+
+-- the event at an index is done
+pub hands-next : (all : List (Event × ℕ)) (i : ℕ) (event : Event × ℕ) (answers more : List Answer) (answer : Answer) (h m g : History)
+    → i < length all → event ≡ get_or all i event → more ≡ answers ++ answer ∷ [] → length answers ≡ i
+    → HandsOn (take i all) answers h m → ((c : ℕ) (turns : List Turn) → Handed c turns m → Handed c ((event.0, answer) ∷ turns) g)
+    → HandsOn (take (i + 1) all) more h g
+hands-next all i event answers more answer h m g within is pushed long run does c turns was =
+    let next : take (i + 1) all ≡ take i all ++ event ∷ [] = take_more all i event within ∙ ap (λ (x : Event × ℕ). take i all ++ x ∷ []) (sym is) in
+    let same : length (take i all) ≡ length answers = length-take-le i all (omega (arith, within)) ∙ sym long in
+    rw (next, pushed, turns-more turns (take i all) answers event answer same) (does c (turns_after turns (take i all) answers) (run c turns was))
+
+-- all were done
+pub hands-whole : (all : List (Event × ℕ)) (i : ℕ) (answers : List Answer) (h g : History) → length all ≤ i → HandsOn (take i all) answers h g → HandsOn all answers h g
+hands-whole all i answers h g past run = subst (λ (events : List (Event × ℕ)). HandsOn events answers h g) (take_all i all past) run
+
+-- ---- a new core, and one whose account begins anew
 
 nothing-out : (base : PlainBase) (limits : Limits) (c : ℕ) → base.clients ≡ [] → Out base limits [] c []
 unfolding waiting taken placements
@@ -357,3 +390,9 @@ unfolding HandedOut
 handed-fresh limits h is c =
     let out = nothing-out (empty_base limits.first_offset) limits c refl in
     rw is (record { entries = []; out = refl; are = record { whole = out.0; count = out.1 } })
+
+-- after a seal what waits is all that was put
+pub handed-sealed : {X E : Type 0} (r : Result X E) (h g : History) → OnOk r (IsSealed h g) → OnOk r ((c : ℕ) → Handed c [] g)
+unfolding HandedOut waiting taken placements
+handed-sealed (Ok x) h g sealed = λ c. record { entries = []; out = refl; are = record { whole = rw sealed.no_steps refl; count = rw sealed.no_steps refl } }
+handed-sealed (Err e) h g sealed = tt

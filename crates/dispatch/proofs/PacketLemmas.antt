@@ -27,7 +27,7 @@ use Rattle.effects.specs.declared.app.Who.{Who}
 use Rattle.effects.specs.declared.cause.Cause.TheVariants as cause
 use Rattle.effects.specs.App.{PlainVerdict}
 use Rattle.effects.specs.Commands.{IsRefused, IsSeated}
-use Rattle.dispatch.specs.Packets.{Stage, Upshot, AsksToConnect, ClosesFor, ParksFor, ServesJoined, Works, GoesOn, TakesText, TakesBinary}
+use Rattle.dispatch.specs.Packets.{Stage, Upshot, AsksToConnect, ClosesFor, ParksFor, ServesJoined, Works, GoesOn, TakesText, ReadsBinary}
 
 -- a client whose sessions have no place is closed
 pub parks : (c now : ℕ) (s : Stage) (result : Upshot) (t : Stage) → IsRefused s.history now (what.Parked c) hub.SavedFull → ClosesFor c now cause.ClientClosed s result t → ParksFor c now s result t
@@ -125,13 +125,13 @@ module _ (decides : Who → Arrived → List Effect → Type 0) (allows : (space
   takes-text c content now s line (Err e) result t accepts advances (inr (refuses, is)) on =
       inr (inr (e, refuses, subst (λ (l : PlainLine). GoesOn decides allows c (Err e) now (record s { line = l }) result t) is on))
 
-  pub takes-binary : (c : ℕ) (content : List ℕ) (now : ℕ) (s : Stage) (line : PlainLine) (given : Result (Option SioPacket) SioError) (result : Upshot) (t : Stage)
+  pub reads-binary : (c : ℕ) (content : List ℕ) (now : ℕ) (s : Stage) (line : PlainLine) (given : Result (Option SioPacket) SioError) (result : Upshot) (t : Stage)
       → IfOk given (λ g. Accepts s.line.assembler (binary content) g line.assembler)
       → OnOk given (Advances s.line (Framed (binary content) ∷ []) line)
       → IfErr given (λ e. ((e ≡ sio.Memory) × (line ≡ s.line)) ⊎ ((binary_refusal s.line.assembler ≡ Some e) × (line ≡ record s.line { assembler = Failed e })))
-      → GoesOn decides allows c given now (record s { line = line }) result t → TakesBinary decides allows c content now s result t
-  takes-binary c content now s line (Ok given) result t accepts advances fault on = inr (inl (given, line, accepts, advances, on))
-  takes-binary c content now s line (Err e) result t accepts advances (inl (is, same)) on =
+      → GoesOn decides allows c given now (record s { line = line }) result t → ReadsBinary decides allows c content now s result t
+  reads-binary c content now s line (Ok given) result t accepts advances fault on = inr (inl (given, line, accepts, advances, on))
+  reads-binary c content now s line (Err e) result t accepts advances (inl (is, same)) on =
       inl (subst (λ (l : PlainLine). GoesOn decides allows c (Err sio.Memory) now (record s { line = l }) result t) same (subst (λ (e : SioError). GoesOn decides allows c (Err e) now (record s { line = line }) result t) is on))
-  takes-binary c content now s line (Err e) result t accepts advances (inr (refuses, is)) on =
+  reads-binary c content now s line (Err e) result t accepts advances (inr (refuses, is)) on =
       inr (inr (e, refuses, subst (λ (l : PlainLine). GoesOn decides allows c (Err e) now (record s { line = l }) result t) is on))

@@ -1,5 +1,5 @@
 -- What the takes of a client hand out: put end to end, and with what still waits at the end, it is all that was put for the
--- client since it was opened.
+-- client since it was opened. A seal keeps what waits alone, so after it the account begins anew with that.
 use Rattle.std.specs.Prelude.{◌≡◌, ◌⊎◌, ℕ, ◌==◌, Bool, true, false, List, [], ◌∷◌, ◌++◌, length, Ok, Err}
 use Rattle.std.specs.List.{AllZip}
 use Rattle.eio_wire.specs.declared.packet.Packet.TheVariants.{Noop}
@@ -18,6 +18,11 @@ use Rattle.dispatch.specs.Takes.{carried}
 -- an event and its answer
 abbrev pub Turn : Type 0
 Turn = Event × Answer
+
+-- earlier turns, and then these events, each with its answer
+abbrev pub turns_after : List Turn → List (Event × ℕ) → List Answer → List Turn
+turns_after turns (event ∷ events) (answer ∷ answers) = turns_after ((event.0, answer) ∷ turns) events answers
+turns_after turns _ _ = turns
 
 -- the client was opened
 abbrev pub opens : ℕ → Event → Answer → Bool

@@ -1,6 +1,6 @@
 -- What the packets of a client do (Engine.IO protocol 4, "Packet types"; Socket.IO protocol 5, "Exchange protocol";
 -- Socket.IO server documentation, "Connection state recovery").
-use Rattle.std.specs.Prelude.{◌≡◌, ◌≢◌, ◌⊎◌, ◌<◌, ◌^◌, ℕ, ◌+◌, true, false, List, [], ◌∷◌, is_some, Option, None, Some, Result, Ok, Err, codes, slice_get, take}
+use Rattle.std.specs.Prelude.{◌≡◌, ◌≢◌, ◌⊎◌, ◌<◌, ◌^◌, ℕ, ◌+◌, true, false, List, [], ◌∷◌, length, is_some, Option, None, Some, Result, Ok, Err, codes, slice_get, take}
 use Rattle.eio_wire.specs.declared.packet.Packet.{Packet}
 use Rattle.eio_wire.specs.declared.packet.Packet.TheVariants as eio
 use Rattle.eio_wire.specs.Ids.{id_digits}
@@ -12,7 +12,7 @@ use Rattle.sio_wire.specs.declared.assembler.Progress.TheVariants.{Failed}
 use Rattle.sio_wire.specs.declared.error.SioError.{SioError}
 use Rattle.sio_wire.specs.declared.error.SioError.TheVariants as sio
 use Rattle.sio_wire.specs.ConnectAnswer.{refused_text}
-use Rattle.sio_wire.specs.Frames.{Frame, text, binary, Accepts, RefusesText, binary_refusal}
+use Rattle.sio_wire.specs.Frames.{Frame, text, binary, Accepts, RefusesText, binary_refusal, exceeds}
 use Rattle.sio_wire.specs.JsonFields.{resume_at}
 use Rattle.sio_wire.specs.Offset.{offset_digits}
 use Rattle.ack_book.specs.Questions.{question_at}
@@ -244,10 +244,17 @@ module _ (decides : Who → Arrived → List Effect → Type 0) (allows : (space
       ⊎ TakesFrame c (text content) now s result t
       ⊎ ((error : SioError) × RefusesText s.line.assembler content error × RefusesFrame c error now s result t)
 
-  abbrev pub TakesBinary : ℕ → List ℕ → ℕ → Stage → Upshot → Stage → Type 0
-  TakesBinary c content now s result t = IsShort s result t
+  abbrev pub ReadsBinary : ℕ → List ℕ → ℕ → Stage → Upshot → Stage → Type 0
+  ReadsBinary c content now s result t = IsShort s result t
       ⊎ TakesFrame c (binary content) now s result t
       ⊎ ((error : SioError) × (binary_refusal s.line.assembler ≡ Some error) × RefusesFrame c error now s result t)
+
+  -- bytes that, with the attachments that came so far, are more than may wait for the client close it, and aren't kept (own)
+  abbrev pub TakesBinary : ℕ → List ℕ → ℕ → Stage → Upshot → Stage → Type 0
+  TakesBinary c content now s result t = elim (exceeds s.line.assembler s.history.limits.bytes (length content)) [
+    | true ↦ ClosesFor c now cause.TooLong s result t
+    | false ↦ ReadsBinary c content now s result t
+  ]
 
   -- what a packet does; those that only a server sends, and an upgrade outside of one, are ignored
   abbrev pub Handles : ℕ → Packet → ℕ → Stage → Upshot → Stage → Type 0

@@ -1,8 +1,9 @@
 //! What the packets of a client do (Engine.IO protocol 4, "Packet types"; Socket.IO protocol 5,
 //! "Exchange protocol").
 
-ghost use Rattle.std.specs.Prelude.{◌≡◌, ◌+◌, ◌≤◌, ◌<◌, ◌^◌, ℕ, true, None, OnOk, OnErr, IfOk, IfErr, IfSome, is_none};
+ghost use Rattle.std.specs.Prelude.{◌≡◌, ◌+◌, ◌≤◌, ◌<◌, ◌^◌, ℕ, length, true, None, OnOk, OnErr, IfOk, IfErr, IfSome, is_none};
 ghost use Rattle.eio_wire.specs.Payload.{IsWhole};
+ghost use Rattle.sio_wire.specs.Frames.{exceeds};
 ghost use Rattle.connection.specs.Line.{PlainLine};
 ghost use Rattle.journal.specs.Journal.{History};
 ghost use Rattle.journal.specs.Membership.{is_open};
@@ -10,7 +11,7 @@ ghost use Rattle.hub.specs.Pass.{PlainHub, PlainPass};
 ghost use Rattle.effects.specs.App.{IsCleanArrival};
 ghost use Rattle.effects.specs.Commands.{IsSeated};
 ghost use Rattle.effects.specs.Following.{WorksFor, Spares};
-ghost use Rattle.dispatch.specs.Packets.{stage, ClosesFor, ParksFor, Decides, Leaves, TakesAnswer, HearsEvent, Serves, ServesJoined, Works, GoesOn, Handles, HandlesOrBreaks, HandlesInTurn, BreaksAfter};
+ghost use Rattle.dispatch.specs.Packets.{stage, ClosesFor, ParksFor, Decides, Leaves, TakesAnswer, HearsEvent, Serves, ServesJoined, Works, GoesOn, TakesBinary, Handles, HandlesOrBreaks, HandlesInTurn, BreaksAfter};
 ghost use Rattle.effects.specs.Runs.{Runs};
 
 use crate::connect::connect;
@@ -388,6 +389,42 @@ fn go_on<C: Ledger, T: Ledger, A: App, I: IdSource>(
     }
 }
 
+/// Whether a binary message brings the awaited attachments over the bytes that may wait for a client.
+fn is_too_much<C: Ledger, T: Ledger>(hub: &Hub<C, T>, line: &Line, bytes: &[u8]) -> bool
+    ensures { result ≡ exceeds line.now.assembler hub.now.history.limits.bytes (length bytes.now) }
+{
+    line.exceeds(bytes, hub.state().most_bytes())
+}
+
+/// Takes a binary message. One that brings the awaited attachments over the bytes that may wait for
+/// the client closes it, and isn't kept.
+fn take_binary<C: Ledger, T: Ledger, A: App, I: IdSource>(
+    alloc: Global,
+    hub: &mut Hub<C, T>,
+    pass: &mut Pass<C, T>,
+    line: &mut Line,
+    app: &A,
+    ids: &mut I,
+    client: u128,
+    bytes: &[u8],
+    now: u64,
+    done: &mut Done,
+) -> Result<(), (CoreFault, usize)>
+    requires open_client { is_open hub.old.history.base hub.old.history.journal client ≡ true }
+    requires fresh { done.old.closed ≡ None }
+    ensures does { TakesBinary (A.decides app.now) (A.allows app.now) client bytes.now now (stage hub.old.history line.old (I.stream ids.old) done.old) result (stage hub.new.history line.new (I.stream ids.new) done.new) }
+    ensures open_still { OnOk result (is_open hub.new.history.base hub.new.history.journal client ≡ is_none done.new.closed) }
+    ensures open_after { OnErr result (is_open hub.new.history.base hub.new.history.journal client ≡ true) }
+    ensures works { (h : PlainHub) (p : PlainPass) → WorksFor client h hub.old p pass.old → WorksFor client h hub.new p pass.new }
+    ensures spares { OnOk result ((h : History) → Spares client h hub.old.history done.old.clients → Spares client h hub.new.history done.new.clients) }
+{
+    if is_too_much(hub, line, bytes) {
+        return close_for(alloc, hub, pass, client, Cause::TooLong, now, done);
+    }
+    let given = line.binary(alloc, bytes);
+    go_on(alloc, hub, pass, line, app, ids, client, given, now, done)
+}
+
 /// What a packet does.
 fn handle<C: Ledger, T: Ledger, A: App, I: IdSource>(
     alloc: Global,
@@ -421,8 +458,8 @@ fn handle<C: Ledger, T: Ledger, A: App, I: IdSource>(
             go_on(alloc, hub, pass, line, app, ids, client, given, now, done)
         }
         Packet::Binary(bytes) => {
-            let given = line.binary(alloc, bytes.as_slice());
-            go_on(alloc, hub, pass, line, app, ids, client, given, now, done)
+            let bytes = bytes.as_slice();
+            take_binary(alloc, hub, pass, line, app, ids, client, bytes, now, done)
         }
         Packet::Open(_) | Packet::Upgrade(_) | Packet::Noop(_) => Ok(()),
     }

@@ -14,7 +14,7 @@ ghost use Rattle.connection.specs.Line.{PlainLine};
 ghost use Rattle.dispatch.specs.Place.{line_of, place, Agree, IsClean};
 ghost use Rattle.dispatch.specs.Takes.{IsOn};
 ghost use Rattle.dispatch.specs.Answers.{at_once, fault_of_config};
-ghost use Rattle.dispatch.specs.Handed.{Turn, Handed};
+ghost use Rattle.dispatch.specs.Handed.{Turn, turns_after, Handed};
 ghost use Rattle.dispatch.specs.Machine.{Does, Machine, IsOf, listed};
 
 use crate::event::Event;
@@ -115,7 +115,8 @@ impl<C: Ledger, T: Ledger> Core<C, T> {
         )
     }
 
-    /// What each of these events in turn is answered with.
+    /// What each of these events in turn is answered with. Where there is no memory for so many answers
+    /// nothing is done.
     pub fn apply_all<A: App, I: IdSource>(
         &mut self,
         alloc: Global,
@@ -124,7 +125,9 @@ impl<C: Ledger, T: Ledger> Core<C, T> {
         events: &[(Event, u64)],
         ids: &mut I,
     ) -> Result<Vec<Result<Outcome, CoreError>>, AllocError>
-        ensures { IfOk result (λ answers. Machine (A.decides app.now) (A.allows app.now) self.old.timing self.old.numbers events.now answers.items (place self.old.hub.history self.old.lines) (I.stream ids.old) (place self.new.hub.history self.new.lines) (I.stream ids.new)) }
+        ensures does { IfOk result (λ answers. Machine (A.decides app.now) (A.allows app.now) self.old.timing self.old.numbers events.now answers.items (place self.old.hub.history self.old.lines) (I.stream ids.old) (place self.new.hub.history self.new.lines) (I.stream ids.new)) }
+        ensures handed { IfOk result (λ answers. (c : ℕ) (turns : List Turn) → Handed c turns self.old.hub.history → Handed c (turns_after turns events.now answers.items) self.new.hub.history) }
+        ensures unchanged { OnErr result ((self.new ≡ self.old) × (pass.new ≡ pass.old) × (ids.new ≡ ids.old)) }
     {
         let mut answers = Vec::with_capacity(alloc, events.len())?;
         for (event, now) in events {
@@ -201,12 +204,14 @@ impl<C: Ledger, T: Ledger> Core<C, T> {
     }
 
     /// Makes the present state of the hub its base, and hands out the old base with the steps since
-    /// then. It is no command and no event: the lines stay. Refused for `Memory` alone.
+    /// then. It is no command and no event: the lines stay, and what clients are handed is counted
+    /// anew, from what waits. Refused for `Memory` alone.
     pub fn seal(&mut self, alloc: Global) -> Result<Epoch, HubError>
         ensures epoch { IfOk result (λ epoch. epoch ≡ record { base = self.old.hub.history.base; journal = self.old.hub.history.journal }) }
         ensures legal { IfOk result (λ epoch. IsLegal epoch.base self.old.hub.history.limits epoch.journal) }
         ensures sealed { OnOk result (IsSealed self.old.hub.history self.new.hub.history) }
         ensures same { OnOk result (SaysTheSame self.old.hub.history self.new.hub.history) }
+        ensures handed { OnOk result ((c : ℕ) → Handed c [] self.new.hub.history) }
         ensures kept { (self.new.lines ≡ self.old.lines) × (self.new.timing ≡ self.old.timing) × (self.new.numbers ≡ self.old.numbers) × (self.new.hub.rest ≡ self.old.hub.rest) }
         ensures unchanged { OnErr result (self.new ≡ self.old) }
         ensures memory { IfErr result (λ e. e ≡ HubError.Memory) }

@@ -48,7 +48,7 @@ pub enum Cause {
     ClientClosed,
     /// A GET while another one waits.
     DoubleGet,
-    /// A frame that is too long.
+    /// A frame that is too long, or attachments that are too long together.
     TooLong,
     /// No pong came to a ping in time.
     PingTimeout,

@@ -1,5 +1,5 @@
 -- A client's frames, cut into packets (Socket.IO protocol 5, "Packet encoding").
-use Rattle.std.specs.Prelude.{◌≡◌, ◌≢◌, ◌⊎◌, ◌<◌, ◌-◌, ◌++◌, ℕ, List, [], ◌∷◌, length, map, Option, Some, None}
+use Rattle.std.specs.Prelude.{◌≡◌, ◌≢◌, ◌⊎◌, ◌<◌, ◌+◌, ◌-◌, ◌++◌, ℕ, Bool, false, List, [], ◌∷◌, length, map, nat_lt, sum_by, Option, Some, None}
 use Rattle.std.specs.Option.{option_to_list}
 use Rattle.sio_wire.specs.declared.entry.SioPacket.{SioPacket}
 use Rattle.sio_wire.specs.declared.assembler.Progress.{Progress}
@@ -79,6 +79,11 @@ abbrev pub awaited : Progress → ℕ
 awaited Ready = 0
 awaited (Waiting packet) = packet.header.count - length packet.attachments
 awaited (Failed error) = 0
+
+-- so many bytes more, with those of the attachments that came so far, are over the limit; only where attachments are awaited
+abbrev pub exceeds : Progress → (limit : ℕ) → (more : ℕ) → Bool
+exceeds (Waiting packet) limit more = nat_lt limit (sum_by (λ part. length part) packet.attachments + more)
+exceeds _ limit more = false
 
 -- an unfinished packet lacks attachments, and want of memory is no failure
 abbrev pub IsProgress : Progress → Type 0

@@ -1,8 +1,8 @@
 //! One client's frames, put together to packets (Socket.IO protocol 5, "Packet encoding").
 
-ghost use Rattle.std.specs.Prelude.{List, [], ◌≡◌, ◌≢◌, ◌⊎◌, ◌≤◌, Some, Err, IfOk, IfErr, IfSome, OnOk, length};
+ghost use Rattle.std.specs.Prelude.{List, [], ◌≡◌, ◌≢◌, ◌⊎◌, ◌+◌, ◌<◌, ◌≤◌, Some, Err, IfOk, IfErr, IfSome, IfNone, OnOk, length, sum_by};
 ghost use Rattle.sio_wire.specs.Header.{Sio};
-ghost use Rattle.sio_wire.specs.Frames.{Frame, text as text_frame, binary as binary_frame, Accepted, Accepts, GivesOrKeeps, RefusesText, text_refusal, binary_refusal, awaited};
+ghost use Rattle.sio_wire.specs.Frames.{Frame, text as text_frame, binary as binary_frame, Accepted, Accepts, GivesOrKeeps, RefusesText, text_refusal, binary_refusal, awaited, exceeds};
 
 use crate::entry::{Attachments, SioPacket};
 use crate::error::SioError;
@@ -40,6 +40,19 @@ impl Model for Assembler {
     ghost view = { λ a. a.progress };
 
     ghost invariant = { λ a. IsProgress a.progress };
+}
+
+/// The room that these attachments leave, or `None` where there isn't room for them.
+#[tactic(auto, using(std::proofs::lemmas::List::Sums::sum_by_more_le))]
+fn room_beside(parts: &[Bytes], limit: usize) -> Option<usize>
+    ensures some { IfSome result (λ left. left + sum_by (λ part. length part) parts.now ≡ limit) }
+    ensures none { IfNone result (limit < sum_by (λ part. length part) parts.now) }
+{
+    let mut left = limit;
+    for part in parts {
+        left = left.checked_sub(part.as_slice().len())?;
+    }
+    Some(left)
 }
 
 impl Assembler {
@@ -111,6 +124,20 @@ impl Assembler {
         match &self.progress {
             Progress::Waiting(packet) => packet.header.count - packet.attachments.len() as u32,
             _ => 0,
+        }
+    }
+
+    /// Whether this binary frame, with the attachments that came so far, has more bytes than the
+    /// limit. Where none is awaited it hasn't.
+    pub fn exceeds(&self, bytes: &[u8], limit: usize) -> bool
+        ensures { result ≡ exceeds self.now limit (length bytes.now) }
+    {
+        let Progress::Waiting(packet) = &self.progress else {
+            return false;
+        };
+        match room_beside(packet.attachments.as_slice(), limit) {
+            Some(left) => left < bytes.len(),
+            None => true,
         }
     }
 

@@ -42,6 +42,13 @@ impl State {
         self.place_of(space) < self.spaces().len()
     }
 
+    /// How many bytes may wait for each client.
+    pub fn most_bytes(&self) -> usize
+        ensures { result ≡ self.now.limits.bytes }
+    {
+        self.limits.config().bytes
+    }
+
     /// The two maps of rooms themselves: the rooms of each connected socket, and the sockets of each
     /// room. They mirror each other, each socket is in its own room, and no room is empty (Socket.IO
     /// server documentation, "Rooms").

@@ -1,5 +1,6 @@
-use Rattle.dispatch.specs.Packets.{stage}
-use Rattle.dispatch.proofs.PacketLemmas.{takes-text, takes-binary}
+use Rattle.std.proofs.Common.{ℕ, List, subst}
+use Rattle.dispatch.specs.Packets.{stage, TakesBinary}
+use Rattle.dispatch.proofs.PacketLemmas.{takes-text}
 use Rattle.dispatch.proofs.packets.handle.Goals as goal
 
 pub returns-in-Message-clause-does : goal.returns-in-Message-clause-does
@@ -19,15 +20,7 @@ returns-in-Message-clause-does g c =
 
 pub returns-in-Binary-clause-does : goal.returns-in-Binary-clause-does
 returns-in-Binary-clause-does g c =
-    let took = rw c.as_slice.ensures.value at c.binary-given.ensures in
+    let start = stage c.args.hub.now.history c.args.line.now (g.I.IdSource.stream c.args.ids.now) c.args.done.now in
+    let end = stage c.take_binary.new.hub.history c.take_binary.new.line (g.I.IdSource.stream c.take_binary.new.ids) c.take_binary.new.done in
     rw c.in-Binary.is
-    (takes-binary (g.A.App.decides c.args.app.now) (g.A.App.allows c.args.app.now) c.args.client c.in-Binary.bytes c.args.now
-    (stage c.args.hub.now.history c.args.line.now (g.I.IdSource.stream c.args.ids.now) c.args.done.now)
-    c.binary-given.new.self
-    c.binary-given.result
-    c.go_on-in-Binary.result
-    (stage c.go_on-in-Binary.new.hub.history c.go_on-in-Binary.new.line (g.I.IdSource.stream c.go_on-in-Binary.new.ids) c.go_on-in-Binary.new.done)
-    took.given
-    took.advances
-    took.fault
-    c.go_on-in-Binary.ensures.does)
+    (subst (λ (bytes : List ℕ). TakesBinary (g.A.App.decides c.args.app.now) (g.A.App.allows c.args.app.now) c.args.client bytes c.args.now start c.take_binary.result end) c.as_slice-bytes.ensures.value c.take_binary.ensures.does)
