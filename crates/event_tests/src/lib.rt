@@ -2,6 +2,8 @@
 #![tactic(auto)]
 
 #[cfg(test)]
+mod attachments;
+#[cfg(test)]
 mod made;
 #[cfg(test)]
 mod packets;

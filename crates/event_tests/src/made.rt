@@ -24,14 +24,15 @@ pub struct Server<C: Ledger, T: Ledger> {
     pub ids: Counter,
 }
 
-fn config(alloc: Global) -> Result<Config, AllocError> {
+/// Limits with so many bytes for each client's outbox.
+fn config(alloc: Global, bytes: usize) -> Result<Config, AllocError> {
     let mut spaces = Vec::new(alloc);
     spaces.push(Text::copy_of(alloc, "/")?)?;
     spaces.push(Text::copy_of(alloc, "/admin")?)?;
     Ok(Config {
         clients: 3,
         capacity: 64,
-        bytes: 8_388_608,
+        bytes,
         log: 1024,
         saved: 4096,
         keep: 120_000,
@@ -40,16 +41,17 @@ fn config(alloc: Global) -> Result<Config, AllocError> {
     })
 }
 
-/// A core with no clients.
-pub fn new_server<C: Ledger, T: Ledger>(
+/// A core with no clients, for each of which so many bytes may wait.
+pub fn new_server_with<C: Ledger, T: Ledger>(
     alloc: Global,
+    bytes: usize,
     commands: Blank,
     taken: Blank,
 ) -> Result<Server<C, T>, CoreError>
     requires commands { (commands.name ≡ C.name) × (commands.parts ≡ C.parts) × (commands.parts ≡ 65536) }
     requires taken { (taken.name ≡ T.name) × (taken.parts ≡ T.parts) × (taken.parts ≡ 65536) }
 {
-    let Ok(config) = config(alloc) else {
+    let Ok(config) = config(alloc, bytes) else {
         return Err(CoreFault::Memory.at_once());
     };
     let timing = Timing {
@@ -68,6 +70,18 @@ pub fn new_server<C: Ledger, T: Ledger>(
         pass,
         ids: Counter::new(),
     })
+}
+
+/// A core with no clients.
+pub fn new_server<C: Ledger, T: Ledger>(
+    alloc: Global,
+    commands: Blank,
+    taken: Blank,
+) -> Result<Server<C, T>, CoreError>
+    requires commands { (commands.name ≡ C.name) × (commands.parts ≡ C.parts) × (commands.parts ≡ 65536) }
+    requires taken { (taken.name ≡ T.name) × (taken.parts ≡ T.parts) × (taken.parts ≡ 65536) }
+{
+    new_server_with(alloc, 8_388_608, commands, taken)
 }
 
 /// What the tests compare of an outcome.
