@@ -2,8 +2,6 @@
 #![tactic(auto)]
 
 #[cfg(test)]
-mod attachments;
-#[cfg(test)]
 mod made;
 #[cfg(test)]
 mod packets;

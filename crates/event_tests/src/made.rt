@@ -24,15 +24,14 @@ pub struct Server<C: Ledger, T: Ledger> {
     pub ids: Counter,
 }
 
-/// Limits with so many bytes for each client's outbox.
-fn config(alloc: Global, bytes: usize) -> Result<Config, AllocError> {
+fn config(alloc: Global) -> Result<Config, AllocError> {
     let mut spaces = Vec::new(alloc);
     spaces.push(Text::copy_of(alloc, "/")?)?;
     spaces.push(Text::copy_of(alloc, "/admin")?)?;
     Ok(Config {
         clients: 3,
         capacity: 64,
-        bytes,
+        bytes: 8_388_608,
         log: 1024,
         saved: 4096,
         keep: 120_000,
@@ -41,17 +40,16 @@ fn config(alloc: Global, bytes: usize) -> Result<Config, AllocError> {
     })
 }
 
-/// A core with no clients, for each of which so many bytes may wait.
-pub fn new_server_with<C: Ledger, T: Ledger>(
+/// A core with no clients.
+pub fn new_server<C: Ledger, T: Ledger>(
     alloc: Global,
-    bytes: usize,
     commands: Blank,
     taken: Blank,
 ) -> Result<Server<C, T>, CoreError>
     requires commands { (commands.name ≡ C.name) × (commands.parts ≡ C.parts) × (commands.parts ≡ 65536) }
     requires taken { (taken.name ≡ T.name) × (taken.parts ≡ T.parts) × (taken.parts ≡ 65536) }
 {
-    let Ok(config) = config(alloc, bytes) else {
+    let Ok(config) = config(alloc) else {
         return Err(CoreFault::Memory.at_once());
     };
     let timing = Timing {
@@ -72,20 +70,8 @@ pub fn new_server_with<C: Ledger, T: Ledger>(
     })
 }
 
-/// A core with no clients.
-pub fn new_server<C: Ledger, T: Ledger>(
-    alloc: Global,
-    commands: Blank,
-    taken: Blank,
-) -> Result<Server<C, T>, CoreError>
-    requires commands { (commands.name ≡ C.name) × (commands.parts ≡ C.parts) × (commands.parts ≡ 65536) }
-    requires taken { (taken.name ≡ T.name) × (taken.parts ≡ T.parts) × (taken.parts ≡ 65536) }
-{
-    new_server_with(alloc, 8_388_608, commands, taken)
-}
-
 /// What the tests compare of an outcome.
-#[derive(Clone, Copy, Debug, PartialEq, Eq)]
+#[derive(Clone, Copy, PartialEq, Eq)]
 pub enum Seen {
     Opened(u128),
     Done(SeenDone),
@@ -101,7 +87,7 @@ pub enum Seen {
 
 /// What the tests compare of what was done. The receivers are those of the last broadcast: how many,
 /// and the first of them.
-#[derive(Clone, Copy, Debug, PartialEq, Eq)]
+#[derive(Clone, Copy, PartialEq, Eq)]
 pub struct SeenDone {
     pub packets: usize,
     pub effects: usize,

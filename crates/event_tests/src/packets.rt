@@ -74,15 +74,13 @@ fn a_refused_growth_ends_between_two_packets(rt: HostRuntime) {
                 assert!(rt; error.fault == CoreFault::Memory);
                 assert!(rt; error.packets <= 1);
                 let effects = error.packets.saturating_add(error.effects);
-                assert_eq!(rt; after.0, effects);
-                assert_eq!(rt; after.1, before.1.saturating_add(effects as u64));
-                assert_eq!(rt; after.2, before.2);
+                assert!(rt; after.0 == effects);
+                assert!(rt; after.1 == before.1.saturating_add(effects as u64));
+                assert!(rt; after.2 == before.2);
             }
             None => {
-                assert_eq!(rt;
-                    after,
-                    (1, before.1.saturating_add(2), before.2.saturating_add(1))
-                );
+                let want = (1, before.1.saturating_add(2), before.2.saturating_add(1));
+                assert!(rt; after == want);
             }
         }
         return;

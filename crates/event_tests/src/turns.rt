@@ -44,7 +44,7 @@ fn one_speaks<C: Ledger, T: Ledger>(
 ) -> Result<(), CoreError> {
     let alloc = rt.alloc();
     let begun = server.does(alloc, &Event::PollBegin { client: two })?;
-    assert_eq!(rt; begun, Seen::Begun);
+    assert!(rt; begun == Seen::Begun);
     let nothing = server.does(
         alloc,
         &Event::PollTake {
@@ -52,14 +52,14 @@ fn one_speaks<C: Ledger, T: Ledger>(
             most: 64,
         },
     )?;
-    assert_eq!(rt; nothing, Seen::Nothing);
+    assert!(rt; nothing == Seen::Nothing);
     let done = server.posts(alloc, one, "42[\"say\",\"r\",\"x\"]")?;
     let want = SeenDone {
         effects: 1,
         receivers: Some((1, two)),
         ..WORKED_ON_ONE
     };
-    assert_eq!(rt; done, Seen::Done(want));
+    assert!(rt; done == Seen::Done(want));
     let want = "42[\"say\",\"r\",\"x\",\"0000000000000001\"]";
     assert!(rt; server.takes(alloc, two, want)?);
     Ok(())
@@ -81,13 +81,13 @@ fn one_leaves<C: Ledger, T: Ledger>(
         ignored: true,
         ..WORKED_ON_ONE
     };
-    assert_eq!(rt; done, Seen::Done(want));
+    assert!(rt; done == Seen::Done(want));
     let done = server.posts(rt.alloc(), one, "42[\"x\"]\u{1e}2")?;
     let want = SeenDone {
         closed: Some(Cause::NotJoined),
         ..WORKED_ON_ONE
     };
-    assert_eq!(rt; done, Seen::Done(want));
+    assert!(rt; done == Seen::Done(want));
     Ok(())
 }
 
@@ -103,11 +103,11 @@ fn two_is_lost<C: Ledger, T: Ledger>(
         packets: 0,
         ..WORKED_ON_ONE
     };
-    assert_eq!(rt; ended, Seen::Done(want));
+    assert!(rt; ended == Seen::Done(want));
     let lost = server.does(alloc, &Event::TransportLost { client: two })?;
-    assert_eq!(rt; lost, Seen::Lost { saved: true });
+    assert!(rt; lost == Seen::Lost { saved: true });
     let unknown = server.does(alloc, &Event::TransportLost { client: two });
-    assert_eq!(rt; unknown, Err(CoreFault::UnknownClient.at_once()));
+    assert!(rt; unknown == Err(CoreFault::UnknownClient.at_once()));
     Ok(())
 }
 
@@ -129,7 +129,7 @@ fn the_books_agree<C: Ledger, T: Ledger>(
     let Ok(epoch) = server.core.seal(rt.alloc()) else {
         return Err(CoreFault::Memory.at_once());
     };
-    assert_eq!(rt; epoch.steps.len(), steps);
+    assert!(rt; epoch.steps.len() == steps);
     assert!(rt; server.core.hub().state().steps().is_empty());
     Ok(())
 }
