@@ -14,6 +14,3 @@ pub use faults::RunError;
 pub use printing::Answer;
 pub use run::run_script;
 pub use script_line::{Key, Notice, ScriptLine, read_line};
-
-#[cfg(test)]
-mod tests;

@@ -1,13 +1,12 @@
 //! A seal after each line changes no answer.
 
-use crate::tests::expected::expect_of;
+use crate::expected::expect_each;
 
-#[test]
-fn sealed_after_each_line(rt: HostRuntime) {
-    let cases = [
-        (
-            "a session that comes back in the last of many epochs",
-            r#"open A
+/// Scripts with a seal after each line.
+const SEALED: [(&str, &str, &str); 3] = [
+    (
+        "a session that comes back in the last of many epochs",
+        r#"open A
 seal
 open B
 seal
@@ -50,7 +49,7 @@ seal
 take D
 seal
 "#,
-            "A 0{\"sid\":\"00000000000000000000000000000001\",\"upgrades\":[\"websocket\"],\"pingInterval\":25000,\"pingTimeout\":20000,\"maxPayload\":1000000}
+        "A 0{\"sid\":\"00000000000000000000000000000001\",\"upgrades\":[\"websocket\"],\"pingInterval\":25000,\"pingTimeout\":20000,\"maxPayload\":1000000}
 sealed 1
 B 0{\"sid\":\"00000000000000000000000000000002\",\"upgrades\":[\"websocket\"],\"pingInterval\":25000,\"pingTimeout\":20000,\"maxPayload\":1000000}
 sealed 1
@@ -91,10 +90,10 @@ sealed 1
 D 40{\"sid\":\"00000000000000000000000000000009\",\"pid\":\"0000000000000000000000000000000a\"}
 sealed 1
 ",
-        ),
-        (
-            "an offset that the log has no more in the last of many epochs",
-            r#"config log 2
+    ),
+    (
+        "an offset that the log has no more in the last of many epochs",
+        r#"config log 2
 open A
 seal
 open B
@@ -128,7 +127,7 @@ seal
 take C
 seal
 "#,
-            r#"A 0{"sid":"00000000000000000000000000000001","upgrades":["websocket"],"pingInterval":25000,"pingTimeout":20000,"maxPayload":1000000}
+        r#"A 0{"sid":"00000000000000000000000000000001","upgrades":["websocket"],"pingInterval":25000,"pingTimeout":20000,"maxPayload":1000000}
 sealed 1
 B 0{"sid":"00000000000000000000000000000002","upgrades":["websocket"],"pingInterval":25000,"pingTimeout":20000,"maxPayload":1000000}
 sealed 1
@@ -161,10 +160,10 @@ sealed 1
 C 40{"sid":"00000000000000000000000000000008","pid":"00000000000000000000000000000009"}
 sealed 1
 "#,
-        ),
-        (
-            "more than an outbox holds in the last of many epochs",
-            r#"config capacity 2
+    ),
+    (
+        "more than an outbox holds in the last of many epochs",
+        r#"config capacity 2
 open A
 seal
 open B
@@ -202,7 +201,7 @@ seal
 take C
 seal
 "#,
-            r#"A 0{"sid":"00000000000000000000000000000001","upgrades":["websocket"],"pingInterval":25000,"pingTimeout":20000,"maxPayload":1000000}
+        r#"A 0{"sid":"00000000000000000000000000000001","upgrades":["websocket"],"pingInterval":25000,"pingTimeout":20000,"maxPayload":1000000}
 sealed 1
 B 0{"sid":"00000000000000000000000000000002","upgrades":["websocket"],"pingInterval":25000,"pingTimeout":20000,"maxPayload":1000000}
 sealed 1
@@ -237,9 +236,10 @@ sealed 1
 C 40{"sid":"00000000000000000000000000000008","pid":"00000000000000000000000000000009"}
 sealed 1
 "#,
-        ),
-    ];
-    for (shows, script, printed) in cases {
-        expect_of(&rt, shows, script.as_bytes(), printed);
-    }
+    ),
+];
+
+#[test]
+fn sealed_after_each_line(rt: HostRuntime) {
+    expect_each(&rt, &SEALED);
 }

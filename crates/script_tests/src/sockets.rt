@@ -1,7 +1,7 @@
 //! Clients over WebSockets, and the way to them.
 
-use crate::tests::devices::Tape;
-use crate::tests::expected::{expect_of, expect_printed};
+use crate::devices::Tape;
+use crate::expected::{expect_each_after, expect_of, expect_printed};
 
 /// A client that polls, and has a socket.
 const POLLING: &str = "open A\ntext A 40\ntake A\n";
@@ -26,12 +26,11 @@ ok
 A text 40{"sid":"00000000000000000000000000000002","pid":"00000000000000000000000000000003"}
 "#;
 
-#[test]
-fn upgrades(rt: HostRuntime) {
-    let cases = [
-        (
-            "a client that polls goes over to a WebSocket",
-            r#"get A
+/// What is asked of a client that polls.
+const UPGRADES: [(&str, &str, &str); 5] = [
+    (
+        "a client that polls goes over to a WebSocket",
+        r#"get A
 probe A
 take A
 probe A
@@ -41,7 +40,7 @@ get A
 frame A 42["all","z"]
 take A
 "#,
-            r#"ok
+        r#"ok
 A 3probe
 A 6
 refused: AlreadyProbing
@@ -51,10 +50,10 @@ refused: WrongTransport
 ok
 A text 42["all","z","0000000000000001"]
 "#,
-        ),
-        (
-            "no probe runs, one fails, and after an upgrade there is none",
-            "upgrade A
+    ),
+    (
+        "no probe runs, one fails, and after an upgrade there is none",
+        "upgrade A
 unprobe A
 probe A
 unprobe A
@@ -65,7 +64,7 @@ probe A
 upgrade A
 unprobe A
 ",
-            "refused: NotProbing
+        "refused: NotProbing
 refused: NotProbing
 A 3probe
 ok
@@ -76,40 +75,40 @@ refused: AlreadyUpgraded
 refused: AlreadyUpgraded
 refused: AlreadyUpgraded
 ",
-        ),
-        (
-            "a client that probes still posts and takes payloads, and no frames",
-            r#"probe A
+    ),
+    (
+        "a client that probes still posts and takes payloads, and no frames",
+        r#"probe A
 frame A 2
 bytes A 00
 text A 42["all"]
 take A
 take A
 "#,
-            r#"A 3probe
+        r#"A 3probe
 refused: WrongTransport
 refused: WrongTransport
 ok
 A 42["all","0000000000000001"]
 A 6
 "#,
-        ),
-        (
-            "what is taken over a WebSocket is frames, though a GET waits",
-            "get A
+    ),
+    (
+        "what is taken over a WebSocket is frames, though a GET waits",
+        "get A
 probe A
 upgrade A
 take A
 ",
-            "ok
+        "ok
 A 3probe
 ok
 A -
 ",
-        ),
-        (
-            "a client that is gone",
-            "lost A
+    ),
+    (
+        "a client that is gone",
+        "lost A
 probe A
 upgrade A
 unprobe A
@@ -117,7 +116,7 @@ frame A 2
 bytes A 00
 tick A
 ",
-            "ok
+        "ok
 refused: UnknownClient
 refused: UnknownClient
 refused: UnknownClient
@@ -125,21 +124,19 @@ refused: UnknownClient
 refused: UnknownClient
 refused: UnknownClient
 ",
-        ),
-    ];
-    for (shows, lines, printed) in cases {
-        let script = [POLLING.as_bytes(), lines.as_bytes()];
-        let printed = [POLLING_PRINTED.as_bytes(), printed.as_bytes()];
-        expect_printed(&rt, shows, Tape::sound(&script), &printed);
-    }
-}
+    ),
+];
 
 #[test]
-fn frames(rt: HostRuntime) {
-    let cases = [
-        (
-            "frames are taken each in its line, the attachments after the text",
-            r#"frame A 452-["all",{"_placeholder":true,"num":0},{"_placeholder":true,"num":1}]
+fn upgrades(rt: HostRuntime) {
+    expect_each_after(&rt, POLLING, POLLING_PRINTED, &UPGRADES);
+}
+
+/// What is asked of a client over a WebSocket.
+const FRAMES: [(&str, &str, &str); 8] = [
+    (
+        "frames are taken each in its line, the attachments after the text",
+        r#"frame A 452-["all",{"_placeholder":true,"num":0},{"_placeholder":true,"num":1}]
 bytes A 0001fe
 bytes A 
 take A
@@ -149,7 +146,7 @@ take A 1
 take A 1
 take A
 "#,
-            r#"ok
+        r#"ok
 ok
 ok
 A text 452-["all",{"_placeholder":true,"num":0},{"_placeholder":true,"num":1},"0000000000000001"]
@@ -161,10 +158,10 @@ A text 42["all","0000000000000002"]
 A text 42["all","0000000000000003"]
 A -
 "#,
-        ),
-        (
-            "bytes that are no pairs of lower-case digits",
-            "bytes A 0
+    ),
+    (
+        "bytes that are no pairs of lower-case digits",
+        "bytes A 0
 bytes A 0G
 bytes A FF
 bytes A fF
@@ -172,7 +169,7 @@ bytes A  00
 bytes A 00 
 bytes A 0x00
 ",
-            "bad line
+        "bad line
 bad line
 bad line
 bad line
@@ -180,67 +177,66 @@ bad line
 bad line
 bad line
 ",
-        ),
-        (
-            "a frame that is no packet closes the client, and was read",
-            "frame A x
+    ),
+    (
+        "a frame that is no packet closes the client, and was read",
+        "frame A x
 frame A 2
 ",
-            "ok, closed: BadType
+        "ok, closed: BadType
 refused: UnknownClient
 ",
-        ),
-        (
-            "an empty frame",
-            "frame A 
+    ),
+    (
+        "an empty frame",
+        "frame A 
 ",
-            "ok, closed: Empty
+        "ok, closed: Empty
 ",
-        ),
-        (
-            "an attachment in a text frame that is no base64",
-            "frame A bAQ
+    ),
+    (
+        "an attachment in a text frame that is no base64",
+        "frame A bAQ
 ",
-            "ok, closed: BadBase64
+        "ok, closed: BadBase64
 ",
-        ),
-        (
-            "an attachment that nothing awaits",
-            "bytes A 01020304
+    ),
+    (
+        "an attachment that nothing awaits",
+        "bytes A 01020304
 ",
-            "ok, closed: BinaryUnawaited
+        "ok, closed: BinaryUnawaited
 ",
-        ),
-        (
-            "packets of frames are as those of payloads",
-            r#"frame A 3
+    ),
+    (
+        "packets of frames are as those of payloads",
+        r#"frame A 3
 frame A 430["yes"]
 frame A 42["leave","q"]
 frame A 2
 "#,
-            "ok
+        "ok
 ok, ignored
 ok, skipped: NotIn
 ok, closed: PingFromClient
 ",
-        ),
-        (
-            "a client over a WebSocket has no probe",
-            "probe A
+    ),
+    (
+        "a client over a WebSocket has no probe",
+        "probe A
 upgrade A
 unprobe A
 ",
-            "refused: AlreadyUpgraded
+        "refused: AlreadyUpgraded
 refused: AlreadyUpgraded
 refused: AlreadyUpgraded
 ",
-        ),
-    ];
-    for (shows, lines, printed) in cases {
-        let script = [ON_SOCKET.as_bytes(), lines.as_bytes()];
-        let printed = [ON_SOCKET_PRINTED.as_bytes(), printed.as_bytes()];
-        expect_printed(&rt, shows, Tape::sound(&script), &printed);
-    }
+    ),
+];
+
+#[test]
+fn frames(rt: HostRuntime) {
+    expect_each_after(&rt, ON_SOCKET, ON_SOCKET_PRINTED, &FRAMES);
 }
 
 #[test]

@@ -1,14 +1,13 @@
 //! Sessions that are lost and come back.
 
-use crate::tests::expected::expect_in_room;
+use crate::expected::expect_each_in_room;
 
-#[test]
-fn sessions_that_come_back(rt: HostRuntime) {
-    let cases = [
-        (
-            "a session comes back with what it missed, and only once",
-            "",
-            r#"text A 42["say","r","1"]
+/// Sessions of the room.
+const SESSIONS: [(&str, &str, &str, &str); 7] = [
+    (
+        "a session comes back with what it missed, and only once",
+        "",
+        r#"text A 42["say","r","1"]
 take B
 at 1000
 lost B
@@ -22,7 +21,7 @@ open D
 text D 40{"pid":"00000000000000000000000000000006","offset":"0000000000000001"}
 take D
 "#,
-            "ok
+        "ok
 B 42[\"say\",\"r\",\"1\",\"0000000000000001\"]
 ok
 ok
@@ -34,11 +33,11 @@ D 0{\"sid\":\"00000000000000000000000000000008\",\"upgrades\":[\"websocket\"],\"
 ok
 D 40{\"sid\":\"00000000000000000000000000000009\",\"pid\":\"0000000000000000000000000000000a\"}
 ",
-        ),
-        (
-            "a session comes too late",
-            "",
-            r#"text A 42["say","r","1"]
+    ),
+    (
+        "a session comes too late",
+        "",
+        r#"text A 42["say","r","1"]
 take B
 at 1000
 lost B
@@ -49,7 +48,7 @@ open C
 text C 40{"pid":"00000000000000000000000000000006","offset":"0000000000000001"}
 take C
 "#,
-            r#"ok
+        r#"ok
 B 42["say","r","1","0000000000000001"]
 ok
 ok
@@ -58,11 +57,11 @@ C 0{"sid":"00000000000000000000000000000007","upgrades":["websocket"],"pingInter
 ok
 C 40{"sid":"00000000000000000000000000000008","pid":"00000000000000000000000000000009"}
 "#,
-        ),
-        (
-            "a session names an offset that the log has no more",
-            "config log 2\n",
-            r#"text A 42["say","r","1"]
+    ),
+    (
+        "a session names an offset that the log has no more",
+        "config log 2\n",
+        r#"text A 42["say","r","1"]
 take B
 lost B
 text A 42["say","z","2"]
@@ -71,7 +70,7 @@ open C
 text C 40{"pid":"00000000000000000000000000000006","offset":"0000000000000001"}
 take C
 "#,
-            r#"ok
+        r#"ok
 B 42["say","r","1","0000000000000001"]
 ok
 ok
@@ -80,11 +79,11 @@ C 0{"sid":"00000000000000000000000000000007","upgrades":["websocket"],"pingInter
 ok
 C 40{"sid":"00000000000000000000000000000008","pid":"00000000000000000000000000000009"}
 "#,
-        ),
-        (
-            "a session misses more than its outbox holds",
-            "config capacity 2\n",
-            r#"text A 42["say","r","1"]
+    ),
+    (
+        "a session misses more than its outbox holds",
+        "config capacity 2\n",
+        r#"text A 42["say","r","1"]
 take B
 at 1000
 lost B
@@ -95,7 +94,7 @@ open C
 text C 40{"pid":"00000000000000000000000000000006","offset":"0000000000000001"}
 take C
 "#,
-            r#"ok
+        r#"ok
 B 42["say","r","1","0000000000000001"]
 ok
 ok
@@ -104,11 +103,11 @@ C 0{"sid":"00000000000000000000000000000007","upgrades":["websocket"],"pingInter
 ok
 C 40{"sid":"00000000000000000000000000000008","pid":"00000000000000000000000000000009"}
 "#,
-        ),
-        (
-            "a session comes back twice, and gets what was taken and lost on its way",
-            "",
-            r#"text A 42["say","r","1"]
+    ),
+    (
+        "a session comes back twice, and gets what was taken and lost on its way",
+        "",
+        r#"text A 42["say","r","1"]
 take B
 text A 42["say","r","2"]
 lost B
@@ -125,7 +124,7 @@ open D
 text D 40{"pid":"00000000000000000000000000000006","offset":"0000000000000004"}
 take D
 "#,
-            "ok
+        "ok
 B 42[\"say\",\"r\",\"1\",\"0000000000000001\"]
 ok
 ok
@@ -142,11 +141,11 @@ D 0{\"sid\":\"00000000000000000000000000000008\",\"upgrades\":[\"websocket\"],\"
 ok
 D 40{\"sid\":\"00000000000000000000000000000005\",\"pid\":\"00000000000000000000000000000006\"}\u{1e}42[\"say\",\"r\",\"5\",\"0000000000000005\"]
 ",
-        ),
-        (
-            "a session comes back twice, and gets what was taken and lost on its way again",
-            "",
-            r#"text A 42["say","r","1"]
+    ),
+    (
+        "a session comes back twice, and gets what was taken and lost on its way again",
+        "",
+        r#"text A 42["say","r","1"]
 take B
 text A 42["say","r","2"]
 lost B
@@ -163,7 +162,7 @@ open D
 text D 40{"pid":"00000000000000000000000000000006","offset":"0000000000000003"}
 take D
 "#,
-            "ok
+        "ok
 B 42[\"say\",\"r\",\"1\",\"0000000000000001\"]
 ok
 ok
@@ -180,27 +179,28 @@ D 0{\"sid\":\"00000000000000000000000000000008\",\"upgrades\":[\"websocket\"],\"
 ok
 D 40{\"sid\":\"00000000000000000000000000000005\",\"pid\":\"00000000000000000000000000000006\"}\u{1e}42[\"say\",\"r\",\"4\",\"0000000000000004\"]\u{1e}42[\"say\",\"r\",\"5\",\"0000000000000005\"]
 ",
-        ),
-        (
-            "what was sealed is counted still",
-            "",
-            r#"seal
+    ),
+    (
+        "what was sealed is counted still",
+        "",
+        r#"seal
 text A 42["say","r","1"]
 take B
 totals
 seal
 seal
 "#,
-            r#"sealed 8
+        r#"sealed 8
 ok
 B 42["say","r","1","0000000000000001"]
 commands 10, placed 3, dropped 0, taken 3, discarded 0, waiting 0
 sealed 2
 sealed 0
 "#,
-        ),
-    ];
-    for (shows, limits, lines, printed) in cases {
-        expect_in_room(&rt, shows, limits, lines, printed);
-    }
+    ),
+];
+
+#[test]
+fn sessions_that_come_back(rt: HostRuntime) {
+    expect_each_in_room(&rt, &SESSIONS);
 }
