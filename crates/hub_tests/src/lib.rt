@@ -1,15 +1,16 @@
-//! Tests of the hub and of the slow program: whole chats as lists of commands with their answers and
-//! totals, passes that are settled together, many steps and many clients, and random commands of which
-//! both say the same.
+//! Tests of the hub: whole chats as lists of commands with their answers and totals, passes that are
+//! settled together, many steps and many clients.
 #![tactic(auto)]
 
 #[cfg(test)]
 mod chats;
-#[cfg(test)]
-mod histories;
 #[cfg(test)]
 mod long;
 #[cfg(test)]
 mod made;
 #[cfg(test)]
 mod passes;
+#[cfg(test)]
+mod rig;
+#[cfg(test)]
+mod tasks;

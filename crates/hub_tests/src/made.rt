@@ -1,14 +1,10 @@
-//! The hubs that the tests use.
+//! Rooms, entries, broadcasts and limits that the tests use.
 
-ghost use Rattle.std.specs.Prelude.{◌≡◌};
-
-use hub::{Hub, Pass};
-use journal::{Config, HubError};
+use journal::{Cast, Config, HubError};
+use room_maps::{Room, Sid};
+use sio_wire::{Attachments, Entry};
 use std::alloc::Global;
-use std::sync::ledger::{Blank, Ledger};
-use terms::Text;
-
-pub const PARTS: u64 = 65_536;
+use terms::{Bytes, Text};
 
 /// What differs between the hubs.
 #[derive(Clone, Copy)]
@@ -48,19 +44,67 @@ fn config_once(alloc: Global, limits: Limits) -> Result<Config, HubError> {
     })
 }
 
-/// A hub with the one namespace `/`. One growth may be refused.
-pub fn new_hub<C: Ledger, T: Ledger>(
+/// The config of a hub with the one namespace `/`. One growth may be refused.
+pub fn config(alloc: Global, limits: Limits) -> Result<Config, HubError> {
+    match config_once(alloc, limits) {
+        Err(HubError::Memory) => config_once(alloc, limits),
+        config => config,
+    }
+}
+
+pub fn room(name: &str) -> Room {
+    match Room::read(name) {
+        Some(room) => room,
+        None => Room::own(Sid::new(0)),
+    }
+}
+
+pub fn own(sid: u128) -> Room {
+    Room::own(Sid::new(sid))
+}
+
+pub fn rooms_of(alloc: Global, names: &[&str]) -> Result<Vec<Room>, HubError> {
+    let mut rooms = Vec::new(alloc);
+    for name in names {
+        rooms.push(room(name))?;
+    }
+    Ok(rooms)
+}
+
+fn push_part(alloc: Global, attachments: &mut Attachments, part: &[u8]) -> Result<(), HubError> {
+    let bytes = Bytes::copy_of(alloc, part)?;
+    Ok(attachments.push(bytes)?)
+}
+
+pub fn attachments_of(alloc: Global, parts: &[&[u8]]) -> Result<Attachments, HubError> {
+    let mut attachments = Attachments::new(alloc);
+    for part in parts {
+        push_part(alloc, &mut attachments, part)?;
+    }
+    Ok(attachments)
+}
+
+pub fn entry(alloc: Global, text: &str, parts: &[&[u8]]) -> Result<Entry, HubError> {
+    Ok(Entry {
+        text: Text::copy_of(alloc, text)?,
+        attachments: attachments_of(alloc, parts)?,
+    })
+}
+
+/// A broadcast of an event.
+pub fn broadcast(
     alloc: Global,
-    limits: Limits,
-    commands: Blank,
-    taken: Blank,
-) -> Result<(Hub<C, T>, Pass<C, T>), HubError>
-    requires commands { (commands.name ≡ C.name) × (commands.parts ≡ C.parts) × (commands.parts ≡ 65536) }
-    requires taken { (taken.name ≡ T.name) × (taken.parts ≡ T.parts) × (taken.parts ≡ 65536) }
-{
-    let config = match config_once(alloc, limits) {
-        Ok(config) => config,
-        Err(_) => config_once(alloc, limits)?,
-    };
-    Hub::new(alloc, config, commands, taken)
+    rooms: &[Room],
+    excepted: &[Room],
+    logged: bool,
+    payload: &str,
+) -> Result<Cast, HubError> {
+    Ok(Cast {
+        space: Text::copy_of(alloc, "/")?,
+        rooms: Vec::from_slice(alloc, rooms)?,
+        excepted: Vec::from_slice(alloc, excepted)?,
+        logged,
+        payload: Text::copy_of(alloc, payload)?,
+        attachments: Attachments::new(alloc),
+    })
 }

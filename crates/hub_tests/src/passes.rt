@@ -2,16 +2,14 @@
 //! the whole run may be refused, so each second try succeeds; where the hub itself is refused, another
 //! is made.
 
-ghost use Rattle.std.specs.Prelude.{◌≡◌};
-
-use crate::made::{AMPLE, Limits, PARTS, new_hub};
+use crate::made::{AMPLE, Limits, entry};
+use crate::rig::Rig;
+use crate::tasks::{Task, expect};
 use hub::{Hub, NotAll, Pass};
 use journal::{HubError, Totals};
-use sio_wire::{Attachments, Entry};
+use sio_wire::Entry;
 use std::alloc::Global;
-use std::marker::Brand;
-use std::sync::ledger::{Blank, Ledger};
-use terms::Text;
+use std::sync::ledger::Ledger;
 
 const CLIENT: u128 = 7;
 
@@ -57,10 +55,7 @@ fn tell_once<C: Ledger, T: Ledger>(
     hub: &mut Hub<C, T>,
     pass: &mut Pass<C, T>,
 ) -> Result<(), HubError> {
-    let entry = Entry {
-        text: Text::copy_of(alloc, "abcd")?,
-        attachments: Attachments::new(alloc),
-    };
+    let entry = entry(alloc, "abcd", &[])?;
     hub.tell(alloc, pass, CLIENT, entry, 6)
 }
 
@@ -156,33 +151,6 @@ fn settles<C: Ledger, T: Ledger>(
     Ok(has_worked && is_lacking && has_all(hub, one))
 }
 
-fn settle_two<C: Ledger, T: Ledger>(
-    alloc: Global,
-    commands: Blank,
-    taken: Blank,
-) -> Result<bool, HubError>
-    requires commands { (commands.name ≡ C.name) × (commands.parts ≡ C.parts) × (commands.parts ≡ 65536) }
-    requires taken { (taken.name ≡ T.name) × (taken.parts ≡ T.parts) × (taken.parts ≡ 65536) }
-{
-    let (mut hub, mut one) = new_hub::<C, T>(alloc, SMALL, commands, taken)?;
-    settles(alloc, &mut hub, &mut one)
-}
-
-fn settle_two_once(alloc: Global) -> Result<bool, HubError> {
-    let (commands, taken) = (Blank::new(PARTS), Blank::new(PARTS));
-    settle_two::<Brand, Brand>(alloc, commands, taken)
-}
-
-#[test]
-fn two_passes_settle_together(rt: HostRuntime) -> Result<(), HubError> {
-    let settled = match settle_two_once(rt.alloc()) {
-        Err(HubError::Memory) => settle_two_once(rt.alloc()),
-        settled => settled,
-    };
-    assert!(rt; settled?);
-    Ok(())
-}
-
 /// Takes each pass that the hub still has, and says whether no other is left and nothing was
 /// counted.
 fn run_out<C: Ledger, T: Ledger>(
@@ -196,29 +164,22 @@ fn run_out<C: Ledger, T: Ledger>(
     Ok(is_spent && hub.settle(all) == Ok(NOTHING))
 }
 
-fn take_all_passes<C: Ledger, T: Ledger>(
-    alloc: Global,
-    commands: Blank,
-    taken: Blank,
-) -> Result<bool, HubError>
-    requires commands { (commands.name ≡ C.name) × (commands.parts ≡ C.parts) × (commands.parts ≡ 65536) }
-    requires taken { (taken.name ≡ T.name) × (taken.parts ≡ T.parts) × (taken.parts ≡ 65536) }
-{
-    let (mut hub, mut all) = new_hub::<C, T>(alloc, SMALL, commands, taken)?;
-    run_out(&mut hub, &mut all)
+impl<C: Ledger, T: Ledger> Rig<C, T> {
+    pub fn settles_two(&mut self) -> Result<bool, HubError> {
+        settles(self.alloc, &mut self.hub, &mut self.pass)
+    }
+
+    pub fn runs_out(&mut self) -> Result<bool, HubError> {
+        run_out(&mut self.hub, &mut self.pass)
+    }
 }
 
-fn take_all_passes_once(alloc: Global) -> Result<bool, HubError> {
-    let (commands, taken) = (Blank::new(PARTS), Blank::new(PARTS));
-    take_all_passes::<Brand, Brand>(alloc, commands, taken)
+#[test]
+fn two_passes_settle_together(rt: HostRuntime) -> Result<(), HubError> {
+    expect(&rt, SMALL, Task::TwoPasses)
 }
 
 #[test]
 fn passes_run_out(rt: HostRuntime) -> Result<(), HubError> {
-    let spent = match take_all_passes_once(rt.alloc()) {
-        Err(HubError::Memory) => take_all_passes_once(rt.alloc()),
-        spent => spent,
-    };
-    assert!(rt; spent?);
-    Ok(())
+    expect(&rt, SMALL, Task::AllPasses)
 }

@@ -1,6 +1,6 @@
 //! Events and messages with attachments.
 
-use super::{AMPLE, Answer, B, Line, OF_A, played_by_two};
+use super::{AMPLE, Answer, B, Line, OF_A, expect_chat_of_two};
 use journal::HubError;
 
 /// As many attachments as a packet may have, and one more.
@@ -10,7 +10,7 @@ const TOO_MANY: [&[u8]; 33] = [&[7]; 33];
 
 #[test]
 fn attachments_are_handed_out(rt: HostRuntime) -> Result<(), HubError> {
-    let lines = [
+    static LINES: [(Line, Answer); 4] = [
         (
             Line::Show(
                 OF_A,
@@ -39,14 +39,12 @@ fn attachments_are_handed_out(rt: HostRuntime) -> Result<(), HubError> {
             Answer::Shown("51-[\"t\",{\"_placeholder\":true,\"num\":0}]", &[&[0, 255]]),
         ),
     ];
-    let limits = AMPLE;
-    assert!(rt; played_by_two(rt.alloc(), limits, &lines)? == None);
-    Ok(())
+    expect_chat_of_two(&rt, AMPLE, &LINES)
 }
 
 #[test]
 fn no_more_than_32_attachments(rt: HostRuntime) -> Result<(), HubError> {
-    let lines = [
+    static LINES: [(Line, Answer); 4] = [
         (
             Line::Show(OF_A, "[\"say\",\"r\"]", &TOO_MANY),
             Answer::Refused(HubError::BadPayload),
@@ -61,7 +59,5 @@ fn no_more_than_32_attachments(rt: HostRuntime) -> Result<(), HubError> {
             Answer::Shown("532-[\"say\",\"r\",\"0000000000000001\"]", &MOST),
         ),
     ];
-    let limits = AMPLE;
-    assert!(rt; played_by_two(rt.alloc(), limits, &lines)? == None);
-    Ok(())
+    expect_chat_of_two(&rt, AMPLE, &LINES)
 }

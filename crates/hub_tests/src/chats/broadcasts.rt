@@ -1,12 +1,14 @@
 //! Broadcasts, full outboxes, and what is refused.
 
-use super::{A, AMPLE, Answer, B, Limits, Line, OF_A, OF_B, played, played_by_two};
+use super::{
+    A, AMPLE, Answer, B, Limits, Line, OF_A, OF_B, Task, expect, expect_chat_of_two, wrong,
+};
 use journal::HubError;
 use room_maps::RoomError;
 
 #[test]
 fn a_say_reaches_the_others(rt: HostRuntime) -> Result<(), HubError> {
-    let lines = [
+    static LINES: [(Line, Answer); 4] = [
         (Line::Totals([8, 2, 0, 2, 0, 0]), Answer::Done),
         (
             Line::Say(OF_A, "[\"say\",\"r\",\"hi\"]"),
@@ -18,14 +20,12 @@ fn a_say_reaches_the_others(rt: HostRuntime) -> Result<(), HubError> {
         ),
         (Line::Take(A, 64), Answer::Texts(&[])),
     ];
-    let limits = AMPLE;
-    assert!(rt; played_by_two(rt.alloc(), limits, &lines)? == None);
-    Ok(())
+    expect_chat_of_two(&rt, AMPLE, &LINES)
 }
 
 #[test]
 fn one_entry_for_two_rooms(rt: HostRuntime) -> Result<(), HubError> {
-    let lines = [
+    static LINES: [(Line, Answer); 4] = [
         (Line::Join(OF_B, "q"), Answer::Done),
         (
             Line::Two(OF_A, "[\"two\",\"r\",\"q\",\"x\"]"),
@@ -37,14 +37,12 @@ fn one_entry_for_two_rooms(rt: HostRuntime) -> Result<(), HubError> {
         ),
         (Line::Take(B, 64), Answer::Texts(&[])),
     ];
-    let limits = AMPLE;
-    assert!(rt; played_by_two(rt.alloc(), limits, &lines)? == None);
-    Ok(())
+    expect_chat_of_two(&rt, AMPLE, &LINES)
 }
 
 #[test]
 fn an_excepted_room_gets_nothing(rt: HostRuntime) -> Result<(), HubError> {
-    let lines = [
+    static LINES: [(Line, Answer); 5] = [
         (Line::Join(OF_B, "q"), Answer::Done),
         (
             Line::But(OF_A, "[\"but\",\"r\",\"q\",\"x\"]"),
@@ -54,14 +52,12 @@ fn an_excepted_room_gets_nothing(rt: HostRuntime) -> Result<(), HubError> {
         (Line::Take(B, 64), Answer::Texts(&[])),
         (Line::Totals([11, 2, 0, 2, 0, 0]), Answer::Done),
     ];
-    let limits = AMPLE;
-    assert!(rt; played_by_two(rt.alloc(), limits, &lines)? == None);
-    Ok(())
+    expect_chat_of_two(&rt, AMPLE, &LINES)
 }
 
 #[test]
 fn a_full_outbox_drops_and_counts(rt: HostRuntime) -> Result<(), HubError> {
-    let lines = [
+    static LINES: [(Line, Answer); 10] = [
         (
             Line::Say(OF_A, "[\"say\",\"r\",\"1\"]"),
             Answer::Cast(Some(1), 1, 0),
@@ -102,17 +98,16 @@ fn a_full_outbox_drops_and_counts(rt: HostRuntime) -> Result<(), HubError> {
             ]),
         ),
     ];
-    let limits = Limits {
+    const LIMITS: Limits = Limits {
         capacity: 4,
         ..AMPLE
     };
-    assert!(rt; played_by_two(rt.alloc(), limits, &lines)? == None);
-    Ok(())
+    expect_chat_of_two(&rt, LIMITS, &LINES)
 }
 
 #[test]
 fn nobody_is_left_in_the_room(rt: HostRuntime) -> Result<(), HubError> {
-    let lines = [
+    static LINES: [(Line, Answer); 7] = [
         (Line::Leave(OF_A, "r"), Answer::Done),
         (Line::Leave(OF_B, "r"), Answer::Done),
         (Line::Members("r", &[]), Answer::Done),
@@ -130,14 +125,12 @@ fn nobody_is_left_in_the_room(rt: HostRuntime) -> Result<(), HubError> {
             Answer::Refused(HubError::RoomRefused(RoomError::OwnRoom)),
         ),
     ];
-    let limits = AMPLE;
-    assert!(rt; played_by_two(rt.alloc(), limits, &lines)? == None);
-    Ok(())
+    expect_chat_of_two(&rt, AMPLE, &LINES)
 }
 
 #[test]
 fn the_greatest_offset_is_the_last(rt: HostRuntime) -> Result<(), HubError> {
-    let lines = [
+    static LINES: [(Line, Answer); 5] = [
         (
             Line::Say(OF_A, "[\"say\",\"r\",\"1\"]"),
             Answer::Cast(Some(u64::MAX), 1, 0),
@@ -159,32 +152,30 @@ fn the_greatest_offset_is_the_last(rt: HostRuntime) -> Result<(), HubError> {
             Answer::Texts(&["2[\"quiet\",\"r\",\"3\"]"]),
         ),
     ];
-    let limits = Limits {
+    const LIMITS: Limits = Limits {
         first_offset: u64::MAX,
         ..AMPLE
     };
-    assert!(rt; played_by_two(rt.alloc(), limits, &lines)? == None);
-    Ok(())
+    expect_chat_of_two(&rt, LIMITS, &LINES)
 }
 
 #[test]
 fn no_more_clients_than_there_may_be(rt: HostRuntime) -> Result<(), HubError> {
-    let lines = [
+    static LINES: [(Line, Answer); 3] = [
         (Line::Open(A), Answer::Done),
         (Line::Open(B), Answer::Refused(HubError::TooManyClients)),
         (Line::Totals([1, 0, 0, 0, 0, 0]), Answer::Done),
     ];
-    let limits = Limits {
+    const LIMITS: Limits = Limits {
         clients: 1,
         ..AMPLE
     };
-    assert!(rt; played(rt.alloc(), limits, &[], &lines)? == None);
-    Ok(())
+    expect(&rt, LIMITS, Task::Chat(&[], &LINES))
 }
 
 #[test]
 fn a_hundred_bytes_wait(rt: HostRuntime) -> Result<(), HubError> {
-    let lines = [
+    static LINES: [(Line, Answer); 8] = [
         (
             Line::Say(OF_A, "[\"say\",\"r\",\"1\"]"),
             Answer::Cast(Some(1), 1, 0),
@@ -215,17 +206,16 @@ fn a_hundred_bytes_wait(rt: HostRuntime) -> Result<(), HubError> {
             ]),
         ),
     ];
-    let limits = Limits {
+    const LIMITS: Limits = Limits {
         bytes: 100,
         ..AMPLE
     };
-    assert!(rt; played_by_two(rt.alloc(), limits, &lines)? == None);
-    Ok(())
+    expect_chat_of_two(&rt, LIMITS, &LINES)
 }
 
 #[test]
 fn three_says_have_105_bytes(rt: HostRuntime) -> Result<(), HubError> {
-    let lines = [
+    static LINES: [(Line, Answer); 5] = [
         (
             Line::Say(OF_A, "[\"say\",\"r\",\"1\"]"),
             Answer::Cast(Some(1), 1, 0),
@@ -248,29 +238,27 @@ fn three_says_have_105_bytes(rt: HostRuntime) -> Result<(), HubError> {
             ]),
         ),
     ];
-    let limits = Limits {
+    const LIMITS: Limits = Limits {
         bytes: 105,
         ..AMPLE
     };
-    assert!(rt; played_by_two(rt.alloc(), limits, &lines)? == None);
-    Ok(())
+    expect_chat_of_two(&rt, LIMITS, &LINES)
 }
 
 #[test]
 fn an_answer_has_84_bytes(rt: HostRuntime) -> Result<(), HubError> {
-    let lines = [
+    static LINES: [(Line, Answer); 3] = [
         (Line::Open(A), Answer::Done),
         (Line::Attach(A, OF_A), Answer::Refused(HubError::OutboxFull)),
         (Line::Totals([1, 0, 0, 0, 0, 0]), Answer::Done),
     ];
-    let limits = Limits { bytes: 83, ..AMPLE };
-    assert!(rt; played(rt.alloc(), limits, &[], &lines)? == None);
-    Ok(())
+    const LIMITS: Limits = Limits { bytes: 83, ..AMPLE };
+    expect(&rt, LIMITS, Task::Chat(&[], &LINES))
 }
 
 #[test]
 fn what_waits_is_discarded(rt: HostRuntime) -> Result<(), HubError> {
-    let lines = [
+    static LINES: [(Line, Answer); 6] = [
         (
             Line::Say(OF_A, "[\"say\",\"r\",\"1\"]"),
             Answer::Cast(Some(1), 1, 0),
@@ -284,22 +272,20 @@ fn what_waits_is_discarded(rt: HostRuntime) -> Result<(), HubError> {
         (Line::Members("r", &[OF_A]), Answer::Done),
         (Line::Totals([11, 3, 0, 2, 1, 0]), Answer::Done),
     ];
-    let limits = AMPLE;
-    assert!(rt; played_by_two(rt.alloc(), limits, &lines)? == None);
-    Ok(())
+    expect_chat_of_two(&rt, AMPLE, &LINES)
 }
 
 #[test]
 fn no_bytes_are_a_bad_config(rt: HostRuntime) -> Result<(), HubError> {
-    let limits = Limits { bytes: 0, ..AMPLE };
-    let lines = [(Line::Open(A), Answer::Done)];
-    assert!(rt; played(rt.alloc(), limits, &[], &lines) == Err(HubError::BadConfig));
+    static LINES: [(Line, Answer); 1] = [(Line::Open(A), Answer::Done)];
+    const LIMITS: Limits = Limits { bytes: 0, ..AMPLE };
+    assert!(rt; wrong(rt.alloc(), LIMITS, Task::Chat(&[], &LINES)) == Err(HubError::BadConfig));
     Ok(())
 }
 
 #[test]
 fn told_and_ended(rt: HostRuntime) -> Result<(), HubError> {
-    let lines = [
+    static LINES: [(Line, Answer); 6] = [
         (Line::Tell(B, "2[\"t\"]"), Answer::Done),
         (Line::End(OF_B), Answer::Done),
         (Line::End(OF_B), Answer::Refused(HubError::UnknownSocket)),
@@ -307,7 +293,5 @@ fn told_and_ended(rt: HostRuntime) -> Result<(), HubError> {
         (Line::Take(B, 64), Answer::Texts(&["2[\"t\"]"])),
         (Line::Totals([11, 3, 0, 3, 0, 0]), Answer::Done),
     ];
-    let limits = AMPLE;
-    assert!(rt; played_by_two(rt.alloc(), limits, &lines)? == None);
-    Ok(())
+    expect_chat_of_two(&rt, AMPLE, &LINES)
 }

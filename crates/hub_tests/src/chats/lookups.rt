@@ -1,11 +1,11 @@
 //! What may be read of a hub.
 
-use super::{A, AMPLE, Answer, B, C, Line, OF_A, OF_B, OF_C, Sight, played_by_two};
+use super::{A, AMPLE, Answer, B, C, Line, OF_A, OF_B, OF_C, Sight, expect_chat_of_two};
 use journal::HubError;
 
 #[test]
 fn clients_and_sockets(rt: HostRuntime) -> Result<(), HubError> {
-    let lines = [
+    static LINES: [(Line, Answer); 15] = [
         (Line::See(Sight::Open(B, true)), Answer::Done),
         (Line::See(Sight::Open(C, false)), Answer::Done),
         (Line::See(Sight::Connected(OF_B, true)), Answer::Done),
@@ -22,9 +22,7 @@ fn clients_and_sockets(rt: HostRuntime) -> Result<(), HubError> {
         (Line::Members("r", &[OF_A]), Answer::Done),
         (Line::See(Sight::Pass(9, 2)), Answer::Done),
     ];
-    let limits = AMPLE;
-    assert!(rt; played_by_two(rt.alloc(), limits, &lines)? == None);
-    Ok(())
+    expect_chat_of_two(&rt, AMPLE, &LINES)
 }
 
 /// What B gets of A's first say.
@@ -32,7 +30,7 @@ const SAID: &str = "2[\"say\",\"r\",\"1\",\"0000000000000001\"]";
 
 #[test]
 fn what_waits(rt: HostRuntime) -> Result<(), HubError> {
-    let lines = [
+    static LINES: [(Line, Answer); 14] = [
         (Line::See(Sight::Waiting(B, Some((0, 0)))), Answer::Done),
         (Line::See(Sight::Waiting(C, None)), Answer::Done),
         (Line::See(Sight::Front(B, 0, None)), Answer::Done),
@@ -54,9 +52,7 @@ fn what_waits(rt: HostRuntime) -> Result<(), HubError> {
         (Line::Take(B, 1), Answer::Texts(&[SAID])),
         (Line::See(Sight::Waiting(B, Some((1, 6)))), Answer::Done),
     ];
-    let limits = AMPLE;
-    assert!(rt; played_by_two(rt.alloc(), limits, &lines)? == None);
-    Ok(())
+    expect_chat_of_two(&rt, AMPLE, &LINES)
 }
 
 /// The steps by which both clients come.
@@ -66,7 +62,7 @@ const FIRST: [&str; 8] = [
 
 #[test]
 fn steps_and_base(rt: HostRuntime) -> Result<(), HubError> {
-    let lines = [
+    static LINES: [(Line, Answer); 12] = [
         (Line::See(Sight::Base(&[], 0, 0)), Answer::Done),
         (Line::See(Sight::Steps(&FIRST)), Answer::Done),
         (
@@ -86,7 +82,5 @@ fn steps_and_base(rt: HostRuntime) -> Result<(), HubError> {
         ),
         (Line::See(Sight::Base(&[A], 1, 1)), Answer::Done),
     ];
-    let limits = AMPLE;
-    assert!(rt; played_by_two(rt.alloc(), limits, &lines)? == None);
-    Ok(())
+    expect_chat_of_two(&rt, AMPLE, &LINES)
 }

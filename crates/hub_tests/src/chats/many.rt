@@ -1,131 +1,126 @@
 //! Commands for all sockets of a namespace that match.
 
+use super::dues::{are_changed, is_dismissed, is_done};
 use super::{
-    A, AMPLE, Answer, B, CONNECTED_C, Chat, Got, Limits, Line, OF_A, OF_B, OF_C, Sight,
-    played_by_two, played_over_seals, room, rooms_of,
+    A, AMPLE, Answer, B, CONNECTED_C, Limits, Line, OF_A, OF_B, OF_C, Sight, expect_chat_of_two,
+    expect_chat_over_seals,
 };
+use crate::made::{own, room, rooms_of};
+use crate::rig::Rig;
 use journal::{HubError, RecoveryRefusal};
-use room_maps::{Room, RoomError, Sid};
-use std::alloc::Global;
+use room_maps::{Room, RoomError};
 use std::sync::ledger::Ledger;
 
 /// A namespace that the hub doesn't have.
 const STRAY: &str = "/stray";
 
-/// Which sockets a command is for.
-#[derive(Drop)]
-struct Choice {
-    space: &'static str,
-    rooms: Vec<Room>,
-    excepted: Vec<Room>,
-}
-
-/// The sockets of a namespace that are in one of the rooms, or where none is named all.
-fn all_in(alloc: Global, space: &'static str, names: &[&str]) -> Result<Choice, HubError> {
-    let (rooms, excepted) = (rooms_of(alloc, names)?, Vec::new(alloc));
-    Ok(Choice {
-        space,
-        rooms,
-        excepted,
-    })
-}
-
-impl<C: Ledger, T: Ledger> Chat<C, T> {
-    fn join_all(&mut self, choice: Choice, room: Room) -> Result<Got, HubError> {
-        let Choice {
-            space,
-            rooms,
-            excepted,
-        } = choice;
-        let (alloc, hub, now) = (self.alloc, &mut self.hub, self.now);
-        let sids = hub.sockets_join(alloc, &mut self.pass, space, rooms, excepted, room, now)?;
-        Ok(Got::Changed(sids))
+impl<C: Ledger, T: Ledger> Rig<C, T> {
+    /// The sockets of a namespace that are in one of the rooms, or where none is named all, join a
+    /// room.
+    fn join_all(
+        &mut self,
+        space: &str,
+        names: &[&str],
+        room: Room,
+        answer: Answer,
+    ) -> Result<bool, HubError> {
+        let (alloc, pass, now) = (self.alloc, &mut self.pass, self.now);
+        let rooms = rooms_of(alloc, names)?;
+        let sids = self
+            .hub
+            .sockets_join(alloc, pass, space, rooms, Vec::new(alloc), room, now)?;
+        Ok(are_changed(&sids, answer))
     }
 
-    fn leave_all(&mut self, choice: Choice, room: Room) -> Result<Got, HubError> {
-        let Choice {
-            space,
-            rooms,
-            excepted,
-        } = choice;
-        let (alloc, hub, now) = (self.alloc, &mut self.hub, self.now);
-        let sids = hub.sockets_leave(alloc, &mut self.pass, space, rooms, excepted, room, now)?;
-        Ok(Got::Changed(sids))
+    fn leave_all(
+        &mut self,
+        space: &str,
+        names: &[&str],
+        room: Room,
+        answer: Answer,
+    ) -> Result<bool, HubError> {
+        let (alloc, pass, now) = (self.alloc, &mut self.pass, self.now);
+        let rooms = rooms_of(alloc, names)?;
+        let sids = self
+            .hub
+            .sockets_leave(alloc, pass, space, rooms, Vec::new(alloc), room, now)?;
+        Ok(are_changed(&sids, answer))
     }
 
-    fn end_all(&mut self, choice: Choice) -> Result<Got, HubError> {
-        let Choice {
-            space,
-            rooms,
-            excepted,
-        } = choice;
-        let (alloc, hub, now) = (self.alloc, &mut self.hub, self.now);
-        let done = hub.disconnect_sockets(alloc, &mut self.pass, space, rooms, excepted, now)?;
-        Ok(Got::Dismissed(done))
+    fn kick_all(
+        &mut self,
+        space: &str,
+        rooms: Vec<Room>,
+        excepted: Vec<Room>,
+        answer: Answer,
+    ) -> Result<bool, HubError> {
+        let done = self.end_all(space, rooms, excepted)?;
+        Ok(is_dismissed(&done, answer))
     }
 
     /// Does a line by which many sockets join a room.
-    pub(super) fn pull(&mut self, line: Line) -> Result<Got, HubError> {
+    pub(super) fn pull(&mut self, line: Line, answer: Answer) -> Result<bool, HubError> {
         match line {
-            Line::Pull(names, into) => self.join_all(all_in(self.alloc, "/", names)?, room(into)),
-            _ => self.join_all(all_in(self.alloc, STRAY, &["r"])?, room("q")),
+            Line::Pull(names, into) => self.join_all("/", names, room(into), answer),
+            _ => self.join_all(STRAY, &["r"], room("q"), answer),
         }
     }
 
     /// Does a line by which many sockets leave a room.
-    pub(super) fn push(&mut self, line: Line) -> Result<Got, HubError> {
+    pub(super) fn push(&mut self, line: Line, answer: Answer) -> Result<bool, HubError> {
         match line {
-            Line::Push(names, from) => self.leave_all(all_in(self.alloc, "/", names)?, room(from)),
-            Line::PushOwn(names, sid) => {
-                self.leave_all(all_in(self.alloc, "/", names)?, Room::own(Sid::new(sid)))
-            }
-            _ => self.leave_all(all_in(self.alloc, STRAY, &["r"])?, room("q")),
+            Line::Push(names, from) => self.leave_all("/", names, room(from), answer),
+            Line::PushOwn(names, sid) => self.leave_all("/", names, own(sid), answer),
+            _ => self.leave_all(STRAY, &["r"], room("q"), answer),
         }
     }
 
     /// Does a line by which many sockets end.
-    pub(super) fn kick(&mut self, line: Line) -> Result<Got, HubError> {
+    pub(super) fn kick(&mut self, line: Line, answer: Answer) -> Result<bool, HubError> {
         match line {
-            Line::Kick(names, but) => self.kick_but(names, but),
-            Line::KickOthers(name, sid) => self.kick_others(name, Room::own(Sid::new(sid))),
-            _ => self.end_all(all_in(self.alloc, STRAY, &["r"])?),
+            Line::Kick(names, but) => self.kick_but(names, but, answer),
+            Line::KickOthers(name, sid) => self.kick_others(name, own(sid), answer),
+            _ => self.kick_astray(answer),
         }
     }
 
-    fn kick_but(&mut self, names: &[&str], but: &[&str]) -> Result<Got, HubError> {
-        let mut chosen = all_in(self.alloc, "/", names)?;
-        chosen.excepted = rooms_of(self.alloc, but)?;
-        self.end_all(chosen)
+    fn kick_but(&mut self, names: &[&str], but: &[&str], answer: Answer) -> Result<bool, HubError> {
+        let rooms = rooms_of(self.alloc, names)?;
+        let excepted = rooms_of(self.alloc, but)?;
+        self.kick_all("/", rooms, excepted, answer)
     }
 
-    fn kick_others(&mut self, name: &str, own: Room) -> Result<Got, HubError> {
-        let mut chosen = all_in(self.alloc, "/", &[name])?;
-        chosen.excepted.push(own)?;
-        self.end_all(chosen)
+    fn kick_others(&mut self, name: &str, own: Room, answer: Answer) -> Result<bool, HubError> {
+        let rooms = rooms_of(self.alloc, &[name])?;
+        let excepted = Vec::from_slice(self.alloc, &[own])?;
+        self.kick_all("/", rooms, excepted, answer)
     }
 
-    fn join_once(&mut self, sid: Sid, room: Room) -> Result<(), HubError> {
-        let (alloc, now) = (self.alloc, self.now);
-        self.hub.join(alloc, &mut self.pass, sid, room, now)
+    fn kick_astray(&mut self, answer: Answer) -> Result<bool, HubError> {
+        let rooms = rooms_of(self.alloc, &["r"])?;
+        self.kick_all(STRAY, rooms, Vec::new(self.alloc), answer)
+    }
+
+    fn join_again(&mut self, sid: u128, room: Room) -> Result<(), HubError> {
+        match self.join(sid, room) {
+            Err(HubError::Memory) => self.join(sid, room),
+            joined => joined,
+        }
     }
 
     /// A socket that is in two rooms joins 254 more. One growth of the run may be refused.
-    pub(super) fn fill(&mut self, sid: Sid) -> Result<Got, HubError> {
+    pub(super) fn fill(&mut self, sid: u128, answer: Answer) -> Result<bool, HubError> {
         for number in 0..254u64 {
-            let name = Room::own(Sid::new(u128::from(number).saturating_add(1000)));
-            match self.join_once(sid, name) {
-                Err(HubError::Memory) => self.join_once(sid, name)?,
-                joined => joined?,
-            }
+            self.join_again(sid, own(u128::from(number).saturating_add(1000)))?;
         }
-        Ok(Got::Done)
+        Ok(is_done(answer))
     }
 }
 
 /// All in a room join another, leave it and end, of which their clients are told.
 #[test]
 fn a_room_is_gathered_and_ended(rt: HostRuntime) -> Result<(), HubError> {
-    let lines = [
+    static LINES: [(Line, Answer); 12] = [
         (Line::Pull(&["r"], "q"), Answer::Changed(&[OF_A, OF_B])),
         (Line::Members("q", &[OF_A, OF_B]), Answer::Done),
         (Line::Push(&["r"], "q"), Answer::Changed(&[OF_A, OF_B])),
@@ -145,15 +140,13 @@ fn a_room_is_gathered_and_ended(rt: HostRuntime) -> Result<(), HubError> {
         (Line::Close(B), Answer::Done),
         (Line::Totals([13, 3, 0, 3, 0, 0]), Answer::Done),
     ];
-    let limits = AMPLE;
-    assert!(rt; played_over_seals(rt.alloc(), limits, &lines)? == None);
-    Ok(())
+    expect_chat_over_seals(&rt, AMPLE, &LINES)
 }
 
 /// Only those that aren't in a room yet join it, and only those in it leave it.
 #[test]
 fn those_that_change_are_told(rt: HostRuntime) -> Result<(), HubError> {
-    let lines = [
+    static LINES: [(Line, Answer); 10] = [
         (Line::Join(OF_A, "q"), Answer::Done),
         (Line::Pull(&[], "q"), Answer::Changed(&[OF_B])),
         (Line::Pull(&["q", "r"], "q"), Answer::Changed(&[])),
@@ -183,19 +176,17 @@ fn those_that_change_are_told(rt: HostRuntime) -> Result<(), HubError> {
         ),
         (Line::Totals([14, 2, 0, 2, 0, 0]), Answer::Done),
     ];
-    let limits = AMPLE;
-    assert!(rt; played_by_two(rt.alloc(), limits, &lines)? == None);
-    Ok(())
+    expect_chat_of_two(&rt, AMPLE, &LINES)
 }
 
 /// One socket that can't join keeps all others out.
 #[test]
 fn all_join_or_none(rt: HostRuntime) -> Result<(), HubError> {
-    let full = HubError::RoomRefused(RoomError::TooManyRooms);
-    let lines = [
+    const FULL: HubError = HubError::RoomRefused(RoomError::TooManyRooms);
+    static LINES: [(Line, Answer); 9] = [
         (Line::Fill(OF_B), Answer::Done),
-        (Line::Join(OF_B, "q"), Answer::Refused(full)),
-        (Line::Pull(&["r"], "q"), Answer::Refused(full)),
+        (Line::Join(OF_B, "q"), Answer::Refused(FULL)),
+        (Line::Pull(&["r"], "q"), Answer::Refused(FULL)),
         (Line::Members("q", &[]), Answer::Done),
         (Line::Pull(&["r"], "r"), Answer::Changed(&[])),
         (Line::Leave(OF_B, "r"), Answer::Done),
@@ -203,32 +194,28 @@ fn all_join_or_none(rt: HostRuntime) -> Result<(), HubError> {
         (Line::Members("q", &[OF_A, OF_B]), Answer::Done),
         (Line::Totals([265, 2, 0, 2, 0, 0]), Answer::Done),
     ];
-    let limits = AMPLE;
-    assert!(rt; played_by_two(rt.alloc(), limits, &lines)? == None);
-    Ok(())
+    expect_chat_of_two(&rt, AMPLE, &LINES)
 }
 
 #[test]
 fn no_such_namespace(rt: HostRuntime) -> Result<(), HubError> {
-    let unknown = Answer::Refused(HubError::UnknownNamespace);
-    let lines = [
+    const UNKNOWN: Answer = Answer::Refused(HubError::UnknownNamespace);
+    static LINES: [(Line, Answer); 6] = [
         (Line::See(Sight::Space("/", true)), Answer::Done),
         (Line::See(Sight::Space("/stray", false)), Answer::Done),
-        (Line::PullAstray, unknown),
-        (Line::PushAstray, unknown),
-        (Line::KickAstray, unknown),
+        (Line::PullAstray, UNKNOWN),
+        (Line::PushAstray, UNKNOWN),
+        (Line::KickAstray, UNKNOWN),
         (Line::Totals([8, 2, 0, 2, 0, 0]), Answer::Done),
     ];
-    let limits = AMPLE;
-    assert!(rt; played_by_two(rt.alloc(), limits, &lines)? == None);
-    Ok(())
+    expect_chat_of_two(&rt, AMPLE, &LINES)
 }
 
 /// A client whose outbox is full isn't told that its socket ended. Nothing is counted as dropped,
 /// and no session is saved.
 #[test]
 fn a_full_client_is_not_told(rt: HostRuntime) -> Result<(), HubError> {
-    let lines = [
+    static LINES: [(Line, Answer); 11] = [
         (Line::Join(OF_A, "q"), Answer::Done),
         (Line::Tell(B, "2[\"a\"]"), Answer::Done),
         (Line::Tell(B, "2[\"b\"]"), Answer::Done),
@@ -241,18 +228,17 @@ fn a_full_client_is_not_told(rt: HostRuntime) -> Result<(), HubError> {
         (Line::See(Sight::Base(&[A, B], 0, 0)), Answer::Done),
         (Line::Totals([15, 5, 0, 5, 0, 0]), Answer::Done),
     ];
-    let limits = Limits {
+    const LIMITS: Limits = Limits {
         capacity: 2,
         ..AMPLE
     };
-    assert!(rt; played_by_two(rt.alloc(), limits, &lines)? == None);
-    Ok(())
+    expect_chat_of_two(&rt, LIMITS, &LINES)
 }
 
 /// A client that was told can connect a new socket.
 #[test]
 fn an_ended_client_connects_again(rt: HostRuntime) -> Result<(), HubError> {
-    let lines = [
+    static LINES: [(Line, Answer); 6] = [
         (
             Line::Kick(&[], &[]),
             Answer::Dismissed(&[OF_A, OF_B], &[A, B]),
@@ -263,9 +249,7 @@ fn an_ended_client_connects_again(rt: HostRuntime) -> Result<(), HubError> {
         (Line::Recover(A, 4, 0), Answer::Refused(UNKNOWN)),
         (Line::Totals([11, 5, 0, 4, 0, 1]), Answer::Done),
     ];
-    let limits = AMPLE;
-    assert!(rt; played_over_seals(rt.alloc(), limits, &lines)? == None);
-    Ok(())
+    expect_chat_over_seals(&rt, AMPLE, &LINES)
 }
 
 const UNKNOWN: HubError = HubError::NotRecoverable(RecoveryRefusal::UnknownPid);
@@ -273,7 +257,7 @@ const UNKNOWN: HubError = HubError::NotRecoverable(RecoveryRefusal::UnknownPid);
 /// A broadcast says which clients got it, and its steps hold its bytes until they are sealed.
 #[test]
 fn who_got_it_and_what_is_held(rt: HostRuntime) -> Result<(), HubError> {
-    let lines = [
+    static LINES: [(Line, Answer); 9] = [
         (Line::See(Sight::Held(0)), Answer::Done),
         (Line::See(Sight::Mirrors(2, 3)), Answer::Done),
         (Line::All("[\"x\"]"), Answer::Reached(Some(1), &[A, B])),
@@ -284,7 +268,5 @@ fn who_got_it_and_what_is_held(rt: HostRuntime) -> Result<(), HubError> {
         (Line::Seal, Answer::Sealed(12)),
         (Line::See(Sight::Held(0)), Answer::Done),
     ];
-    let limits = AMPLE;
-    assert!(rt; played_by_two(rt.alloc(), limits, &lines)? == None);
-    Ok(())
+    expect_chat_of_two(&rt, AMPLE, &LINES)
 }

@@ -2,13 +2,13 @@
 
 use super::{
     A, AMPLE, Answer, B, C, CONNECTED_B, CONNECTED_C, CONNECTED_D, D, Limits, Line, OF_A, OF_B,
-    OF_C, OF_D, PID_B, played_by_two, played_over_seals,
+    OF_C, OF_D, PID_B, expect_chat_of_two, expect_chat_over_seals,
 };
 use journal::{HubError, RecoveryRefusal};
 
 #[test]
 fn a_lost_session_comes_back(rt: HostRuntime) -> Result<(), HubError> {
-    let lines = [
+    static LINES: [(Line, Answer); 14] = [
         (
             Line::Say(OF_A, "[\"say\",\"r\",\"1\"]"),
             Answer::Cast(Some(1), 1, 0),
@@ -46,14 +46,12 @@ fn a_lost_session_comes_back(rt: HostRuntime) -> Result<(), HubError> {
         (Line::Attach(D, OF_D), Answer::Done),
         (Line::Take(D, 64), Answer::Texts(&[CONNECTED_D])),
     ];
-    let limits = AMPLE;
-    assert!(rt; played_over_seals(rt.alloc(), limits, &lines)? == None);
-    Ok(())
+    expect_chat_over_seals(&rt, AMPLE, &LINES)
 }
 
 #[test]
 fn a_session_is_lost_too_long(rt: HostRuntime) -> Result<(), HubError> {
-    let lines = [
+    static LINES: [(Line, Answer); 11] = [
         (
             Line::Say(OF_A, "[\"say\",\"r\",\"1\"]"),
             Answer::Cast(Some(1), 1, 0),
@@ -81,14 +79,12 @@ fn a_session_is_lost_too_long(rt: HostRuntime) -> Result<(), HubError> {
         (Line::Attach(C, OF_C), Answer::Done),
         (Line::Take(C, 64), Answer::Texts(&[CONNECTED_C])),
     ];
-    let limits = AMPLE;
-    assert!(rt; played_over_seals(rt.alloc(), limits, &lines)? == None);
-    Ok(())
+    expect_chat_over_seals(&rt, AMPLE, &LINES)
 }
 
 #[test]
 fn the_offset_is_gone(rt: HostRuntime) -> Result<(), HubError> {
-    let lines = [
+    static LINES: [(Line, Answer); 9] = [
         (
             Line::Say(OF_A, "[\"say\",\"r\",\"1\"]"),
             Answer::Cast(Some(1), 1, 0),
@@ -114,14 +110,13 @@ fn the_offset_is_gone(rt: HostRuntime) -> Result<(), HubError> {
         (Line::Attach(C, OF_C), Answer::Done),
         (Line::Take(C, 64), Answer::Texts(&[CONNECTED_C])),
     ];
-    let limits = Limits { log: 2, ..AMPLE };
-    assert!(rt; played_over_seals(rt.alloc(), limits, &lines)? == None);
-    Ok(())
+    const LIMITS: Limits = Limits { log: 2, ..AMPLE };
+    expect_chat_over_seals(&rt, LIMITS, &LINES)
 }
 
 #[test]
 fn what_was_missed_has_no_place(rt: HostRuntime) -> Result<(), HubError> {
-    let lines = [
+    static LINES: [(Line, Answer); 11] = [
         (
             Line::Say(OF_A, "[\"say\",\"r\",\"1\"]"),
             Answer::Cast(Some(1), 1, 0),
@@ -149,17 +144,16 @@ fn what_was_missed_has_no_place(rt: HostRuntime) -> Result<(), HubError> {
         (Line::Attach(C, OF_C), Answer::Done),
         (Line::Take(C, 64), Answer::Texts(&[CONNECTED_C])),
     ];
-    let limits = Limits {
+    const LIMITS: Limits = Limits {
         capacity: 2,
         ..AMPLE
     };
-    assert!(rt; played_over_seals(rt.alloc(), limits, &lines)? == None);
-    Ok(())
+    expect_chat_over_seals(&rt, LIMITS, &LINES)
 }
 
 #[test]
 fn what_waits_for_the_lost_is_discarded(rt: HostRuntime) -> Result<(), HubError> {
-    let lines = [
+    static LINES: [(Line, Answer); 3] = [
         (
             Line::Say(OF_A, "[\"say\",\"r\",\"1\"]"),
             Answer::Cast(Some(1), 1, 0),
@@ -167,25 +161,22 @@ fn what_waits_for_the_lost_is_discarded(rt: HostRuntime) -> Result<(), HubError>
         (Line::Park(B), Answer::Done),
         (Line::Totals([10, 3, 0, 2, 1, 0]), Answer::Done),
     ];
-    let limits = AMPLE;
-    assert!(rt; played_by_two(rt.alloc(), limits, &lines)? == None);
-    Ok(())
+    expect_chat_of_two(&rt, AMPLE, &LINES)
 }
 
 #[test]
 fn one_session_has_a_place(rt: HostRuntime) -> Result<(), HubError> {
-    let lines = [
+    static LINES: [(Line, Answer); 2] = [
         (Line::Park(A), Answer::Done),
         (Line::Park(B), Answer::Refused(HubError::SavedFull)),
     ];
-    let limits = Limits { saved: 1, ..AMPLE };
-    assert!(rt; played_by_two(rt.alloc(), limits, &lines)? == None);
-    Ok(())
+    const LIMITS: Limits = Limits { saved: 1, ..AMPLE };
+    expect_chat_of_two(&rt, LIMITS, &LINES)
 }
 
 #[test]
 fn swept_after_the_time_to_keep(rt: HostRuntime) -> Result<(), HubError> {
-    let lines = [
+    static LINES: [(Line, Answer); 7] = [
         (
             Line::Say(OF_A, "[\"say\",\"r\",\"1\"]"),
             Answer::Cast(Some(1), 1, 0),
@@ -206,14 +197,12 @@ fn swept_after_the_time_to_keep(rt: HostRuntime) -> Result<(), HubError> {
             ]),
         ),
     ];
-    let limits = AMPLE;
-    assert!(rt; played_over_seals(rt.alloc(), limits, &lines)? == None);
-    Ok(())
+    expect_chat_over_seals(&rt, AMPLE, &LINES)
 }
 
 #[test]
 fn a_sealed_hub_goes_on(rt: HostRuntime) -> Result<(), HubError> {
-    let lines = [
+    static LINES: [(Line, Answer); 6] = [
         (Line::Seal, Answer::Sealed(8)),
         (
             Line::Say(OF_A, "[\"say\",\"r\",\"1\"]"),
@@ -227,14 +216,12 @@ fn a_sealed_hub_goes_on(rt: HostRuntime) -> Result<(), HubError> {
         (Line::Seal, Answer::Sealed(2)),
         (Line::Seal, Answer::Sealed(0)),
     ];
-    let limits = AMPLE;
-    assert!(rt; played_by_two(rt.alloc(), limits, &lines)? == None);
-    Ok(())
+    expect_chat_of_two(&rt, AMPLE, &LINES)
 }
 
 #[test]
 fn each_offset_once_over_two_breaks(rt: HostRuntime) -> Result<(), HubError> {
-    let lines = [
+    static LINES: [(Line, Answer); 16] = [
         (
             Line::Say(OF_A, "[\"say\",\"r\",\"1\"]"),
             Answer::Cast(Some(1), 1, 0),
@@ -283,14 +270,12 @@ fn each_offset_once_over_two_breaks(rt: HostRuntime) -> Result<(), HubError> {
             Answer::Texts(&[CONNECTED_B, "2[\"say\",\"r\",\"5\",\"0000000000000005\"]"]),
         ),
     ];
-    let limits = AMPLE;
-    assert!(rt; played_by_two(rt.alloc(), limits, &lines)? == None);
-    Ok(())
+    expect_chat_of_two(&rt, AMPLE, &LINES)
 }
 
 #[test]
 fn what_was_taken_and_lost_is_sent_again(rt: HostRuntime) -> Result<(), HubError> {
-    let lines = [
+    static LINES: [(Line, Answer); 16] = [
         (
             Line::Say(OF_A, "[\"say\",\"r\",\"1\"]"),
             Answer::Cast(Some(1), 1, 0),
@@ -343,7 +328,5 @@ fn what_was_taken_and_lost_is_sent_again(rt: HostRuntime) -> Result<(), HubError
             ]),
         ),
     ];
-    let limits = AMPLE;
-    assert!(rt; played_by_two(rt.alloc(), limits, &lines)? == None);
-    Ok(())
+    expect_chat_of_two(&rt, AMPLE, &LINES)
 }

@@ -1,7 +1,7 @@
 //! Whether a hub and the slow program say the same of what may be read.
 
-use super::entries::{is_same, total_size};
-use super::run::Run;
+use crate::entries::{is_same, total_size};
+use crate::run::Run;
 use hub::Hub;
 use journal::{HubError, Socket};
 use replay::{
@@ -13,18 +13,14 @@ use sio_wire::Entry;
 use std::alloc::Global;
 use std::sync::ledger::Ledger;
 
-pub(super) fn name_of(place: u16) -> &'static str {
+pub fn name_of(place: u16) -> &'static str {
     if place == 0 { "/" } else { "/a" }
 }
 
 /// The session id of the one of a client's sockets that is in the namespace at this place.
 fn sid_in(sockets: &[Socket], place: u16) -> Option<Sid> {
-    for socket in sockets {
-        if socket.space == place {
-            return Some(socket.sid);
-        }
-    }
-    None
+    let socket = sockets.iter().find(|socket| socket.space == place)?;
+    Some(socket.sid)
 }
 
 /// Whether the entries are just those that wait for the client.
@@ -32,13 +28,22 @@ fn is_front<C: Ledger, T: Ledger>(hub: &Hub<C, T>, client: u128, entries: &[Entr
     let mut same = hub.state().waiting(client) == Some(entries.len())
         && hub.state().waiting_bytes(client) == Some(total_size(entries));
     for (index, entry) in entries.iter().enumerate() {
-        same = same
-            && match hub.state().front(client, index) {
-                Some(other) => is_same(other, entry),
-                None => false,
-            };
+        same = same && waits_at(hub, client, index, entry);
     }
     same
+}
+
+/// Whether this entry waits for the client at this place.
+fn waits_at<C: Ledger, T: Ledger>(
+    hub: &Hub<C, T>,
+    client: u128,
+    index: usize,
+    entry: &Entry,
+) -> bool {
+    match hub.state().front(client, index) {
+        Some(other) => is_same(other, entry),
+        None => false,
+    }
 }
 
 /// Whether a room has the same members by the hub and by the slow program, in each namespace, and
@@ -49,14 +54,25 @@ fn have_members<C: Ledger, T: Ledger>(
     pairs: &[(Sid, Room)],
     room: Room,
 ) -> Result<bool, HubError> {
-    let (base, steps) = (hub.state().base(), hub.state().steps());
     let main = hub.state().members(alloc, "/", room)?;
     let other = hub.state().members(alloc, "/a", room)?;
     Ok(
-        main.as_slice() == members(alloc, base, steps, 0, room)?.as_slice()
-            && other.as_slice() == members(alloc, base, steps, 1, room)?.as_slice()
+        are_members(alloc, hub, 0, room, &main)?
+            && are_members(alloc, hub, 1, room, &other)?
             && are_with(pairs, room, &main, &other),
     )
+}
+
+/// Whether these are the members of a room by the slow program, in the namespace at this place.
+fn are_members<C: Ledger, T: Ledger>(
+    alloc: Global,
+    hub: &Hub<C, T>,
+    place: u16,
+    room: Room,
+    sids: &[Sid],
+) -> Result<bool, HubError> {
+    let due = members(alloc, hub.state().base(), hub.state().steps(), place, room)?;
+    Ok(due.as_slice() == sids)
 }
 
 /// Whether just these sockets are with the room among the pairs.
@@ -64,25 +80,44 @@ fn are_with(pairs: &[(Sid, Room)], room: Room, main: &[Sid], other: &[Sid]) -> b
     let mut same = true;
     for id in 0..5u64 {
         let sid = Sid::new(u128::from(id));
-        same = same
-            && pairs.contains(&(sid, room)) == (main.contains(&sid) || other.contains(&sid));
+        same = same && pairs.contains(&(sid, room)) == is_in_one(sid, main, other);
     }
     same
+}
+
+fn is_in_one(sid: Sid, main: &[Sid], other: &[Sid]) -> bool {
+    main.contains(&sid) || other.contains(&sid)
 }
 
 /// Whether both say the same of who is in which room.
 fn agree_on_rooms<C: Ledger, T: Ledger>(alloc: Global, hub: &Hub<C, T>) -> Result<bool, HubError> {
     let pairs = rooms(alloc, hub.state().base(), hub.state().steps())?;
+    Ok(agree_on_names(alloc, hub, &pairs)? && agree_on_own_rooms(alloc, hub, &pairs)?)
+}
+
+fn agree_on_names<C: Ledger, T: Ledger>(
+    alloc: Global,
+    hub: &Hub<C, T>,
+    pairs: &[(Sid, Room)],
+) -> Result<bool, HubError> {
     for name in ["r", "s"] {
         if let Some(room) = Room::read(name) {
-            if !have_members(alloc, hub, &pairs, room)? {
+            if !have_members(alloc, hub, pairs, room)? {
                 return Ok(false);
             }
         }
     }
+    Ok(true)
+}
+
+fn agree_on_own_rooms<C: Ledger, T: Ledger>(
+    alloc: Global,
+    hub: &Hub<C, T>,
+    pairs: &[(Sid, Room)],
+) -> Result<bool, HubError> {
     for id in 0..5u64 {
         let own = Room::own(Sid::new(u128::from(id)));
-        if !have_members(alloc, hub, &pairs, own)? {
+        if !have_members(alloc, hub, pairs, own)? {
             return Ok(false);
         }
     }
@@ -96,55 +131,88 @@ fn agree_on_socket<C: Ledger, T: Ledger>(
     hub: &Hub<C, T>,
     sid: Sid,
 ) -> Result<bool, HubError> {
-    let (base, steps, own) = (hub.state().base(), hub.state().steps(), Room::own(sid));
-    let connected = hub.state().is_connected(sid);
-    let in_main = hub.state().members(alloc, "/", own)?.contains(&sid);
-    let in_other = hub.state().members(alloc, "/a", own)?.contains(&sid);
     Ok(
-        connected == is_connected(alloc, base, steps, sid)?
-            && connected == room_sockets(alloc, base, steps)?.contains(&sid)
-            && in_main == is_in_space(alloc, base, steps, 0, sid)?
-            && in_other == is_in_space(alloc, base, steps, 1, sid)?,
+        agree_on_connection(alloc, hub, sid)?
+            && agree_on_space(alloc, hub, 0, sid)?
+            && agree_on_space(alloc, hub, 1, sid)?,
     )
+}
+
+/// Whether both say the same of whether a socket is connected, and whether it is in rooms.
+fn agree_on_connection<C: Ledger, T: Ledger>(
+    alloc: Global,
+    hub: &Hub<C, T>,
+    sid: Sid,
+) -> Result<bool, HubError> {
+    let (base, steps) = (hub.state().base(), hub.state().steps());
+    let connected = hub.state().is_connected(sid);
+    let has_rooms = room_sockets(alloc, base, steps)?.contains(&sid);
+    Ok(connected == is_connected(alloc, base, steps, sid)? && connected == has_rooms)
+}
+
+/// Whether both say the same of whether a socket is in its own room in the namespace at this place.
+fn agree_on_space<C: Ledger, T: Ledger>(
+    alloc: Global,
+    hub: &Hub<C, T>,
+    place: u16,
+    sid: Sid,
+) -> Result<bool, HubError> {
+    let (base, steps) = (hub.state().base(), hub.state().steps());
+    let members = hub.state().members(alloc, name_of(place), Room::own(sid))?;
+    Ok(members.contains(&sid) == is_in_space(alloc, base, steps, place, sid)?)
 }
 
 /// Whether both say the same of a client: whether it is open, which sockets it has, and what waits.
 fn agree_on_client<C: Ledger, T: Ledger>(run: &Run<C, T>, client: u128) -> Result<bool, HubError> {
     let (alloc, hub) = (run.alloc, &run.hub);
-    let (base, steps) = (hub.state().base(), hub.state().steps());
-    let is_open = open_clients(alloc, base, steps)?.contains(&client);
-    let waits = waiting(alloc, base, &run.config, steps, client)?;
-    let sockets = sockets_of(alloc, base, steps, client)?;
+    let is_open = open_clients(alloc, hub.state().base(), hub.state().steps())?.contains(&client);
     Ok(
         hub.state().is_open(client) == is_open
-            && hub.state().socket_of(client, "/") == sid_in(&sockets, 0)
-            && hub.state().socket_of(client, "/a") == sid_in(&sockets, 1)
-            && (!is_open || is_front(hub, client, &waits)),
+            && agree_on_sockets(alloc, hub, client)?
+            && (agree_on_entries(run, client)? || !is_open),
     )
+}
+
+/// Whether both say the same of a client's sockets.
+fn agree_on_sockets<C: Ledger, T: Ledger>(
+    alloc: Global,
+    hub: &Hub<C, T>,
+    client: u128,
+) -> Result<bool, HubError> {
+    let sockets = sockets_of(alloc, hub.state().base(), hub.state().steps(), client)?;
+    Ok(
+        hub.state().socket_of(client, "/") == sid_in(&sockets, 0)
+            && hub.state().socket_of(client, "/a") == sid_in(&sockets, 1),
+    )
+}
+
+/// Whether both say the same of what waits for a client.
+fn agree_on_entries<C: Ledger, T: Ledger>(run: &Run<C, T>, client: u128) -> Result<bool, HubError> {
+    let state = run.hub.state();
+    let waits = waiting(run.alloc, state.base(), &run.config, state.steps(), client)?;
+    Ok(is_front(&run.hub, client, &waits))
 }
 
 /// Whether the hub has each socket that the slow program lists.
 fn has_sockets<C: Ledger, T: Ledger>(alloc: Global, hub: &Hub<C, T>) -> Result<bool, HubError> {
+    let sockets = sockets(alloc, hub.state().base(), hub.state().steps())?;
+    Ok(has_all(hub, &sockets))
+}
+
+fn has_all<C: Ledger, T: Ledger>(hub: &Hub<C, T>, sockets: &[Socket]) -> bool {
     let mut same = true;
-    for socket in sockets(alloc, hub.state().base(), hub.state().steps())?.iter() {
-        same = same
-            && hub.state().socket_of(socket.client, name_of(socket.space)) == Some(socket.sid);
+    for socket in sockets {
+        let found = hub.state().socket_of(socket.client, name_of(socket.space));
+        same = same && found == Some(socket.sid);
     }
-    Ok(same)
+    same
 }
 
 /// Whether the entry is the one that waits for its client so many before the end.
 fn is_at<C: Ledger, T: Ledger>(hub: &Hub<C, T>, put: &(u128, Entry), from_end: usize) -> bool {
     let (client, entry) = put;
-    let index = hub
-        .state()
-        .waiting(*client)
-        .unwrap_or(0)
-        .saturating_sub(from_end);
-    match hub.state().front(*client, index) {
-        Some(other) => is_same(other, entry),
-        None => false,
-    }
+    let count = hub.state().waiting(*client).unwrap_or(0);
+    waits_at(hub, *client, count.saturating_sub(from_end), entry)
 }
 
 /// How many of the entries from a place on were put for a client.
@@ -161,18 +229,18 @@ fn agree_on_last<C: Ledger, T: Ledger>(run: &Run<C, T>) -> Result<bool, HubError
     let Some((last, before)) = steps.split_last() else {
         return Ok(true);
     };
-    let puts = put(
-        run.alloc,
-        hub.state().base(),
-        &run.config,
-        before,
-        &last.what,
-    )?;
+    let base = hub.state().base();
+    let puts = put(run.alloc, base, &run.config, before, &last.what)?;
+    Ok(wait_last(hub, &puts))
+}
+
+/// Whether these entries are what waits last.
+fn wait_last<C: Ledger, T: Ledger>(hub: &Hub<C, T>, puts: &[(u128, Entry)]) -> bool {
     let mut same = true;
     for (place, put) in puts.iter().enumerate() {
-        same = same && is_at(hub, put, count_from(&puts, place, put.0));
+        same = same && is_at(hub, put, count_from(puts, place, put.0));
     }
-    Ok(same)
+    same
 }
 
 /// Whether both say the same of the counts and of the next offset, and the one pass has all.
@@ -204,7 +272,7 @@ fn agree_once<C: Ledger, T: Ledger>(run: &Run<C, T>) -> Result<bool, HubError> {
 }
 
 /// Whether both say the same. One growth of the run may be refused.
-pub(super) fn agree<C: Ledger, T: Ledger>(run: &Run<C, T>) -> Result<bool, HubError> {
+pub fn agree<C: Ledger, T: Ledger>(run: &Run<C, T>) -> Result<bool, HubError> {
     match agree_once(run) {
         Err(HubError::Memory) => agree_once(run),
         same => same,

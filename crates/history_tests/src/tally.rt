@@ -1,16 +1,16 @@
 //! What came up in the histories, so that none of it is left out.
 
-use super::run::Got;
+use crate::run::Got;
 use journal::{HubError, RecoveryRefusal};
 use room_maps::RoomError;
 
 /// How often each of these came up.
-#[derive(Clone, Copy, Debug)]
-pub(super) struct Tally {
+#[derive(Clone, Copy)]
+pub struct Tally {
     /// Commands that were accepted.
-    pub(super) accepted: u64,
+    pub accepted: u64,
     /// Sessions that came back.
-    pub(super) recovered: u64,
+    pub recovered: u64,
     dropped: u64,
     swept_entries: u64,
     swept_sessions: u64,
@@ -24,12 +24,12 @@ pub(super) struct Tally {
     /// Sockets that joined or left together with others.
     changed: u64,
     /// Sockets that were ended together with others, and clients that were told of it.
-    ended: u64,
-    told: u64,
+    pub ended: u64,
+    pub told: u64,
 }
 
 /// The start of a tally.
-pub(super) const NOTHING: Tally = Tally {
+pub const NOTHING: Tally = Tally {
     accepted: 0,
     recovered: 0,
     dropped: 0,
@@ -49,10 +49,10 @@ pub(super) const NOTHING: Tally = Tally {
 
 impl Tally {
     /// Counts what a command was answered.
-    pub(super) fn note(&mut self, got: &Result<Got, HubError>) {
+    pub fn note(&mut self, got: Result<Got, HubError>) {
         match got {
             Ok(done) => self.note_done(done),
-            Err(HubError::NotRecoverable(refusal)) => self.note_lost(*refusal),
+            Err(HubError::NotRecoverable(refusal)) => self.note_lost(refusal),
             Err(HubError::SavedFull) => raise(&mut self.saved_full, 1),
             Err(HubError::OutboxFull) => raise(&mut self.outboxes_full, 1),
             Err(HubError::IdTaken) => raise(&mut self.ids_taken, 1),
@@ -61,19 +61,19 @@ impl Tally {
         }
     }
 
-    fn note_done(&mut self, done: &Got) {
+    fn note_done(&mut self, done: Got) {
         raise(&mut self.accepted, 1);
         match done {
-            Got::Cast(_, done) => raise(&mut self.dropped, done.dropped),
-            Got::Back(_, _) => raise(&mut self.recovered, 1),
-            Got::Swept(swept) => {
-                raise(&mut self.swept_entries, swept.log as u64);
-                raise(&mut self.swept_sessions, swept.saved as u64);
+            Got::Cast(_, dropped) => raise(&mut self.dropped, dropped),
+            Got::Back => raise(&mut self.recovered, 1),
+            Got::Swept(log, saved) => {
+                raise(&mut self.swept_entries, log);
+                raise(&mut self.swept_sessions, saved);
             }
-            Got::Changed(_, sids) => raise(&mut self.changed, sids.len() as u64),
-            Got::Dismissed(_, done) => {
-                raise(&mut self.ended, done.ended.len() as u64);
-                raise(&mut self.told, done.told.len() as u64);
+            Got::Changed(sids) => raise(&mut self.changed, sids),
+            Got::Dismissed(ended, told) => {
+                raise(&mut self.ended, ended);
+                raise(&mut self.told, told);
             }
             _ => {}
         }
@@ -87,26 +87,33 @@ impl Tally {
         }
     }
 
-    /// Whether all of it came up.
-    pub(super) fn has_all(&self) -> bool {
-        self.has_all_refusals()
-            && self.dropped > 0
-            && self.swept_entries > 0
-            && self.swept_sessions > 0
-            && self.changed > 0
-            && self.told > 0
-            && self.ended > self.told
+    /// The first of what didn't come up.
+    pub fn missing(&self) -> Option<&'static str> {
+        let counts = [
+            (self.unknown_pids, "an unknown private id"),
+            (self.expired, "a session that is lost too long"),
+            (self.offsets_gone, "an offset that is gone"),
+            (self.saved_full, "no place for a session"),
+            (self.outboxes_full, "a full outbox"),
+            (self.ids_taken, "a taken id"),
+            (self.own_rooms, "a leave of an own room"),
+            (self.dropped, "a dropped entry"),
+            (self.swept_entries, "a swept broadcast"),
+            (self.swept_sessions, "a swept session"),
+            (self.changed, "a join together with others"),
+            (self.told, "an end that is told"),
+        ];
+        first_none(&counts)
     }
+}
 
-    fn has_all_refusals(&self) -> bool {
-        self.unknown_pids > 0
-            && self.expired > 0
-            && self.offsets_gone > 0
-            && self.saved_full > 0
-            && self.outboxes_full > 0
-            && self.ids_taken > 0
-            && self.own_rooms > 0
+fn first_none(counts: &[(u64, &'static str)]) -> Option<&'static str> {
+    for (count, name) in counts {
+        if *count == 0 {
+            return Some(*name);
+        }
     }
+    None
 }
 
 fn raise(count: &mut u64, by: u64) {

@@ -3,11 +3,11 @@
 use recovery::{Logged, Saved};
 use sio_wire::Entry;
 
-pub(super) fn is_same(one: &Entry, other: &Entry) -> bool {
+pub fn is_same(one: &Entry, other: &Entry) -> bool {
     one.text.as_str() == other.text.as_str() && one.attachments.len() == other.attachments.len()
 }
 
-pub(super) fn are_same(some: &[Entry], others: &[Entry]) -> bool {
+pub fn are_same(some: &[Entry], others: &[Entry]) -> bool {
     let mut same = some.len() == others.len();
     for (one, other) in some.iter().zip(others.iter()) {
         same = same && is_same(one, other);
@@ -25,7 +25,7 @@ fn size(entry: &Entry) -> usize {
 }
 
 /// How many bytes entries have together.
-pub(super) fn total_size(entries: &[Entry]) -> usize {
+pub fn total_size(entries: &[Entry]) -> usize {
     let mut bytes: usize = 0;
     for entry in entries {
         bytes = bytes.saturating_add(size(entry));
@@ -38,7 +38,7 @@ fn is_same_session(one: &Saved, other: &Saved) -> bool {
         && one.rooms.as_slice() == other.rooms.as_slice()
 }
 
-pub(super) fn are_same_sessions(some: &[Saved], others: &[Saved]) -> bool {
+pub fn are_same_sessions(some: &[Saved], others: &[Saved]) -> bool {
     let mut same = some.len() == others.len();
     for (one, other) in some.iter().zip(others.iter()) {
         same = same && is_same_session(one, other);
@@ -53,7 +53,7 @@ fn is_same_broadcast(one: &Logged, other: &Logged) -> bool {
         && is_same(&one.entry, &other.entry)
 }
 
-pub(super) fn are_same_broadcasts(some: &[Logged], others: &[Logged]) -> bool {
+pub fn are_same_broadcasts(some: &[Logged], others: &[Logged]) -> bool {
     let mut same = some.len() == others.len();
     for (one, other) in some.iter().zip(others.iter()) {
         same = same && is_same_broadcast(one, other);

@@ -1,12 +1,12 @@
 //! A hub that gets random commands.
 
-use super::agreement::name_of;
-use super::entries::are_same;
-use super::random::Random;
-use super::tally::Tally;
+use crate::agreement::name_of;
+use crate::entries::are_same;
+use crate::random::Random;
+use crate::tally::Tally;
 use hub::{Hub, Pass};
-use journal::{CastDone, Config, Dismissed, HubError, Swept, Totals};
-use recovery::Pid;
+use journal::{CastDone, Config, HubError, Totals};
+use recovery::{Pid, Saved};
 use replay::{next, sessions, waiting};
 use room_maps::Sid;
 use sio_wire::Entry;
@@ -14,35 +14,36 @@ use std::alloc::Global;
 use std::sync::ledger::Ledger;
 
 #[derive(Drop)]
-pub(super) struct Run<C: Ledger, T: Ledger> {
-    pub(super) alloc: Global,
-    pub(super) config: Config,
-    pub(super) hub: Hub<C, T>,
-    pub(super) pass: Pass<C, T>,
-    pub(super) random: Random,
-    pub(super) now: u64,
-    pub(super) tally: Tally,
+pub struct Run<C: Ledger, T: Ledger> {
+    pub alloc: Global,
+    pub config: Config,
+    pub hub: Hub<C, T>,
+    pub pass: Pass<C, T>,
+    pub random: Random,
+    pub now: u64,
+    pub tally: Tally,
 }
 
-/// What a command was answered, after what the slow program says of it.
-#[derive(Drop)]
-pub(super) enum Got {
+/// What a command was answered, in numbers.
+#[derive(Clone, Copy)]
+pub enum Got {
     Done,
-    /// The next offset, where it is logged.
-    Cast(Option<u64>, CastDone),
-    /// What waited, how many of these were asked for, and what was handed out.
-    Took(Vec<Entry>, usize, Vec<Entry>),
-    /// The session id with which it was saved.
-    Back(Sid, Sid),
-    Swept(Swept),
-    /// The sockets that had to join or leave, and those that did.
-    Changed(Vec<Sid>, Vec<Sid>),
-    /// The sockets that had to end, and what was answered.
-    Dismissed(Vec<Sid>, Dismissed),
+    /// Something else than the slow program says.
+    Wrong,
+    /// How many outboxes got it, and how many sockets miss it.
+    Cast(u64, u64),
+    /// A session came back.
+    Back,
+    /// How many of the log's entries and of the saved sessions were dropped.
+    Swept(u64, u64),
+    /// How many sockets joined or left.
+    Changed(u64),
+    /// How many sockets ended, and how many clients were told.
+    Dismissed(u64, u64),
 }
 
 /// What a refused command leaves as it was, but for what the clauses alone can say.
-#[derive(PartialEq, Eq, Debug, Clone, Copy)]
+#[derive(PartialEq, Eq, Clone, Copy)]
 struct Look {
     totals: Totals,
     steps: usize,
@@ -63,7 +64,7 @@ impl<C: Ledger, T: Ledger> Run<C, T> {
     /// Makes a random command. One allocation of the run may be refused: then the command is made a
     /// second time. Says whether it was answered as the slow program says, and where it was refused
     /// left the hub as it was.
-    pub(super) fn command(&mut self) -> Result<bool, HubError> {
+    pub fn command(&mut self) -> Result<bool, HubError> {
         let (start, before) = (self.random, self.look());
         match self.act() {
             Err(HubError::Memory) => {
@@ -71,7 +72,7 @@ impl<C: Ledger, T: Ledger> Run<C, T> {
                 self.random = start;
                 Ok(self.again(before)? && is_unchanged)
             }
-            got => Ok(self.is_right(before, &got)),
+            got => Ok(self.is_right(before, got)),
         }
     }
 
@@ -79,15 +80,15 @@ impl<C: Ledger, T: Ledger> Run<C, T> {
     fn again(&mut self, before: Look) -> Result<bool, HubError> {
         match self.act() {
             Err(HubError::Memory) => Err(HubError::Memory),
-            got => Ok(self.is_right(before, &got)),
+            got => Ok(self.is_right(before, got)),
         }
     }
 
-    fn is_right(&mut self, before: Look, got: &Result<Got, HubError>) -> bool {
+    fn is_right(&mut self, before: Look, got: Result<Got, HubError>) -> bool {
         self.tally.note(got);
         let after = self.look();
         match got {
-            Ok(done) => is_due(&before.totals, &after.totals, done),
+            Ok(done) => is_due(before.totals, after.totals, done),
             Err(_) => after == before,
         }
     }
@@ -189,86 +190,101 @@ impl<C: Ledger, T: Ledger> Run<C, T> {
 
     fn sweep(&mut self) -> Result<Got, HubError> {
         let swept = self.hub.sweep(self.alloc, &mut self.pass, self.now)?;
-        Ok(Got::Swept(swept))
+        Ok(Got::Swept(swept.log as u64, swept.saved as u64))
     }
 
     /// Brings back the first of the saved sessions, mostly with an offset close to the last.
     fn recover(&mut self) -> Result<Got, HubError> {
         let (due, pid, place) = self.lost()?;
-        let last = self
-            .hub
-            .state()
-            .next_offset()
-            .unwrap_or(0)
-            .saturating_sub(1);
-        let offset = last.saturating_sub(self.random.below(4));
+        let offset = self.last_offset().saturating_sub(self.random.below(4));
         let client = self.client();
         let (hub, pass) = (&mut self.hub, &mut self.pass);
         let space = name_of(place);
         let sid = hub.recover(self.alloc, pass, client, space, pid, offset, self.now)?;
-        Ok(Got::Back(due, sid))
+        Ok(if sid == due { Got::Back } else { Got::Wrong })
+    }
+
+    fn last_offset(&self) -> u64 {
+        let next = self.hub.state().next_offset();
+        next.unwrap_or(0).saturating_sub(1)
     }
 
     /// The first of the saved sessions with the place of its namespace, or ids of none.
     fn lost(&self) -> Result<(Sid, Pid, u16), HubError> {
-        let hub = &self.hub;
-        let saved = sessions(
-            self.alloc,
-            hub.state().base(),
-            &self.config,
-            hub.state().steps(),
-        )?;
-        Ok(match saved.first() {
-            Some(session) => (session.sid, session.pid, session.space),
-            None => (Sid::new(0), Pid::new(0), 0),
-        })
+        let state = self.hub.state();
+        let saved = sessions(self.alloc, state.base(), &self.config, state.steps())?;
+        Ok(first_of(&saved))
+    }
+
+    /// What waits for a client, as the slow program says.
+    fn waiting(&self, client: u128) -> Result<Vec<Entry>, HubError> {
+        let (state, config) = (self.hub.state(), &self.config);
+        Ok(waiting(self.alloc, state.base(), config, state.steps(), client)?)
     }
 
     fn take(&mut self) -> Result<Got, HubError> {
         let (client, most) = (self.client(), self.random.below(3) as usize);
-        let (hub, pass) = (&mut self.hub, &mut self.pass);
-        let waited = waiting(
-            self.alloc,
-            hub.state().base(),
-            &self.config,
-            hub.state().steps(),
-            client,
-        )?;
-        let entries = hub.take(self.alloc, pass, client, most, self.now)?;
-        Ok(Got::Took(waited, most, entries))
+        let waited = self.waiting(client)?;
+        let entries = self
+            .hub
+            .take(self.alloc, &mut self.pass, client, most, self.now)?;
+        Ok(took(&waited, most, &entries))
     }
 
     fn cast(&mut self) -> Result<Got, HubError> {
         let cast = self.random.cast(self.alloc)?;
-        let (hub, pass) = (&mut self.hub, &mut self.pass);
-        let offset = if cast.logged {
-            next(hub.state().base(), hub.state().steps())
+        let offset = self.due_offset(cast.logged);
+        let done = self.hub.cast(self.alloc, &mut self.pass, cast, self.now)?;
+        Ok(reached(offset, &done))
+    }
+
+    /// The next offset of the slow program, where a broadcast is logged.
+    fn due_offset(&self, logged: bool) -> Option<u64> {
+        if logged {
+            next(self.hub.state().base(), self.hub.state().steps())
         } else {
             None
-        };
-        let done = hub.cast(self.alloc, pass, cast, self.now)?;
-        Ok(Got::Cast(offset, done))
+        }
+    }
+}
+
+/// The first of these sessions with the place of its namespace, or ids of none.
+fn first_of(saved: &[Saved]) -> (Sid, Pid, u16) {
+    match saved.first() {
+        Some(session) => (session.sid, session.pid, session.space),
+        None => (Sid::new(0), Pid::new(0), 0),
+    }
+}
+
+/// What a broadcast came to, of which the slow program says that it has this offset.
+fn reached(offset: Option<u64>, done: &CastDone) -> Got {
+    if done.offset == offset && done.clients.len() as u64 == done.placed {
+        Got::Cast(done.placed, done.dropped)
+    } else {
+        Got::Wrong
+    }
+}
+
+/// What was handed out, where so many of what waited were asked for.
+fn took(waited: &[Entry], most: usize, entries: &[Entry]) -> Got {
+    if are_first(waited, most, entries) {
+        Got::Done
+    } else {
+        Got::Wrong
     }
 }
 
 /// Whether a command was answered as the slow program says, with these totals before and after it.
-fn is_due(before: &Totals, after: &Totals, got: &Got) -> bool {
+fn is_due(before: Totals, after: Totals, got: Got) -> bool {
     match got {
-        Got::Cast(offset, done) => {
-            done.offset == *offset
-                && done.clients.len() as u64 == done.placed
-                && before.placed.checked_add(done.placed) == Some(after.placed)
-                && before.dropped.checked_add(done.dropped) == Some(after.dropped)
+        Got::Cast(placed, dropped) => {
+            before.placed.checked_add(placed) == Some(after.placed)
+                && before.dropped.checked_add(dropped) == Some(after.dropped)
         }
-        Got::Took(waited, most, entries) => are_first(waited, *most, entries),
-        Got::Back(saved, sid) => saved == sid,
-        Got::Changed(due, sids) => sids.as_slice() == due.as_slice(),
-        Got::Dismissed(due, done) => {
-            let told = done.told.len() as u64;
-            done.ended.as_slice() == due.as_slice()
-                && before.placed.checked_add(told) == Some(after.placed)
-                && before.dropped == after.dropped
+        Got::Dismissed(_, told) => {
+            before.placed.checked_add(told) == Some(after.placed) && before.dropped == after.dropped
         }
+        Got::Wrong => false,
         _ => true,
     }
 }

@@ -8,13 +8,13 @@ use terms::{Bytes, Text};
 
 /// Numbers that look random: a linear congruential generator, of which the upper bits are used.
 #[derive(Clone, Copy)]
-pub(super) struct Random {
-    pub(super) state: u64,
+pub struct Random {
+    pub state: u64,
 }
 
 impl Random {
     /// A number below `bound`.
-    pub(super) fn below(&mut self, bound: u64) -> u64 {
+    pub fn below(&mut self, bound: u64) -> u64 {
         self.state = self
             .state
             .wrapping_mul(6_364_136_223_846_793_005)
@@ -26,7 +26,7 @@ impl Random {
     }
 
     /// A moment about the one that is due after so many commands, and sometimes far past it.
-    pub(super) fn moment(&mut self, count: u64) -> u64 {
+    pub fn moment(&mut self, count: u64) -> u64 {
         let leap = if self.below(24) == 0 { 60 } else { 0 };
         count
             .saturating_mul(2)
@@ -34,15 +34,15 @@ impl Random {
             .saturating_add(leap)
     }
 
-    pub(super) fn id(&mut self) -> u128 {
+    pub fn id(&mut self) -> u128 {
         u128::from(self.below(5))
     }
 
-    pub(super) fn sid(&mut self) -> Sid {
+    pub fn sid(&mut self) -> Sid {
         Sid::new(self.id())
     }
 
-    pub(super) fn space(&mut self) -> &'static str {
+    pub fn space(&mut self) -> &'static str {
         match self.below(8) {
             0 => "/none",
             1 | 2 | 3 => "/a",
@@ -50,7 +50,7 @@ impl Random {
         }
     }
 
-    pub(super) fn room(&mut self) -> Room {
+    pub fn room(&mut self) -> Room {
         let name = match self.below(3) {
             0 => "r",
             1 => "s",
@@ -62,22 +62,20 @@ impl Random {
         }
     }
 
-    /// No room, one or two.
-    pub(super) fn rooms(&mut self, alloc: Global) -> Result<Vec<Room>, HubError> {
-        let mut rooms = Vec::new(alloc);
+    /// Adds no room, one or two.
+    pub fn gather(&mut self, rooms: &mut Vec<Room>) -> Result<(), HubError> {
         for _more in 0..self.below(3) {
             rooms.push(self.room())?;
         }
-        Ok(rooms)
+        Ok(())
     }
 
     /// Often none, and else one.
-    fn attachments(&mut self, alloc: Global) -> Result<Attachments, HubError> {
-        let mut attachments = Attachments::new(alloc);
+    fn attach(&mut self, alloc: Global, attachments: &mut Attachments) -> Result<(), HubError> {
         if self.below(4) == 0 {
             attachments.push(Bytes::copy_of(alloc, &[1, 2, 3])?)?;
         }
-        Ok(attachments)
+        Ok(())
     }
 
     fn text(&mut self) -> &'static str {
@@ -88,11 +86,13 @@ impl Random {
         }
     }
 
-    pub(super) fn entry(&mut self, alloc: Global) -> Result<Entry, HubError> {
-        Ok(Entry {
+    pub fn entry(&mut self, alloc: Global) -> Result<Entry, HubError> {
+        let mut entry = Entry {
             text: Text::copy_of(alloc, self.text())?,
-            attachments: self.attachments(alloc)?,
-        })
+            attachments: Attachments::new(alloc),
+        };
+        self.attach(alloc, &mut entry.attachments)?;
+        Ok(entry)
     }
 
     /// An event's array, or a text that is none and has no bracket.
@@ -105,18 +105,31 @@ impl Random {
     }
 
     /// A broadcast, often to no room and with no excepted one.
-    pub(super) fn cast(&mut self, alloc: Global) -> Result<Cast, HubError> {
-        let excepted = match self.below(2) {
-            0 => Vec::new(alloc),
-            _ => self.rooms(alloc)?,
+    pub fn cast(&mut self, alloc: Global) -> Result<Cast, HubError> {
+        let mut cast = Cast {
+            space: Text::from_string(String::new(alloc)),
+            rooms: Vec::new(alloc),
+            excepted: Vec::new(alloc),
+            logged: false,
+            payload: Text::from_string(String::new(alloc)),
+            attachments: Attachments::new(alloc),
         };
-        Ok(Cast {
-            space: Text::copy_of(alloc, self.space())?,
-            rooms: self.rooms(alloc)?,
-            excepted,
-            logged: self.below(2) == 0,
-            payload: Text::copy_of(alloc, self.payload())?,
-            attachments: self.attachments(alloc)?,
-        })
+        self.draw_rooms(alloc, &mut cast)?;
+        self.draw_event(alloc, &mut cast)?;
+        Ok(cast)
+    }
+
+    fn draw_rooms(&mut self, alloc: Global, cast: &mut Cast) -> Result<(), HubError> {
+        if self.below(2) != 0 {
+            self.gather(&mut cast.excepted)?;
+        }
+        cast.space = Text::copy_of(alloc, self.space())?;
+        self.gather(&mut cast.rooms)
+    }
+
+    fn draw_event(&mut self, alloc: Global, cast: &mut Cast) -> Result<(), HubError> {
+        cast.logged = self.below(2) == 0;
+        cast.payload = Text::copy_of(alloc, self.payload())?;
+        self.attach(alloc, &mut cast.attachments)
     }
 }

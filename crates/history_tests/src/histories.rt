@@ -2,31 +2,36 @@
 
 ghost use Rattle.std.specs.Prelude.{◌≡◌};
 
-mod agreement;
-mod entries;
-mod many;
-mod random;
-mod run;
-mod tally;
-
-use crate::made::PARTS;
-use agreement::agree;
-use entries::{are_same_broadcasts, are_same_sessions};
+use crate::agreement::agree;
+use crate::entries::{are_same_broadcasts, are_same_sessions};
+use crate::random::Random;
+use crate::run::Run;
+use crate::tally::{NOTHING, Tally};
 use hub::Hub;
-use journal::{Config, HubError};
-use random::Random;
+use journal::{Base, Config, HubError};
+use recovery::{Logged, Saved};
 use replay::{log, sessions};
-use run::Run;
 use std::alloc::Global;
 use std::marker::Brand;
 use std::sync::ledger::{Blank, Ledger};
-use tally::{NOTHING, Tally};
 use terms::Text;
 
-fn config(alloc: Global) -> Result<Config, HubError> {
+const PARTS: u64 = 65_536;
+
+fn spaces(alloc: Global) -> Result<Vec<Text>, HubError> {
     let mut spaces = Vec::new(alloc);
-    spaces.push(Text::copy_of(alloc, "/")?)?;
-    spaces.push(Text::copy_of(alloc, "/a")?)?;
+    push_space(alloc, &mut spaces, "/")?;
+    push_space(alloc, &mut spaces, "/a")?;
+    Ok(spaces)
+}
+
+fn push_space(alloc: Global, spaces: &mut Vec<Text>, name: &str) -> Result<(), HubError> {
+    let space = Text::copy_of(alloc, name)?;
+    Ok(spaces.push(space)?)
+}
+
+fn config(alloc: Global) -> Result<Config, HubError> {
+    let spaces = spaces(alloc)?;
     Ok(Config {
         clients: 3,
         capacity: 3,
@@ -45,13 +50,23 @@ fn seals_once<C: Ledger, T: Ledger>(run: &mut Run<C, T>) -> Result<bool, HubErro
     let (alloc, config, hub) = (run.alloc, &run.config, &mut run.hub);
     let saved = sessions(alloc, hub.state().base(), config, hub.state().steps())?;
     let broadcasts = log(alloc, hub.state().base(), config, hub.state().steps())?;
+    seals_with(alloc, hub, &saved, &broadcasts)
+}
+
+/// Seals the hub, and says whether its new base has these sessions and this log.
+fn seals_with<C: Ledger, T: Ledger>(
+    alloc: Global,
+    hub: &mut Hub<C, T>,
+    saved: &[Saved],
+    broadcasts: &[Logged],
+) -> Result<bool, HubError> {
     hub.seal(alloc)?;
-    let base = hub.state().base();
-    Ok(
-        are_same_sessions(&base.saved, &saved)
-            && are_same_broadcasts(&base.log, &broadcasts)
-            && hub.state().steps().is_empty(),
-    )
+    Ok(has(hub.state().base(), saved, broadcasts) && hub.state().steps().is_empty())
+}
+
+/// Whether a base has these sessions and this log.
+fn has(base: &Base, saved: &[Saved], broadcasts: &[Logged]) -> bool {
+    are_same_sessions(&base.saved, saved) && are_same_broadcasts(&base.log, broadcasts)
 }
 
 fn seals<C: Ledger, T: Ledger>(run: &mut Run<C, T>) -> Result<bool, HubError> {
@@ -66,15 +81,21 @@ fn seals<C: Ledger, T: Ledger>(run: &mut Run<C, T>) -> Result<bool, HubError> {
 fn goes_on<C: Ledger, T: Ledger>(run: &mut Run<C, T>, are_long: bool) -> Result<bool, HubError> {
     for count in 1..101u64 {
         run.now = run.random.moment(count);
-        if !run.command()? || (count % 20 == 0 && !agree(run)?) {
-            return Ok(false);
-        }
-        let is_end = count % 80 == 0 || (count % 20 == 0 && !are_long);
-        if is_end && !seals(run)? {
+        if !run.command()? || !stands(run, count, are_long)? {
             return Ok(false);
         }
     }
     Ok(run.hub.settle(&mut run.pass) == Ok(run.hub.state().totals()))
+}
+
+/// Whether both say the same where it is time to ask, and the hub is sealed well where it is time.
+fn stands<C: Ledger, T: Ledger>(
+    run: &mut Run<C, T>,
+    count: u64,
+    are_long: bool,
+) -> Result<bool, HubError> {
+    let is_end = count % 80 == 0 || (count % 20 == 0 && !are_long);
+    Ok((count % 20 != 0 || agree(run)?) && (!is_end || seals(run)?))
 }
 
 /// A new hub that gets the random commands of a seed.
@@ -145,9 +166,8 @@ fn hub_and_slow_program_agree(rt: HostRuntime) -> Result<(), HubError> {
         assert!(rt; raised.is_some(), "at the seed {seed}");
         tally = raised.unwrap_or(tally);
     }
-    assert!(rt;
-        tally.accepted > 10_000 && tally.recovered > 30 && tally.has_all(),
-        "{tally:?}"
-    );
+    let missing = tally.missing();
+    assert!(rt; missing == None, "never: {missing:?}");
+    assert!(rt; tally.accepted > 10_000 && tally.recovered > 30 && tally.ended > tally.told);
     Ok(())
 }
