@@ -211,7 +211,88 @@ A -
     ),
 ];
 
+/// Limits on the bytes that the attachments which a client sends have together.
+const OF_ATTACHMENTS: [(&str, &str, &str, &str); 5] = [
+    (
+        "attachments of just as many bytes as may wait are taken, and the event is too much for an outbox",
+        "config bytes 126\n",
+        r#"text A 452-["say","r",{"_placeholder":true,"num":0},{"_placeholder":true,"num":1}]
+text A bAAAAAAAAAAAAAAAAAAAAAAAAAAAAAAAAAAAAAAAAAAAAAAAAAAAAAAAAAAAAAAAAAAAAAAAAAAAAAAAAAAAAAAAAAAAAAAAAAAAAAAAAAAAAAAAAAAAAAAAAAAAAAAAA
+text A bAAAAAAAAAAAAAAAAAAAAAAAAAAAAAAAAAAAAAAAA
+totals
+"#,
+        r#"ok
+ok
+ok
+commands 9, placed 2, dropped 1, taken 2, discarded 0, waiting 0
+"#,
+    ),
+    (
+        "attachments of more bytes together than may wait close the client",
+        "config bytes 126\n",
+        r#"text A 452-["say","r",{"_placeholder":true,"num":0},{"_placeholder":true,"num":1}]
+text A bAAAAAAAAAAAAAAAAAAAAAAAAAAAAAAAAAAAAAAAAAAAAAAAAAAAAAAAAAAAAAAAAAAAAAAAAAAAAAAAAAAAAAAAAAAAAAAAAAAAAAAAAAAAAAAAAAAAAAAAAAAAAAAAA
+text A bAAAAAAAAAAAAAAAAAAAAAAAAAAAAAAAAAAAAAAAAAAAA
+text A 2
+totals
+"#,
+        r#"ok
+ok
+ok, closed: TooLong
+refused: UnknownClient
+commands 9, placed 2, dropped 0, taken 2, discarded 0, waiting 0
+"#,
+    ),
+    (
+        "a long attachment that is not awaited is told as that",
+        "config bytes 126\n",
+        r#"text A bAAAAAAAAAAAAAAAAAAAAAAAAAAAAAAAAAAAAAAAAAAAAAAAAAAAAAAAAAAAAAAAAAAAAAAAAAAAAAAAAAAAAAAAAAAAAAAAAAAAAAAAAAAAAAAAAAAAAAAAAAAAAAAAAAAAAAAAAAAAAAAAAAAAAAAAAAAAAAAAAAAAAAAAAAAAA
+"#,
+        r#"ok, closed: BinaryUnawaited
+"#,
+    ),
+    (
+        "over a WebSocket too attachments of just so many bytes are taken",
+        "config bytes 126\n",
+        r#"open C socket
+frame C 40
+frame C 452-["say","r",{"_placeholder":true,"num":0},{"_placeholder":true,"num":1}]
+bytes C 000000000000000000000000000000000000000000000000000000000000000000000000000000000000000000000000000000000000000000000000000000000000000000000000000000000000000000000000000000000000000000000000
+bytes C 000000000000000000000000000000000000000000000000000000000000
+"#,
+        r#"C 0{"sid":"00000000000000000000000000000007","upgrades":[],"pingInterval":25000,"pingTimeout":20000,"maxPayload":1000000}
+ok
+ok
+ok
+ok
+"#,
+    ),
+    (
+        "and one byte more closes the client",
+        "config bytes 126\n",
+        r#"open C socket
+frame C 40
+frame C 452-["say","r",{"_placeholder":true,"num":0},{"_placeholder":true,"num":1}]
+bytes C 000000000000000000000000000000000000000000000000000000000000000000000000000000000000000000000000000000000000000000000000000000000000000000000000000000000000000000000000000000000000000000000000
+bytes C 00000000000000000000000000000000000000000000000000000000000000
+frame C 2
+"#,
+        r#"C 0{"sid":"00000000000000000000000000000007","upgrades":[],"pingInterval":25000,"pingTimeout":20000,"maxPayload":1000000}
+ok
+ok
+ok
+ok, closed: TooLong
+refused: UnknownClient
+"#,
+    ),
+];
+
 #[test]
 fn limits_at_the_start(rt: HostRuntime) {
     expect_each(&rt, &AT_THE_START);
+}
+
+#[test]
+fn limits_of_attachments(rt: HostRuntime) {
+    expect_each_in_room(&rt, &OF_ATTACHMENTS);
 }
