@@ -1,0 +1,4 @@
+pub mod Sent
+pub mod Replies
+pub mod Polling
+pub mod Polled
