@@ -39,6 +39,9 @@ impl<W, M> Model for PollPeer<W, M> {
 }
 
 impl<W, M> PollPeer<W, M> {
+    ghost use Rattle.std.specs.Borrow.{Lends, sem};
+    ghost use Rattle.peers.specs.contracts.poll_peer.PollPeer.{the_row};
+
     /// Nothing was asked of the core yet, and nothing written.
     pub fn new(alloc: Global, wire: W, moments: M, request: PollRequest) -> PollPeer<W, M>
         ensures { result ≡ record { stage = stage.First request; wire = wire } }
@@ -72,6 +75,21 @@ impl<W, M> PollPeer<W, M> {
     {
         let stage = mem::replace(&mut self.stage, PollStage::Opening);
         self.stage = given_up(stage);
+    }
+
+    /// The wire.
+    pub fn wire(&self) -> &W
+        ensures { result.now ≡ self.now.wire }
+    {
+        &self.wire
+    }
+
+    /// The wire, which a driver may send or poll.
+    pub fn wire_mut(&mut self) -> &mut W
+        ensures* writes_back { sem 𝓛 (Lends (the_row W.row M.row) W.row self.entry result (λ wire. record self.old { wire = wire })) }
+        ensures value { result.now ≡ self.old.wire }
+    {
+        &mut self.wire
     }
 }
 
