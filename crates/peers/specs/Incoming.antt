@@ -8,6 +8,7 @@ use Rattle.tungstenite.specs.declared.error.Error.TheVariants as error
 use Rattle.tungstenite.specs.declared.message.Message.{Message}
 use Rattle.tungstenite.specs.declared.message.Message.TheVariants as message
 use Rattle.tungstenite.specs.Socket.{Socket, Reads, Flushed}
+use Rattle.websocket.specs.declared.error.ProtocolError.TheVariants as protocol
 use Rattle.dispatch.specs.declared.event.WsFrame.{WsFrame}
 use Rattle.dispatch.specs.declared.event.WsFrame.TheVariants as frame
 use Rattle.hub_gate.specs.declared.peer.PeerFault.TheVariants as fault
@@ -30,10 +31,13 @@ abbrev pub would_block : ErrorKind → Bool
 would_block kind.WouldBlock = true
 would_block _ = false
 
--- a stream that would have had to wait brings nothing; after any other failure nothing more is read
+-- a stream that would have had to wait brings nothing; after any other failure, and after the end, nothing more is read
 abbrev pub of_error : Error → Incoming
 of_error (error.Io cause) = if would_block (error_kind cause) then incoming.Nothing else incoming.Gone fault.Device
 of_error error.OutOfMemory = incoming.Gone fault.Memory
+of_error error.ConnectionClosed = incoming.Gone fault.Ended
+of_error error.AlreadyClosed = incoming.Gone fault.Ended
+of_error (error.Protocol protocol.ResetWithoutClosingHandshake) = incoming.Gone fault.Ended
 of_error _ = incoming.Gone fault.Device
 
 abbrev pub IsHeardAs : Result Message Error → Incoming → Type 0

@@ -12,6 +12,7 @@ use std::alloc::Global;
 use std::io::{ErrorKind, Read, Write};
 use terms::{Bytes, Text};
 use tungstenite::{Error, MaskKeys, Message, WebSocket};
+use websocket::error::ProtocolError;
 
 /// What a text is worked on as.
 fn text_frame(alloc: Global, text: &str) -> Incoming
@@ -69,6 +70,11 @@ fn incoming_of_error(error: &Error) -> Incoming
             }
         }
         Error::OutOfMemory => Incoming::Gone(PeerFault::Memory),
+        Error::ConnectionClosed => Incoming::Gone(PeerFault::Ended),
+        Error::AlreadyClosed => Incoming::Gone(PeerFault::Ended),
+        Error::Protocol(ProtocolError::ResetWithoutClosingHandshake) => {
+            Incoming::Gone(PeerFault::Ended)
+        }
         _ => Incoming::Gone(PeerFault::Device),
     }
 }
