@@ -1,12 +1,13 @@
 //! What a request is answered with, for what its events were answered with.
 
-use crate::sheet::{Sheet, Still};
+use crate::sheet::{Counted, Sheet, Still};
 use dispatch::{Opening, Outcome};
 use effects::{Cause, CoreError, CoreFault, Done};
 use http_edge::{EdgeError, Refusal, Target};
 use hub_gate::{Peer, PeerFault};
 use peers::{PollPeer, PollRequest, Reply, SocketRequest, reply_to_fault, reply_to_target};
 use std::alloc::{AllocError, Global};
+use std::cell::Cell;
 use terms::Text;
 
 /// What a request asks for.
@@ -312,4 +313,55 @@ fn what_targets_ask_for(rt: HostRuntime) {
         Some(SocketRequest::Open)
     );
     assert_eq!(rt; SocketRequest::of(Target::OpenPoll), None);
+}
+
+/// The moment of a peer's next event, and how many pauses were made by then.
+fn moment<P: Peer>(peer: &mut P, pauses: &Cell<u64>) -> (Option<u64>, u64) {
+    match peer.next() {
+        Ok(Some((_, now))) => (Some(now), pauses.get()),
+        _ => (None, pauses.get()),
+    }
+}
+
+/// The moments and the pauses of a GET that finds nothing twice, and then a noop packet.
+fn paused<P: Peer>(
+    peer: &mut P,
+    pauses: &Cell<u64>,
+    noop: Text,
+) -> Result<[(Option<u64>, u64); 4], PeerFault> {
+    let begins = moment(peer, pauses);
+    peer.answer(&Ok(Outcome::Begun))?;
+    let asks = moment(peer, pauses);
+    peer.answer(&Ok(Outcome::Nothing))?;
+    let asks_again = moment(peer, pauses);
+    peer.answer(&Ok(Outcome::Nothing))?;
+    let takes = moment(peer, pauses);
+    peer.answer(&Ok(Outcome::Payload(noop)))?;
+    Ok([begins, asks, asks_again, takes])
+}
+
+/// The same of a new GET, with the pauses at its end.
+fn paused_get(alloc: Global) -> Result<([(Option<u64>, u64); 4], u64), PeerFault> {
+    let (moments, pauses) = (Cell::new(10), Cell::new(0));
+    let Ok(noop) = Text::copy_of(alloc, "6") else {
+        return Err(PeerFault::Memory);
+    };
+    let counted = Counted {
+        moments: &moments,
+        pauses: &pauses,
+    };
+    let request = PollRequest::Get { client: 7 };
+    let mut peer = PollPeer::new(alloc, Sheet::with_room(alloc, 1_000), counted, request);
+    let made = paused(&mut peer, &pauses, noop)?;
+    Ok((made, pauses.get()))
+}
+
+#[test]
+fn moments_and_pauses(rt: HostRuntime) {
+    let made = [(Some(10), 0), (Some(11), 0), (Some(12), 1), (Some(13), 2)];
+    let got = match paused_get(rt.alloc()) {
+        Err(_) => paused_get(rt.alloc()),
+        got => got,
+    };
+    assert_eq!(rt; got, Ok((made, 3)));
 }

@@ -5,6 +5,7 @@ ghost use Rattle.std.specs.Prelude.{None, ◌≡◌};
 use http_edge::{Broken, Wire};
 use peers::Moments;
 use std::alloc::Global;
+use std::cell::Cell;
 
 /// It is always the moment 0, and nothing waits.
 #[derive(Clone, Copy, Debug)]
@@ -16,6 +17,25 @@ impl Moments for Still {
     }
 
     fn pause(&mut self) {}
+}
+
+/// Each moment is one later than the one before, and pauses are counted.
+#[derive(Clone, Copy, Debug)]
+pub struct Counted<'c> {
+    pub moments: &'c Cell<u64>,
+    pub pauses: &'c Cell<u64>,
+}
+
+impl<'c> Moments for Counted<'c> {
+    fn now(&mut self) -> u64 {
+        let moment = self.moments.get();
+        self.moments.set(moment.saturating_add(1));
+        moment
+    }
+
+    fn pause(&mut self) {
+        self.pauses.set(self.pauses.get().saturating_add(1));
+    }
 }
 
 /// Gives nothing; takes `room` bytes, at most 7 at a time, and then breaks.

@@ -1,7 +1,8 @@
 //! One frame of a WebSocket is sent (RFC 6455, section 5.2).
 
 ghost use Rattle.std.specs.Prelude.{◌≡◌, ◌⊎◌, [], OnOk, IfErr, IfOk};
-ghost use Rattle.tungstenite.specs.Socket.{content_of};
+ghost use Rattle.tungstenite.specs.Connection.{write_step};
+ghost use Rattle.tungstenite.specs.Socket.{Writes, content_of};
 ghost use Rattle.dispatch.specs.declared.event.WsFrame.TheVariants as frames;
 ghost use Rattle.hub_gate.specs.declared.peer.PeerFault.TheVariants.{Memory, Device};
 ghost use Rattle.peers.specs.Sent.{AddsFrame, message_of};
@@ -22,6 +23,23 @@ fn message_for(alloc: Global, frame: &WsFrame) -> Result<Message, AllocError>
 }
 
 /// Sends one message. Where memory was refused, nothing has changed.
+fn send_message<S: Read + Write + Drop, K: MaskKeys + Drop>(
+    socket: &mut WebSocket<S, K>,
+    message: Message,
+) -> Result<(), PeerFault>
+    ensures wrote { OnOk result (Writes S.contents socket.old socket.new (write_step socket.old.conn (content_of message))) }
+    ensures clean { OnOk result (socket.new.output ≡ []) }
+    ensures kinds { IfErr result (λ e. (e ≡ Memory) ⊎ (e ≡ Device)) }
+    ensures unsent { IfErr result (λ e. e ≡ Memory → socket.new ≡ socket.old) }
+{
+    match socket.send(message) {
+        Ok(()) => Ok(()),
+        Err(Error::OutOfMemory) => Err(PeerFault::Memory),
+        Err(_error) => Err(PeerFault::Device),
+    }
+}
+
+/// Sends one frame. Where memory was refused, nothing has changed.
 pub fn send_frame<S: Read + Write + Drop, K: MaskKeys + Drop>(
     alloc: Global,
     socket: &mut WebSocket<S, K>,
@@ -35,13 +53,9 @@ pub fn send_frame<S: Read + Write + Drop, K: MaskKeys + Drop>(
     ensures kinds { IfErr result (λ e. (e ≡ Memory) ⊎ (e ≡ Device)) }
     ensures unsent { IfErr result (λ e. e ≡ Memory → socket.new ≡ socket.old) }
 {
-    let Ok(message) = message_for(alloc, frame) else {
-        return Err(PeerFault::Memory);
-    };
-    match socket.send(message) {
-        Ok(()) => Ok(()),
-        Err(Error::OutOfMemory) => Err(PeerFault::Memory),
-        Err(_error) => Err(PeerFault::Device),
+    match message_for(alloc, frame) {
+        Ok(message) => send_message(socket, message),
+        Err(AllocError) => Err(PeerFault::Memory),
     }
 }
 
@@ -58,12 +72,8 @@ pub fn send_text<S: Read + Write + Drop, K: MaskKeys + Drop>(
     ensures kinds { IfErr result (λ e. (e ≡ Memory) ⊎ (e ≡ Device)) }
     ensures unsent { IfErr result (λ e. e ≡ Memory → socket.new ≡ socket.old) }
 {
-    let Ok(message) = Message::text(alloc, text) else {
-        return Err(PeerFault::Memory);
-    };
-    match socket.send(message) {
-        Ok(()) => Ok(()),
-        Err(Error::OutOfMemory) => Err(PeerFault::Memory),
-        Err(_error) => Err(PeerFault::Device),
+    match Message::text(alloc, text) {
+        Ok(message) => send_message(socket, message),
+        Err(AllocError) => Err(PeerFault::Memory),
     }
 }
