@@ -13,7 +13,8 @@ use Rattle.peers.specs.declared.socket_stage.SocketStage.{SocketStage}
 use Rattle.peers.specs.Incoming.{Brings}
 use Rattle.peers.specs.Polled.{event_of}
 use Rattle.peers.specs.Sent.{AddsFrame}
-use Rattle.peers.specs.Turning.{reads, next_of, after, to_send, unsent}
+use Rattle.peers.specs.Turning.{reads, next_of}
+use Rattle.peers.specs.Heard.{after, to_send, unsent}
 
 -- how far the WebSocket has come, and its socket
 pub record Spoken (S : Type 0) : Type 0 where

@@ -10,6 +10,7 @@ mod poll_peer;
 mod poll_stage;
 mod replies;
 mod requests;
+mod socket_heard;
 mod socket_peer;
 mod socket_stage;
 

@@ -1,6 +1,6 @@
 //! One request over HTTP, as a peer.
 
-ghost use Rattle.std.specs.Prelude.{◌≡◌, MatchResult, OnOk, IfErr};
+ghost use Rattle.std.specs.Prelude.{◌≡◌};
 ghost use Rattle.peers.specs.Polling.{client_of, given_up, is_idle};
 ghost use Rattle.peers.specs.declared.poll_stage.PollStage.TheVariants as stage;
 ghost use Rattle.peers.specs.Polled.{Writes};
@@ -130,10 +130,18 @@ impl<W: Wire, M: Moments> Peer for PollPeer<W, M> {
         let Some(reply) = reply else {
             return Ok(());
         };
-        if reply.body == "6" {
+        if is_noop(got) {
             self.moments.pause();
         }
         write_reply(self.alloc, &mut self.wire, &reply)
+    }
+}
+
+/// Whether a lone noop packet was taken.
+fn is_noop(got: &Result<Outcome, CoreError>) -> bool {
+    match got {
+        Ok(Outcome::Payload(text)) => text.as_str() == "6",
+        _ => false,
     }
 }
 

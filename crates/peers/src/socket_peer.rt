@@ -2,16 +2,16 @@
 
 ghost use Rattle.std.specs.Prelude.{◌≡◌, [], OnOk, IfErr, ◌⊎◌};
 ghost use Rattle.hub_gate.specs.declared.peer.PeerFault.TheVariants.{Memory, Device};
-ghost use Rattle.peers.specs.Turning.{client_of, first_stage, frames_of, is_idle};
+ghost use Rattle.peers.specs.Heard.{frames_of};
+ghost use Rattle.peers.specs.Turning.{client_of, first_stage, is_idle};
 ghost use Rattle.peers.specs.Spoken.{AddsFrames, Sends};
 
 use crate::frame::{send_frame, send_text};
 use crate::incoming::read_incoming;
 use crate::moments::Moments;
 use crate::requests::SocketRequest;
-use crate::socket_stage::{
-    Incoming, Sending, SocketStage, after, first_stage, next_of, to_send, unsent,
-};
+use crate::socket_heard::{Sending, after, to_send, unsent};
+use crate::socket_stage::{Incoming, SocketStage, first_stage, next_of};
 use dispatch::{Event, Outcome, WsFrame};
 use effects::CoreError;
 use hub_gate::{Peer, PeerFault};
