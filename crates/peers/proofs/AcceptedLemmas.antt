@@ -1,5 +1,5 @@
 -- What an Option keeps of a Result.
-use Rattle.std.proofs.Common.{Option, Result, Ok, Err, IfOk, IfSome}
+use Rattle.std.proofs.Common.{Result, Ok, Err, IfOk, IfSome}
 use Rattle.std.specs.Result.{result_ok}
 
 -- a fact of the value at `Ok` is one of the value at `Some`

@@ -1,5 +1,5 @@
 -- The turns of a request over HTTP: a GET that waits asks again and again.
-use Rattle.std.specs.Prelude.{◌==◌, ◌&&◌, ◌-◌, nat_lt, ℕ, Bool, true, false, List, Option, None, Some, Result, Ok, Err, cond}
+use Rattle.std.specs.Prelude.{◌==◌, ◌&&◌, ◌-◌, nat_lt, ℕ, Bool, true, false, Option, None, Some, Ok, Err, cond}
 use Rattle.effects.specs.declared.fault.CoreFault.{CoreFault}
 use Rattle.effects.specs.declared.fault.CoreFault.TheVariants as fault
 use Rattle.dispatch.specs.declared.event.Event.{Event}

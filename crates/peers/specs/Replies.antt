@@ -1,5 +1,5 @@
 -- What a request over HTTP is answered with (Engine.IO protocol 4, "HTTP long-polling").
-use Rattle.std.specs.Prelude.{◌==◌, ◌&&◌, ℕ, Bool, true, false, List, [], codes, Option, None, Some, Result, Ok, Err, cond}
+use Rattle.std.specs.Prelude.{◌==◌, ◌&&◌, ℕ, Bool, true, false, List, [], codes, Option, None, Some, Ok, Err, cond}
 use Rattle.effects.specs.declared.cause.Cause.{Cause}
 use Rattle.effects.specs.declared.cause.Cause.TheVariants as cause
 use Rattle.effects.specs.declared.fault.CoreFault.{CoreFault}

@@ -1,5 +1,5 @@
 -- What one message adds to a WebSocket's output (RFC 6455, section 5.2).
-use Rattle.std.specs.Prelude.{◌≡◌, ◌++◌, ℕ, List, Option}
+use Rattle.std.specs.Prelude.{ℕ, List, Option}
 use Rattle.std.specs.Io.KnownBytes.{Appends}
 use Rattle.tungstenite.specs.Content.{Content, text, binary}
 use Rattle.tungstenite.specs.Connection.{whole_header, IsMaskOf}

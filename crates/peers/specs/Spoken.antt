@@ -1,5 +1,5 @@
 -- What the calls of a peer do that serves one WebSocket.
-use Rattle.std.specs.Prelude.{◌≡◌, ◌⊎◌, ℕ, Bool, true, false, List, [], ◌∷◌, Option, None, Some, Result, Ok, Err}
+use Rattle.std.specs.Prelude.{◌≡◌, ◌⊎◌, ℕ, Bool, true, false, List, [], ◌∷◌, Option, Result, Ok, Err}
 use Rattle.tungstenite.specs.Socket.{Socket}
 use Rattle.websocket.specs.declared.protocol.config.Role.{Role}
 use Rattle.dispatch.specs.declared.event.Event.{Event}

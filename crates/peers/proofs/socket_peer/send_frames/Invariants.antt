@@ -1,4 +1,4 @@
-use Rattle.std.proofs.Common.{◌≡◌, [], ◌≤◌, length, drop, Option, List, ℕ}
+use Rattle.std.proofs.Common.{◌≡◌, [], drop, Option, List, ℕ}
 use Rattle.peers.specs.Spoken.{AddsFrames}
 use Rattle.peers.proofs.socket_peer.send_frames.Given as goal
 
