@@ -115,8 +115,8 @@ fn worked<R: Wait, C: Ledger, T: Ledger>(
     Some((counts, totals, saved))
 }
 
-fn worked_on_new<R: Wait, C: Ledger, T: Ledger>(
-    rt: &R,
+fn worked_on_new<C: Ledger, T: Ledger>(
+    rt: &impl Wait,
     alloc: Global,
     commands: Blank,
     taken: Blank,
@@ -128,9 +128,9 @@ fn worked_on_new<R: Wait, C: Ledger, T: Ledger>(
     worked(rt, alloc, server, askers(alloc).ok()?)
 }
 
-fn worked_on_brands<R: Wait>(rt: &R, alloc: Global) -> Option<(WorkerCounts, Totals, usize)> {
+fn worked_on_brands(rt: &impl Wait, alloc: Global) -> Option<(WorkerCounts, Totals, usize)> {
     let (commands, taken) = (Blank::new(PARTS), Blank::new(PARTS));
-    worked_on_new::<R, Brand, Brand>(rt, alloc, commands, taken)
+    worked_on_new::<Brand, Brand>(rt, alloc, commands, taken)
 }
 
 #[test]
@@ -246,11 +246,15 @@ fn two_gets_of_another<C: Ledger, T: Ledger>(alloc: Global, server: &mut Server<
     }
 }
 
+fn new_gets(alloc: Global) -> Result<bool, CoreError> {
+    let (commands, taken) = (Blank::new(PARTS), Blank::new(PARTS));
+    gets::<Brand, Brand>(alloc, commands, taken)
+}
+
 #[test]
 fn gets_that_wait(rt: HostRuntime) {
     for _ in 0..2 {
-        let (commands, taken) = (Blank::new(PARTS), Blank::new(PARTS));
-        if gets::<Brand, Brand>(rt.alloc(), commands, taken) == Ok(true) {
+        if new_gets(rt.alloc()) == Ok(true) {
             return;
         }
     }

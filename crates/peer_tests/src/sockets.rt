@@ -151,11 +151,15 @@ fn does_once<C: Ledger, T: Ledger>(
     )
 }
 
+fn new_does(alloc: Global, row: &Row) -> Result<bool, CoreError> {
+    let (commands, taken) = (Blank::new(PARTS), Blank::new(PARTS));
+    does_once::<Brand, Brand>(alloc, row, commands, taken)
+}
+
 /// Of a run's allocations at most one is refused, so one of two runs has ample memory.
 fn does(alloc: Global, row: &Row) -> bool {
     for _ in 0..2 {
-        let (commands, taken) = (Blank::new(PARTS), Blank::new(PARTS));
-        if does_once::<Brand, Brand>(alloc, row, commands, taken) == Ok(true) {
+        if new_does(alloc, row) == Ok(true) {
             return true;
         }
     }
@@ -349,11 +353,15 @@ fn early_on_new<C: Ledger, T: Ledger>(
     Ok(early(alloc, &mut server, head))
 }
 
+fn new_early(alloc: Global, head: &[u8]) -> Result<Option<bool>, CoreError> {
+    let (commands, taken) = (Blank::new(PARTS), Blank::new(PARTS));
+    early_on_new::<Brand, Brand>(alloc, head, commands, taken)
+}
+
 /// What is found in one of two runs.
 fn is_early(alloc: Global, head: &[u8], want: Option<bool>) -> bool {
     for _ in 0..2 {
-        let (commands, taken) = (Blank::new(PARTS), Blank::new(PARTS));
-        if early_on_new::<Brand, Brand>(alloc, head, commands, taken) == Ok(want) {
+        if new_early(alloc, head) == Ok(want) {
             return true;
         }
     }
