@@ -17,6 +17,9 @@ pub struct Replay<S> {
 }
 
 impl<S> Replay<S> {
+    ghost use Rattle.std.specs.Borrow.{Lends, sem};
+    ghost use Rattle.http_edge.specs.contracts.replay.Replay.{the_row};
+
     /// Nothing of the bytes was read yet.
     pub fn new(bytes: Vec<u8>, stream: S) -> Replay<S>
         ensures bytes { result.bytes ≡ bytes }
@@ -35,6 +38,14 @@ impl<S> Replay<S> {
         ensures { result.now ≡ self.now.stream }
     {
         &self.stream
+    }
+
+    /// The stream behind the bytes.
+    pub fn get_mut(&mut self) -> &mut S
+        ensures* writes_back { sem 𝓛 (Lends (the_row S.row) S.row self.entry result (λ stream. record self.old { stream = stream })) }
+        ensures value { result.now ≡ self.old.stream }
+    {
+        &mut self.stream
     }
 }
 

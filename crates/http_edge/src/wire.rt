@@ -46,6 +46,9 @@ pub struct OnStream<S> {
 }
 
 impl<S> OnStream<S> {
+    ghost use Rattle.std.specs.Borrow.{Lends, sem};
+    ghost use Rattle.http_edge.specs.contracts.wire.OnStream.{the_row};
+
     /// A wire over this stream, which was not read and is whole.
     pub fn new(stream: S) -> OnStream<S>
         ensures stream { result.stream ≡ stream }
@@ -57,6 +60,21 @@ impl<S> OnStream<S> {
             reads: 0,
             broken: false,
         }
+    }
+
+    /// The stream.
+    pub fn get_ref(&self) -> &S
+        ensures { result.now ≡ self.now.stream }
+    {
+        &self.stream
+    }
+
+    /// The stream. What is done with it counts as no read, and breaks nothing.
+    pub fn get_mut(&mut self) -> &mut S
+        ensures* writes_back { sem 𝓛 (Lends (the_row S.row) S.row self.entry result (λ stream. record self.old { stream = stream })) }
+        ensures value { result.now ≡ self.old.stream }
+    {
+        &mut self.stream
     }
 
     /// The stream, as it is now.

@@ -1,0 +1,47 @@
+-- What the calls of a peer do that serves one request over HTTP.
+use Rattle.std.specs.Prelude.{◌≡◌, ℕ, Bool, true, List, Option, None, Some, Result, Ok, Err, option_map}
+use Rattle.std.specs.Io.KnownBytes.{Appends}
+use Rattle.dispatch.specs.declared.event.Event.{Event}
+use Rattle.dispatch.specs.Answers.{Answer}
+use Rattle.hub_gate.specs.declared.peer.PeerFault.{PeerFault}
+use Rattle.hub_gate.specs.declared.peer.PeerFault.TheVariants as fault
+use Rattle.http_edge.specs.Answer as http
+use Rattle.http_edge.specs.Written.{AppendsFront}
+use Rattle.peers.specs.declared.poll_stage.PollStage.{PollStage}
+use Rattle.peers.specs.Polling.{next_of, after}
+use Rattle.peers.specs.Replies.{PlainReply, answer_to}
+
+-- how far the request has come, and the wire that it came by
+pub record Polled (W : Type 0) : Type 0 where
+  pub stage : PollStage
+  pub wire : W
+
+-- the event of an event and its moment
+abbrev pub event_of : Option (Event × ℕ) → Option Event
+event_of given = option_map (λ pair. pair.0) given
+
+module _ {W : Type 0} where
+  -- the next event is the table's; the wire stays as it was
+  abbrev pub Gives : Polled W → Result (Option (Event × ℕ)) PeerFault → Polled W → Type 0
+  Gives old (Ok given) new = ((new.stage, event_of given) ≡ next_of old.stage) × (new.wire ≡ old.wire)
+  Gives old (Err e) new = ⊥
+
+module _ {W : Type 0} (written : W → Option (List ℕ)) (is_broken : W → Bool) where
+  -- the whole answer was written; or memory was refused, and nothing was asked of the wire; or the wire broke, and a
+  -- first part was written
+  abbrev pub Writes : PlainReply → W → Result (Unit {0}) PeerFault → W → Type 0
+  Writes reply old (Ok _) new = Appends (written old) (written new) (http.answer reply.status reply.body)
+  Writes reply old (Err fault.Memory) new = new ≡ old
+  Writes reply old (Err fault.Device) new =
+      AppendsFront (written old) (written new) (http.answer reply.status reply.body) × (is_broken new ≡ true)
+  Writes reply old (Err fault.Ended) new = ⊥
+
+  -- where the table names no answer, nothing is written
+  abbrev pub Replies : Option PlainReply → W → Result (Unit {0}) PeerFault → W → Type 0
+  Replies None old result new = (result ≡ Ok tt) × (new ≡ old)
+  Replies (Some reply) old result new = Writes reply old result new
+
+  -- the stage and the answer are the tables'
+  pub record Hears (old : Polled W) (got : Answer) (result : Result (Unit {0}) PeerFault) (new : Polled W) : Type 0 where
+    pub stage : new.stage ≡ after old.stage got
+    pub answered : Replies (answer_to old.stage got) old.wire result new.wire

@@ -1,0 +1,103 @@
+-- The turns of a request over HTTP: a GET that waits asks again and again.
+use Rattle.std.specs.Prelude.{◌==◌, ◌&&◌, ◌-◌, nat_lt, ℕ, Bool, true, false, Option, None, Some, Ok, Err, cond}
+use Rattle.effects.specs.declared.fault.CoreFault.{CoreFault}
+use Rattle.effects.specs.declared.fault.CoreFault.TheVariants as fault
+use Rattle.dispatch.specs.declared.event.Event.{Event}
+use Rattle.dispatch.specs.declared.event.Event.TheVariants as event
+use Rattle.dispatch.specs.declared.outcome.Outcome.TheVariants as outcome
+use Rattle.dispatch.specs.Answers.{Answer}
+use Rattle.peers.specs.declared.requests.PollRequest.{PollRequest}
+use Rattle.peers.specs.declared.requests.PollRequest.TheVariants as request
+use Rattle.peers.specs.declared.poll_stage.PollStage.{PollStage}
+use Rattle.peers.specs.declared.poll_stage.PollStage.TheVariants as stage
+
+-- how often a GET that waits asks, at the most
+abbrev pub takes : ℕ
+takes = 1200
+
+-- ---- what comes next
+
+-- the event of a request
+abbrev pub first_of : PollRequest → PollStage × Event
+first_of request.Open = (stage.Opening, event.Opened false)
+first_of (request.Get c) = (stage.Beginning c, event.PollBegin c)
+first_of (request.Post c body) = (stage.Posting c, event.Post c body)
+
+-- a GET that waits takes up to 64 entries, or ends once it has asked so often
+abbrev pub asks : ℕ → ℕ → PollStage × Event
+asks c left = cond (left == 0) (stage.Ending c, event.PollEnd c) (stage.Taking c (left - 1), event.PollTake c 64)
+
+abbrev pub with_event : PollStage × Event → PollStage × Option Event
+with_event step = (step.0, Some step.1)
+
+abbrev pub next_of : PollStage → PollStage × Option Event
+next_of (stage.First r) = with_event (first_of r)
+next_of (stage.Waits c left) = with_event (asks c left)
+next_of other = (other, None)
+
+-- ---- what an answer leads to
+
+abbrev pub opened_client : Answer → Option ℕ
+opened_client (Ok (outcome.Opened o)) = Some o.client
+opened_client _ = None
+
+abbrev pub after_begin : ℕ → Answer → PollStage
+after_begin c (Ok outcome.Begun) = stage.Waits c takes
+after_begin c _ = stage.Over (Some c)
+
+-- a refusal that passes
+abbrev pub waits_on : CoreFault → Bool
+waits_on fault.Memory = true
+waits_on fault.TooManyClients = true
+waits_on fault.IdTaken = true
+waits_on fault.Spent = true
+waits_on fault.BadEffect = true
+waits_on _ = false
+
+abbrev pub after_refusal : ℕ → ℕ → CoreFault → PollStage
+after_refusal c left why = cond (waits_on why) (stage.Waits c left) (stage.Over (Some c))
+
+abbrev pub after_take : ℕ → ℕ → Answer → PollStage
+after_take c left (Ok outcome.Nothing) = stage.Waits c left
+after_take c left (Ok _) = stage.Over (Some c)
+after_take c left (Err e) = after_refusal c left e.fault
+
+abbrev pub after_end : ℕ → Answer → PollStage
+after_end c (Ok _) = stage.Over (Some c)
+after_end c (Err e) = after_refusal c 0 e.fault
+
+abbrev pub after : PollStage → Answer → PollStage
+after stage.Opening got = stage.Over (opened_client got)
+after (stage.Posting c) got = stage.Over (Some c)
+after (stage.Beginning c) got = after_begin c got
+after (stage.Taking c left) got = after_take c left got
+after (stage.Ending c) got = after_end c got
+after other got = other
+
+-- ---- what a driver asks
+
+-- a GET that waits, or asks, asks no more
+abbrev pub given_up : PollStage → PollStage
+given_up (stage.Waits c left) = stage.Waits c 0
+given_up (stage.Taking c left) = stage.Taking c 0
+given_up other = other
+
+abbrev pub client_of_request : PollRequest → Option ℕ
+client_of_request request.Open = None
+client_of_request (request.Get c) = Some c
+client_of_request (request.Post c body) = Some c
+
+abbrev pub client_of : PollStage → Option ℕ
+client_of (stage.First r) = client_of_request r
+client_of stage.Opening = None
+client_of (stage.Posting c) = Some c
+client_of (stage.Beginning c) = Some c
+client_of (stage.Waits c left) = Some c
+client_of (stage.Taking c left) = Some c
+client_of (stage.Ending c) = Some c
+client_of (stage.Over c) = c
+
+-- a GET waits that has asked, and may ask again
+abbrev pub is_idle : PollStage → Bool
+is_idle (stage.Waits c left) = nat_lt 0 left && nat_lt left takes
+is_idle _ = false

@@ -1,0 +1,63 @@
+-- What the calls of a peer do that serves one WebSocket.
+use Rattle.std.specs.Prelude.{◌≡◌, ◌⊎◌, ℕ, Bool, true, false, List, [], ◌∷◌, Option, Result, Ok, Err}
+use Rattle.tungstenite.specs.Socket.{Socket}
+use Rattle.websocket.specs.declared.protocol.config.Role.{Role}
+use Rattle.dispatch.specs.declared.event.Event.{Event}
+use Rattle.dispatch.specs.declared.event.WsFrame.{WsFrame}
+use Rattle.dispatch.specs.Answers.{Answer}
+use Rattle.hub_gate.specs.declared.peer.PeerFault.{PeerFault}
+use Rattle.hub_gate.specs.declared.peer.PeerFault.TheVariants as fault
+use Rattle.peers.specs.declared.socket_stage.Incoming.{Incoming}
+use Rattle.peers.specs.declared.socket_stage.Incoming.TheVariants as incoming
+use Rattle.peers.specs.declared.socket_stage.SocketStage.{SocketStage}
+use Rattle.peers.specs.Incoming.{Brings}
+use Rattle.peers.specs.Polled.{event_of}
+use Rattle.peers.specs.Sent.{AddsFrame}
+use Rattle.peers.specs.Turning.{reads, next_of}
+use Rattle.peers.specs.Heard.{after, to_send, unsent}
+
+-- how far the WebSocket has come, and its socket
+pub record Spoken (S : Type 0) : Type 0 where
+  pub stage : SocketStage
+  pub socket : Socket S
+
+-- the output grew by just these frames, one after another
+abbrev pub AddsFrames : Role → Option (List ℕ) → List WsFrame → Option (List ℕ) → Type 0
+AddsFrames role before [] after = after ≡ before
+AddsFrames role before (sent ∷ more) after =
+    (between : Option (List ℕ)) × AddsFrame role before between sent × AddsFrames role between more after
+
+-- a result, without the moment of its event
+abbrev pub untimed : Result (Option (Event × ℕ)) PeerFault → Result (Option Event) PeerFault
+untimed (Ok given) = Ok (event_of given)
+untimed (Err why) = Err why
+
+module _ {S : Type 0} (remaining contents : S → Option (List ℕ)) where
+  -- a stage that reads has one read; any other reads nothing
+  abbrev pub Listens : Bool → Socket S → Incoming → Socket S → Type 0
+  Listens true old came new = Brings remaining contents old came new
+  Listens false old came new = (came ≡ incoming.Nothing) × (new ≡ old)
+
+  -- the next event is the table's, for what was read
+  pub record Gives (old : Spoken S) (result : Result (Option (Event × ℕ)) PeerFault) (new : Spoken S) : Type 0 where
+    pub came : Incoming
+    pub listens : Listens (reads old.stage) old.socket came new.socket
+    pub next : (new.stage, untimed result) ≡ next_of old.stage came
+
+module _ {S : Type 0} (contents : S → Option (List ℕ)) where
+  -- all frames were sent, in their order; where nothing waited in the socket, just they were written, and nothing waits
+  abbrev pub Sends : List WsFrame → Socket S → Result (Unit {0}) PeerFault → Socket S → Type 0
+  Sends frames old (Ok _) new = old.output ≡ []
+      → AddsFrames old.conn.role (contents old.stream) frames (contents new.stream) × (new.output ≡ [])
+  Sends frames old (Err why) new = (why ≡ fault.Memory) ⊎ (why ≡ fault.Device)
+
+  -- the stage and the result, once what was to be sent was sent or not
+  abbrev pub heard : SocketStage → Result (Unit {0}) PeerFault → SocketStage × Result (Unit {0}) PeerFault
+  heard s (Ok _) = (s, Ok tt)
+  heard s (Err why) = unsent s why
+
+  -- what the table names was sent, and the stage is the table's
+  pub record Hears (old : Spoken S) (got : Answer) (result : Result (Unit {0}) PeerFault) (new : Spoken S) : Type 0 where
+    pub sent : Result (Unit {0}) PeerFault
+    pub sends : Sends (to_send old.stage got) old.socket sent new.socket
+    pub stage : (new.stage, result) ≡ heard (after old.stage got) sent

@@ -1,0 +1,49 @@
+//! The opening handshake (RFC 6455, section 4.2).
+
+ghost use Rattle.std.specs.Prelude.{IfSome};
+ghost use Rattle.tungstenite.specs.Heads.{Serves};
+ghost use Rattle.peers.specs.Accepted.{HasMostBytes, HasSocketLimits};
+
+use http_edge::Replay;
+use std::alloc::Global;
+use std::io::{Read, Write};
+use tungstenite::handshake::server;
+use tungstenite::{NoCallback, NoMask, WebSocket, WebSocketConfig};
+
+/// The longest message and the longest frame that are read, in bytes: longer than what the core
+/// refuses by itself.
+const LONGEST: usize = 1_048_576;
+
+/// How many bytes one read asks for. Two such buffers are kept for each socket.
+const READ_SIZE: usize = 4_096;
+
+/// A WebSocket over a stream whose first bytes were read before: the head of its request, and what
+/// came with it.
+pub type AcceptedSocket<S> = WebSocket<Replay<Replay<S>>, NoMask>;
+
+fn socket_config() -> WebSocketConfig
+    ensures { HasSocketLimits result }
+{
+    WebSocketConfig::default()
+        .read_buffer_size(READ_SIZE)
+        .max_message_size(Some(LONGEST))
+        .max_frame_size(Some(LONGEST))
+}
+
+/// Answers the request whose head was read, and gives its WebSocket; else the stream is dropped. The
+/// bytes that were read past the head are the first that the WebSocket reads.
+pub fn accept_socket<S: Read + Write + Drop>(
+    alloc: Global,
+    stream: S,
+    head: Vec<u8>,
+    rest: Vec<u8>,
+) -> Option<AcceptedSocket<S>>
+    ensures served { IfSome result Serves }
+    ensures limits { IfSome result (λ socket. HasMostBytes 1048576 socket.conn.config) }
+{
+    let replay = Replay::new(head, Replay::new(rest, stream));
+    let config = Some(socket_config());
+    server::start(alloc, replay, NoCallback, config)
+        .handshake()
+        .ok()
+}

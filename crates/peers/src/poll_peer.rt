@@ -1,0 +1,157 @@
+//! One request over HTTP, as a peer.
+
+ghost use Rattle.std.specs.Prelude.{◌≡◌};
+ghost use Rattle.peers.specs.Polling.{client_of, given_up, is_idle};
+ghost use Rattle.peers.specs.declared.poll_stage.PollStage.TheVariants as stage;
+ghost use Rattle.peers.specs.Polled.{Writes};
+ghost use Rattle.peers.specs.Replies.{plain_reply};
+
+use crate::moments::Moments;
+use crate::poll_stage::{PollStage, after, given_up, next_of};
+use crate::replies::{Reply, reply_to};
+use crate::requests::PollRequest;
+use dispatch::{Event, Outcome};
+use effects::CoreError;
+use http_edge::{EdgeError, Wire, write_response};
+use hub_gate::{Peer, PeerFault};
+use std::alloc::Global;
+use std::marker::Model;
+use std::mem;
+
+/// Serves one request over HTTP: its event, the takes of a GET that waits, and the answer. A GET that
+/// waits pauses before it asks again, and before it is answered by a lone noop packet, since a client
+/// that probes a WebSocket is answered so at once, and asks at once again. In a contract it is its
+/// stage and its wire.
+#[derive(Drop)]
+pub struct PollPeer<W, M> {
+    alloc: Global,
+    wire: W,
+    moments: M,
+    stage: PollStage,
+}
+
+impl<W, M> Model for PollPeer<W, M> {
+    ghost use Rattle.peers.specs.Polled.{Polled};
+
+    ghost Value = { Polled W };
+
+    ghost view = { λ p. record { stage = p.stage; wire = p.wire } };
+}
+
+impl<W, M> PollPeer<W, M> {
+    ghost use Rattle.std.specs.Borrow.{Lends, sem};
+    ghost use Rattle.peers.specs.contracts.poll_peer.PollPeer.{the_row};
+
+    /// Nothing was asked of the core yet, and nothing written.
+    pub fn new(alloc: Global, wire: W, moments: M, request: PollRequest) -> PollPeer<W, M>
+        ensures { result ≡ record { stage = stage.First request; wire = wire } }
+    {
+        PollPeer {
+            alloc,
+            wire,
+            moments,
+            stage: PollStage::First(request),
+        }
+    }
+
+    /// Whose request it is, once that is known.
+    pub fn client(&self) -> Option<u128>
+        ensures { result ≡ client_of self.now.stage }
+    {
+        self.stage.client()
+    }
+
+    /// Whether a GET waits that found nothing: it need not be driven until something was put for its
+    /// client.
+    pub fn is_idle(&self) -> bool
+        ensures { result ≡ is_idle self.now.stage }
+    {
+        self.stage.is_idle()
+    }
+
+    /// A GET that waits asks no more: its next event is its last one. Else nothing changes.
+    pub fn give_up(&mut self)
+        ensures { self.new ≡ record self.old { stage = given_up self.old.stage } }
+    {
+        let stage = mem::replace(&mut self.stage, PollStage::Opening);
+        self.stage = given_up(stage);
+    }
+
+    /// The wire.
+    pub fn wire(&self) -> &W
+        ensures { result.now ≡ self.now.wire }
+    {
+        &self.wire
+    }
+
+    /// The wire, which a driver may send or poll.
+    pub fn wire_mut(&mut self) -> &mut W
+        ensures* writes_back { sem 𝓛 (Lends (the_row W.row M.row) W.row self.entry result (λ wire. record self.old { wire = wire })) }
+        ensures value { result.now ≡ self.old.wire }
+    {
+        &mut self.wire
+    }
+}
+
+impl<W, M: Drop> PollPeer<W, M> {
+    /// The wire, as it is now.
+    pub fn into_wire(self) -> W
+        ensures { result ≡ self.wire }
+    {
+        let PollPeer { wire, .. } = self;
+        wire
+    }
+}
+
+impl<W: Wire, M: Moments> Peer for PollPeer<W, M> {
+    ghost use Rattle.peers.specs.Polled.{Gives, Hears};
+
+    ghost gives = { Gives };
+
+    ghost hears = { Hears W.written W.is_broken };
+
+    fn next(&mut self) -> Result<Option<(Event, u64)>, PeerFault> {
+        if self.stage.is_idle() {
+            self.moments.pause();
+        }
+        let stage = mem::replace(&mut self.stage, PollStage::Opening);
+        let (next, event) = next_of(stage);
+        self.stage = next;
+        let Some(event) = event else {
+            return Ok(None);
+        };
+        Ok(Some((event, self.moments.now())))
+    }
+
+    fn answer(&mut self, got: &Result<Outcome, CoreError>) -> Result<(), PeerFault> {
+        let reply = reply_to(&self.stage, got);
+        let stage = mem::replace(&mut self.stage, PollStage::Opening);
+        self.stage = after(stage, got);
+        let Some(reply) = reply else {
+            return Ok(());
+        };
+        if is_noop(got) {
+            self.moments.pause();
+        }
+        write_reply(self.alloc, &mut self.wire, &reply)
+    }
+}
+
+/// Whether a lone noop packet was taken.
+fn is_noop(got: &Result<Outcome, CoreError>) -> bool {
+    match got {
+        Ok(Outcome::Payload(text)) => text.as_str() == "6",
+        _ => false,
+    }
+}
+
+/// Writes an answer.
+fn write_reply<W: Wire>(alloc: Global, wire: &mut W, reply: &Reply<'_>) -> Result<(), PeerFault>
+    ensures { Writes W.written W.is_broken (plain_reply reply.now) wire.old result wire.new }
+{
+    match write_response(alloc, wire, reply.status, reply.body) {
+        Ok(()) => Ok(()),
+        Err(EdgeError::Memory) => Err(PeerFault::Memory),
+        Err(_) => Err(PeerFault::Device),
+    }
+}

@@ -1,0 +1,216 @@
+//! How far a request over HTTP has come.
+
+ghost use Rattle.std.specs.Prelude.{◌≡◌};
+ghost use Rattle.peers.specs.Polling as polling;
+
+use crate::requests::PollRequest;
+use dispatch::{Event, Outcome};
+use effects::{CoreError, CoreFault};
+
+/// How often a GET that waits asks, at the most.
+pub(crate) const TAKES: u32 = 1_200;
+
+/// The most entries of one take.
+pub(crate) const MOST: usize = 64;
+
+/// How far a request over HTTP has come.
+#[derive(Debug, Drop)]
+pub(crate) enum PollStage {
+    /// Its first event is to come.
+    First(PollRequest),
+    /// The client is being opened.
+    Opening,
+    /// The payload was handed in.
+    Posting { client: u128 },
+    /// The GET is being begun.
+    Beginning { client: u128 },
+    /// The GET waits, and may ask so often yet.
+    Waits { client: u128, left: u32 },
+    /// The GET asks, and may ask so often again.
+    Taking { client: u128, left: u32 },
+    /// The GET is being ended.
+    Ending { client: u128 },
+    /// It was answered, or has nobody to answer.
+    Over { client: Option<u128> },
+}
+
+/// The event of a request.
+fn first_of(request: PollRequest) -> (PollStage, Event)
+    ensures { result ≡ polling.first_of request }
+{
+    match request {
+        PollRequest::Open => (PollStage::Opening, Event::Opened { socket: false }),
+        PollRequest::Get { client } => (
+            PollStage::Beginning { client },
+            Event::PollBegin { client },
+        ),
+        PollRequest::Post { client, body } => (
+            PollStage::Posting { client },
+            Event::Post { client, body },
+        ),
+    }
+}
+
+/// What a GET that waits asks next.
+fn asks(client: u128, left: u32) -> (PollStage, Event)
+    ensures { result ≡ polling.asks client left }
+{
+    if left == 0 {
+        return (PollStage::Ending { client }, Event::PollEnd { client });
+    }
+    let taking = PollStage::Taking {
+        client,
+        left: left - 1,
+    };
+    (taking, Event::PollTake { client, most: MOST })
+}
+
+/// The next event, if there is one, and the stage from then on.
+pub(crate) fn next_of(stage: PollStage) -> (PollStage, Option<Event>)
+    ensures { result ≡ polling.next_of stage }
+{
+    match stage {
+        PollStage::First(request) => {
+            let (next, event) = first_of(request);
+            (next, Some(event))
+        }
+        PollStage::Waits { client, left } => {
+            let (next, event) = asks(client, left);
+            (next, Some(event))
+        }
+        other => (other, None),
+    }
+}
+
+/// Whether a GET that was begun waits on, although its event was refused.
+fn waits_on(fault: CoreFault) -> bool
+    ensures { result ≡ polling.waits_on fault }
+{
+    matches!(
+        fault,
+        CoreFault::Memory
+            | CoreFault::TooManyClients
+            | CoreFault::IdTaken
+            | CoreFault::Spent
+            | CoreFault::BadEffect
+    )
+}
+
+/// The stage of a GET that was begun, when its event was refused.
+fn after_refusal(client: u128, left: u32, fault: CoreFault) -> PollStage
+    ensures { result ≡ polling.after_refusal client left fault }
+{
+    if waits_on(fault) {
+        PollStage::Waits { client, left }
+    } else {
+        PollStage::Over {
+            client: Some(client),
+        }
+    }
+}
+
+/// The stage once the event got this answer.
+pub(crate) fn after(stage: PollStage, got: &Result<Outcome, CoreError>) -> PollStage
+    ensures { result ≡ polling.after stage got.now }
+{
+    match stage {
+        PollStage::Opening => PollStage::Over {
+            client: opened_client(got),
+        },
+        PollStage::Posting { client } => PollStage::Over {
+            client: Some(client),
+        },
+        PollStage::Beginning { client } => after_begin(client, got),
+        PollStage::Taking { client, left } => after_take(client, left, got),
+        PollStage::Ending { client } => after_end(client, got),
+        other => other,
+    }
+}
+
+/// The client that was opened.
+fn opened_client(got: &Result<Outcome, CoreError>) -> Option<u128>
+    ensures { result ≡ polling.opened_client got.now }
+{
+    match got {
+        Ok(Outcome::Opened(opening)) => Some(opening.client),
+        _ => None,
+    }
+}
+
+fn after_begin(client: u128, got: &Result<Outcome, CoreError>) -> PollStage
+    ensures { result ≡ polling.after_begin client got.now }
+{
+    match got {
+        Ok(Outcome::Begun) => PollStage::Waits {
+            client,
+            left: TAKES,
+        },
+        _ => PollStage::Over {
+            client: Some(client),
+        },
+    }
+}
+
+fn after_take(client: u128, left: u32, got: &Result<Outcome, CoreError>) -> PollStage
+    ensures { result ≡ polling.after_take client left got.now }
+{
+    match got {
+        Ok(Outcome::Nothing) => PollStage::Waits { client, left },
+        Ok(_) => PollStage::Over {
+            client: Some(client),
+        },
+        Err(error) => after_refusal(client, left, error.fault),
+    }
+}
+
+fn after_end(client: u128, got: &Result<Outcome, CoreError>) -> PollStage
+    ensures { result ≡ polling.after_end client got.now }
+{
+    match got {
+        Ok(_) => PollStage::Over {
+            client: Some(client),
+        },
+        Err(error) => after_refusal(client, 0, error.fault),
+    }
+}
+
+/// A GET that waits, or asks, asks no more.
+pub(crate) fn given_up(stage: PollStage) -> PollStage
+    ensures { result ≡ polling.given_up stage }
+{
+    match stage {
+        PollStage::Waits { client, left: _ } => PollStage::Waits { client, left: 0 },
+        PollStage::Taking { client, left: _ } => PollStage::Taking { client, left: 0 },
+        other => other,
+    }
+}
+
+impl PollStage {
+    /// Whose request it is, once that is known.
+    pub(crate) fn client(&self) -> Option<u128>
+        ensures { result ≡ polling.client_of self.now }
+    {
+        match self {
+            PollStage::First(PollRequest::Open) => None,
+            PollStage::First(PollRequest::Get { client }) => Some(*client),
+            PollStage::First(PollRequest::Post { client, body: _ }) => Some(*client),
+            PollStage::Opening => None,
+            PollStage::Posting { client } => Some(*client),
+            PollStage::Beginning { client } => Some(*client),
+            PollStage::Waits { client, left: _ } => Some(*client),
+            PollStage::Taking { client, left: _ } => Some(*client),
+            PollStage::Ending { client } => Some(*client),
+            PollStage::Over { client } => *client,
+        }
+    }
+
+    /// Whether a GET waits which has asked and will ask again.
+    pub(crate) fn is_idle(&self) -> bool
+        ensures { result ≡ polling.is_idle self.now }
+    {
+        match self {
+            PollStage::Waits { client: _, left } => *left > 0 && *left < TAKES,
+            _ => false,
+        }
+    }
+}

@@ -1,0 +1,318 @@
+//! How far a WebSocket has come.
+
+ghost use Rattle.std.specs.Prelude.{◌≡◌};
+ghost use Rattle.peers.specs.Turning as turning;
+
+use crate::requests::SocketRequest;
+use dispatch::{Event, WsFrame};
+use hub_gate::PeerFault;
+use std::alloc::Global;
+
+/// The most entries of one take.
+const MOST: usize = 64;
+
+/// What a read of a WebSocket brought.
+#[derive(Debug, Drop)]
+pub(crate) enum Incoming {
+    /// Nothing yet.
+    Nothing,
+    /// A ping or a pong.
+    Control,
+    /// A message.
+    Frame(WsFrame),
+    /// The end of the stream, or why nothing more can be read.
+    Gone(PeerFault),
+}
+
+/// How far a client has come over to its WebSocket.
+#[derive(Clone, Copy, Debug, PartialEq, Eq)]
+pub(crate) enum Phase {
+    /// It is to say that it probes.
+    Knocks,
+    /// It is to say that the probe succeeded.
+    Probes,
+    /// It speaks over the WebSocket.
+    Speaks,
+}
+
+/// How far a WebSocket has come. A turn that is idle has brought nothing so far.
+#[derive(Clone, Copy, Debug, PartialEq, Eq)]
+pub(crate) enum SocketStage {
+    /// The client is to be opened.
+    Opens,
+    /// It is being opened.
+    Opening,
+    /// A turn begins by a read; it says whether the turn before was idle.
+    Reads {
+        client: u128,
+        phase: Phase,
+        idle: bool,
+    },
+    /// The client is said to probe.
+    Probing {
+        client: u128,
+    },
+    /// The client is said to come over.
+    Upgrading {
+        client: u128,
+    },
+    /// A frame was handed in.
+    Framed {
+        client: u128,
+    },
+    /// What waits is to be taken, after a frame.
+    Takes {
+        client: u128,
+    },
+    /// What waits is being taken.
+    Taking {
+        client: u128,
+        idle: bool,
+    },
+    /// It is to be asked what is due.
+    Ticks {
+        client: u128,
+        idle: bool,
+    },
+    /// It is being asked what is due.
+    Ticking {
+        client: u128,
+        phase: Phase,
+        idle: bool,
+    },
+    /// The probe failed, which is to be said.
+    Loses {
+        client: u128,
+    },
+    /// The probe is said to have failed.
+    Losing {
+        client: u128,
+    },
+    /// It is served no more.
+    Over {
+        client: Option<u128>,
+    },
+}
+
+/// The stage at first.
+pub(crate) fn first_stage(request: SocketRequest) -> SocketStage
+    ensures { result ≡ turning.first_stage request }
+{
+    match request {
+        SocketRequest::Open => SocketStage::Opens,
+        SocketRequest::Probe { client } => SocketStage::Reads {
+            client,
+            phase: Phase::Knocks,
+            idle: false,
+        },
+    }
+}
+
+/// Whether a read brought nothing to be worked on, and then whether it was nothing at all.
+fn rests(incoming: &Incoming) -> Option<bool>
+    ensures { result ≡ turning.rests incoming.now }
+{
+    match incoming {
+        Incoming::Nothing => Some(true),
+        Incoming::Control => Some(false),
+        _ => None,
+    }
+}
+
+/// Whether it is just this text.
+fn says(incoming: &Incoming, word: &str) -> bool
+    ensures { result ≡ turning.says word.now incoming.now }
+{
+    match incoming {
+        Incoming::Frame(WsFrame::Text(text)) => text.as_str() == word,
+        _ => false,
+    }
+}
+
+fn ticks(client: u128, phase: Phase, idle: bool) -> (SocketStage, Event)
+    ensures { result ≡ turning.ticks client phase idle }
+{
+    let stage = SocketStage::Ticking {
+        client,
+        phase,
+        idle,
+    };
+    (stage, Event::Tick { client })
+}
+
+fn takes(client: u128, idle: bool) -> (SocketStage, Event)
+    ensures { result ≡ turning.takes client idle }
+{
+    let event = Event::FrameTake { client, most: MOST };
+    (SocketStage::Taking { client, idle }, event)
+}
+
+/// What follows a read before the client has said that it probes.
+fn knocks(client: u128, incoming: &Incoming) -> (SocketStage, Option<Event>)
+    ensures { result ≡ turning.knocks client incoming.now }
+{
+    match rests(incoming) {
+        Some(idle) => {
+            let (stage, event) = ticks(client, Phase::Knocks, idle);
+            (stage, Some(event))
+        }
+        None if says(incoming, "2probe") => {
+            (
+                SocketStage::Probing { client },
+                Some(Event::Probe { client }),
+            )
+        }
+        None => {
+            let client = Some(client);
+            (SocketStage::Over { client }, None)
+        }
+    }
+}
+
+/// What follows a read while the client probes.
+fn probes(client: u128, incoming: &Incoming) -> (SocketStage, Event)
+    ensures { result ≡ turning.probes client incoming.now }
+{
+    match rests(incoming) {
+        Some(idle) => ticks(client, Phase::Probes, idle),
+        None if says(incoming, "5") => (
+            SocketStage::Upgrading { client },
+            Event::Upgraded { client },
+        ),
+        None => (SocketStage::Losing { client }, Event::ProbeLost { client }),
+    }
+}
+
+/// What follows a read of a client that speaks over the WebSocket.
+fn speaks(client: u128, incoming: Incoming) -> (SocketStage, Result<Event, PeerFault>)
+    ensures { result ≡ turning.speaks client incoming }
+{
+    match incoming {
+        Incoming::Nothing => {
+            let (stage, event) = takes(client, true);
+            (stage, Ok(event))
+        }
+        Incoming::Control => {
+            let (stage, event) = takes(client, false);
+            (stage, Ok(event))
+        }
+        Incoming::Frame(frame) => (
+            SocketStage::Framed { client },
+            Ok(Event::Frame { client, frame }),
+        ),
+        Incoming::Gone(fault) => {
+            let client = Some(client);
+            (SocketStage::Over { client }, Err(fault))
+        }
+    }
+}
+
+/// What follows a read.
+fn after_read(
+    client: u128,
+    phase: Phase,
+    incoming: Incoming,
+) -> (SocketStage, Result<Option<Event>, PeerFault>)
+    ensures { result ≡ turning.after_read client phase incoming }
+{
+    match phase {
+        Phase::Knocks => {
+            let (stage, event) = knocks(client, &incoming);
+            (stage, Ok(event))
+        }
+        Phase::Probes => {
+            let (stage, event) = probes(client, &incoming);
+            (stage, Ok(Some(event)))
+        }
+        Phase::Speaks => match speaks(client, incoming) {
+            (stage, Ok(event)) => (stage, Ok(Some(event))),
+            (stage, Err(fault)) => (stage, Err(fault)),
+        },
+    }
+}
+
+/// The next event, if there is one, and the stage from then on. What was read counts where the stage
+/// reads.
+pub(crate) fn next_of(
+    stage: SocketStage,
+    incoming: Incoming,
+) -> (SocketStage, Result<Option<Event>, PeerFault>)
+    ensures { result ≡ turning.next_of stage incoming }
+{
+    match stage {
+        SocketStage::Opens => {
+            let event = Event::Opened { socket: true };
+            (SocketStage::Opening, Ok(Some(event)))
+        }
+        SocketStage::Reads {
+            client,
+            phase,
+            idle: _,
+        } => after_read(client, phase, incoming),
+        SocketStage::Takes { client } => {
+            let (stage, event) = takes(client, false);
+            (stage, Ok(Some(event)))
+        }
+        SocketStage::Ticks { client, idle } => {
+            let (stage, event) = ticks(client, Phase::Speaks, idle);
+            (stage, Ok(Some(event)))
+        }
+        SocketStage::Loses { client } => {
+            let event = Event::ProbeLost { client };
+            (SocketStage::Losing { client }, Ok(Some(event)))
+        }
+        other => (other, Ok(None)),
+    }
+}
+
+impl SocketStage {
+    /// Whether the next event is found by a read.
+    pub(crate) fn reads(self) -> bool
+        ensures { result ≡ turning.reads self }
+    {
+        matches!(self, SocketStage::Reads { .. })
+    }
+
+    /// Whether the last turn brought nothing.
+    pub(crate) fn is_idle(self) -> bool
+        ensures { result ≡ turning.is_idle self }
+    {
+        match self {
+            SocketStage::Reads {
+                client: _,
+                phase: _,
+                idle,
+            } => idle,
+            _ => false,
+        }
+    }
+
+    /// Whose WebSocket it is, once that is known.
+    pub(crate) fn client(self) -> Option<u128>
+        ensures { result ≡ turning.client_of self }
+    {
+        match self {
+            SocketStage::Opens => None,
+            SocketStage::Opening => None,
+            SocketStage::Reads {
+                client,
+                phase: _,
+                idle: _,
+            } => Some(client),
+            SocketStage::Probing { client } => Some(client),
+            SocketStage::Upgrading { client } => Some(client),
+            SocketStage::Framed { client } => Some(client),
+            SocketStage::Takes { client } => Some(client),
+            SocketStage::Taking { client, idle: _ } => Some(client),
+            SocketStage::Ticks { client, idle: _ } => Some(client),
+            SocketStage::Ticking {
+                client,
+                phase: _,
+                idle: _,
+            } => Some(client),
+            SocketStage::Loses { client } => Some(client),
+            SocketStage::Losing { client } => Some(client),
+            SocketStage::Over { client } => client,
+        }
+    }
+}
