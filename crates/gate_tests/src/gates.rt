@@ -1,0 +1,77 @@
+//! Two workers that meet at the gate: neither one thread nor a worker that keeps the lock can pass.
+
+use crate::made::{Server, serve};
+use crate::peers::talkers;
+use crate::tasks::{Task, expect};
+use hub_gate::Turnstile;
+use std::alloc::Global;
+use std::sync::Wait;
+use std::sync::atomic::{AtomicU64, Ordering};
+use std::sync::ledger::Ledger;
+use std::thread;
+use std::thread::Threads;
+use std::time::{Clock, Duration};
+
+/// A gate at which the first two workers meet, before and after their first event. It pauses between
+/// looks, and gives up after 10,000.
+#[derive(Drop)]
+struct Meeting<'a, R: Clock> {
+    rt: &'a R,
+    before: [AtomicU64; 2],
+    after: [AtomicU64; 2],
+    missed: AtomicU64,
+}
+
+impl<'a, R: Clock> Meeting<'a, R> {
+    fn meet(&self, seats: &[AtomicU64; 2], worker: usize, turn: u64) {
+        if worker > 1 || turn > 0 {
+            return;
+        }
+        seats[worker].store(1, Ordering::SeqCst);
+        for _look in 0..10_000u32 {
+            if seats[1 - worker].load(Ordering::SeqCst) == 1 {
+                return;
+            }
+            thread::sleep(self.rt, Duration::from_micros(200));
+        }
+        self.missed.store(1, Ordering::SeqCst);
+    }
+}
+
+impl<'a, R: Clock> Turnstile for Meeting<'a, R> {
+    fn before(&self, worker: usize, turn: u64) {
+        self.meet(&self.before, worker, turn)
+    }
+
+    fn after(&self, worker: usize, turn: u64) {
+        self.meet(&self.after, worker, turn)
+    }
+}
+
+/// Whether two workers meet, before and after their first event.
+pub fn meet<C: Ledger + Send + Sync, T: Ledger + Send + Sync, R: Threads + Wait + Clock + Sync>(
+    rt: &R,
+    alloc: Global,
+    server: &mut Server<C, T>,
+) -> bool {
+    let joined = AtomicU64::new(0);
+    let Ok(peers) = talkers(alloc, 2, &joined) else {
+        return false;
+    };
+    let gate = Meeting {
+        rt,
+        before: [AtomicU64::new(0), AtomicU64::new(0)],
+        after: [AtomicU64::new(0), AtomicU64::new(0)],
+        missed: AtomicU64::new(0),
+    };
+    let Server { locked, pass } = server;
+    match serve(rt, alloc, locked, pass, peers, 2, &gate, 1_000) {
+        Ok(seen) => seen.workers == 2 && gate.missed.load(Ordering::SeqCst) == 0,
+        Err(_) => false,
+    }
+}
+
+#[test]
+fn turnstile_two_at_once(rt: HostRuntime) {
+    expect(&rt, Task::TwoAtOnce);
+}
