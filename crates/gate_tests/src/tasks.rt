@@ -92,7 +92,7 @@ fn run_once<R: Threads + Wait + Clock + Sync>(
     task: Task,
 ) -> Result<bool, CoreError> {
     let (commands, taken) = (Blank::new(PARTS), Blank::new(PARTS));
-    run::<Brand, Brand, R>(rt, alloc, task, commands, taken)
+    run::<Brand, Brand, _>(rt, alloc, task, commands, taken)
 }
 
 /// Does a task, once more where it failed, since memory may have been refused in the first run.
