@@ -6,6 +6,8 @@ mod made;
 #[cfg(test)]
 mod packets;
 #[cfg(test)]
+mod random;
+#[cfg(test)]
 mod sockets;
 #[cfg(test)]
 mod turns;
