@@ -4,7 +4,10 @@ use crate::memory_wire::{MemoryWire, fault, read};
 use http_edge::{EdgeError, Request, read_request};
 use std::alloc::{AllocError, Global};
 
-const POST: &[u8] = b"POST /socket.io/?transport=polling HTTP/1.1\r\nContent-Length: 2\r\n\r\n40";
+static POST: &[u8] = b"POST /socket.io/?transport=polling HTTP/1.1\r\nContent-Length: 2\r\n\r\n40";
+
+static MORE: &[u8] =
+    b"POST /socket.io/?transport=polling HTTP/1.1\r\nContent-Length: 2\r\n\r\n40GET";
 
 fn is_post(request: &Request, rest: &[u8]) -> bool {
     request.method.as_str() == "POST"
@@ -26,12 +29,16 @@ fn reads_post(alloc: Global, bytes: &[u8], step: usize, rest: &[u8]) -> bool {
 
 #[test]
 fn a_post(rt: HostRuntime) {
-    for step in [1, 2, 7, 4_096] {
-        assert!(rt; reads_post(rt.alloc(), POST, step, b""), "by {step}");
+    static STEPS: [usize; 4] = [1, 2, 7, 4_096];
+    for step in STEPS.iter() {
+        assert!(rt; reads_post(rt.alloc(), POST, *step, b""), "by {step}");
     }
-    let more = b"POST /socket.io/?transport=polling HTTP/1.1\r\nContent-Length: 2\r\n\r\n40GET";
-    assert!(rt; reads_post(rt.alloc(), more, 4_096, b"GET"));
-    assert!(rt; reads_post(rt.alloc(), more, 1, b""));
+}
+
+#[test]
+fn a_post_before_a_get(rt: HostRuntime) {
+    assert!(rt; reads_post(rt.alloc(), MORE, 4_096, b"GET"));
+    assert!(rt; reads_post(rt.alloc(), MORE, 1, b""));
 }
 
 /// Whether a text is there, and is this one.
@@ -52,7 +59,7 @@ fn has_fields(alloc: Global, bytes: &[u8], upgrade: bool, origin: Option<&str>) 
 
 #[test]
 fn upgrade_and_origin(rt: HostRuntime) {
-    let cases: [(&[u8], bool, Option<&str>); 6] = [
+    static CASES: [(&[u8], bool, Option<&str>); 6] = [
         (
             b"GET / HTTP/1.1\r\nupgrade: WEBSOCKET\r\nORIGIN: http://a.b\r\n\r\n",
             true,
@@ -80,8 +87,11 @@ fn upgrade_and_origin(rt: HostRuntime) {
             None,
         ),
     ];
-    for (bytes, upgrade, origin) in cases {
-        assert!(rt; has_fields(rt.alloc(), bytes, upgrade, origin));
+    for (place, (bytes, upgrade, origin)) in CASES.iter().enumerate() {
+        assert!(rt;
+            has_fields(rt.alloc(), bytes, *upgrade, *origin),
+            "case {place}"
+        );
     }
 }
 
@@ -102,7 +112,7 @@ fn only_a_post_has_a_body(rt: HostRuntime) {
 
 #[test]
 fn bodies_that_are_refused(rt: HostRuntime) {
-    let cases: [(&[u8], EdgeError); 4] = [
+    static CASES: [(&[u8], EdgeError); 4] = [
         (
             b"POST / HTTP/1.1\r\nContent-Length: 5\r\n\r\nabc",
             EdgeError::EarlyEnd,
@@ -120,46 +130,52 @@ fn bodies_that_are_refused(rt: HostRuntime) {
             EdgeError::EarlyEnd,
         ),
     ];
-    for (bytes, want) in cases {
-        assert_eq!(rt; fault(rt.alloc(), bytes), Some(want));
+    for (place, (bytes, want)) in CASES.iter().enumerate() {
+        assert!(rt; fault(rt.alloc(), bytes) == Some(*want), "case {place}");
     }
 }
 
 #[test]
 fn turns(rt: HostRuntime) {
     let length = POST.len() as u64;
-    assert_eq!(rt;
-        read(rt.alloc(), POST, 1, length - 1).err(),
-        Some(EdgeError::TurnsSpent)
-    );
-    assert_eq!(rt; read(rt.alloc(), POST, 1, length).err(), None);
-    assert_eq!(rt;
-        read(rt.alloc(), POST, 1, 0).err(),
-        Some(EdgeError::TurnsSpent)
-    );
+    assert!(rt; 0 < length);
+    assert!(rt; fault_within(rt.alloc(), length - 1) == Some(EdgeError::TurnsSpent));
+    assert!(rt; fault_within(rt.alloc(), length) == None);
+    assert!(rt; fault_within(rt.alloc(), 0) == Some(EdgeError::TurnsSpent));
+}
+
+/// Why the post isn't read byte by byte in so many turns.
+fn fault_within(alloc: Global, turns: u64) -> Option<EdgeError> {
+    read(alloc, POST, 1, turns).err()
+}
+
+fn broken_once(alloc: Global, bytes: &[u8]) -> Option<EdgeError> {
+    read_request(alloc, &mut MemoryWire::breaking(alloc, bytes), 1_000).err()
+}
+
+/// The fault over a wire that breaks behind these bytes.
+fn broken(alloc: Global, bytes: &[u8]) -> Option<EdgeError> {
+    match broken_once(alloc, bytes) {
+        Some(EdgeError::Memory) => broken_once(alloc, bytes),
+        fault => fault,
+    }
 }
 
 fn broken_after(alloc: Global, count: usize) -> (Option<EdgeError>, Option<EdgeError>) {
     let bytes = POST.get(..count).unwrap_or(b"");
-    let broken = match read_request(alloc, &mut MemoryWire::breaking(alloc, bytes), 1_000) {
-        Err(EdgeError::Memory) => {
-            read_request(alloc, &mut MemoryWire::breaking(alloc, bytes), 1_000)
-        }
-        answer => answer,
-    };
-    (broken.err(), read(alloc, bytes, 7, 1_000).err())
+    (broken(alloc, bytes), read(alloc, bytes, 7, 1_000).err())
 }
 
 #[test]
 fn fails_at_each_byte(rt: HostRuntime) {
     for count in 0..POST.len() {
-        let faults = broken_after(rt.alloc(), count);
-        assert_eq!(rt;
-            faults,
-            (Some(EdgeError::Device), Some(EdgeError::EarlyEnd)),
-            "after {count}"
-        );
+        assert!(rt; fails_after(rt.alloc(), count), "after {count}");
     }
+}
+
+/// Whether a wire that breaks here is a fault of the device, and one that ends is an early end.
+fn fails_after(alloc: Global, count: usize) -> bool {
+    broken_after(alloc, count) == (Some(EdgeError::Device), Some(EdgeError::EarlyEnd))
 }
 
 /// A head of so many bytes.
@@ -182,17 +198,16 @@ fn fault_of_head(alloc: Global, length: usize, cut: usize) -> Option<EdgeError> 
 
 #[test]
 fn long_heads(rt: HostRuntime) {
-    assert_eq!(rt; fault_of_head(rt.alloc(), 16_384, 0), None);
-    assert_eq!(rt;
-        fault_of_head(rt.alloc(), 16_385, 0),
-        Some(EdgeError::HeadTooLong)
-    );
-    assert_eq!(rt;
-        fault_of_head(rt.alloc(), 16_389, 4),
-        Some(EdgeError::HeadTooLong)
-    );
-    assert_eq!(rt;
-        fault_of_head(rt.alloc(), 16_384, 1),
-        Some(EdgeError::EarlyEnd)
-    );
+    static HEADS: [(usize, usize, Option<EdgeError>); 4] = [
+        (16_384, 0, None),
+        (16_385, 0, Some(EdgeError::HeadTooLong)),
+        (16_389, 4, Some(EdgeError::HeadTooLong)),
+        (16_384, 1, Some(EdgeError::EarlyEnd)),
+    ];
+    for (length, cut, want) in HEADS.iter() {
+        assert!(rt;
+            fault_of_head(rt.alloc(), *length, *cut) == *want,
+            "{length} without {cut}"
+        );
+    }
 }

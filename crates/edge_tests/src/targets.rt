@@ -3,6 +3,7 @@
 use crate::memory_wire::read;
 use http_edge::{EdgeError, Refusal, Request, Target, refusal_body, route};
 use std::alloc::Global;
+use std::process::Abort;
 
 fn routed(alloc: Global, request: &Request) -> Option<Target> {
     match route(alloc, request) {
@@ -18,9 +19,16 @@ fn target(alloc: Global, head: &[u8]) -> Option<Target> {
     }
 }
 
+/// Each head asks for its target.
+fn expect_targets(rt: &(impl Abort + AllocGlobal), cases: &[(&[u8], Target)]) {
+    for (place, (head, want)) in cases.iter().enumerate() {
+        assert!(rt; target(rt.alloc(), head) == Some(*want), "case {place}");
+    }
+}
+
 #[test]
 fn rows_without_a_sid(rt: HostRuntime) {
-    let cases: [(&[u8], Target); 10] = [
+    static CASES: [(&[u8], Target); 10] = [
         (b"GET / HTTP/1.1\r\n\r\n", Target::NotFound),
         (
             b"GET /socket.io/x?EIO=4&transport=polling HTTP/1.1\r\n\r\n",
@@ -59,14 +67,12 @@ fn rows_without_a_sid(rt: HostRuntime) {
             Target::OpenPoll,
         ),
     ];
-    for (head, want) in cases {
-        assert_eq!(rt; target(rt.alloc(), head), Some(want));
-    }
+    expect_targets(&rt, &CASES);
 }
 
 #[test]
 fn rows_with_a_sid(rt: HostRuntime) {
-    let cases: [(&[u8], Target); 8] = [
+    static CASES: [(&[u8], Target); 8] = [
         (
             b"GET /socket.io/?EIO=4&transport=polling&sid=xyz HTTP/1.1\r\n\r\n",
             Target::Refuse(Refusal::UnknownSession),
@@ -100,29 +106,34 @@ fn rows_with_a_sid(rt: HostRuntime) {
             Target::Refuse(Refusal::BadRequest),
         ),
     ];
-    for (head, want) in cases {
-        assert_eq!(rt; target(rt.alloc(), head), Some(want));
-    }
+    expect_targets(&rt, &CASES);
 }
 
 #[test]
 fn the_first_of_a_key_counts(rt: HostRuntime) {
-    let first = b"GET /socket.io/?EIO=4&transport=polling&transport=smoke&EIO=3 HTTP/1.1\r\n\r\n";
-    assert_eq!(rt; target(rt.alloc(), first), Some(Target::OpenPoll));
-    let encoded = b"GET /socket.io/?%45IO=%34&transport=poll%69ng HTTP/1.1\r\n\r\n";
-    assert_eq!(rt; target(rt.alloc(), encoded), Some(Target::OpenPoll));
+    static CASES: [(&[u8], Target); 2] = [
+        (
+            b"GET /socket.io/?EIO=4&transport=polling&transport=smoke&EIO=3 HTTP/1.1\r\n\r\n",
+            Target::OpenPoll,
+        ),
+        (
+            b"GET /socket.io/?%45IO=%34&transport=poll%69ng HTTP/1.1\r\n\r\n",
+            Target::OpenPoll,
+        ),
+    ];
+    expect_targets(&rt, &CASES);
 }
 
 #[test]
 fn bodies_of_refusals(rt: HostRuntime) {
-    let cases = [
+    static CASES: [(Refusal, usize); 5] = [
         (Refusal::UnknownTransport, 40),
         (Refusal::UnknownSession, 41),
         (Refusal::BadMethod, 43),
         (Refusal::BadRequest, 34),
         (Refusal::UnsupportedVersion, 51),
     ];
-    for (refusal, length) in cases {
-        assert_eq!(rt; refusal_body(refusal).len(), length);
+    for (refusal, length) in CASES.iter() {
+        assert!(rt; refusal_body(*refusal).len() == *length, "of {length}");
     }
 }

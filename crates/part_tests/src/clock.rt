@@ -1,10 +1,15 @@
 use session_clock::{Clock, ClockError, ClockState, Due, Timing, Transport};
 
-const DEFAULTS: Timing = Timing {
+static DEFAULTS: Timing = Timing {
     ping_interval: 25_000,
     ping_timeout: 20_000,
     connect_timeout: 45_000,
 };
+
+/// A clock that was opened by polling at 0.
+fn polling() -> Clock {
+    Clock::open(0, DEFAULTS, false)
+}
 
 /// The first of the moments at which something else is due.
 fn first_wrong(clock: &mut Clock, moments: &[(u64, Due)]) -> Option<u64> {
@@ -18,7 +23,7 @@ fn first_wrong(clock: &mut Clock, moments: &[(u64, Due)]) -> Option<u64> {
 
 #[test]
 fn no_pong(rt: HostRuntime) {
-    const MOMENTS: [(u64, Due); 6] = [
+    static MOMENTS: [(u64, Due); 6] = [
         (24_999, Due::Nothing),
         (25_000, Due::SendPing),
         (25_000, Due::Nothing),
@@ -26,7 +31,7 @@ fn no_pong(rt: HostRuntime) {
         (45_000, Due::PingTimeout),
         (45_000, Due::PingTimeout),
     ];
-    let mut clock = Clock::open(0, DEFAULTS, false);
+    let mut clock = polling();
     assert!(rt; first_wrong(&mut clock, &MOMENTS) == None);
 }
 
@@ -43,40 +48,53 @@ fn first_wrong_about_a_pong(
 
 #[test]
 fn pong_in_time(rt: HostRuntime) {
-    const BEFORE: [(u64, Due); 1] = [(25_000, Due::SendPing)];
-    const AFTER: [(u64, Due); 3] = [
+    static BEFORE: [(u64, Due); 1] = [(25_000, Due::SendPing)];
+    static AFTER: [(u64, Due); 3] = [
         (45_000, Due::Nothing),
         (69_998, Due::Nothing),
         (69_999, Due::SendPing),
     ];
-    let mut clock = Clock::open(0, DEFAULTS, false);
+    let mut clock = polling();
     clock.joined();
     assert!(rt; first_wrong_about_a_pong(&mut clock, &BEFORE, &AFTER) == None);
 }
 
 #[test]
 fn pong_but_nothing_joined(rt: HostRuntime) {
-    const BEFORE: [(u64, Due); 1] = [(25_000, Due::SendPing)];
-    const AFTER: [(u64, Due); 1] = [(45_000, Due::ConnectTimeout)];
-    let mut clock = Clock::open(0, DEFAULTS, false);
+    static BEFORE: [(u64, Due); 1] = [(25_000, Due::SendPing)];
+    static AFTER: [(u64, Due); 1] = [(45_000, Due::ConnectTimeout)];
+    let mut clock = polling();
     assert!(rt; first_wrong_about_a_pong(&mut clock, &BEFORE, &AFTER) == None);
 }
 
 #[test]
-fn earlier_and_greatest_moments(rt: HostRuntime) {
-    const MOMENTS: [(u64, Due); 2] = [(30_000, Due::SendPing), (10, Due::Nothing)];
-    const LATE: [(u64, Due); 1] = [(u64::MAX, Due::Nothing)];
-    const WANT: ClockState = ClockState {
+fn an_earlier_moment(rt: HostRuntime) {
+    static MOMENTS: [(u64, Due); 2] = [(30_000, Due::SendPing), (10, Due::Nothing)];
+    static WANT: ClockState = ClockState {
         transport: Transport::Polling,
         awaiting: true,
         joined: false,
         last: 30_000,
     };
-    let mut clock = Clock::open(0, DEFAULTS, false);
-    assert!(rt; first_wrong(&mut clock, &MOMENTS) == None && clock.state() == WANT);
-    let mut late = Clock::open(u64::MAX - 1, DEFAULTS, true);
-    assert!(rt; first_wrong(&mut late, &LATE) == None);
-    assert!(rt; late.state().transport == Transport::Socket);
+    let mut clock = polling();
+    assert!(rt; first_wrong(&mut clock, &MOMENTS) == None);
+    assert!(rt; is_in(&clock, &WANT));
+}
+
+fn is_in(clock: &Clock, want: &ClockState) -> bool {
+    clock.state() == *want
+}
+
+#[test]
+fn the_greatest_moment(rt: HostRuntime) {
+    static MOMENTS: [(u64, Due); 1] = [(u64::MAX, Due::Nothing)];
+    let mut clock = Clock::open(u64::MAX - 1, DEFAULTS, true);
+    assert!(rt; first_wrong(&mut clock, &MOMENTS) == None);
+    assert!(rt; is_over_a_socket(&clock));
+}
+
+fn is_over_a_socket(clock: &Clock) -> bool {
+    clock.state().transport == Transport::Socket
 }
 
 /// What happens to a transport.
@@ -107,7 +125,7 @@ fn first_wrong_move(clock: &mut Clock, moves: &[(Move, Result<(), ClockError>)])
 
 #[test]
 fn upgrade_after_a_lost_probe(rt: HostRuntime) {
-    const MOVES: [(Move, Result<(), ClockError>); 10] = [
+    static MOVES: [(Move, Result<(), ClockError>); 10] = [
         (Move::Upgrade, Err(ClockError::NotProbing)),
         (Move::Lose, Err(ClockError::NotProbing)),
         (Move::Probe, Ok(())),
@@ -119,6 +137,6 @@ fn upgrade_after_a_lost_probe(rt: HostRuntime) {
         (Move::Upgrade, Err(ClockError::AlreadyUpgraded)),
         (Move::Lose, Err(ClockError::AlreadyUpgraded)),
     ];
-    let mut clock = Clock::open(0, DEFAULTS, false);
+    let mut clock = polling();
     assert!(rt; first_wrong_move(&mut clock, &MOVES) == None);
 }

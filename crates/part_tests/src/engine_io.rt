@@ -40,23 +40,29 @@ fn write(alloc: Global, packet: &Packet) -> Result<String, WireError> {
     ample(|| write_packet(alloc, packet))
 }
 
-/// The text is read as a packet with these parts, which is written as the same text.
-fn expect_packet(
-    rt: &(impl Abort + AllocGlobal),
+/// Whether the text is read as a packet with these parts, which is written as the same text.
+fn is_packet(alloc: Global, text: &str, kind: char, held: &[u8]) -> Result<bool, WireError> {
+    let packet = read(alloc, text)?;
+    is_written(alloc, &packet, text, kind, held)
+}
+
+fn is_written(
+    alloc: Global,
+    packet: &Packet,
     text: &str,
     kind: char,
     held: &[u8],
-) -> Result<(), WireError> {
-    let packet = read(rt.alloc(), text)?;
-    assert!(rt; parts(&packet) == (kind, held), "parts of {text}");
-    let written = write(rt.alloc(), &packet)?;
-    assert!(rt; written.as_str() == text, "text of {text}");
-    Ok(())
+) -> Result<bool, WireError> {
+    Ok(has_parts(packet, kind, held) && write(alloc, packet)?.as_str() == text)
+}
+
+fn has_parts(packet: &Packet, kind: char, held: &[u8]) -> bool {
+    parts(packet) == (kind, held)
 }
 
 #[test]
 fn texts(rt: HostRuntime) -> Result<(), Fail> {
-    const CASES: [(&str, char, &[u8]); 7] = [
+    static CASES: [(&str, char, &[u8]); 7] = [
         ("0{}", '0', b"{}"),
         ("1", '1', b""),
         ("2", '2', b""),
@@ -65,8 +71,8 @@ fn texts(rt: HostRuntime) -> Result<(), Fail> {
         ("5", '5', b""),
         ("6", '6', b""),
     ];
-    for (text, kind, held) in CASES {
-        expect_packet(&rt, text, kind, held)?;
+    for (text, kind, held) in CASES.iter() {
+        assert!(rt; is_packet(rt.alloc(), text, *kind, held)?, "at {text}");
     }
     Ok(())
 }
@@ -74,21 +80,21 @@ fn texts(rt: HostRuntime) -> Result<(), Fail> {
 // RFC 4648's vectors, and the last two symbols of its alphabet.
 #[test]
 fn base64(rt: HostRuntime) -> Result<(), Fail> {
-    const CASES: [(&str, &[u8]); 4] = [
+    static CASES: [(&str, &[u8]); 4] = [
         ("b", b""),
         ("bAQI=", b"\x01\x02"),
         ("bZm9vYmFy", b"foobar"),
         ("b+//+", b"\xfb\xff\xfe"),
     ];
-    for (text, held) in CASES {
-        expect_packet(&rt, text, 'b', held)?;
+    for (text, held) in CASES.iter() {
+        assert!(rt; is_packet(rt.alloc(), text, 'b', held)?, "at {text}");
     }
     Ok(())
 }
 
 #[test]
 fn faults(rt: HostRuntime) {
-    const CASES: [(&str, WireError); 7] = [
+    static CASES: [(&str, WireError); 7] = [
         ("", WireError::Empty),
         ("4a\u{1e}", WireError::Empty),
         ("9x", WireError::BadType),
@@ -97,8 +103,8 @@ fn faults(rt: HostRuntime) {
         ("bAQI", WireError::BadBase64),
         ("bAQ", WireError::BadBase64),
     ];
-    for (text, fault) in CASES {
-        assert!(rt; fault_of(rt.alloc(), text) == Some(fault), "of {text}");
+    for (text, fault) in CASES.iter() {
+        assert!(rt; fault_of(rt.alloc(), text) == Some(*fault), "of {text}");
     }
 }
 
@@ -116,24 +122,28 @@ fn write_all(alloc: Global, packets: &[Packet]) -> Result<String, WireError> {
 
 #[test]
 fn payloads(rt: HostRuntime) -> Result<(), Fail> {
-    const TEXT: &str = "4hello\u{1e}2\u{1e}4world\u{1e}bAQIDBA==";
     let packets = read_all(rt.alloc(), TEXT)?;
     expect_parts(&rt, packets.as_slice());
-    let written = write_all(rt.alloc(), packets.as_slice())?;
-    assert!(rt; written.as_str() == TEXT);
+    assert!(rt; are_written(rt.alloc(), packets.as_slice())?);
     Ok(())
 }
 
+static TEXT: &str = "4hello\u{1e}2\u{1e}4world\u{1e}bAQIDBA==";
+
+fn are_written(alloc: Global, packets: &[Packet]) -> Result<bool, WireError> {
+    Ok(write_all(alloc, packets)?.as_str() == TEXT)
+}
+
 fn expect_parts(rt: &impl Abort, packets: &[Packet]) {
-    const WANT: [(char, &[u8]); 4] = [
+    static WANT: [(char, &[u8]); 4] = [
         ('4', b"hello"),
         ('2', b""),
         ('4', b"world"),
         ('b', b"\x01\x02\x03\x04"),
     ];
     assert!(rt; packets.len() == WANT.len());
-    for (packet, parts_wanted) in packets.iter().zip(WANT) {
-        assert!(rt; parts(packet) == parts_wanted);
+    for (packet, (kind, held)) in packets.iter().zip(WANT.iter()) {
+        assert!(rt; has_parts(packet, *kind, held));
     }
 }
 
@@ -181,14 +191,27 @@ fn open_packet_of_a_socket(rt: HostRuntime) -> Result<(), Fail> {
     Ok(())
 }
 
+fn is_id(id: u128, digits: &str) -> bool {
+    id_text(id).as_slice() == digits.as_bytes() && read_id(digits) == Some(id)
+}
+
 #[test]
 fn ids(rt: HostRuntime) {
-    let digits = "0123456789abcdef00000000000000ff";
-    let id = 0x0123_4567_89ab_cdef_0000_0000_0000_00ff;
-    assert!(rt; id_text(id).as_slice() == digits.as_bytes());
-    assert!(rt; read_id(digits) == Some(id));
-    assert!(rt; read_id("ffffffffffffffffffffffffffffffff") == Some(u128::MAX));
-    const NONE: [&str; 6] = [
+    static IDS: [(u128, &str); 2] = [
+        (
+            0x0123_4567_89ab_cdef_0000_0000_0000_00ff,
+            "0123456789abcdef00000000000000ff",
+        ),
+        (u128::MAX, "ffffffffffffffffffffffffffffffff"),
+    ];
+    for (id, digits) in IDS.iter() {
+        assert!(rt; is_id(*id, digits), "of {digits}");
+    }
+}
+
+#[test]
+fn texts_of_no_id(rt: HostRuntime) {
+    static NONE: [&str; 6] = [
         "0123456789abcdef0000000000000ff",
         "0123456789abcdef000000000000000ff",
         "0123456789ABCDEF00000000000000FF",
@@ -196,7 +219,7 @@ fn ids(rt: HostRuntime) {
         "+123456789abcdef00000000000000ff",
         "",
     ];
-    for text in NONE {
+    for text in NONE.iter() {
         assert!(rt; read_id(text) == None, "of {text}");
     }
 }

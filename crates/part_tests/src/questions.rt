@@ -53,7 +53,7 @@ fn first_wrong(
 
 #[test]
 fn asked_answered_and_run_out(rt: HostRuntime) {
-    const DEEDS: [Deed; 13] = [
+    static DEEDS: [Deed; 13] = [
         Deed::Ask(7, 100, Ok(0)),
         Deed::Ask(8, 200, Ok(1)),
         Deed::Ask(9, 300, Ok(2)),

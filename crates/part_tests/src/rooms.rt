@@ -2,7 +2,7 @@ use room_maps::{Room, RoomError, Rooms, Sid};
 use std::alloc::Global;
 use std::process::Abort;
 
-const LONGEST: &str = "0123456789012345678901234567890123456789012345678901234567890123";
+static LONGEST: &str = "0123456789012345678901234567890123456789012345678901234567890123";
 
 /// A room named by a text that is short enough.
 fn room(name: &str) -> Room {
@@ -129,9 +129,14 @@ fn expect_joined(rt: &(impl Abort + AllocGlobal), rooms: &mut Rooms, one: Sid, r
     assert!(rt; joined == Ok(()));
     assert!(rt; rooms.is_in(one, r));
     assert!(rt; rooms.join(alloc, one, r) == Err(RoomError::AlreadyIn));
-    assert!(rt; are_rooms_of(rooms, alloc, one, &[Room::own(one), r]));
-    assert!(rt; are_members(rooms, alloc, r, &[one]));
-    assert!(rt; are_addressees(rooms, alloc, &[r], &[r], &[]));
+    assert!(rt; is_inside(rooms, alloc, one, r));
+}
+
+/// Whether the socket is in its own room and this one, in which nobody else is.
+fn is_inside(rooms: &Rooms, alloc: Global, one: Sid, r: Room) -> bool {
+    are_rooms_of(rooms, alloc, one, &[Room::own(one), r])
+        && are_members(rooms, alloc, r, &[one])
+        && are_addressees(rooms, alloc, &[r], &[r], &[])
 }
 
 fn expect_refusals(
@@ -190,10 +195,20 @@ fn expect_addressed(
     let alloc = rt.alloc();
     let ([one, two], [q, r]) = (sids, named);
     assert!(rt; are_rooms_of(rooms, alloc, two, &[Room::own(one), Room::own(two), q, r]));
-    assert!(rt; are_addressees(rooms, alloc, &[], &[], &[one, two]));
-    assert!(rt; are_addressees(rooms, alloc, &[], &[q], &[one]));
-    assert!(rt; are_addressees(rooms, alloc, &[r, Room::own(one), q], &[], &[one, two]));
-    assert!(rt; are_addressees(rooms, alloc, &[r, Room::own(one)], &[q], &[one]));
+    assert!(rt; are_addressed_by_all(rooms, alloc, sids, q));
+    assert!(rt; are_addressed_by_rooms(rooms, alloc, sids, [q, r, Room::own(one)]));
+}
+
+/// Whether both are addressed where no room is named, and only the first where `q` is excepted.
+fn are_addressed_by_all(rooms: &Rooms, alloc: Global, sids: [Sid; 2], q: Room) -> bool {
+    are_addressees(rooms, alloc, &[], &[], &sids)
+        && are_addressees(rooms, alloc, &[], &[q], &sids[..1])
+}
+
+fn are_addressed_by_rooms(rooms: &Rooms, alloc: Global, sids: [Sid; 2], named: [Room; 3]) -> bool {
+    let [q, r, own] = named;
+    are_addressees(rooms, alloc, &[r, own, q], &[], &sids)
+        && are_addressees(rooms, alloc, &[r, own], &[q], &sids[..1])
 }
 
 #[test]
@@ -233,18 +248,20 @@ fn expect_mirrored(rt: &impl Abort, rooms: &Rooms, r: Room, q: Room) {
     assert!(rt; of_socket.len() == 3);
     assert!(rt; of_room.len() == 4);
     assert!(rt; of_room.get(&q).is_none());
-    for sid in [Sid::new(1), Sid::new(2), Sid::new(3)] {
-        assert!(rt;
-            of_socket
-                .get(&sid)
-                .is_some_and(|inside| inside.contains(&r))
-        );
-        assert!(rt;
-            of_room
-                .get(&r)
-                .is_some_and(|members| members.contains(&sid))
-        );
+    for number in 1..4u64 {
+        assert!(rt; is_mirrored(rooms, Sid::new(u128::from(number)), r));
     }
+}
+
+/// Whether each map has the socket in `r`.
+fn is_mirrored(rooms: &Rooms, sid: Sid, r: Room) -> bool {
+    let (of_socket, of_room) = rooms.mirrors();
+    of_socket
+        .get(&sid)
+        .is_some_and(|inside| inside.contains(&r))
+        && of_room
+            .get(&r)
+            .is_some_and(|members| members.contains(&sid))
 }
 
 fn expect_left_together(rt: &(impl Abort + AllocGlobal), rooms: &mut Rooms, r: Room) {
@@ -273,34 +290,32 @@ fn expect_refused_together(rt: &(impl Abort + AllocGlobal), rooms: &mut Rooms, r
     let alloc = rt.alloc();
     let (one, two, nine) = (Sid::new(1), Sid::new(2), Sid::new(9));
     let own = Room::own(one);
-    assert!(rt;
-        refuses(
-            rooms.join_all(alloc, &[one, nine], r),
-            RoomError::UnknownSocket
-        )
-    );
-    assert!(rt;
-        refuses(
-            rooms.leave_all(alloc, &[nine, one], r),
-            RoomError::UnknownSocket
-        )
-    );
-    assert!(rt; refuses(rooms.leave_all(alloc, &[two, one], own), RoomError::OwnRoom));
-    assert!(rt;
-        refuses(
-            rooms.leave_all(alloc, &[one, nine], own),
-            RoomError::UnknownSocket
-        )
-    );
+    assert!(rt; refuses_to_join(rooms, alloc, &[one, nine], r, RoomError::UnknownSocket));
+    assert!(rt; refuses_to_leave(rooms, alloc, &[nine, one], r, RoomError::UnknownSocket));
+    assert!(rt; refuses_to_leave(rooms, alloc, &[two, one], own, RoomError::OwnRoom));
+    assert!(rt; refuses_to_leave(rooms, alloc, &[one, nine], own, RoomError::UnknownSocket));
     assert!(rt; are_members(rooms, alloc, r, &[]));
     expect_guests(rt, rooms, own);
 }
 
-fn refuses(answer: Result<Vec<Sid>, RoomError>, want: RoomError) -> bool {
-    match answer {
-        Ok(_) => false,
-        Err(error) => error == want,
-    }
+fn refuses_to_join(
+    rooms: &mut Rooms,
+    alloc: Global,
+    sids: &[Sid],
+    room: Room,
+    want: RoomError,
+) -> bool {
+    rooms.join_all(alloc, sids, room).err() == Some(want)
+}
+
+fn refuses_to_leave(
+    rooms: &mut Rooms,
+    alloc: Global,
+    sids: &[Sid],
+    room: Room,
+    want: RoomError,
+) -> bool {
+    rooms.leave_all(alloc, sids, room).err() == Some(want)
 }
 
 /// Socket 1's own room is one that others join and leave.
@@ -346,19 +361,16 @@ fn expect_full_together(rt: &(impl Abort + AllocGlobal), rooms: &mut Rooms, r: R
     let alloc = rt.alloc();
     let (one, two, nine) = (Sid::new(1), Sid::new(2), Sid::new(9));
     let inside = Room::own(Sid::new(1000));
-    assert!(rt;
-        refuses(
-            rooms.join_all(alloc, &[two, one], r),
-            RoomError::TooManyRooms
-        )
-    );
-    assert!(rt;
-        refuses(
-            rooms.join_all(alloc, &[one, nine], r),
-            RoomError::UnknownSocket
-        )
-    );
+    assert!(rt; refuses_to_join(rooms, alloc, &[two, one], r, RoomError::TooManyRooms));
+    assert!(rt; refuses_to_join(rooms, alloc, &[one, nine], r, RoomError::UnknownSocket));
     assert!(rt; are_members(rooms, alloc, r, &[]));
+    expect_place_made(rt, rooms, inside, r);
+}
+
+/// Socket 1 leaves this room, which then has socket 2 alone, and has a place for another.
+fn expect_place_made(rt: &(impl Abort + AllocGlobal), rooms: &mut Rooms, inside: Room, r: Room) {
+    let alloc = rt.alloc();
+    let (one, two) = (Sid::new(1), Sid::new(2));
     let joined = Change {
         room: inside,
         members: &[one],

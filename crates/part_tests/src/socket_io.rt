@@ -104,43 +104,36 @@ fn binary_fault(assembler: &mut Assembler, alloc: Global, bytes: &[u8]) -> Optio
     binary(assembler, alloc, bytes).err()
 }
 
-/// The text is no whole packet, and this many attachments are awaited.
-fn expect_waiting(
-    rt: &(impl Abort + AllocGlobal),
+/// Whether the text is no whole packet, and this many attachments are awaited.
+fn is_waiting(
+    alloc: Global,
     assembler: &mut Assembler,
     frame: &str,
     waiting: u32,
-) -> Result<(), SioError> {
-    let packet = text(assembler, rt.alloc(), frame)?;
-    assert!(rt; packet.is_none(), "a packet at {frame}");
-    assert!(rt; assembler.waiting() == waiting, "at {frame}");
-    Ok(())
+) -> Result<bool, SioError> {
+    Ok(text(assembler, alloc, frame)?.is_none() && assembler.waiting() == waiting)
 }
 
 /// What a text is read as: type, namespace, id, payload and number of attachments.
 type Fields<'a> = (Kind, &'a str, Option<u64>, &'a str, u32);
 
-/// The text is read as these fields, which are written as the plain text.
-fn expect_read(
-    rt: &(impl Abort + AllocGlobal),
-    text: &str,
-    want: Fields<'_>,
-    plain: &str,
-) -> Result<(), SioError> {
-    let header = read(rt.alloc(), text)?;
-    assert!(rt; has_fields(&header, want), "fields of {text}");
-    let written = write(rt.alloc(), &header)?;
-    assert!(rt; written.as_str() == plain, "plain text of {text}");
-    Ok(())
+/// Whether the text is read as these fields, which are written as the plain text.
+fn is_read(alloc: Global, text: &str, want: &Fields<'_>, plain: &str) -> Result<bool, SioError> {
+    let header = read(alloc, text)?;
+    Ok(has_fields(&header, want) && is_written(alloc, &header, plain)?)
 }
 
-fn has_fields(header: &Header, want: Fields<'_>) -> bool {
+fn is_written(alloc: Global, header: &Header, plain: &str) -> Result<bool, SioError> {
+    Ok(write(alloc, header)?.as_str() == plain)
+}
+
+fn has_fields(header: &Header, want: &Fields<'_>) -> bool {
     let (kind, space, id, payload, count) = want;
-    header.kind == kind
-        && header.space.as_str() == space
-        && header.id == id
-        && header.payload.as_str() == payload
-        && header.count == count
+    header.kind == *kind
+        && header.space.as_str() == *space
+        && header.id == *id
+        && header.payload.as_str() == *payload
+        && header.count == *count
 }
 
 /// Whether the entry has this text and this one attachment.
@@ -164,7 +157,7 @@ fn entry_of(packet: SioPacket) -> Entry {
 
 #[test]
 fn each_kind_read_and_written(rt: HostRuntime) -> Result<(), SioError> {
-    const CASES: [(&str, Fields<'static>, &str); 7] = [
+    static CASES: [(&str, Fields<'static>, &str); 7] = [
         (
             "0/admin,{}",
             (Kind::Connect, "/admin", None, "{}", 0),
@@ -201,15 +194,15 @@ fn each_kind_read_and_written(rt: HostRuntime) -> Result<(), SioError> {
             "60-0[]",
         ),
     ];
-    for (text, want, plain) in CASES {
-        expect_read(&rt, text, want, plain)?;
+    for (text, want, plain) in CASES.iter() {
+        assert!(rt; is_read(rt.alloc(), text, want, plain)?, "at {text}");
     }
     Ok(())
 }
 
 #[test]
 fn faults_of_texts(rt: HostRuntime) {
-    const CASES: [(&str, SioError); 17] = [
+    static CASES: [(&str, SioError); 17] = [
         ("", SioError::BadKind),
         ("7[1]", SioError::BadKind),
         ("51[1]", SioError::BadCount),
@@ -234,8 +227,8 @@ fn faults_of_texts(rt: HostRuntime) {
             SioError::BadPlaceholder,
         ),
     ];
-    for (text, want) in CASES {
-        assert!(rt; fault_of(rt.alloc(), text) == Some(want), "at {text}");
+    for (text, want) in CASES.iter() {
+        assert!(rt; fault_of(rt.alloc(), text) == Some(*want), "at {text}");
     }
 }
 
@@ -251,12 +244,20 @@ fn nested_too_deep(rt: HostRuntime) {
 }
 
 #[test]
-fn offsets_added_and_read(rt: HostRuntime) -> Result<(), SioError> {
-    let alloc = rt.alloc();
-    let text = offset_added(alloc, "[\"say\",[1]]", u64::MAX)?;
+fn offsets_added(rt: HostRuntime) -> Result<(), SioError> {
+    let text = offset_added(rt.alloc(), "[\"say\",[1]]", u64::MAX)?;
     assert!(rt; text.as_str() == "[\"say\",[1],\"ffffffffffffffff\"]");
-    assert!(rt; offset_added(alloc, "[1", 1).err() == Some(SioError::BadShape));
-    const CASES: [(&str, Option<u64>); 6] = [
+    Ok(())
+}
+
+#[test]
+fn offset_of_no_list(rt: HostRuntime) {
+    assert!(rt; offset_added(rt.alloc(), "[1", 1).err() == Some(SioError::BadShape));
+}
+
+#[test]
+fn offsets_read(rt: HostRuntime) {
+    static CASES: [(&str, Option<u64>); 6] = [
         ("0000000000000001", Some(1)),
         ("ffffffffffffffff", Some(u64::MAX)),
         ("1", None),
@@ -264,10 +265,9 @@ fn offsets_added_and_read(rt: HostRuntime) -> Result<(), SioError> {
         ("00000000000000001", None),
         ("000000000000000A", None),
     ];
-    for (text, want) in CASES {
-        assert!(rt; read_offset(text) == want, "at {text}");
+    for (text, want) in CASES.iter() {
+        assert!(rt; read_offset(text) == *want, "at {text}");
     }
-    Ok(())
 }
 
 #[test]
@@ -288,11 +288,13 @@ fn refusal_of_a_connect(rt: HostRuntime) -> Result<(), SioError> {
 
 #[test]
 fn end_of_a_socket(rt: HostRuntime) -> Result<(), SioError> {
-    let text = ended(rt.alloc(), "/")?;
-    assert!(rt; text.as_str() == "1");
-    let text = ended(rt.alloc(), "/admin")?;
-    assert!(rt; text.as_str() == "1/admin,");
+    assert!(rt; is_ended(rt.alloc(), "/", "1")?);
+    assert!(rt; is_ended(rt.alloc(), "/admin", "1/admin,")?);
     Ok(())
+}
+
+fn is_ended(alloc: Global, space: &str, want: &str) -> Result<bool, SioError> {
+    Ok(ended(alloc, space)?.as_str() == want)
 }
 
 #[test]
@@ -333,11 +335,11 @@ fn expect_resume(rt: &impl Abort, resume: &Resume) {
 
 #[test]
 fn no_session_named(rt: HostRuntime) -> Result<(), SioError> {
-    let alloc = rt.alloc();
-    for payload in ["", "{\"pid\":\"a\"}", "{\"pid\":\"a\",\"offset\":1}"] {
-        assert!(rt; !names_session(alloc, payload)?, "at {payload}");
+    static PAYLOADS: [&str; 3] = ["", "{\"pid\":\"a\"}", "{\"pid\":\"a\",\"offset\":1}"];
+    for payload in PAYLOADS.iter() {
+        assert!(rt; !names_session(rt.alloc(), payload)?, "at {payload}");
     }
-    assert!(rt; names_session(alloc, "{").err() == Some(SioError::BadJson));
+    assert!(rt; names_session(rt.alloc(), "{").err() == Some(SioError::BadJson));
     Ok(())
 }
 
@@ -355,39 +357,42 @@ fn work_on_packet(
     rt: &(impl Abort + AllocGlobal),
     assembler: &mut Assembler,
 ) -> Result<(), SioError> {
-    let alloc = rt.alloc();
     let payload = "[\"say\",\"r\",{\"_placeholder\":true,\"num\":0}]";
-    expect_waiting(
-        rt,
-        assembler,
-        "51-[\"say\",\"r\",{\"_placeholder\":true,\"num\":0}]",
-        1,
-    )?;
-    expect_packet(rt, assembler, &[1, 2, 3, 4], payload)?;
-    let unawaited = Some(SioError::BinaryUnawaited);
-    assert!(rt; binary_fault(assembler, alloc, b"\x01") == unawaited);
-    assert!(rt; text_fault(assembler, alloc, "2[\"x\"]") == unawaited);
-    assert!(rt; assembler.waiting() == 0);
+    let frame = "51-[\"say\",\"r\",{\"_placeholder\":true,\"num\":0}]";
+    assert!(rt; is_waiting(rt.alloc(), assembler, frame, 1)?);
+    assert!(rt; makes_packet(rt.alloc(), assembler, &[1, 2, 3, 4], payload)?);
+    assert!(rt; awaits_nothing(rt.alloc(), assembler));
     Ok(())
 }
 
-/// The attachment ends a packet with this payload, and so does each copy of it.
-fn expect_packet(
-    rt: &(impl Abort + AllocGlobal),
+/// Whether bytes fail the assembler, and a text then fails so too.
+fn awaits_nothing(alloc: Global, assembler: &mut Assembler) -> bool {
+    binary_fault(assembler, alloc, b"\x01") == Some(SioError::BinaryUnawaited)
+        && text_fault(assembler, alloc, "2[\"x\"]") == Some(SioError::BinaryUnawaited)
+        && assembler.waiting() == 0
+}
+
+/// Whether the attachment ends a packet with this payload, as does a copy of it.
+fn makes_packet(
+    alloc: Global,
     assembler: &mut Assembler,
     bytes: &[u8],
     payload: &str,
-) -> Result<(), SioError> {
-    match binary(assembler, rt.alloc(), bytes)? {
-        Some(packet) => {
-            assert!(rt; packet.header.kind == Kind::BinaryEvent);
-            let entry = entry_of(packet);
-            assert!(rt; is_entry(&entry, payload, bytes), "the packet");
-            assert!(rt; is_entry(&copied(&entry)?, payload, bytes), "its copy");
-        }
-        None => assert!(rt; false, "no packet"),
+) -> Result<bool, SioError> {
+    match binary(assembler, alloc, bytes)? {
+        Some(packet) => is_packet(packet, bytes, payload),
+        None => Ok(false),
     }
-    Ok(())
+}
+
+fn is_packet(packet: SioPacket, bytes: &[u8], payload: &str) -> Result<bool, SioError> {
+    let is_event = packet.header.kind == Kind::BinaryEvent;
+    let entry = entry_of(packet);
+    Ok(is_event && is_entry(&entry, payload, bytes) && is_copied(&entry, payload, bytes)?)
+}
+
+fn is_copied(entry: &Entry, payload: &str, bytes: &[u8]) -> Result<bool, SioError> {
+    Ok(is_entry(&copied(entry)?, payload, bytes))
 }
 
 #[test]
@@ -400,11 +405,14 @@ fn work_before_its_time(
     rt: &(impl Abort + AllocGlobal),
     assembler: &mut Assembler,
 ) -> Result<(), SioError> {
-    let alloc = rt.alloc();
-    expect_waiting(rt, assembler, "51-[1]", 1)?;
-    let early = Some(SioError::TextAwaitingBinary);
-    assert!(rt; text_fault(assembler, alloc, "2[1]") == early);
-    assert!(rt; binary_fault(assembler, alloc, b"") == early);
-    assert!(rt; assembler.waiting() == 0);
+    assert!(rt; is_waiting(rt.alloc(), assembler, "51-[1]", 1)?);
+    assert!(rt; awaits_bytes(rt.alloc(), assembler));
     Ok(())
+}
+
+/// Whether a text fails the assembler, and bytes then fail so too.
+fn awaits_bytes(alloc: Global, assembler: &mut Assembler) -> bool {
+    text_fault(assembler, alloc, "2[1]") == Some(SioError::TextAwaitingBinary)
+        && binary_fault(assembler, alloc, b"") == Some(SioError::TextAwaitingBinary)
+        && assembler.waiting() == 0
 }
