@@ -5,6 +5,7 @@ ghost use Rattle.std.specs.Process.{exit_status};
 ghost use Rattle.clap.specs.Words.{kind_of};
 ghost use Rattle.script.specs.declared.faults.RunError.TheVariants.{Memory, Writing};
 
+use crate::options::{self, Options};
 use clap::error::ErrorKind;
 use clap::{Command, Error};
 use script::RunError;
@@ -15,16 +16,18 @@ use std::rt::Env;
 use std::{env, io};
 
 /// What the arguments ask for.
-#[derive(Clone, Copy, Debug, PartialEq, Eq)]
+#[derive(Drop)]
 pub enum Task {
     /// To serve a script from standard input.
     Script,
+    /// To serve clients over TCP.
+    Serve(Options),
 }
 
 /// Reads the program's arguments. `--help` too is answered by an error.
-pub fn read_arguments<R: Env + AllocGlobal>(rt: &R) -> Result<Task, Error> {
+pub fn read_arguments<R: Env + AllocGlobal>(rt: &R, processors: usize) -> Result<Task, Error> {
     let words = words(rt)?;
-    task_of(rt.alloc(), words.as_slice())
+    task_of(rt.alloc(), words.as_slice(), processors)
 }
 
 /// The arguments as text, the program's name first.
@@ -40,9 +43,16 @@ fn words<R: Env + AllocGlobal>(rt: &R) -> Result<Vec<String>, Error> {
     }
 }
 
-pub(crate) fn task_of<'a, S: AsStr>(alloc: Global, words: &'a [S]) -> Result<Task, Error> {
-    program(alloc)?.try_get_matches_from(words)?;
-    Ok(Task::Script)
+pub(crate) fn task_of<'a, S: AsStr>(
+    alloc: Global,
+    words: &'a [S],
+    processors: usize,
+) -> Result<Task, Error> {
+    let matches = program(alloc)?.try_get_matches_from(words)?;
+    match matches.subcommand_matches("serve") {
+        Some(serve) => Ok(Task::Serve(options::read_options(alloc, serve, processors)?)),
+        None => Ok(Task::Script),
+    }
 }
 
 /// The program with its subcommands, of which one must be given.
@@ -53,7 +63,8 @@ fn program<'a>(alloc: Global) -> Result<Command<'a>, AllocError> {
     Command::new(alloc, "event_server")
         .about("A Socket.IO server")
         .subcommand_required(true)
-        .subcommand(script)
+        .subcommand(script)?
+        .subcommand(options::command(alloc)?)
 }
 
 /// Shows the text of a parse without matches, and gives the status: 0 for help, 2 for bad arguments.

@@ -11,7 +11,7 @@ use std::cell::Cell;
 use terms::Text;
 
 /// What a request asks for.
-#[derive(Clone, Copy, Debug)]
+#[derive(Clone, Copy)]
 enum Asks {
     Open,
     Get,
@@ -19,7 +19,7 @@ enum Asks {
 }
 
 /// What an event is answered with.
-#[derive(Clone, Copy, Debug)]
+#[derive(Clone, Copy)]
 enum Given {
     Opened,
     Done(usize, Option<Cause>),
@@ -96,7 +96,7 @@ fn served(
     room: usize,
 ) -> Result<(Result<(), PeerFault>, bool, Sheet), AllocError> {
     let wire = Sheet::with_room(alloc, room);
-    let mut peer = PollPeer::new(alloc, wire, Still, request(alloc, asks)?);
+    let mut peer = PollPeer::new(alloc, wire, Still, request(alloc, asks)?, 64);
     let heard = hear_all(alloc, &mut peer, given);
     let over = matches!(peer.next(), Ok(None));
     Ok((heard, over, peer.into_wire()))
@@ -146,9 +146,13 @@ const BUSY: Want = Some((
     b"Content-Length: 0\r\nConnection: close\r\n\r\n",
 ));
 
+const CLOSE: Want = Some((SUCCESS, b"\r\n\r\n1"));
+
+const PAYLOAD: Want = Some((SUCCESS, b"\r\n\r\n4hi"));
+
 #[test]
 fn to_opened_clients_and_posts(rt: HostRuntime) {
-    let cases: [(Asks, Given, Want); 16] = [
+    static CASES: [(Asks, Given, Want); 16] = [
         (Asks::Open, Given::Opened, Some((SUCCESS, b"\r\n\r\n0{}"))),
         (Asks::Open, Given::Refused(CoreFault::TooManyClients), BUSY),
         (Asks::Open, Given::Refused(CoreFault::IdTaken), BUSY),
@@ -182,28 +186,26 @@ fn to_opened_clients_and_posts(rt: HostRuntime) {
         (Asks::Post, Given::Refused(CoreFault::NotProbing), None),
         (Asks::Post, Given::Begun, None),
     ];
-    for (asks, given, want) in cases {
+    for (place, (asks, given, want)) in CASES.iter().enumerate() {
         assert!(rt;
-            is_answered(rt.alloc(), asks, &[given], want),
-            "{asks:?} {given:?}"
+            is_answered(rt.alloc(), *asks, &[*given], *want),
+            "case {place}"
         );
     }
 }
 
 #[test]
 fn to_gets(rt: HostRuntime) {
-    let close: Want = Some((SUCCESS, b"\r\n\r\n1"));
-    let payload: Want = Some((SUCCESS, b"\r\n\r\n4hi"));
-    let cases: [(&[Given], Want); 10] = [
+    static CASES: [(&[Given], Want); 10] = [
         (&[Given::Done(0, Some(Cause::DoubleGet))], BAD_REQUEST),
         (&[Given::Refused(CoreFault::UnknownClient)], UNKNOWN),
         (&[Given::Refused(CoreFault::WrongTransport)], BAD_REQUEST),
         (&[Given::Refused(CoreFault::Memory)], BUSY),
-        (&[Given::Begun, Given::Payload], payload),
-        (&[Given::Begun, Given::Nothing, Given::Payload], payload),
+        (&[Given::Begun, Given::Payload], PAYLOAD),
+        (&[Given::Begun, Given::Nothing, Given::Payload], PAYLOAD),
         (
             &[Given::Begun, Given::Refused(CoreFault::UnknownClient)],
-            close,
+            CLOSE,
         ),
         (
             &[Given::Begun, Given::Refused(CoreFault::WrongTransport)],
@@ -216,14 +218,14 @@ fn to_gets(rt: HostRuntime) {
                 Given::Refused(CoreFault::Spent),
                 Given::Payload,
             ],
-            payload,
+            PAYLOAD,
         ),
         (&[Given::Begun, Given::Refused(CoreFault::NotProbing)], None),
     ];
-    for (given, want) in cases {
+    for (place, (given, want)) in CASES.iter().enumerate() {
         assert!(rt;
-            is_answered(rt.alloc(), Asks::Get, given, want),
-            "{given:?}"
+            is_answered(rt.alloc(), Asks::Get, given, *want),
+            "case {place}"
         );
     }
 }
@@ -240,19 +242,19 @@ fn fails_after(alloc: Global, room: usize, whole: &[u8]) -> bool {
 
 #[test]
 fn the_writer_fails_at_each_byte(rt: HostRuntime) {
-    let whole =
-        b"HTTP/1.1 200 OK\r\nContent-Type: text/plain; charset=UTF-8\r\nContent-Length: 2\r\nConnection: close\r\n\r\nok";
-    for room in 0..whole.len() {
-        assert!(rt; fails_after(rt.alloc(), room, whole), "after {room}");
+    for room in 0..WHOLE.len() {
+        assert!(rt; fails_after(rt.alloc(), room, WHOLE), "after {room}");
     }
-    assert!(rt;
-        is_answered(
-            rt.alloc(),
-            Asks::Post,
-            &[Given::Done(1, None)],
-            Some((whole, b"ok"))
-        )
-    );
+    assert!(rt; is_answered_whole(rt.alloc()));
+}
+
+/// What a POST is answered with.
+static WHOLE: &[u8] =
+    b"HTTP/1.1 200 OK\r\nContent-Type: text/plain; charset=UTF-8\r\nContent-Length: 2\r\nConnection: close\r\n\r\nok";
+
+fn is_answered_whole(alloc: Global) -> bool {
+    let want = Some((WHOLE, b"ok".as_slice()));
+    is_answered(alloc, Asks::Post, &[Given::Done(1, None)], want)
 }
 
 fn is_reply(reply: Option<Reply<'static>>, status: u16, body: &str) -> bool {
@@ -262,32 +264,42 @@ fn is_reply(reply: Option<Reply<'static>>, status: u16, body: &str) -> bool {
     }
 }
 
+const REFUSED: &str = "{\"code\":3,\"message\":\"Bad request\"}";
+
 #[test]
 fn where_no_peer_is_made(rt: HostRuntime) {
-    let bad = "{\"code\":3,\"message\":\"Bad request\"}";
-    let faults = [
+    static FAULTS: [(EdgeError, u16, &str); 9] = [
         (EdgeError::Memory, 503, ""),
         (EdgeError::Device, 0, ""),
         (EdgeError::EarlyEnd, 0, ""),
-        (EdgeError::BadHead, 400, bad),
-        (EdgeError::HeadTooLong, 400, bad),
+        (EdgeError::BadHead, 400, REFUSED),
+        (EdgeError::HeadTooLong, 400, REFUSED),
         (EdgeError::BodyTooLong, 413, ""),
-        (EdgeError::NoLength, 400, bad),
-        (EdgeError::NotUtf8, 400, bad),
+        (EdgeError::NoLength, 400, REFUSED),
+        (EdgeError::NotUtf8, 400, REFUSED),
         (EdgeError::TurnsSpent, 0, ""),
     ];
-    for (fault, status, body) in faults {
-        assert!(rt; is_reply(reply_to_fault(fault), status, body), "{fault:?}");
+    for (place, (fault, status, body)) in FAULTS.iter().enumerate() {
+        assert!(rt;
+            is_reply(reply_to_fault(*fault), *status, body),
+            "fault {place}"
+        );
     }
-    assert!(rt; is_reply(reply_to_target(Target::NotFound), 404, ""));
-    assert!(rt;
-        is_reply(
-            reply_to_target(Target::Refuse(Refusal::BadRequest)),
-            400,
-            bad
-        )
-    );
-    assert!(rt; is_reply(reply_to_target(Target::OpenSocket), 0, ""));
+}
+
+#[test]
+fn targets_without_a_peer(rt: HostRuntime) {
+    static TARGETS: [(Target, u16, &str); 3] = [
+        (Target::NotFound, 404, ""),
+        (Target::Refuse(Refusal::BadRequest), 400, REFUSED),
+        (Target::OpenSocket, 0, ""),
+    ];
+    for (place, (target, status, body)) in TARGETS.iter().enumerate() {
+        assert!(rt;
+            is_reply(reply_to_target(*target), *status, body),
+            "target {place}"
+        );
+    }
 }
 
 fn asks_for(alloc: Global, target: Target) -> Option<Option<u128>> {
@@ -301,18 +313,30 @@ fn asks_for(alloc: Global, target: Target) -> Option<Option<u128>> {
 
 #[test]
 fn what_targets_ask_for(rt: HostRuntime) {
-    let alloc = rt.alloc();
-    assert_eq!(rt; asks_for(alloc, Target::OpenPoll), Some(None));
-    assert_eq!(rt; asks_for(alloc, Target::Poll(7)), Some(Some(7)));
-    assert_eq!(rt; asks_for(alloc, Target::Post(7)), Some(Some(7)));
-    assert_eq!(rt; asks_for(alloc, Target::NotFound), None);
-    let probe = SocketRequest::of(Target::ProbeSocket(7));
-    assert_eq!(rt; probe, Some(SocketRequest::Probe { client: 7 }));
-    assert_eq!(rt;
-        SocketRequest::of(Target::OpenSocket),
-        Some(SocketRequest::Open)
-    );
-    assert_eq!(rt; SocketRequest::of(Target::OpenPoll), None);
+    static TARGETS: [(Target, Option<Option<u128>>); 4] = [
+        (Target::OpenPoll, Some(None)),
+        (Target::Poll(7), Some(Some(7))),
+        (Target::Post(7), Some(Some(7))),
+        (Target::NotFound, None),
+    ];
+    for (place, (target, want)) in TARGETS.iter().enumerate() {
+        assert!(rt; asks_for(rt.alloc(), *target) == *want, "target {place}");
+    }
+}
+
+#[test]
+fn what_targets_ask_of_a_socket(rt: HostRuntime) {
+    static TARGETS: [(Target, Option<SocketRequest>); 3] = [
+        (
+            Target::ProbeSocket(7),
+            Some(SocketRequest::Probe { client: 7 }),
+        ),
+        (Target::OpenSocket, Some(SocketRequest::Open)),
+        (Target::OpenPoll, None),
+    ];
+    for (place, (target, want)) in TARGETS.iter().enumerate() {
+        assert!(rt; SocketRequest::of(*target) == *want, "target {place}");
+    }
 }
 
 /// The moment of a peer's next event, and how many pauses were made by then.
@@ -351,17 +375,22 @@ fn paused_get(alloc: Global) -> Result<([(Option<u64>, u64); 4], u64), PeerFault
         pauses: &pauses,
     };
     let request = PollRequest::Get { client: 7 };
-    let mut peer = PollPeer::new(alloc, Sheet::with_room(alloc, 1_000), counted, request);
+    let mut peer = PollPeer::new(alloc, Sheet::with_room(alloc, 1_000), counted, request, 64);
     let made = paused(&mut peer, &pauses, noop)?;
     Ok((made, pauses.get()))
 }
 
 #[test]
 fn moments_and_pauses(rt: HostRuntime) {
-    let made = [(Some(10), 0), (Some(11), 0), (Some(12), 1), (Some(13), 2)];
+    static MADE: [(Option<u64>, u64); 4] = [
+        (Some(10), 0),
+        (Some(11), 0),
+        (Some(12), 1),
+        (Some(13), 2),
+    ];
     let got = match paused_get(rt.alloc()) {
         Err(_) => paused_get(rt.alloc()),
         got => got,
     };
-    assert_eq!(rt; got, Ok((made, 3)));
+    assert!(rt; got == Ok((MADE, 3)));
 }

@@ -7,6 +7,7 @@ use crate::sheet::Still;
 use crate::spoken::{Piece, Spoken};
 use dispatch::Event;
 use effects::CoreError;
+use http_edge::Replay;
 use hub_gate::PeerFault;
 use peers::{SocketPeer, SocketRequest, accept_socket};
 use session_clock::Transport;
@@ -16,6 +17,9 @@ use std::sync::ledger::{Blank, Ledger};
 use tungstenite::{NoMask, Role, WebSocket};
 
 type Speaker = SocketPeer<Spoken, Still>;
+
+/// One whose head was read before.
+type Accepted = SocketPeer<Replay<Replay<Spoken>>, Still>;
 
 /// What a WebSocket brings, how many bytes it takes and how many events it has, and what is to become
 /// of it.
@@ -168,7 +172,7 @@ fn does(alloc: Global, row: &Row) -> bool {
 
 #[test]
 fn a_client_of_a_websocket(rt: HostRuntime) {
-    let rows = [
+    static ROWS: [Row; 8] = [
         // Frames of two entries in their order, one that came in two pieces; a ping, a pong, a close.
         Row {
             pieces: &[
@@ -226,14 +230,14 @@ fn a_client_of_a_websocket(rt: HostRuntime) {
             ..SPEAKS
         },
     ];
-    for (index, row) in rows.iter().enumerate() {
+    for (index, row) in ROWS.iter().enumerate() {
         assert!(rt; does(rt.alloc(), row), "row {index}");
     }
 }
 
 #[test]
 fn a_client_that_comes_over(rt: HostRuntime) {
-    let rows = [
+    static ROWS: [Row; 13] = [
         Row {
             pieces: &[Piece::Wait, PROBES, PING, Piece::Wait, UPGRADES, CONNECT],
             end: End::Failed(PeerFault::Ended),
@@ -308,35 +312,51 @@ fn a_client_that_comes_over(rt: HostRuntime) {
             ..KNOCKS
         },
     ];
-    for (index, row) in rows.iter().enumerate() {
+    for (index, row) in ROWS.iter().enumerate() {
         assert!(rt; does(rt.alloc(), row), "row {index}");
     }
 }
 
-const HEAD: &[u8] =
+static HEAD: &[u8] =
     b"GET /socket.io/?EIO=4&transport=websocket HTTP/1.1\r\nHost: a\r\nUpgrade: websocket\r\nConnection: Upgrade\r\nSec-WebSocket-Key: dGhlIHNhbXBsZSBub25jZQ==\r\nSec-WebSocket-Version: 13\r\n\r\n";
 
-const NO_KEY: &[u8] =
+static NO_KEY: &[u8] =
     b"GET /socket.io/?EIO=4&transport=websocket HTTP/1.1\r\nHost: a\r\nUpgrade: websocket\r\nConnection: Upgrade\r\nSec-WebSocket-Version: 13\r\n\r\n";
 
-const SWITCHED: &[u8] =
-    b"HTTP/1.1 101 Switching Protocols\r\nconnection: Upgrade\r\nupgrade: websocket\r\nsec-websocket-accept: s3pPLMBiTxaQ9kYGzzhZRbK+xOo=\r\n\r\n";
+/// What a client is told whose first frame came with its head.
+static EARLY: [&[u8]; 4] = [
+    b"HTTP/1.1 101 Switching Protocols\r\nconnection: Upgrade\r\nupgrade: websocket\r\nsec-websocket-accept: s3pPLMBiTxaQ9kYGzzhZRbK+xOo=\r\n\r\n",
+    OPENED,
+    CONNECTED,
+    CLOSED,
+];
 
-/// What is written to a client whose first frame came with its head.
+/// A first frame.
+static FRAME: &[u8] = b"\x81\x82\0\0\0\x0040";
+
+static LEAVES: [Piece; 1] = [CLOSE];
+
+/// Whether a client whose first frame came with its head is told all this.
 fn early<C: Ledger, T: Ledger>(
     alloc: Global,
     server: &mut Server<C, T>,
     head: &[u8],
 ) -> Option<bool> {
-    let stream = Spoken::new(alloc, &[CLOSE], 1_000);
-    let rest = Vec::from_slice(alloc, b"\x81\x82\0\0\0\x0040").ok()?;
+    let mut peer = accepted(alloc, head)?;
+    let end = server.serve(alloc, &mut peer, 1_000);
+    Some(end == End::Failed(PeerFault::Ended) && is_told_all(&peer))
+}
+
+fn accepted(alloc: Global, head: &[u8]) -> Option<Accepted> {
+    let stream = Spoken::new(alloc, &LEAVES, 1_000);
+    let rest = Vec::from_slice(alloc, FRAME).ok()?;
     let head = Vec::from_slice(alloc, head).ok()?;
     let socket = accept_socket(alloc, stream, head, rest)?;
-    let mut peer = SocketPeer::new(alloc, socket, Still, SocketRequest::Open);
-    let end = server.serve(alloc, &mut peer, 1_000);
-    let written = peer.stream().get_ref().get_ref().written.as_slice();
-    let parts = [SWITCHED, OPENED, CONNECTED, CLOSED];
-    Some(end == End::Failed(PeerFault::Ended) && is_joined(written, &parts))
+    Some(SocketPeer::new(alloc, socket, Still, SocketRequest::Open))
+}
+
+fn is_told_all(peer: &Accepted) -> bool {
+    is_joined(peer.stream().get_ref().get_ref().written.as_slice(), &EARLY)
 }
 
 fn early_on_new<C: Ledger, T: Ledger>(

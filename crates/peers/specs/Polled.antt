@@ -11,19 +11,21 @@ use Rattle.peers.specs.declared.poll_stage.PollStage.{PollStage}
 use Rattle.peers.specs.Polling.{next_of, after}
 use Rattle.peers.specs.Replies.{PlainReply, answer_to}
 
--- how far the request has come, and the wire that it came by
+-- how far the request has come, the wire that it came by, and how many entries one payload may have
 pub record Polled (W : Type 0) : Type 0 where
   pub stage : PollStage
   pub wire : W
+  pub most : ℕ
 
 -- the event of an event and its moment
 abbrev pub event_of : Option (Event × ℕ) → Option Event
 event_of given = option_map (λ pair. pair.0) given
 
 module _ {W : Type 0} where
-  -- the next event is the table's; the wire stays as it was
+  -- the next event is the table's; all else stays as it was
   abbrev pub Gives : Polled W → Result (Option (Event × ℕ)) PeerFault → Polled W → Type 0
-  Gives old (Ok given) new = ((new.stage, event_of given) ≡ next_of old.stage) × (new.wire ≡ old.wire)
+  Gives old (Ok given) new =
+      ((new.stage, event_of given) ≡ next_of old.most old.stage) × (new.wire ≡ old.wire) × (new.most ≡ old.most)
   Gives old (Err e) new = ⊥
 
 module _ {W : Type 0} (written : W → Option (List ℕ)) (is_broken : W → Bool) where
@@ -45,3 +47,4 @@ module _ {W : Type 0} (written : W → Option (List ℕ)) (is_broken : W → Boo
   pub record Hears (old : Polled W) (got : Answer) (result : Result (Unit {0}) PeerFault) (new : Polled W) : Type 0 where
     pub stage : new.stage ≡ after old.stage got
     pub answered : Replies (answer_to old.stage got) old.wire result new.wire
+    pub most : new.most ≡ old.most

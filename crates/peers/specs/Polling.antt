@@ -23,17 +23,17 @@ first_of request.Open = (stage.Opening, event.Opened false)
 first_of (request.Get c) = (stage.Beginning c, event.PollBegin c)
 first_of (request.Post c body) = (stage.Posting c, event.Post c body)
 
--- a GET that waits takes up to 64 entries, or ends once it has asked so often
-abbrev pub asks : ℕ → ℕ → PollStage × Event
-asks c left = cond (left == 0) (stage.Ending c, event.PollEnd c) (stage.Taking c (left - 1), event.PollTake c 64)
+-- a GET that waits takes up to so many entries, or ends once it has asked so often
+abbrev pub asks : ℕ → ℕ → ℕ → PollStage × Event
+asks most c left = cond (left == 0) (stage.Ending c, event.PollEnd c) (stage.Taking c (left - 1), event.PollTake c most)
 
 abbrev pub with_event : PollStage × Event → PollStage × Option Event
 with_event step = (step.0, Some step.1)
 
-abbrev pub next_of : PollStage → PollStage × Option Event
-next_of (stage.First r) = with_event (first_of r)
-next_of (stage.Waits c left) = with_event (asks c left)
-next_of other = (other, None)
+abbrev pub next_of : ℕ → PollStage → PollStage × Option Event
+next_of most (stage.First r) = with_event (first_of r)
+next_of most (stage.Waits c left) = with_event (asks most c left)
+next_of most other = (other, None)
 
 -- ---- what an answer leads to
 

@@ -109,3 +109,8 @@ client_of (stage.Over c) = c
 abbrev pub is_idle : SocketStage → Bool
 is_idle (stage.Reads c p idle) = idle
 is_idle _ = false
+
+-- what waits is being taken, after a read that brought nothing at all
+abbrev pub has_read_nothing : SocketStage → Bool
+has_read_nothing (stage.Taking c idle) = idle
+has_read_nothing _ = false

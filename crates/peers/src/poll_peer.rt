@@ -21,13 +21,14 @@ use std::mem;
 /// Serves one request over HTTP: its event, the takes of a GET that waits, and the answer. A GET that
 /// waits pauses before it asks again, and before it is answered by a lone noop packet, since a client
 /// that probes a WebSocket is answered so at once, and asks at once again. In a contract it is its
-/// stage and its wire.
+/// stage, its wire and how many entries one payload may have.
 #[derive(Drop)]
 pub struct PollPeer<W, M> {
     alloc: Global,
     wire: W,
     moments: M,
     stage: PollStage,
+    most: usize,
 }
 
 impl<W, M> Model for PollPeer<W, M> {
@@ -35,22 +36,29 @@ impl<W, M> Model for PollPeer<W, M> {
 
     ghost Value = { Polled W };
 
-    ghost view = { λ p. record { stage = p.stage; wire = p.wire } };
+    ghost view = { λ p. record { stage = p.stage; wire = p.wire; most = p.most } };
 }
 
 impl<W, M> PollPeer<W, M> {
     ghost use Rattle.std.specs.Borrow.{Lends, sem};
     ghost use Rattle.peers.specs.contracts.poll_peer.PollPeer.{the_row};
 
-    /// Nothing was asked of the core yet, and nothing written.
-    pub fn new(alloc: Global, wire: W, moments: M, request: PollRequest) -> PollPeer<W, M>
-        ensures { result ≡ record { stage = stage.First request; wire = wire } }
+    /// Nothing was asked of the core yet, and nothing written. A payload has at most so many entries.
+    pub fn new(
+        alloc: Global,
+        wire: W,
+        moments: M,
+        request: PollRequest,
+        most: usize,
+    ) -> PollPeer<W, M>
+        ensures { result ≡ record { stage = stage.First request; wire = wire; most = most } }
     {
         PollPeer {
             alloc,
             wire,
             moments,
             stage: PollStage::First(request),
+            most,
         }
     }
 
@@ -115,7 +123,7 @@ impl<W: Wire, M: Moments> Peer for PollPeer<W, M> {
             self.moments.pause();
         }
         let stage = mem::replace(&mut self.stage, PollStage::Opening);
-        let (next, event) = next_of(stage);
+        let (next, event) = next_of(stage, self.most);
         self.stage = next;
         let Some(event) = event else {
             return Ok(None);

@@ -10,9 +10,6 @@ use effects::{CoreError, CoreFault};
 /// How often a GET that waits asks, at the most.
 pub(crate) const TAKES: u32 = 1_200;
 
-/// The most entries of one take.
-pub(crate) const MOST: usize = 64;
-
 /// How far a request over HTTP has come.
 #[derive(Debug, Drop)]
 pub(crate) enum PollStage {
@@ -52,8 +49,8 @@ fn first_of(request: PollRequest) -> (PollStage, Event)
 }
 
 /// What a GET that waits asks next.
-fn asks(client: u128, left: u32) -> (PollStage, Event)
-    ensures { result ≡ polling.asks client left }
+fn asks(client: u128, left: u32, most: usize) -> (PollStage, Event)
+    ensures { result ≡ polling.asks most client left }
 {
     if left == 0 {
         return (PollStage::Ending { client }, Event::PollEnd { client });
@@ -62,12 +59,12 @@ fn asks(client: u128, left: u32) -> (PollStage, Event)
         client,
         left: left - 1,
     };
-    (taking, Event::PollTake { client, most: MOST })
+    (taking, Event::PollTake { client, most })
 }
 
-/// The next event, if there is one, and the stage from then on.
-pub(crate) fn next_of(stage: PollStage) -> (PollStage, Option<Event>)
-    ensures { result ≡ polling.next_of stage }
+/// The next event, if there is one, and the stage from then on. A take has at most so many entries.
+pub(crate) fn next_of(stage: PollStage, most: usize) -> (PollStage, Option<Event>)
+    ensures { result ≡ polling.next_of most stage }
 {
     match stage {
         PollStage::First(request) => {
@@ -75,7 +72,7 @@ pub(crate) fn next_of(stage: PollStage) -> (PollStage, Option<Event>)
             (next, Some(event))
         }
         PollStage::Waits { client, left } => {
-            let (next, event) = asks(client, left);
+            let (next, event) = asks(client, left, most);
             (next, Some(event))
         }
         other => (other, None),

@@ -3,7 +3,7 @@
 ghost use Rattle.std.specs.Prelude.{◌≡◌, [], OnOk, IfErr, ◌⊎◌};
 ghost use Rattle.hub_gate.specs.declared.peer.PeerFault.TheVariants.{Memory, Device};
 ghost use Rattle.peers.specs.Heard.{frames_of};
-ghost use Rattle.peers.specs.Turning.{client_of, first_stage, is_idle};
+ghost use Rattle.peers.specs.Turning.{client_of, first_stage, has_read_nothing, is_idle};
 ghost use Rattle.peers.specs.Spoken.{AddsFrames, Sends};
 
 use crate::frame::{send_frame, send_text};
@@ -70,6 +70,14 @@ impl<S: Drop, M> SocketPeer<S, M> {
         ensures { result ≡ is_idle self.now.stage }
     {
         self.stage.is_idle()
+    }
+
+    /// Whether what waits is being taken, after a read that brought nothing at all: where fewer entries
+    /// are taken than one take may have, and nothing is due, the turn need not be followed by another.
+    pub fn has_read_nothing(&self) -> bool
+        ensures { result ≡ has_read_nothing self.now.stage }
+    {
+        self.stage.has_read_nothing()
     }
 
     /// The stream of the socket.

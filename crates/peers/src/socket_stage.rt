@@ -287,6 +287,16 @@ impl SocketStage {
         }
     }
 
+    /// Whether what waits is being taken, after a read that brought nothing at all.
+    pub(crate) fn has_read_nothing(self) -> bool
+        ensures { result ≡ turning.has_read_nothing self }
+    {
+        match self {
+            SocketStage::Taking { client: _, idle } => idle,
+            _ => false,
+        }
+    }
+
     /// Whose WebSocket it is, once that is known.
     pub(crate) fn client(self) -> Option<u128>
         ensures { result ≡ turning.client_of self }

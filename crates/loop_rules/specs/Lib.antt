@@ -1,0 +1,5 @@
+pub mod Deadlines
+pub mod Frames
+pub mod Ids
+pub mod Owners
+pub mod Turns

@@ -1,0 +1,79 @@
+//! How long a connection may take.
+
+ghost use Rattle.std.specs.Prelude.{◌≡◌};
+ghost use Rattle.loop_rules.specs.Deadlines.{is_stuck, overdue_at};
+
+/// How long a request may take to come, in milliseconds.
+const REQUEST: u64 = 10_000;
+
+/// How long a GET waits: less than what clients wait for, and less than the time between two pings.
+const WAIT: u64 = 20_000;
+
+/// How long a WebSocket may take until its client speaks over it.
+const PROBE: u64 = 10_000;
+
+/// How long a connection may take nothing of what is to be sent.
+const STALL: u64 = 30_000;
+
+/// How long a connection may take to end.
+const END: u64 = 2_000;
+
+/// What a connection is at.
+#[derive(Clone, Copy, Debug, PartialEq, Eq)]
+pub enum Part {
+    /// Its request is coming.
+    Request,
+    /// It is a GET that waits.
+    Waits,
+    /// It is a WebSocket over which no client speaks yet.
+    Knocks,
+    /// It is served.
+    Served,
+    /// It is served no more, and its bytes go out.
+    Sends,
+    /// It ends.
+    Ends,
+}
+
+/// What is to be done with a connection that took too long.
+#[derive(Clone, Copy, Debug, PartialEq, Eq)]
+pub enum Overdue {
+    Nothing,
+    /// It is closed.
+    Close,
+    /// It is told that nothing waits.
+    GiveUp,
+    /// It is read no more.
+    Cut,
+    /// Its client is lost.
+    Fail,
+    /// It gets a turn, in which it finds whether its client is still there.
+    Look,
+}
+
+/// Whether none of what is to be sent has gone for too long.
+fn is_stuck(stalled: Option<u64>) -> bool
+    ensures { result ≡ is_stuck stalled }
+{
+    match stalled {
+        Some(time) => time >= STALL,
+        None => false,
+    }
+}
+
+/// What is to be done with a connection that has been so long at this part, and whose bytes to be sent
+/// have not gone on for so long, if there are any.
+pub fn find_overdue(part: Part, age: u64, stalled: Option<u64>) -> Overdue
+    ensures { result ≡ overdue_at part age stalled }
+{
+    match part {
+        Part::Request if age >= REQUEST => Overdue::Close,
+        Part::Waits if age >= WAIT => Overdue::GiveUp,
+        Part::Knocks if age >= PROBE => Overdue::Cut,
+        Part::Knocks => Overdue::Look,
+        Part::Served if is_stuck(stalled) => Overdue::Fail,
+        Part::Sends if is_stuck(stalled) => Overdue::Close,
+        Part::Ends if age >= END => Overdue::Close,
+        _ => Overdue::Nothing,
+    }
+}

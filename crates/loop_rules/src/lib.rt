@@ -1,0 +1,15 @@
+//! What the loops of a server decide, as functions of plain values: whose loop a request goes to, what a
+//! connection does next, and what is done with one that takes too long.
+#![tactic(auto)]
+
+mod deadlines;
+mod frames;
+mod ids;
+mod owners;
+mod turns;
+
+pub use deadlines::{Overdue, Part, find_overdue};
+pub use frames::left_after_message;
+pub use ids::{LOOPS, loop_of, marked};
+pub use owners::{dealt_to, owner_of};
+pub use turns::{Turn, Verdict};

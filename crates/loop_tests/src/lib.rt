@@ -1,0 +1,25 @@
+//! Tests of whole servers over loopback sockets.
+#![tactic(auto)]
+
+#[cfg(test)]
+mod bounds;
+#[cfg(test)]
+mod made;
+#[cfg(test)]
+mod polling;
+#[cfg(test)]
+mod pressure;
+#[cfg(test)]
+mod requests;
+#[cfg(test)]
+mod returning;
+#[cfg(test)]
+mod sockets;
+#[cfg(test)]
+mod speaking;
+#[cfg(test)]
+mod spread;
+#[cfg(test)]
+mod stopping;
+#[cfg(test)]
+mod tasks;

@@ -1,0 +1,334 @@
+//! The connections of a loop, and which of them have something to do.
+
+use crate::link::{Connection, Mode, Sent};
+use loop_rules::{Overdue, Part, find_overdue};
+use mio::Token;
+use mio::event::Event;
+use slab::Slab;
+use std::alloc::Global;
+use std::collections::{HashMap, VecDeque};
+use std::rt::Clock;
+
+/// The token of the loop's own bell.
+pub(crate) const BELL: Token = Token(usize::MAX);
+
+/// The connections of a loop. Each has a key.
+#[derive(Drop)]
+pub(crate) struct Connections<R> {
+    slots: Slab<Connection<R>>,
+    generation: u32,
+    /// The connection to which what is put for a client goes.
+    takers: HashMap<u128, usize>,
+    /// Those that have something to do.
+    ready: VecDeque<usize>,
+    /// Those that have more to do at the next turn of the loop.
+    again: Vec<usize>,
+    /// Those that may have bytes to send.
+    unsent: Vec<usize>,
+    /// There was no memory to queue one.
+    overlooked: bool,
+}
+
+/// The token of a connection: its key, and what tells it from an earlier one with that key.
+fn token_of(generation: u32, key: usize) -> Token {
+    Token(((generation as usize) << 32) | (key & 0xffff_ffff))
+}
+
+impl<R: Clock + Drop> Connections<R> {
+    /// None yet.
+    pub(crate) fn new(alloc: Global) -> Connections<R> {
+        Connections {
+            slots: Slab::new(alloc),
+            generation: 0,
+            takers: HashMap::new(alloc),
+            ready: VecDeque::new(alloc),
+            again: Vec::new(alloc),
+            unsent: Vec::new(alloc),
+            overlooked: false,
+        }
+    }
+
+    /// How many there are.
+    pub(crate) fn len(&self) -> usize {
+        self.slots.len()
+    }
+
+    /// A bound of all keys.
+    pub(crate) fn keys_below(&self) -> usize {
+        self.slots.capacity()
+    }
+
+    /// The token and the generation of the next connection.
+    pub(crate) fn next_token(&mut self) -> (Token, u32) {
+        self.generation = self.generation.wrapping_add(1) & 0x7fff_ffff;
+        let token = token_of(self.generation, self.slots.vacant_key());
+        (token, self.generation)
+    }
+
+    /// Adds a connection, for which the next token was given. None where there is no memory for it.
+    pub(crate) fn add(&mut self, connection: Connection<R>) -> Option<usize> {
+        self.slots.insert(connection).ok()
+    }
+
+    /// The connection with this key.
+    pub(crate) fn get_mut(&mut self, key: usize) -> Option<&mut Connection<R>> {
+        self.slots.get_mut(key)
+    }
+
+    /// Takes a connection out.
+    pub(crate) fn remove(&mut self, key: usize) -> Option<Connection<R>> {
+        let connection = self.slots.try_remove(key)?;
+        if let Some(client) = connection.client() {
+            self.release(client, key);
+        }
+        Some(connection)
+    }
+
+    /// What is put for this client goes to this connection from now on.
+    pub(crate) fn settle(&mut self, client: u128, key: usize) {
+        self.wake(client);
+        if self.takers.insert(client, key).is_err() {
+            self.overlooked = true;
+        }
+    }
+
+    /// Nothing that is put for this client goes to this connection any more.
+    pub(crate) fn release(&mut self, client: u128, key: usize) {
+        if self.is_taker(client, key) {
+            let _ = self.takers.remove(&client);
+        }
+    }
+
+    /// Whether what is put for this client goes to this connection.
+    pub(crate) fn is_taker(&self, client: u128, key: usize) -> bool {
+        match self.takers.get(&client) {
+            Some(taker) => *taker == key,
+            None => false,
+        }
+    }
+
+    /// Queues the connection to which what is put for this client goes.
+    pub(crate) fn wake(&mut self, client: u128) {
+        let Some(taker) = self.takers.get(&client) else {
+            return;
+        };
+        let key = *taker;
+        self.queue(key);
+    }
+
+    /// Queues all connections.
+    pub(crate) fn wake_all(&mut self) {
+        for key in 0..self.keys_below() {
+            self.queue(key);
+        }
+    }
+
+    /// Whether one was to be queued for which there was no memory. It is told once.
+    pub(crate) fn has_overlooked(&mut self) -> bool {
+        let overlooked = self.overlooked;
+        self.overlooked = false;
+        overlooked
+    }
+
+    /// Queues a connection, once.
+    pub(crate) fn queue(&mut self, key: usize) {
+        let Some(connection) = self.slots.get_mut(key) else {
+            return;
+        };
+        connection.stirred = true;
+        if connection.queued {
+            return;
+        }
+        if self.ready.push_back(key).is_ok() {
+            connection.queued = true;
+        } else {
+            self.overlooked = true;
+        }
+    }
+
+    /// Queues a connection for the next turn of the loop.
+    pub(crate) fn queue_again(&mut self, key: usize) {
+        let Some(connection) = self.slots.get_mut(key) else {
+            return;
+        };
+        if connection.queued {
+            return;
+        }
+        if self.again.push(key).is_ok() {
+            connection.queued = true;
+        } else {
+            self.overlooked = true;
+        }
+    }
+
+    /// The next turn of the loop begins: those that have more to do are queued.
+    pub(crate) fn begin_turn(&mut self) {
+        for key in self.again.drain(..) {
+            if self.ready.push_back(key).is_err() {
+                self.overlooked = true;
+            }
+        }
+    }
+
+    /// Whether none has something to do.
+    pub(crate) fn is_quiet(&self) -> bool {
+        self.ready.is_empty() && !self.overlooked
+    }
+
+    /// The next one that has something to do.
+    pub(crate) fn pop(&mut self) -> Option<usize> {
+        let key = self.ready.pop_front()?;
+        if let Some(connection) = self.slots.get_mut(key) {
+            connection.queued = false;
+            connection.begin();
+        }
+        Some(key)
+    }
+
+    /// It may have bytes to send.
+    pub(crate) fn note_unsent(&mut self, key: usize) {
+        let Some(connection) = self.slots.get_mut(key) else {
+            return;
+        };
+        if connection.unsent {
+            return;
+        }
+        if self.unsent.push(key).is_ok() {
+            connection.unsent = true;
+        } else {
+            self.overlooked = true;
+        }
+    }
+
+    /// One that may have bytes to send.
+    pub(crate) fn pop_unsent(&mut self) -> Option<usize> {
+        let key = self.unsent.pop()?;
+        if let Some(connection) = self.slots.get_mut(key) {
+            connection.unsent = false;
+        }
+        Some(key)
+    }
+
+    /// Sends the bytes of a connection, and tells whether it is over.
+    pub(crate) fn send(&mut self, key: usize, now: u64) -> bool {
+        let Some(connection) = self.slots.get_mut(key) else {
+            return false;
+        };
+        match connection.send(now) {
+            Sent::Nothing => false,
+            Sent::Queue => {
+                self.queue(key);
+                false
+            }
+            Sent::Remove => true,
+        }
+    }
+
+    /// A stream is ready: its connection is queued, or its bytes are to be sent.
+    pub(crate) fn note(&mut self, event: &Event) {
+        if event.token() == BELL {
+            return;
+        }
+        let key = event.token().0 & 0xffff_ffff;
+        let Some(connection) = self.slots.get_mut(key) else {
+            return;
+        };
+        if token_of(connection.generation, key) != event.token() {
+            return;
+        }
+        if event.is_readable() {
+            if let Some(stream) = connection.stream() {
+                stream.note_readable(event.is_read_closed());
+            }
+            self.queue(key);
+        }
+        if event.is_writable() {
+            self.note_unsent(key);
+        }
+    }
+
+    /// Whether the connection is in this mode.
+    pub(crate) fn is_in(&self, key: usize, mode: Mode) -> bool {
+        match self.slots.get(key) {
+            Some(connection) => connection.mode == mode,
+            None => false,
+        }
+    }
+
+    /// The client of a connection is told as lost.
+    pub(crate) fn leave(&mut self, key: usize, now: u64) {
+        if let Some(connection) = self.slots.get_mut(key) {
+            connection.leave(now);
+        }
+    }
+
+    /// Queues a connection, if it is still the one that had this key.
+    pub(crate) fn queue_if(&mut self, key: usize, generation: u32) {
+        let same = match self.slots.get(key) {
+            Some(connection) => connection.generation == generation,
+            None => false,
+        };
+        if same {
+            self.queue(key);
+        }
+    }
+
+    /// What is to be done with a connection that took too long, or one that is to end.
+    pub(crate) fn overdue(&mut self, key: usize, cutting: bool, now: u64) -> Overdue {
+        let part = match self.part_of(key) {
+            Part::Ends => Part::Ends,
+            Part::Sends if cutting => Part::Ends,
+            _ if cutting => return Overdue::Fail,
+            part => part,
+        };
+        match self.slots.get_mut(key) {
+            Some(connection) => {
+                let age = now.saturating_sub(connection.since);
+                find_overdue(part, age, connection.stalled(now))
+            }
+            None => Overdue::Nothing,
+        }
+    }
+
+    /// What a connection is at.
+    fn part_of(&self, key: usize) -> Part {
+        let Some(connection) = self.slots.get(key) else {
+            return Part::Ends;
+        };
+        match connection.mode {
+            Mode::Serves => {}
+            Mode::Loses | Mode::Closes => return Part::Sends,
+            Mode::Lingers => return Part::Ends,
+        }
+        if connection.is_gathering() {
+            return Part::Request;
+        }
+        if connection.is_waiting() {
+            return Part::Waits;
+        }
+        match connection.client() {
+            Some(client) if connection.is_socket() && !self.is_taker(client, key) => Part::Knocks,
+            _ => Part::Served,
+        }
+    }
+
+    /// Does what is to be done with a connection, and tells whether it is to be closed at once.
+    pub(crate) fn part_with(&mut self, key: usize, overdue: Overdue, now: u64) -> bool {
+        let Some(connection) = self.slots.get_mut(key) else {
+            return false;
+        };
+        match overdue {
+            Overdue::Nothing => return false,
+            Overdue::Close => return true,
+            Overdue::GiveUp => connection.give_up(),
+            Overdue::Cut => connection.cut(),
+            Overdue::Fail => {
+                connection.cut();
+                connection.fail(now);
+            }
+            Overdue::Look => {}
+        }
+        self.queue(key);
+        false
+    }
+}

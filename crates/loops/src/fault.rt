@@ -1,0 +1,72 @@
+//! Why a server ended.
+
+use hub_gate::ServeError;
+use std::alloc::{AllocError, AllocFailed};
+use std::{fmt, io};
+use thiserror::Error;
+
+/// What a server was doing when a device failed.
+#[derive(Clone, Copy, Debug, PartialEq, Eq)]
+pub enum Doing {
+    /// It began to listen.
+    Listening,
+    /// It made its threads, and what they need.
+    Starting,
+}
+
+impl fmt::Display for Doing {
+    fn fmt<W: fmt::Write>(&self, f: &mut fmt::Formatter<W>) -> fmt::Result {
+        f.write_str(match self {
+            Doing::Listening => "listening",
+            Doing::Starting => "starting",
+        })
+    }
+}
+
+/// Why a server ended.
+#[derive(Clone, Copy, Debug, PartialEq, Eq, Error)]
+pub enum ServerFault {
+    /// An allocation was refused.
+    #[error("out of memory")]
+    Memory,
+    /// A device failed.
+    #[error("device fault while {0}")]
+    Device(Doing),
+    /// The hub allows no such limits.
+    #[error("bad limits")]
+    BadLimits,
+    /// The threads' counts don't add up to the hub's totals.
+    #[error("books differ")]
+    Books,
+}
+
+impl ServerFault {
+    /// A device failed while the server did this.
+    pub(crate) fn while_doing(doing: Doing, error: &io::Error) -> ServerFault {
+        match error.kind() {
+            io::ErrorKind::OutOfMemory => ServerFault::Memory,
+            _ => ServerFault::Device(doing),
+        }
+    }
+
+    /// What stopped the pool of threads.
+    pub(crate) fn of_pool(error: ServeError) -> ServerFault {
+        match error {
+            ServeError::Memory => ServerFault::Memory,
+            ServeError::NotAll(_) => ServerFault::Books,
+            _ => ServerFault::Device(Doing::Starting),
+        }
+    }
+}
+
+impl From<AllocError> for ServerFault {
+    fn from(_refused: AllocError) -> ServerFault {
+        ServerFault::Memory
+    }
+}
+
+impl<T: Drop> From<AllocFailed<T>> for ServerFault {
+    fn from(_refused: AllocFailed<T>) -> ServerFault {
+        ServerFault::Memory
+    }
+}

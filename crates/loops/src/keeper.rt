@@ -1,0 +1,196 @@
+//! The keeper: a peer that brings what the passing of time brings, for all clients.
+
+use crate::news::Log;
+use crate::outbound::Outbound;
+use crate::settings::Rules;
+use crate::shared::Shared;
+use crate::watch::Watch;
+use dispatch::{Event, Outcome};
+use effects::{Cause, CoreError};
+use hub::Pass;
+use hub_gate::{Locked, Peer, PeerFault};
+use loop_rules::loop_of;
+use std::alloc::Global;
+use std::rt::Clock;
+use std::sync::ledger::Ledger;
+use std::sync::{Arc, Wait};
+use std::time::Duration;
+use std::vec::IntoIter;
+
+/// How long a round is, in milliseconds: each client is asked once a round what is due to it.
+const ROUND: u64 = 1_000;
+
+/// A journal with so many steps is sealed.
+const STEPS: usize = 65_536;
+
+/// And one whose entries hold so many bytes.
+const BYTES: u64 = 67_108_864;
+
+/// How often in a round the journal is looked at.
+const LOOKS: u64 = 10;
+
+/// What the keeper brings next.
+#[derive(Clone, Copy, PartialEq, Eq)]
+enum Duty {
+    Ticks,
+    Sweeps,
+    Waits,
+}
+
+/// Asks for each client what is due to it, has the hub sweep, and seals its journal.
+#[derive(Drop)]
+pub(crate) struct Keeper<'a, R, L, C: Ledger, T: Ledger> {
+    rt: R,
+    alloc: Global,
+    log: &'a L,
+    locked: &'a Locked<C, T>,
+    /// It counts nothing: with it the core is looked at.
+    pass: Pass<C, T>,
+    shared: Arc<Shared>,
+    rules: Arc<Rules>,
+    watch: Watch<R>,
+    clients: IntoIter<u128, Global>,
+    /// The client that was asked about last.
+    client: u128,
+    duty: Duty,
+    outbound: Outbound,
+    /// The moment at which the totals are told next.
+    report: u64,
+    begun: bool,
+}
+
+impl<'a, R: Wait + Clock + Copy, L: Log, C: Ledger, T: Ledger> Keeper<'a, R, L, C, T> {
+    /// The first round is to come.
+    pub(crate) fn new(
+        rt: R,
+        alloc: Global,
+        log: &'a L,
+        locked: &'a Locked<C, T>,
+        pass: Pass<C, T>,
+        shared: Arc<Shared>,
+        rules: Arc<Rules>,
+        watch: Watch<R>,
+        outbound: Outbound,
+    ) -> Keeper<'a, R, L, C, T> {
+        Keeper {
+            rt,
+            alloc,
+            log,
+            locked,
+            pass,
+            shared,
+            rules,
+            watch,
+            clients: Vec::new(alloc).into_iter(),
+            client: 0,
+            duty: Duty::Waits,
+            outbound,
+            report: 0,
+            begun: false,
+        }
+    }
+
+    /// Waits for the next round, and tells whether there is one.
+    fn rests(&mut self) -> bool {
+        for _ in 0..LOOKS {
+            if self
+                .shared
+                .wait_for_loops(&self.rt, Duration::from_millis(ROUND / LOOKS))
+            {
+                return false;
+            }
+            // A journal that can't be sealed for want of memory is sealed at the next look.
+            let _ = self.locked.seal(&self.rt, self.alloc, STEPS, BYTES);
+        }
+        true
+    }
+
+    /// Lists the clients. Where there is no memory for the list, they are asked about in the next
+    /// round.
+    fn list(&mut self) {
+        let listed = self
+            .locked
+            .look(&self.rt, &mut self.pass)
+            .clients(self.alloc);
+        self.clients = match listed {
+            Ok(clients) => clients.into_iter(),
+            Err(_) => Vec::new(self.alloc).into_iter(),
+        };
+    }
+
+    /// Tells the totals, where it is time.
+    fn tell_totals(&mut self) {
+        let now = self.watch.tell();
+        if self.rules.report == 0 || now < self.report {
+            return;
+        }
+        self.report = now.saturating_add(self.rules.report.saturating_mul(1_000));
+        let totals = self
+            .locked
+            .look(&self.rt, &mut self.pass)
+            .hub()
+            .state()
+            .totals();
+        self.log.totals(totals);
+    }
+
+    /// A client was given up.
+    fn note_end(&mut self, cause: Cause) {
+        let now = self.watch.tell();
+        if let Some(ended) = self
+            .shared
+            .lives()
+            .end(&self.rt, self.client, Some(cause), now)
+        {
+            self.log.client_ended(&ended);
+        }
+    }
+
+    /// The next event of the round, if it has one.
+    fn next_of_round(&mut self) -> Option<Event> {
+        if self.duty == Duty::Ticks {
+            if let Some(client) = self.clients.next() {
+                self.client = client;
+                return Some(Event::Tick { client });
+            }
+            self.duty = Duty::Sweeps;
+            return Some(Event::Sweep);
+        }
+        None
+    }
+}
+
+impl<R: Wait + Clock + Copy, L: Log, C: Ledger, T: Ledger> Peer for Keeper<'_, R, L, C, T> {
+    fn next(&mut self) -> Result<Option<(Event, u64)>, PeerFault> {
+        if !self.begun {
+            self.begun = true;
+            self.shared.note_begun(&self.rt);
+        }
+        for _ in 0..u64::MAX {
+            if let Some(event) = self.next_of_round() {
+                return Ok(Some((event, self.watch.tell())));
+            }
+            self.outbound.send(&self.rt, self.shared.inboxes());
+            if !self.rests() {
+                break;
+            }
+            self.tell_totals();
+            self.list();
+            self.duty = Duty::Ticks;
+        }
+        Ok(None)
+    }
+
+    fn answer(&mut self, got: &Result<Outcome, CoreError>) -> Result<(), PeerFault> {
+        if let Ok(Outcome::Ticked { ping, closed }) = got {
+            if *ping || closed.is_some() {
+                let owner = loop_of(self.client, self.rules.loops);
+                self.outbound.note(owner, self.client);
+            }
+            if let Some(cause) = closed {
+                self.note_end(*cause);
+            }
+        }
+        Ok(())
+    }
+}

@@ -1,0 +1,26 @@
+//! A server of many clients: loops that wait for all of their connections at once, who accepts these,
+//! and who keeps time, over one locked core.
+#![tactic(auto)]
+
+mod acceptor;
+mod buffered;
+mod connections;
+mod drawn;
+mod event_loop;
+mod fault;
+mod inbox;
+mod keeper;
+mod link;
+mod news;
+mod outbound;
+mod server;
+mod settings;
+mod shared;
+mod watch;
+mod worker;
+
+pub use fault::{Doing, ServerFault};
+pub use news::{Ended, Log};
+pub use server::Server;
+pub use settings::{Limits, Settings};
+pub use shared::Shared;

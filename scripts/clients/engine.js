@@ -1,0 +1,329 @@
+// A small Socket.IO client as the JavaScript one speaks: over Node's http, `ws` and
+// `socket.io-parser`, as Debian packages them (node-ws, node-socket.io-parser).
+'use strict';
+process.env.NODE_PATH = '/usr/share/nodejs';
+require('module').Module._initPaths();
+const http = require('http');
+const WebSocket = require('ws');
+const { Encoder, Decoder, PacketType } = require('socket.io-parser');
+
+const SEPARATOR = '\x1e';
+const PATIENCE = 10000;
+
+// The promise's value, or a failure that says what didn't come in time.
+function within(promise, what, milliseconds = PATIENCE) {
+  let timer;
+  const late = new Promise((_, reject) => {
+    timer = setTimeout(() => reject(new Error(`${what} doesn't come`)), milliseconds);
+  });
+  return Promise.race([promise, late]).finally(() => clearTimeout(timer));
+}
+
+const pause = (milliseconds) => new Promise((resolve) => setTimeout(resolve, milliseconds));
+
+// One HTTP request: its status and its body.
+function request(port, method, target, body, agent) {
+  return new Promise((resolve, reject) => {
+    const headers = body === undefined ? {} : {
+      'Content-Type': 'text/plain;charset=UTF-8', 'Content-Length': Buffer.byteLength(body),
+    };
+    const sent = http.request({ host: '127.0.0.1', port, method, path: target, headers, agent }, (answer) => {
+      const parts = [];
+      answer.on('data', (part) => parts.push(part));
+      answer.on('end', () => resolve({ status: answer.statusCode, body: Buffer.concat(parts).toString() }));
+      answer.on('error', reject);
+    });
+    sent.on('error', reject);
+    sent.end(body);
+  });
+}
+
+class Client {
+  // `transport` is polling or websocket.
+  constructor(port, transport) {
+    this.port = port;
+    this.transport = transport;
+    this.agent = new http.Agent({ keepAlive: true });
+    this.encoder = new Encoder();
+    this.events = [];
+    this.waiting = [];
+    this.connects = new Map();
+    this.callbacks = new Map();
+    this.nextId = 0;
+    this.pings = 0;
+    this.gets = 0;
+    this.ended = new Set();
+    this.fault = null;
+    this.outgoing = [];
+    this.answer = (data) => data.slice(1);
+    this.closed = new Promise((resolve) => { this.close_done = resolve; });
+    this.decoder = new Decoder();
+    this.decoder.on('decoded', (packet) => this.packet(packet));
+  }
+
+  // Opens a client and waits for its open packet; `upgrade` opens by polling and then upgrades.
+  static async open(port, transport) {
+    const client = new Client(port, transport === 'websocket' ? 'websocket' : 'polling');
+    await within(client.start(), 'the open packet');
+    if (transport === 'upgrade') {
+      await within(client.upgrade(), 'the upgrade');
+    }
+    return client;
+  }
+
+  // Opens a client that joins one namespace.
+  static async connected(port, transport, nsp = '/', auth = undefined) {
+    const client = await Client.open(port, transport);
+    await client.connect(nsp, auth);
+    return client;
+  }
+
+  target() {
+    const sid = this.sid === undefined ? '' : `&sid=${this.sid}`;
+    return `/socket.io/?EIO=4&transport=polling&t=${Math.random().toString(36).slice(2)}${sid}`;
+  }
+
+  async start() {
+    if (this.transport === 'websocket') {
+      this.ws = this.dial();
+      const opened = new Promise((resolve) => { this.opened = resolve; });
+      this.listen(this.ws);
+      await Promise.race([opened, this.closed.then(() => { throw new Error(`closed: ${this.fault}`); })]);
+    } else {
+      const answer = await request(this.port, 'GET', this.target(), undefined, this.agent);
+      if (answer.status !== 200) throw new Error(`${answer.status} ${answer.body}`);
+      this.engine(answer.body);
+      this.polling = true;
+      this.polls = this.poll();
+    }
+  }
+
+  dial() {
+    const sid = this.sid === undefined ? '' : `&sid=${this.sid}`;
+    return new WebSocket(`ws://127.0.0.1:${this.port}/socket.io/?EIO=4&transport=websocket${sid}`);
+  }
+
+  listen(ws) {
+    ws.on('message', (data, binary) => this.engine(binary ? data : data.toString()));
+    ws.on('close', () => this.stop('the WebSocket ended'));
+    ws.on('error', (error) => this.stop(error.message));
+  }
+
+  // One GET after the other, until an upgrade or the end.
+  async poll() {
+    while (this.polling) {
+      let answer;
+      this.gets += 1;
+      try {
+        answer = await request(this.port, 'GET', this.target(), undefined, this.agent);
+      } catch (error) {
+        return this.stop(error.message);
+      }
+      if (answer.status !== 200) return this.stop(`GET: ${answer.status} ${answer.body}`);
+      for (const piece of answer.body.split(SEPARATOR)) this.engine(piece);
+    }
+  }
+
+  // A text or bytes that came, as one Engine.IO packet.
+  engine(text) {
+    try {
+      if (typeof text !== 'string') return this.decoder.add(text);
+      if (text[0] === 'b') return this.decoder.add(Buffer.from(text.slice(1), 'base64'));
+      if (text[0] === '4') return this.decoder.add(text.slice(1));
+    } catch (error) {
+      return this.stop(`${error.message}: ${text.slice(0, 80)}`);
+    }
+    if (text[0] === '0') {
+      this.handshake = JSON.parse(text.slice(1));
+      this.sid = this.handshake.sid;
+      if (this.opened) this.opened();
+    } else if (text[0] === '1') {
+      this.stop('closed by the server');
+    } else if (text === '2') {
+      this.pings += 1;
+      if (!this.mute) this.raw('3');
+    } else if (text !== '6') {
+      this.stop(`no packet: ${text.slice(0, 80)}`);
+    }
+  }
+
+  // One Socket.IO packet that came.
+  packet(packet) {
+    const connecting = this.connects.get(packet.nsp);
+    if (packet.type === PacketType.CONNECT && connecting) {
+      this.ended.delete(packet.nsp);
+      connecting.resolve(packet.data);
+    } else if (packet.type === PacketType.CONNECT_ERROR && connecting) {
+      connecting.reject(new Error(packet.data.message));
+    } else if (packet.type === PacketType.ACK || packet.type === PacketType.BINARY_ACK) {
+      if (this.ended.has(packet.nsp)) return this.stop('an answer after the disconnection');
+      const callback = this.callbacks.get(packet.id);
+      this.callbacks.delete(packet.id);
+      if (callback) callback(packet.data);
+      else this.stop(`an answer to no question: ${packet.id}`);
+    } else if (packet.type === PacketType.DISCONNECT) {
+      this.ended.add(packet.nsp);
+      this.put({ nsp: packet.nsp, data: null });
+    } else {
+      this.put({ nsp: packet.nsp, data: packet.data, id: packet.id });
+      if (packet.id !== undefined) {
+        this.send({ type: PacketType.ACK, nsp: packet.nsp, id: packet.id, data: this.answer(packet.data) });
+      }
+    }
+  }
+
+  put(event) {
+    const next = this.waiting.shift();
+    if (next) next(event);
+    else this.events.push(event);
+  }
+
+  // The next event; its `data` is null where the socket was disconnected.
+  next(what = 'an event') {
+    if (this.events.length) return Promise.resolve(this.events.shift());
+    const came = new Promise((resolve) => this.waiting.push(resolve));
+    const closed = this.closed.then(() => { throw new Error(`${what} doesn't come, closed: ${this.fault}`); });
+    return within(Promise.race([came, closed]), what);
+  }
+
+  connect(nsp = '/', auth = undefined) {
+    const came = new Promise((resolve, reject) => this.connects.set(nsp, { resolve, reject }));
+    this.send({ type: PacketType.CONNECT, nsp, data: auth });
+    return within(came, `the answer to CONNECT ${nsp}`).finally(() => this.connects.delete(nsp));
+  }
+
+  disconnect(nsp = '/') {
+    this.send({ type: PacketType.DISCONNECT, nsp });
+  }
+
+  emit(nsp, ...data) {
+    this.send({ type: PacketType.EVENT, nsp, data });
+  }
+
+  // Emits an event and waits until it is acknowledged.
+  call(nsp, ...data) {
+    const id = this.nextId;
+    this.nextId += 1;
+    const came = new Promise((resolve) => this.callbacks.set(id, resolve));
+    this.send({ type: PacketType.EVENT, nsp, id, data });
+    const closed = this.closed.then(() => { throw new Error(`no answer, closed: ${this.fault}`); });
+    return within(Promise.race([came, closed]), `the answer to ${data[0]}`);
+  }
+
+  send(packet) {
+    this.raw(...this.encoder.encode(packet).map((part) => (typeof part === 'string' ? `4${part}` : part)));
+  }
+
+  // Sends packets, texts or bytes, over the transport of the moment.
+  raw(...parts) {
+    this.outgoing.push(...parts);
+    this.flush();
+  }
+
+  flush() {
+    if (this.upgrading || this.fault) return;
+    if (this.ws) {
+      for (const part of this.outgoing.splice(0)) this.ws.send(part);
+    } else if (!this.posting && this.outgoing.length) {
+      this.posting = this.post();
+      this.posting.then(() => { this.posting = null; this.flush(); });
+    }
+  }
+
+  // Posts as many packets as a payload may hold.
+  async post() {
+    const texts = [];
+    let size = 0;
+    while (this.outgoing.length) {
+      const part = this.outgoing[0];
+      const text = typeof part === 'string' ? part : `b${part.toString('base64')}`;
+      size += Buffer.byteLength(text) + 1;
+      if (texts.length && size > this.handshake.maxPayload) break;
+      texts.push(text);
+      this.outgoing.shift();
+    }
+    try {
+      const answer = await request(this.port, 'POST', this.target(), texts.join(SEPARATOR), this.agent);
+      if (answer.status !== 200) this.stop(`POST: ${answer.status} ${answer.body}`);
+    } catch (error) {
+      this.stop(error.message);
+    }
+  }
+
+  // As the JavaScript client upgrades: a GET is open all the while; the probe is answered; the GET
+  // ends, and no other one begins; then the upgrade is told. `lost` breaks off after the answer.
+  async upgrade({ lost = false } = {}) {
+    const ws = this.dial();
+    await new Promise((resolve, reject) => { ws.once('open', resolve); ws.once('error', reject); });
+    const answered = new Promise((resolve, reject) => {
+      ws.once('message', (data) => resolve(data.toString()));
+      ws.once('close', () => reject(new Error('the probe ended')));
+    });
+    ws.send('2probe');
+    const answer = await answered;
+    if (answer !== '3probe') throw new Error(`the probe is answered by ${answer}`);
+    if (lost) {
+      ws.terminate();
+      return;
+    }
+    this.upgrading = true;
+    this.polling = false;
+    await this.polls;
+    await this.posting;
+    this.ws = ws;
+    this.transport = 'websocket';
+    this.listen(ws);
+    ws.send('5');
+    this.upgrading = false;
+    this.flush();
+  }
+
+  // Ends the client by the packet for it, and waits for what is on its way.
+  async close() {
+    if (!this.fault) {
+      this.polling = false;
+      this.raw('1');
+      while (this.posting) await this.posting;
+    }
+    this.stop('closed');
+  }
+
+  // Cuts the connection: an end, or with `reset` a reset.
+  cut({ reset = false } = {}) {
+    const socket = this.ws._socket;
+    this.stop('cut');
+    if (reset) socket.resetAndDestroy();
+    else socket.destroy();
+  }
+
+  stop(fault) {
+    if (this.fault) return;
+    this.fault = fault;
+    this.polling = false;
+    if (this.ws) this.ws.close();
+    this.agent.destroy();
+    this.close_done(fault);
+  }
+}
+
+// Runs the checks whose names hold the word, one after the other: each is a name and a function
+// of `open`, which makes clients that are closed behind it. Ends the process.
+async function run(checks, word = '') {
+  let failed = 0;
+  for (const [name, check] of checks) {
+    if (!name.includes(word)) continue;
+    const clients = [];
+    const keep = (client) => { clients.push(client); return client; };
+    try {
+      await within(check(keep), 'the end of the check', 120000);
+      console.log(`ok      ${name}`);
+    } catch (error) {
+      failed += 1;
+      console.log(`FAILED  ${name}: ${error.message.replace(/\s+/g, ' ').slice(0, 300)}`);
+    }
+    for (const client of clients) await within(client.close(), 'the close', 2000).catch(() => client.stop('closed'));
+  }
+  process.exit(failed ? 1 : 0);
+}
+
+module.exports = { Client, PacketType, WebSocket, request, run, within, pause, SEPARATOR };
