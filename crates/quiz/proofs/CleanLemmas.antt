@@ -1,0 +1,57 @@
+-- Nothing that the quiz says holds U+001E.
+use Rattle.std.proofs.Common.{◌≡◌, refl, ◌≢◌, ℕ, Bool, true, false, List, [], ◌∷◌, ◌++◌, Result, Ok, Err, sym, subst}
+use Rattle.std.specs.Prelude.{codes, if◌then◌else◌, IfOk}
+use Rattle.std.proofs.Math.Dec.{eqb}
+use Rattle.std.proofs.lemmas.Bool.{eqb-false}
+use Rattle.std.proofs.lemmas.List.Elements.{All-nil, All-cons}
+use Rattle.eio_wire.specs.Payload.{IsWhole}
+use Rattle.effects.specs.App.{AllClean, IsCleanArrival}
+use Rattle.effects.specs.declared.app.Arrived.{Arrived}
+use Rattle.effects.specs.declared.app.Arrived.TheVariants.{Event, Answer}
+use Rattle.effects.specs.declared.app.Effect.{Effect}
+use Rattle.quiz.specs.Quiz.{begins_with, ask, tell, reply, decided}
+
+holds_none : List ℕ → Bool
+holds_none [] = true
+holds_none (b ∷ bs) = if eqb b 30 then false else holds_none bs
+
+whole-step : (b : ℕ) (bs : List ℕ) (is_it : Bool) → eqb b 30 ≡ is_it → (holds_none bs ≡ true → IsWhole bs) → (if is_it then false else holds_none bs) ≡ true → IsWhole (b ∷ bs)
+whole-step b bs true is rest none = cc none
+whole-step b bs false is rest none = All-cons (λ b. b ≢ 30) b bs (eqb-false b 30 is) (rest none)
+
+whole : (text : List ℕ) → holds_none text ≡ true → IsWhole text
+unfolding holds_none
+whole [] none = All-nil (λ b. b ≢ 30)
+whole (b ∷ bs) none = whole-step b bs (eqb b 30) refl (whole bs) none
+
+question : IsWhole (codes "[\"question\",\"How much is six times seven?\"]")
+unfolding holds_none
+question = whole (codes "[\"question\",\"How much is six times seven?\"]") refl
+
+solved : IsWhole (codes "[\"solved\"]")
+unfolding holds_none
+solved = whole (codes "[\"solved\"]") refl
+
+brackets : IsWhole (codes "[]")
+unfolding holds_none
+brackets = whole (codes "[]") refl
+
+clean-event : (plays asked : Bool) → AllClean ((if plays then ask ∷ [] else []) ++ (if asked then reply ∷ [] else []))
+clean-event true true = (question, (brackets, tt))
+clean-event true false = (question, tt)
+clean-event false true = (brackets, tt)
+clean-event false false = tt
+
+clean-answer : (knows : Bool) → AllClean ((if knows then tell else ask) ∷ [])
+clean-answer true = (solved, tt)
+clean-answer false = (question, tt)
+
+clean-decided : (arrived : Arrived) → AllClean (decided arrived)
+clean-decided (Event message) = clean-event (begins_with message.payload (codes "play")) message.asked
+clean-decided (Answer answer) = clean-answer (begins_with answer.payload (codes "42"))
+
+-- of the effects that were decided
+pub clean-effects : {V E : Type 0} (items : V → List Effect) (arrived : Arrived) (r : Result V E)
+    → IfOk r (λ effects. items effects ≡ decided arrived) → IfOk r (λ effects. IsCleanArrival arrived → AllClean (items effects))
+clean-effects items arrived (Ok effects) is = λ _. subst AllClean (sym is) (clean-decided arrived)
+clean-effects items arrived (Err e) is = tt

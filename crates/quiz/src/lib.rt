@@ -1,0 +1,9 @@
+//! An app of one's own, as an example: a quiz. Who plays is asked a question, and once somebody knows
+//! the answer all players hear of it.
+#![tactic(auto)]
+
+mod quiz;
+#[cfg(test)]
+mod tests;
+
+pub use quiz::Quiz;

@@ -1,0 +1,122 @@
+//! The quiz: what it does with what arrives.
+
+ghost use Rattle.std.specs.Prelude.{◌≡◌, [], IfOk, slice_get};
+ghost use Rattle.quiz.specs.Quiz as table;
+ghost use Rattle.quiz.specs.Quiz.{begins_with, is_text, decided};
+
+use effects::{App, Arrived, Effect, Emission, Inquiry, Reply, Verdict, Who};
+use sio_wire::{Attachments, SioError, names};
+use std::alloc::{AllocError, Global};
+use terms::Text;
+
+const QUESTION: &str = r#"["question","How much is six times seven?"]"#;
+
+/// How long an answer is waited for, in milliseconds.
+const PATIENCE: u64 = 30_000;
+
+/// The quiz.
+#[derive(Clone, Copy, Debug)]
+pub struct Quiz;
+
+impl App for Quiz {
+    ghost use Rattle.quiz.specs.Quiz.{Allows, decided};
+
+    ghost allows = { λ app space payload verdict. Allows verdict };
+
+    ghost decides = { λ app who arrived effects. effects ≡ decided arrived };
+
+    fn connects(&self, alloc: Global, _space: &str, _payload: &str) -> Result<Verdict, AllocError> {
+        Ok(Verdict::Accept(Vec::new(alloc)))
+    }
+
+    fn decides(
+        &self,
+        alloc: Global,
+        _who: &Who,
+        arrived: &Arrived,
+    ) -> Result<Vec<Effect>, AllocError> {
+        decide(alloc, arrived)
+    }
+}
+
+/// The effects of what arrived.
+fn decide(alloc: Global, arrived: &Arrived) -> Result<Vec<Effect>, AllocError>
+    ensures { IfOk result (λ effects. effects.items ≡ decided arrived.now) }
+{
+    let mut effects = Vec::new(alloc);
+    match arrived {
+        Arrived::Event(message) => {
+            if begins_with(alloc, message.payload.as_str(), "play")? {
+                effects.push(ask(alloc)?)?;
+            }
+            if message.asked {
+                effects.push(reply(alloc)?)?;
+            }
+        }
+        Arrived::Answer(answer) => {
+            let next = if begins_with(alloc, answer.payload.as_str(), "42")? {
+                tell(alloc)?
+            } else {
+                ask(alloc)?
+            };
+            effects.push(next)?;
+        }
+    }
+    Ok(effects)
+}
+
+/// Whether a payload is an array that begins with this text.
+fn begins_with(alloc: Global, payload: &str, word: &str) -> Result<bool, AllocError>
+    ensures { IfOk result (λ answer. answer ≡ begins_with payload.now word.now) }
+{
+    match names(alloc, payload) {
+        Ok(texts) => Ok(is_first(&texts, word)),
+        Err(SioError::Memory) => Err(AllocError),
+        Err(_) => Ok(false),
+    }
+}
+
+/// Whether the first of these texts is this one.
+fn is_first(texts: &[Option<Text>], word: &str) -> bool
+    ensures { result ≡ is_text (slice_get texts.now 0) word.now }
+{
+    match texts.get(0) {
+        Some(Some(text)) => text.as_str() == word,
+        _ => false,
+    }
+}
+
+/// The question, which is asked once more after a wrong answer.
+fn ask(alloc: Global) -> Result<Effect, AllocError>
+    ensures { IfOk result (λ effect. effect ≡ table.ask) }
+{
+    Ok(Effect::EmitAsk(Inquiry {
+        payload: Text::copy_of(alloc, QUESTION)?,
+        attachments: Attachments::new(alloc),
+        tag: 1,
+        wait: PATIENCE,
+    }))
+}
+
+/// Everybody hears that somebody knew it; who comes back later too.
+fn tell(alloc: Global) -> Result<Effect, AllocError>
+    ensures { IfOk result (λ effect. effect ≡ table.tell) }
+{
+    Ok(Effect::Emit(Emission {
+        rooms: Vec::new(alloc),
+        excepted: Vec::new(alloc),
+        logged: true,
+        payload: Text::copy_of(alloc, r#"["solved"]"#)?,
+        attachments: Attachments::new(alloc),
+    }))
+}
+
+/// The acknowledgement of an event.
+fn reply(alloc: Global) -> Result<Effect, AllocError>
+    ensures { IfOk result (λ effect. effect ≡ table.reply) }
+{
+    Ok(Effect::Reply(Reply {
+        payload: Text::copy_of(alloc, "[]")?,
+        attachments: Attachments::new(alloc),
+    }))
+}
