@@ -171,7 +171,10 @@ impl Acceptor {
             return;
         }
         let loops = shared.inboxes().len();
-        let given = match shared.inboxes().get(dealt_to(self.given, self.together, loops)) {
+        let given = match shared
+            .inboxes()
+            .get(dealt_to(self.given, self.together, loops))
+        {
             Some(inbox) => inbox.give(rt, stream),
             None => false,
         };

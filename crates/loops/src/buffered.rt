@@ -3,9 +3,8 @@
 ghost use Rattle.std.specs.Prelude.{◌≤◌, length};
 
 use std::alloc::Global;
-use std::io;
 use std::io::{ErrorKind, Read, Write};
-use std::mem;
+use std::{io, mem};
 
 /// A buffer that grew past this, in bytes, is given back once it is empty.
 const KEPT: usize = 200_000;

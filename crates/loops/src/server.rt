@@ -100,8 +100,9 @@ impl<L: Log + Sync + Drop> Server<L> {
         let poll = Poll::new(rt).map_err(starting)?;
         let bell = Waker::new(poll.registry(), BELL).map_err(starting)?;
         let (connections, together) = (settings.connections, settings.together);
-        let acceptor = Acceptor::new(alloc, poll, listener, connections, together, most)
-            .map_err(starting)?;
+        let acceptor = Acceptor::new(alloc, poll, listener, connections, together, most).map_err(
+            starting,
+        )?;
         let rules = Rules {
             loops: workers,
             poll_entries: settings.poll_entries,
