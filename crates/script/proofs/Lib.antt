@@ -1,3 +1,4 @@
 pub mod ScriptLineLemmas
 pub mod PrintingLemmas
 pub mod HexadecimalLemmas
+pub mod ScriptLemmas

@@ -4,6 +4,7 @@
 
 mod events;
 mod faults;
+mod ledgers;
 mod play;
 mod printing;
 mod run;

@@ -1,10 +1,14 @@
 //! What a line of a script does to the server.
 
-ghost use Rattle.std.specs.Prelude.{◌≡◌, ◌≢◌, ◌<◌, ℕ, List, IfOk, IsOkUnless, None, Some, Ok, length};
+ghost use Rattle.std.specs.Prelude.{◌≡◌, ◌≢◌, ◌<◌, ℕ, List, [], IfOk, OnOk, IsOkUnless, None, Some, Ok, option_map, length};
 ghost use Rattle.std.specs.BTreeMap.{get_by_text};
 ghost use Rattle.terms.specs.Bytes.{IsBytes};
 ghost use Rattle.hex.specs.Hex.{encode_lower};
+ghost use Rattle.dispatch.specs.declared.event.Event.TheVariants as event;
+ghost use Rattle.dispatch.specs.declared.event.WsFrame.TheVariants as frame_of;
 ghost use Rattle.script.specs.declared.faults.RunError.TheVariants.{Memory};
+ghost use Rattle.script.specs.Playing.{new_server, server_of, Happens, Asks, ForName, Names, Opens, Hears, HearsBytes, TakesWaiting, AsksMembers, Seals, Plays};
+ghost use Rattle.script.specs.Events.{event_of};
 ghost use Rattle.script.specs.Printing.{answer_text, outcome_text, heard_text};
 
 use crate::events::{bytes_of, event_of, take_of};
@@ -12,7 +16,7 @@ use crate::faults::RunError;
 use crate::printing::{Answer, Posted, frame_lines, id_list};
 use crate::script_line::{Notice, ScriptLine};
 use dispatch::{Core, Event, Outcome, WsFrame};
-use effects::{Cause, CoreFault};
+use effects::{Cause, CoreError, CoreFault};
 use hub::Pass;
 use journal::HubError;
 use relay::{Counter, RelayApp};
@@ -34,7 +38,9 @@ pub(crate) struct Play<C: Ledger, T: Ledger> {
 
 impl<C: Ledger, T: Ledger> Play<C, T> {
     /// A server, of which nothing was asked yet.
-    pub(crate) fn new(alloc: Global, core: Core<C, T>, pass: Pass<C, T>) -> Play<C, T> {
+    pub(crate) fn new(alloc: Global, core: Core<C, T>, pass: Pass<C, T>) -> Play<C, T>
+        ensures { server_of result ≡ new_server core }
+    {
         Play {
             core,
             pass,
@@ -52,6 +58,7 @@ impl<C: Ledger, T: Ledger> Play<C, T> {
     ) -> Result<Option<Answer<'a>>, RunError>
         ensures nothing { line.entry ≡ ScriptLine.Nothing → result ≡ Ok None }
         ensures bad { line.entry ≡ ScriptLine.Bad → result ≡ Ok (Some Answer.BadLine) }
+        ensures plays { IfOk result (λ answer. Plays line.entry (server_of self.old) (option_map answer_text answer) (server_of self.new)) }
         ensures err { IsOkUnless result Memory }
     {
         match line {
@@ -80,8 +87,9 @@ impl<C: Ledger, T: Ledger> Play<C, T> {
         &mut self,
         alloc: Global,
         event: &Event,
-    ) -> Result<Result<Outcome, CoreFault>, RunError>
-        ensures { IsOkUnless result Memory }
+    ) -> Result<Result<Outcome, CoreError>, RunError>
+        ensures happens { IfOk result (λ answer. Happens (server_of self.old) event.now answer (server_of self.new)) }
+        ensures err { IsOkUnless result Memory }
     {
         let core = &mut self.core;
         match core.apply(
@@ -92,9 +100,8 @@ impl<C: Ledger, T: Ledger> Play<C, T> {
             self.now,
             &mut self.ids,
         ) {
-            Ok(outcome) => Ok(Ok(outcome)),
             Err(error) if error.fault == CoreFault::Memory => Err(RunError::Memory),
-            Err(error) => Ok(Err(error.fault)),
+            answer => Ok(answer),
         }
     }
 
@@ -105,11 +112,12 @@ impl<C: Ledger, T: Ledger> Play<C, T> {
         name: &'a str,
         event: &Event,
     ) -> Result<Answer<'a>, RunError>
-        ensures { IsOkUnless result Memory }
+        ensures asks { IfOk result (λ answer. Asks name.entry.now event.now (server_of self.old) (answer_text answer) (server_of self.new)) }
+        ensures err { IsOkUnless result Memory }
     {
         match self.apply(alloc, event)? {
             Ok(outcome) => Ok(answer_of(alloc, name, outcome)?),
-            Err(fault) => Ok(Answer::Refused(fault)),
+            Err(error) => Ok(Answer::Refused(error.fault)),
         }
     }
 
@@ -120,17 +128,27 @@ impl<C: Ledger, T: Ledger> Play<C, T> {
         name: &'a str,
         socket: bool,
     ) -> Result<Answer<'a>, RunError>
-        ensures { IsOkUnless result Memory }
+        ensures opens { IfOk result (λ answer. Opens name.entry.now socket (server_of self.old) (answer_text answer) (server_of self.new)) }
+        ensures err { IsOkUnless result Memory }
     {
         match self.apply(alloc, &Event::Opened { socket })? {
             Ok(Outcome::Opened(opening)) => {
-                let key = String::from_str(alloc, name)?;
-                self.clients.insert(key, opening.client)?;
+                self.call(alloc, name, opening.client)?;
                 Ok(Answer::Opened(name, opening.text))
             }
             Ok(outcome) => Ok(answer_of(alloc, name, outcome)?),
-            Err(fault) => Ok(Answer::Refused(fault)),
+            Err(error) => Ok(Answer::Refused(error.fault)),
         }
+    }
+
+    /// From now on the name stands for this client.
+    fn call(&mut self, alloc: Global, name: &str, client: u128) -> Result<(), RunError>
+        ensures names { OnOk result (Names name.now client (server_of self.old) (server_of self.new)) }
+        ensures err { IsOkUnless result Memory }
+    {
+        let key = String::from_str(alloc, name)?;
+        self.clients.insert(key, client)?;
+        Ok(())
     }
 
     /// Hands the server a payload from the client of this name.
@@ -141,6 +159,7 @@ impl<C: Ledger, T: Ledger> Play<C, T> {
         payload: &str,
     ) -> Result<Answer<'a>, RunError>
         ensures unknown { get_by_text self.old.clients name.entry.now ≡ None → result ≡ Ok Answer.BadLine }
+        ensures plays { IfOk result (λ answer. ForName name.entry.now (λ c. Asks name.entry.now (event.Post c payload.now) (server_of self.old) (answer_text answer) (server_of self.new)) (server_of self.old) (answer_text answer) (server_of self.new)) }
         ensures err { IsOkUnless result Memory }
     {
         let Some(client) = self.clients.get(name).copied() else {
@@ -158,6 +177,7 @@ impl<C: Ledger, T: Ledger> Play<C, T> {
         text: &str,
     ) -> Result<Answer<'a>, RunError>
         ensures unknown { get_by_text self.old.clients name.entry.now ≡ None → result ≡ Ok Answer.BadLine }
+        ensures plays { IfOk result (λ answer. ForName name.entry.now (λ c. Hears name.entry.now c (frame_of.Text text.now) (server_of self.old) (answer_text answer) (server_of self.new)) (server_of self.old) (answer_text answer) (server_of self.new)) }
         ensures err { IsOkUnless result Memory }
     {
         let Some(client) = self.clients.get(name).copied() else {
@@ -175,6 +195,7 @@ impl<C: Ledger, T: Ledger> Play<C, T> {
         hex: &str,
     ) -> Result<Answer<'a>, RunError>
         ensures unknown { get_by_text self.old.clients name.entry.now ≡ None → result ≡ Ok Answer.BadLine }
+        ensures plays { IfOk result (λ answer. ForName name.entry.now (λ c. HearsBytes name.entry.now hex.now c (server_of self.old) (answer_text answer) (server_of self.new)) (server_of self.old) (answer_text answer) (server_of self.new)) }
         ensures no_bytes { ((bytes : List ℕ) → IsBytes bytes → hex.now ≢ encode_lower bytes) → IfOk result (λ answer. answer ≡ Answer.BadLine) }
         ensures err { IsOkUnless result Memory }
     {
@@ -195,11 +216,12 @@ impl<C: Ledger, T: Ledger> Play<C, T> {
         client: u128,
         frame: WsFrame,
     ) -> Result<Answer<'a>, RunError>
-        ensures { IsOkUnless result Memory }
+        ensures hears { IfOk result (λ answer. Hears name.entry.now client frame (server_of self.old) (answer_text answer) (server_of self.new)) }
+        ensures err { IsOkUnless result Memory }
     {
         match self.apply(alloc, &Event::Frame { client, frame })? {
             Ok(outcome) => Ok(answer_of_frame(alloc, name, outcome)?),
-            Err(fault) => Ok(Answer::Refused(fault)),
+            Err(error) => Ok(Answer::Refused(error.fault)),
         }
     }
 
@@ -211,6 +233,7 @@ impl<C: Ledger, T: Ledger> Play<C, T> {
         name: &'a str,
     ) -> Result<Answer<'a>, RunError>
         ensures unknown { get_by_text self.old.clients name.entry.now ≡ None → result ≡ Ok Answer.BadLine }
+        ensures plays { IfOk result (λ answer. ForName name.entry.now (λ c. Asks name.entry.now (event_of notice c) (server_of self.old) (answer_text answer) (server_of self.new)) (server_of self.old) (answer_text answer) (server_of self.new)) }
         ensures err { IsOkUnless result Memory }
     {
         let Some(client) = self.clients.get(name).copied() else {
@@ -227,6 +250,7 @@ impl<C: Ledger, T: Ledger> Play<C, T> {
         most: usize,
     ) -> Result<Answer<'a>, RunError>
         ensures unknown { get_by_text self.old.clients name.entry.now ≡ None → result ≡ Ok Answer.BadLine }
+        ensures plays { IfOk result (λ answer. ForName name.entry.now (λ c. TakesWaiting name.entry.now c most (server_of self.old) (answer_text answer) (server_of self.new)) (server_of self.old) (answer_text answer) (server_of self.new)) }
         ensures err { IsOkUnless result Memory }
     {
         let Some(client) = self.clients.get(name).copied() else {
@@ -239,6 +263,7 @@ impl<C: Ledger, T: Ledger> Play<C, T> {
     /// The sockets of a namespace that are in a room, whose name has at most 64 bytes.
     fn members(&self, alloc: Global, space: &str, room: &str) -> Result<Answer<'static>, RunError>
         ensures long { 64 < length room.now → result ≡ Ok Answer.BadLine }
+        ensures asks { IfOk result (λ answer. AsksMembers space.now room.now (server_of self.entry.now) (answer_text answer)) }
         ensures err { IsOkUnless result Memory }
     {
         let Some(room) = Room::read(room) else {
@@ -254,14 +279,16 @@ impl<C: Ledger, T: Ledger> Play<C, T> {
 
     /// What the server keeps no longer is dropped. That is of no client, and prints no name.
     fn sweep(&mut self, alloc: Global) -> Result<Answer<'static>, RunError>
-        ensures { IsOkUnless result Memory }
+        ensures asks { IfOk result (λ answer. Asks [] event.Sweep (server_of self.old) (answer_text answer) (server_of self.new)) }
+        ensures err { IsOkUnless result Memory }
     {
         self.done(alloc, "", &Event::Sweep)
     }
 
     /// Ends an epoch.
     fn seal(&mut self, alloc: Global) -> Result<Answer<'static>, RunError>
-        ensures { IsOkUnless result Memory }
+        ensures seals { IfOk result (λ answer. Seals (server_of self.old) (answer_text answer) (server_of self.new)) }
+        ensures err { IsOkUnless result Memory }
     {
         match self.core.seal(alloc) {
             Ok(epoch) => Ok(Answer::Sealed(epoch.steps.len())),

@@ -1,11 +1,14 @@
 //! The run of a script: lines come in, and each that prints is answered by one line.
 
-ghost use Rattle.std.specs.Prelude.{◌≡◌, ◌≢◌, ◌<◌, [], ◌∷◌, ◌++◌, IsOkUnless, IfOk, IfErr, OnOk, IfSome, None, Some, Ok, length};
-ghost use Rattle.std.specs.Io.KnownBytes.{Appends, IsAtEnd};
+ghost use Rattle.std.specs.Prelude.{◌≡◌, ◌≢◌, ◌<◌, [], ◌∷◌, ◌++◌, IsOkUnless, IfOk, IfErr, OnOk, IfSome, None, Some, Ok, length, option_map};
+ghost use Rattle.std.specs.Io.KnownBytes.{Appends, Keeps, IsAtEnd};
 ghost use Rattle.script.specs.declared.faults.RunError.TheVariants.{Memory, Reading, Writing};
 ghost use Rattle.script.specs.Printing.{answer_text};
+ghost use Rattle.script.specs.Setup.{USUAL};
+ghost use Rattle.script.specs.Script.{Setting, Over, stage_of, Sets, Begins, PlaysOn, Answers, printed, IsAnswered, IsUnended, WritesLine, WritesOn, Gives};
 
 use crate::faults::RunError;
+use crate::ledgers::Ledgers;
 use crate::play::Play;
 use crate::printing::Answer;
 use crate::script_line::{Key, ScriptLine, read_line};
@@ -13,7 +16,7 @@ use crate::setup::Setup;
 use effects::CoreFault;
 use std::alloc::Global;
 use std::io::{ErrorKind, Read, Write};
-use std::marker::{Brand, PhantomData};
+use std::marker::Brand;
 use std::mem::replace;
 use std::sync::ledger::{Blank, Ledger};
 
@@ -31,7 +34,8 @@ pub fn run_script<R: Read, W: Write>(
     reader: &mut R,
     writer: &mut W,
 ) -> Result<(), RunError>
-    ensures { OnOk result (IsAtEnd (R.remaining reader.new)) }
+    ensures end { OnOk result (IsAtEnd (R.remaining reader.new)) }
+    ensures answered { OnOk result (IsAnswered (R.remaining reader.old) (W.contents writer.old) (W.contents writer.new)) }
 {
     let (commands, taken) = (Blank::new(PARTS), Blank::new(PARTS));
     let served = serve::<Brand, Brand, R, W>(alloc, reader, writer, commands, taken);
@@ -51,7 +55,8 @@ fn serve<C: Ledger, T: Ledger, R: Read, W: Write>(
 ) -> Result<(), RunError>
     requires commands { (commands.name ≡ C.name) × (commands.parts ≡ C.parts) × (commands.parts ≡ 65536) }
     requires taken { (taken.name ≡ T.name) × (taken.parts ≡ T.parts) × (taken.parts ≡ 65536) }
-    ensures { OnOk result (IsAtEnd (R.remaining reader.new)) }
+    ensures end { OnOk result (IsAtEnd (R.remaining reader.new)) }
+    ensures answered { OnOk result (IsAnswered (R.remaining reader.old) (W.contents writer.old) (W.contents writer.new)) }
 {
     let mut run: Run<C, T> = Run::new(commands, taken);
     answer_all(alloc, &mut run, reader, writer)
@@ -64,20 +69,22 @@ fn answer_all<C: Ledger, T: Ledger, R: Read, W: Write>(
     reader: &mut R,
     writer: &mut W,
 ) -> Result<(), RunError>
-    ensures { OnOk result (IsAtEnd (R.remaining reader.new)) }
+    ensures end { OnOk result (IsAtEnd (R.remaining reader.new)) }
+    ensures answered { OnOk result (stage_of run.old ≡ Setting USUAL → IsAnswered (R.remaining reader.old) (W.contents writer.old) (W.contents writer.new)) }
 {
     let mut line = Vec::new(alloc);
     let mut buffer = [0u8; READ_SIZE];
     for _ in 0..u64::MAX {
         flush(writer)?;
-        match read_some(reader, &mut buffer)? {
-            None => {}
-            Some([]) => {
-                answer_line(alloc, run, &mut line, writer)?;
-                return flush(writer);
-            }
-            Some(bytes) => answer_lines(alloc, run, &mut line, bytes, writer)?,
+        let Some(bytes) = read_some(reader, &mut buffer)? else {
+            continue;
+        };
+        if bytes.is_empty() {
+            answer_line(alloc, run, &mut line, writer)?;
+            flush(writer)?;
+            return Ok(());
         }
+        answer_lines(alloc, run, &mut line, bytes, writer)?;
     }
     Err(RunError::Reading)
 }
@@ -90,6 +97,7 @@ fn read_some<'a, R: Read>(
     ensures err { IsOkUnless result Reading }
     ensures end { IfOk result (λ got. IfSome got (λ bytes.
         length bytes.now ≡ 0 → 0 < length buffer.old → IsAtEnd (R.remaining reader.new))) }
+    ensures got { IfOk result (λ got. Gives (R.remaining reader.old) got (R.remaining reader.new)) }
 {
     match reader.read(buffer) {
         Ok(count) => Ok(Some(&buffer[..count])),
@@ -99,7 +107,8 @@ fn read_some<'a, R: Read>(
 }
 
 fn flush<W: Write>(writer: &mut W) -> Result<(), RunError>
-    ensures { IsOkUnless result Writing }
+    ensures kept { Keeps (W.contents writer.old) (W.contents writer.new) }
+    ensures err { IsOkUnless result Writing }
 {
     writer.flush().map_err(|_| RunError::Writing)
 }
@@ -113,17 +122,32 @@ fn answer_lines<C: Ledger, T: Ledger, W: Write>(
     bytes: &[u8],
     writer: &mut W,
 ) -> Result<(), RunError>
-    ensures { IfErr result (λ fault. fault ≢ Reading) }
+    ensures unended { OnOk result (IsUnended line.old.items → IsUnended line.new.items) }
+    ensures answered { OnOk result (IsUnended line.old.items → WritesOn (W.contents writer.old) (W.contents writer.new) (stage_of run.old) line.old.items bytes.now line.new.items (stage_of run.new)) }
+    ensures err { IfErr result (λ fault. fault ≢ Reading) }
 {
-    for part in bytes.split_inclusive(|byte| *byte == b'\n') {
-        match part.strip_suffix(b"\n") {
-            Some(end) => {
-                line.extend_from_slice(end)?;
-                answer_line(alloc, run, line, writer)?;
-            }
-            None => line.extend_from_slice(part)?,
-        }
+    for byte in bytes {
+        answer_byte(alloc, run, line, *byte, writer)?;
     }
+    Ok(())
+}
+
+/// One byte more: an LF ends the line, which is answered, and any other belongs to it.
+fn answer_byte<C: Ledger, T: Ledger, W: Write>(
+    alloc: Global,
+    run: &mut Run<C, T>,
+    line: &mut Vec<u8>,
+    byte: u8,
+    writer: &mut W,
+) -> Result<(), RunError>
+    ensures unended { OnOk result (IsUnended line.old.items → IsUnended line.new.items) }
+    ensures answered { OnOk result (IsUnended line.old.items → WritesOn (W.contents writer.old) (W.contents writer.new) (stage_of run.old) line.old.items (byte ∷ []) line.new.items (stage_of run.new)) }
+    ensures err { IfErr result (λ fault. fault ≢ Reading) }
+{
+    if byte == b'\n' {
+        return answer_line(alloc, run, line, writer);
+    }
+    line.push(byte)?;
     Ok(())
 }
 
@@ -135,13 +159,23 @@ fn answer_line<C: Ledger, T: Ledger, W: Write>(
     writer: &mut W,
 ) -> Result<(), RunError>
     ensures emptied { OnOk result (line.new.items ≡ []) }
+    ensures answered { OnOk result (WritesLine (W.contents writer.old) (W.contents writer.new) line.old.items (stage_of run.old) (stage_of run.new)) }
     ensures err { IfErr result (λ fault. fault ≢ Reading) }
 {
-    if let Some(answer) = run.answer(alloc, read_line(line.as_slice()))? {
-        print(writer, &answer)?;
-    }
+    print_any(writer, run.answer(alloc, read_line(line.as_slice()))?)?;
     line.clear();
     Ok(())
+}
+
+/// Prints the answer to a line, if there is one.
+fn print_any<W: Write>(writer: &mut W, answer: Option<Answer<'_>>) -> Result<(), RunError>
+    ensures printed { OnOk result (Appends (W.contents writer.old) (W.contents writer.new) (printed (option_map answer_text answer.entry))) }
+    ensures err { IsOkUnless result Writing }
+{
+    match answer {
+        Some(answer) => print(writer, &answer),
+        None => Ok(()),
+    }
 }
 
 fn print<W: Write>(writer: &mut W, answer: &Answer<'_>) -> Result<(), RunError>
@@ -162,28 +196,14 @@ enum Run<C: Ledger, T: Ledger> {
     Over,
 }
 
-/// The ledgers of a server that isn't made yet.
-#[derive(Drop)]
-struct Ledgers<C: Ledger, T: Ledger> {
-    commands: Blank,
-    taken: Blank,
-    of: PhantomData<(C, T)>,
-    ghost commands_of: { (commands.name ≡ C.name) × (commands.parts ≡ C.parts) × (commands.parts ≡ 65536) },
-    ghost taken_of: { (taken.name ≡ T.name) × (taken.parts ≡ T.parts) × (taken.parts ≡ 65536) },
-}
-
 impl<C: Ledger, T: Ledger> Run<C, T> {
     /// A script of which no line was read.
     fn new(commands: Blank, taken: Blank) -> Run<C, T>
         requires commands { (commands.name ≡ C.name) × (commands.parts ≡ C.parts) × (commands.parts ≡ 65536) }
         requires taken { (taken.name ≡ T.name) × (taken.parts ≡ T.parts) × (taken.parts ≡ 65536) }
+        ensures { stage_of result ≡ Setting USUAL }
     {
-        let ledgers = Ledgers {
-            commands,
-            taken,
-            of: PhantomData,
-        };
-        Run::Setting(Setup::usual(), ledgers)
+        Run::Setting(Setup::usual(), Ledgers::new(commands, taken))
     }
 
     /// Does what a line asks for. A blank line or a comment has no answer.
@@ -193,6 +213,7 @@ impl<C: Ledger, T: Ledger> Run<C, T> {
         line: ScriptLine<'a>,
     ) -> Result<Option<Answer<'a>>, RunError>
         ensures nothing { line.entry ≡ ScriptLine.Nothing → result ≡ Ok None }
+        ensures answers { IfOk result (λ answer. Answers line.entry (stage_of self.old) (option_map answer_text answer) (stage_of self.new)) }
         ensures err { IsOkUnless result Memory }
     {
         match line {
@@ -206,7 +227,9 @@ impl<C: Ledger, T: Ledger> Run<C, T> {
     }
 
     /// Sets a limit, as long as there is no server.
-    fn set(&mut self, key: Key, number: u64) -> Option<Answer<'static>> {
+    fn set(&mut self, key: Key, number: u64) -> Option<Answer<'static>>
+        ensures { Sets key number (stage_of self.old) (option_map answer_text result) (stage_of self.new) }
+    {
         match self {
             Run::Setting(setup, _) => {
                 setup.set(key, number);
@@ -219,7 +242,8 @@ impl<C: Ledger, T: Ledger> Run<C, T> {
 
     /// Makes the server at the first line that isn't about its limits, unless it is refused.
     fn begin(&mut self, alloc: Global) -> Result<Option<CoreFault>, RunError>
-        ensures { IsOkUnless result Memory }
+        ensures begins { IfOk result (λ fault. Begins (stage_of self.old) fault (stage_of self.new)) }
+        ensures err { IsOkUnless result Memory }
     {
         match replace(self, Run::Over) {
             Run::Setting(setup, ledgers) => self.make(alloc, setup, ledgers),
@@ -237,20 +261,18 @@ impl<C: Ledger, T: Ledger> Run<C, T> {
         setup: Setup,
         ledgers: Ledgers<C, T>,
     ) -> Result<Option<CoreFault>, RunError>
-        ensures { IsOkUnless result Memory }
+        ensures begins { IfOk result (λ fault. stage_of self.old ≡ Over → Begins (Setting setup) fault (stage_of self.new)) }
+        ensures err { IsOkUnless result Memory }
     {
-        let Ledgers {
-            commands,
-            taken,
-            of: _,
-        } = ledgers;
-        match setup.server(alloc, commands, taken) {
+        match setup.server(alloc, ledgers.commands, ledgers.taken) {
             Ok((core, pass)) => {
                 *self = Run::Playing(Play::new(alloc, core, pass));
                 Ok(None)
             }
-            Err(error) if error.fault == CoreFault::Memory => Err(RunError::Memory),
-            Err(error) => Ok(Some(error.fault)),
+            Err(error) => match error.fault {
+                CoreFault::Memory => Err(RunError::Memory),
+                fault => Ok(Some(fault)),
+            },
         }
     }
 
@@ -260,7 +282,8 @@ impl<C: Ledger, T: Ledger> Run<C, T> {
         alloc: Global,
         line: ScriptLine<'a>,
     ) -> Result<Option<Answer<'a>>, RunError>
-        ensures { IsOkUnless result Memory }
+        ensures plays { IfOk result (λ answer. PlaysOn line.entry (stage_of self.old) (option_map answer_text answer) (stage_of self.new)) }
+        ensures err { IsOkUnless result Memory }
     {
         match self {
             Run::Playing(play) => play.answer(alloc, line),

@@ -1,7 +1,10 @@
 //! What a script's server is made with.
 
-ghost use Rattle.std.specs.Prelude.{◌≡◌, IfOk, IfErr};
-ghost use Rattle.script.specs.Setup.{USUAL, with_limit, limits_of};
+ghost use Rattle.std.specs.Prelude.{◌≡◌, ◌⊎◌, IfOk, IfErr, OnOk, None};
+ghost use Rattle.effects.specs.declared.fault.CoreFault.TheVariants as fault;
+ghost use Rattle.journal.specs.Config.{config_refusal};
+ghost use Rattle.dispatch.specs.Answers.{fault_of_config};
+ghost use Rattle.script.specs.Setup.{USUAL, with_limit, limits_of, new_core};
 
 use crate::script_line::Key;
 use dispatch::Core;
@@ -99,6 +102,9 @@ impl Setup {
     ) -> Result<(Core<C, T>, Pass<C, T>), CoreError>
         requires commands { (commands.name ≡ C.name) × (commands.parts ≡ C.parts) × (commands.parts ≡ 65536) }
         requires taken { (taken.name ≡ T.name) × (taken.parts ≡ T.parts) × (taken.parts ≡ 65536) }
+        ensures core { IfOk result (λ made. made.0 ≡ new_core self) }
+        ensures allowed { OnOk result (config_refusal (limits_of self) ≡ None) }
+        ensures refused { IfErr result (λ e. (e.fault ≡ fault.Memory) ⊎ (e.fault ≡ fault_of_config (config_refusal (limits_of self)))) }
     {
         match self.config(alloc) {
             Ok(config) => Core::new(alloc, config, TIMING, NUMBERS, commands, taken),

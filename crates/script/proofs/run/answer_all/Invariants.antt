@@ -1,0 +1,15 @@
+use Rattle.std.proofs.Common.{ℕ, [], List}
+use Rattle.std.specs.Io.KnownBytes.{Consumes}
+use Rattle.script.specs.Script.{IsUnended, WritesOn, stage_of}
+use Rattle.script.proofs.run.answer_all.Given as goal
+
+-- what was read was worked on
+abbrev pub invariant-loop : goal.invariant-loop
+invariant-loop g l =
+    let contents = g.W.Write.contents in
+    record {
+      read : List ℕ;
+      consumed : Consumes (g.R.Read.remaining l.fn.reader) (g.R.Read.remaining l.reader) read;
+      unended : IsUnended l.line.items;
+      written : WritesOn (contents l.fn.writer) (contents l.writer) (stage_of l.fn.run) [] read l.line.items (stage_of l.run);
+    }

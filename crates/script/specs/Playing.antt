@@ -1,0 +1,180 @@
+-- What one line of a script does to a server, and what it prints.
+use Rattle.std.specs.Prelude.{◌≡◌, ◌≢◌, ◌⊎◌, ℕ, ◌<◌, ◌≤◌, ◌&&◌, Bool, true, false, List, [], ◌++◌, length, codes, decimal, Option, None, Some, Ok, Err}
+use Rattle.std.specs.Ordering.{nat_cmp}
+use Rattle.std.specs.Map.{update}
+use Rattle.std.specs.Str.{bytes_eq}
+use Rattle.std.specs.BTreeMap.{get_by_text}
+use Rattle.hex.specs.Hex.{encode_lower}
+use Rattle.terms.specs.Bytes.{IsBytes}
+use Rattle.terms.specs.Listing.{ListsRising}
+use Rattle.session_clock.specs.declared.transport.Transport.{Transport}
+use Rattle.room_maps.specs.Membership.{is_in}
+use Rattle.connection.specs.Line.{PlainLine}
+use Rattle.journal.specs.Membership.{place_of, is_open, is_space, is_in_space, rooms}
+use Rattle.journal.specs.Seal.{IsSealed}
+use Rattle.journal.specs.Totals as counted
+use Rattle.dispatch.specs.declared.event.Event.{Event}
+use Rattle.dispatch.specs.declared.event.Event.TheVariants as event
+use Rattle.dispatch.specs.declared.event.WsFrame.{WsFrame}
+use Rattle.dispatch.specs.declared.event.WsFrame.TheVariants as frame
+use Rattle.dispatch.specs.declared.outcome.Outcome.TheVariants as outcome
+use Rattle.dispatch.specs.Answers.{Answer}
+use Rattle.dispatch.specs.Machine.{Does}
+use Rattle.dispatch.specs.Place.{PlainCore, line_of, place}
+use Rattle.dispatch.specs.Takes.{IsOn}
+use Rattle.relay.specs.Counter.{counted_from}
+use Rattle.relay.specs.Relay.{Allows, decided}
+use Rattle.script.specs.declared.script_line.ScriptLine.{ScriptLine}
+use Rattle.script.specs.declared.script_line.ScriptLine.TheVariants as line
+use Rattle.script.specs.declared.play.Play.{Play}
+use Rattle.script.specs.Events.{event_of, take_of}
+use Rattle.script.specs.Printing.{fault_name, outcome_text, heard_text, ids_text, totals_text}
+
+-- ---- a server under way
+
+-- the core, the clients that the names stand for, the moment, and the next id
+pub record Server : Type 0 where
+  pub core : PlainCore
+  pub clients : (name : List ℕ) → Option ℕ
+  pub now : ℕ
+  pub next : ℕ
+
+-- a server of which nothing was asked yet
+abbrev pub new_server : PlainCore → Server
+new_server core = record { core = core; clients = λ name. None; now = 0; next = 1 }
+
+abbrev pub server_of : {C T : Type 0} → Play C T → Server
+server_of play = record { core = play.core; clients = get_by_text play.clients; now = play.now; next = play.ids }
+
+-- ---- an event
+
+-- the event happens to the server at its moment, as the machine's row says: the app is the demonstration app, and the ids
+-- count up; no name stands for another client than before
+pub record Happens (s : Server) (event : Event) (answer : Answer) (t : Server) : Type 0 where
+  pub does : Does (λ who arrived effects. effects ≡ decided who arrived) (λ space payload verdict. Allows payload verdict) s.now s.core.timing s.core.numbers event
+      (place s.core.hub.history s.core.lines) (counted_from s.next) answer (place t.core.hub.history t.core.lines) (counted_from t.next)
+  pub same_timing : t.core.timing ≡ s.core.timing
+  pub same_numbers : t.core.numbers ≡ s.core.numbers
+  pub same_clients : t.clients ≡ s.clients
+  pub same_now : t.now ≡ s.now
+
+-- what is printed of an event's answer for the client of this name
+abbrev pub told : (name : List ℕ) → Answer → List ℕ
+told name (Ok outcome) = outcome_text name outcome
+told name (Err e) = codes "refused: " ++ fault_name e.fault
+
+-- the same of a frame's answer
+abbrev pub told_frame : (name : List ℕ) → Answer → List ℕ
+told_frame name (Ok outcome) = heard_text name outcome
+told_frame name (Err e) = codes "refused: " ++ fault_name e.fault
+
+-- the event happens, and its own answer is printed
+abbrev pub Asks : (name : List ℕ) → Event → Server → (said : List ℕ) → Server → Type 0
+Asks name event s said t = (answer : Answer) × Happens s event answer t × (said ≡ told name answer)
+
+-- ---- names
+
+-- the line is none that is served
+abbrev pub IsBadLine : Server → (said : List ℕ) → Server → Type 0
+IsBadLine s said t = (said ≡ codes "bad line") × (t ≡ s)
+
+-- what is asked for the client of this name; where the name stands for none the line is bad
+abbrev pub ForName : (name : List ℕ) → (ℕ → Type 0) → Server → (said : List ℕ) → Server → Type 0
+ForName name row s said t = elim (s.clients name) [
+  | None ↦ IsBadLine s said t
+  | Some c ↦ row c
+]
+
+-- from now on the name stands for this client, and each other name for what it stood for
+pub record Names (name : List ℕ) (c : ℕ) (s t : Server) : Type 0 where
+  pub clients : (other : List ℕ) → t.clients other ≡ update bytes_eq s.clients name (Some c) other
+  pub same_core : t.core ≡ s.core
+  pub same_now : t.now ≡ s.now
+  pub same_next : t.next ≡ s.next
+
+-- the name stands for the client that was opened, if one was
+abbrev pub NamesOpened : (name : List ℕ) → Answer → Server → Server → Type 0
+NamesOpened name (Ok (outcome.Opened opening)) s t = Names name opening.client s t
+NamesOpened name _ s t = t ≡ s
+
+-- ---- the lines
+
+-- a client is opened, for which the name stands from now on
+abbrev pub Opens : (name : List ℕ) → (socket : Bool) → Server → (said : List ℕ) → Server → Type 0
+Opens name socket s said t = (answer : Answer) × (m : Server) × Happens s (event.Opened socket) answer m × NamesOpened name answer m t × (said ≡ told name answer)
+
+-- a frame comes from the client
+abbrev pub Hears : (name : List ℕ) → (c : ℕ) → WsFrame → Server → (said : List ℕ) → Server → Type 0
+Hears name c frame s said t = (answer : Answer) × Happens s (event.Frame c frame) answer t × (said ≡ told_frame name answer)
+
+-- a binary frame comes from the client, if these digits spell its bytes
+abbrev pub HearsBytes : (name hex : List ℕ) → (c : ℕ) → Server → (said : List ℕ) → Server → Type 0
+HearsBytes name hex c s said t =
+    ((bytes : List ℕ) × IsBytes bytes × (hex ≡ encode_lower bytes) × Hears name c (frame.Bytes bytes) s said t)
+    ⊎ (((bytes : List ℕ) → IsBytes bytes → hex ≢ encode_lower bytes) × IsBadLine s said t)
+
+-- the client is open and speaks over this transport, or it isn't open
+abbrev pub Speaks : (c : ℕ) → Option Transport → PlainCore → Type 0
+Speaks c (Some on) core = (line : PlainLine) × (line_of core.lines c ≡ Some line) × IsOn on line
+Speaks c None core = is_open core.hub.history.base core.hub.history.journal c ≡ false
+
+-- what waits for the client is taken, as it speaks
+abbrev pub TakesWaiting : (name : List ℕ) → (c most : ℕ) → Server → (said : List ℕ) → Server → Type 0
+TakesWaiting name c most s said t = (on : Option Transport) × Speaks c on s.core × Asks name (take_of on c most) s said t
+
+-- the ids of sockets, each after a space
+abbrev pub members_text : List ℕ → List ℕ
+members_text [] = codes "members -"
+members_text ids = codes "members" ++ ids_text ids
+
+-- the sockets in a room of a namespace that the hub has
+abbrev pub TellsMembers : (space room : List ℕ) → PlainCore → (said : List ℕ) → Type 0
+TellsMembers space room core said =
+    let h = core.hub.history in
+    elim (is_space h.limits (place_of h.limits space)) [
+      | false ↦ said ≡ codes "refused: UnknownNamespace"
+      | true ↦ (sids : List ℕ) × ListsRising nat_cmp (λ sid. is_in_space h.base h.journal (place_of h.limits space) sid && is_in (rooms h.base h.journal) sid room) sids × (said ≡ members_text sids)
+    ]
+
+-- a room's name has at most 64 bytes
+abbrev pub AsksMembers : (space room : List ℕ) → Server → (said : List ℕ) → Type 0
+AsksMembers space room s said =
+    ((64 < length room) × (said ≡ codes "bad line"))
+    ⊎ ((length room ≤ 64) × TellsMembers space room s.core said)
+
+-- an epoch ends, and the number of its steps is told
+pub record Seals (s : Server) (said : List ℕ) (t : Server) : Type 0 where
+  pub said_is : said ≡ codes "sealed " ++ decimal (length s.core.hub.history.journal)
+  pub sealed : IsSealed s.core.hub.history t.core.hub.history
+  pub same_lines : t.core.lines ≡ s.core.lines
+  pub same_timing : t.core.timing ≡ s.core.timing
+  pub same_numbers : t.core.numbers ≡ s.core.numbers
+  pub same_clients : t.clients ≡ s.clients
+  pub same_now : t.now ≡ s.now
+  pub same_next : t.next ≡ s.next
+
+-- what the server has counted is told
+abbrev pub TellsTotals : Server → (said : List ℕ) → Type 0
+TellsTotals s said = let h = s.core.hub.history in said ≡ totals_text (counted.totals h.base h.limits h.journal)
+
+-- the line prints what the row tells
+abbrev pub Prints : (List ℕ → Type 0) → Option (List ℕ) → Type 0
+Prints row None = ⊥
+Prints row (Some said) = row said
+
+-- what a line does to the server and prints; its limits can't be set any more
+abbrev pub Plays : ScriptLine → Server → (said : Option (List ℕ)) → Server → Type 0
+Plays (line.At moment) s said t = (said ≡ None) × (t ≡ record s { now = moment })
+Plays (line.Open name) s said t = Prints (λ text. Opens name.now false s text t) said
+Plays (line.OpenSocket name) s said t = Prints (λ text. Opens name.now true s text t) said
+Plays (line.Text name rest) s said t = Prints (λ text. ForName name.now (λ c. Asks name.now (event.Post c rest.now) s text t) s text t) said
+Plays (line.Frame name rest) s said t = Prints (λ text. ForName name.now (λ c. Hears name.now c (frame.Text rest.now) s text t) s text t) said
+Plays (line.Bytes name hex) s said t = Prints (λ text. ForName name.now (λ c. HearsBytes name.now hex.now c s text t) s text t) said
+Plays (line.Notice word name) s said t = Prints (λ text. ForName name.now (λ c. Asks name.now (event_of word c) s text t) s text t) said
+Plays (line.Take name most) s said t = Prints (λ text. ForName name.now (λ c. TakesWaiting name.now c most s text t) s text t) said
+Plays (line.Members space room) s said t = Prints (λ text. AsksMembers space.now room.now s text) said × (t ≡ s)
+Plays line.Totals s said t = Prints (λ text. TellsTotals s text) said × (t ≡ s)
+Plays line.Seal s said t = Prints (λ text. Seals s text t) said
+Plays line.Sweep s said t = Prints (λ text. Asks [] event.Sweep s text t) said
+Plays line.Nothing s said t = (said ≡ None) × (t ≡ s)
+Plays _ s said t = Prints (λ text. IsBadLine s text t) said
