@@ -1,0 +1,11 @@
+pub mod IdsLemmas
+pub mod SeatedLemmas
+pub mod LogLemmas
+pub mod MissedLemmas
+pub mod KeptLemmas
+pub mod DueLemmas
+pub mod HeardLemmas
+pub mod WorkedLemmas
+pub mod LastWordsLemmas
+pub mod SavedLemmas
+pub mod WorkedTrulyLemmas

@@ -1,0 +1,5 @@
+pub mod Session
+pub mod Heard
+pub mod Truly
+pub mod Worked
+pub mod LastWords
