@@ -9,3 +9,4 @@ pub mod WorkedLemmas
 pub mod LastWordsLemmas
 pub mod SavedLemmas
 pub mod WorkedTrulyLemmas
+pub mod WithinLemmas

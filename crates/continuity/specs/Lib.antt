@@ -3,3 +3,4 @@ pub mod Heard
 pub mod Truly
 pub mod Worked
 pub mod LastWords
+pub mod Within

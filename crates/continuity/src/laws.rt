@@ -11,6 +11,7 @@ ghost use Rattle.recovery.specs.PacketLog.{stands};
 ghost use Rattle.continuity.specs.Heard.{has, all_given};
 ghost use Rattle.continuity.specs.Truly.{NamesTruly, HearsWhatIsDue};
 ghost use Rattle.continuity.specs.LastWords.{is_last_open, last_socket, is_lost};
+ghost use Rattle.continuity.specs.Within.{IsWithin};
 ghost use Rattle.continuity.specs.Worked as worked;
 
 /// A session whose client names truly what it got last, whose rooms stay the same over each break
@@ -50,4 +51,10 @@ pub fn last_words_of_sessions()
     ensures clients { (base : PlainBase) (journal : List Step) (client : ℕ) → is_open base journal client ≡ is_last_open base journal client }
     ensures connected_sockets { (base : PlainBase) (limits : Limits) (journal : List Step) (sid : ℕ) → IsLegal base limits journal → socket_with sid_of base journal sid ≡ last_socket base journal sid }
     ensures saved_sessions { (base : PlainBase) (limits : Limits) (journal : List Step) (pid : ℕ) → IsLegal base limits journal → is_pid_saved (sessions base limits journal) pid ≡ is_lost base limits [] journal pid }
+{}
+
+/// Where the base keeps within the limits, all that follows does: how many clients are open, how many
+/// sessions are saved, and how many entries and bytes wait for a client.
+pub fn limits_are_kept()
+    ensures { (base : PlainBase) (limits : Limits) (journal : List Step) → IsLegal base limits journal → IsWithin base limits [] → IsWithin base limits journal }
 {}

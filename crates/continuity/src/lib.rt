@@ -4,4 +4,6 @@
 
 mod laws;
 
-pub use laws::{heard_is_due, last_words_of_sessions, log_has_all_after, worked_history};
+pub use laws::{
+    heard_is_due, last_words_of_sessions, limits_are_kept, log_has_all_after, worked_history,
+};
