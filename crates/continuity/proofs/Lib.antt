@@ -10,3 +10,4 @@ pub mod LastWordsLemmas
 pub mod SavedLemmas
 pub mod WorkedTrulyLemmas
 pub mod WithinLemmas
+pub mod SealedWithinLemmas

@@ -7,6 +7,8 @@ ghost use Rattle.journal.specs.Membership.{is_open, sid_of, socket_with};
 ghost use Rattle.journal.specs.Sessions.{sessions, is_pid_saved};
 ghost use Rattle.journal.specs.Log.{log};
 ghost use Rattle.journal.specs.Legal.{IsLegal};
+ghost use Rattle.journal.specs.Journal.{History};
+ghost use Rattle.journal.specs.Seal.{IsSealed, IsLegalAndSound};
 ghost use Rattle.recovery.specs.PacketLog.{stands};
 ghost use Rattle.continuity.specs.Heard.{has, all_given};
 ghost use Rattle.continuity.specs.Truly.{NamesTruly, HearsWhatIsDue};
@@ -57,4 +59,9 @@ pub fn last_words_of_sessions()
 /// sessions are saved, and how many entries and bytes wait for a client.
 pub fn limits_are_kept()
     ensures { (base : PlainBase) (limits : Limits) (journal : List Step) → IsLegal base limits journal → IsWithin base limits [] → IsWithin base limits journal }
+{}
+
+/// Where a hub keeps within the limits, it does so after a seal: the new base with no steps does.
+pub fn seals_keep_limits()
+    ensures { (before after : History) → IsLegalAndSound before → IsSealed before after → IsWithin before.base before.limits before.journal → IsWithin after.base after.limits after.journal }
 {}

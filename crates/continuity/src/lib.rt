@@ -5,5 +5,6 @@
 mod laws;
 
 pub use laws::{
-    heard_is_due, last_words_of_sessions, limits_are_kept, log_has_all_after, worked_history,
+    heard_is_due, last_words_of_sessions, limits_are_kept, log_has_all_after, seals_keep_limits,
+    worked_history,
 };
