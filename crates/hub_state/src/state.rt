@@ -18,6 +18,7 @@ ghost use Rattle.journal.specs.Plain.{PlainBroadcast};
 ghost use Rattle.journal.specs.Broadcast.{RightCast};
 ghost use Rattle.journal.specs.declared.step.Step.{Step};
 ghost use Rattle.journal.specs.declared.step.What.{What};
+ghost use Rattle.continuity.specs.Truly.{HearsWhatIsDue};
 
 mod cast;
 mod close;
@@ -35,6 +36,7 @@ mod rooms;
 mod seal;
 mod sweep;
 
+use continuity::heard_is_due;
 use hub_parts::{Client, Limits, Seats, Steps};
 use journal::{Base, Config, Counts, HubError, Step, Totals, What};
 use recovery::{PacketLog, Pid, SavedTable};
@@ -198,14 +200,17 @@ impl State {
     }
 
     /// What holds of every hub: its journal is legal, each of its broadcasts reached whom it was for,
-    /// and its state is sound. It has no effect.
+    /// its state is sound, and each connected session, where it was true to what it heard, has heard
+    /// just what is due to it. It has no effect.
     pub fn facts(&self)
         ensures legal { IsLegal self.now.base self.now.limits self.now.journal }
         ensures casts { (later before : List Step) (step : Step) (b : PlainBroadcast) → self.now.journal ≡ later ++ step ∷ before → step.what ≡ What.Cast b → RightCast self.now.base self.now.limits before step b }
         ensures sound { IsSound self.now.base self.now.limits self.now.journal }
+        ensures continuity { (p : ℕ) → HearsWhatIsDue self.now.base self.now.limits self.now.journal p }
     {
         // The type's invariant is known once a field is read.
         let _fields = &self.base;
+        heard_is_due();
     }
 
     /// Whether the number of commands, of entries placed or of sockets dropped would pass the

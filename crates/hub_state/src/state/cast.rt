@@ -24,6 +24,7 @@ ghost use Rattle.terms.specs.Listing.{ListsRising};
 ghost use Rattle.sio_wire.specs.declared.kind.Kind.{Kind};
 ghost use Rattle.sio_wire.specs.Header.{Plain};
 ghost use Rattle.sio_wire.specs.Offset.{is_bracket, payload_with_offset};
+ghost use Rattle.continuity.specs.Truly.{HearsWhatIsDue};
 
 use crate::state::deliver::put_entry;
 use crate::state::{State, count, record, reserve};
@@ -509,6 +510,18 @@ impl State {
         self.aim(alloc, place as u16, rooms, excepted, offset, entry)
     }
 
+    /// Makes, puts and logs the broadcast that a cast asks for.
+    fn make_and_send(&mut self, alloc: Global, cast: Cast, now: u64) -> Result<CastDone, HubError>
+        ensures { CastDoes self.old self.new now cast result }
+    {
+        let (broadcast, messages) = self.make(alloc, cast)?;
+        if self.cast_is_spent(&broadcast, &messages) {
+            return Err(HubError::Spent);
+        }
+        let entry = log_entry(alloc, self.moment_at(now), &broadcast)?;
+        self.send(alloc, broadcast, messages, entry, now)
+    }
+
     /// Puts an event into the outboxes of the sockets of a namespace that are in one of the rooms,
     /// or where none is named of all, but for those in an excepted room. A socket whose client's
     /// outbox has no place for it is counted as dropped. Where the cast is logged, the event gets
@@ -517,14 +530,18 @@ impl State {
     /// which may come in place of `Spent`. It takes the logarithm of the namespaces, and walks the
     /// members of the rooms in all namespaces, or where no room is named the sockets of its
     /// namespace alone, each with the logarithm and the excepted rooms.
+    ///
+    /// After it, accepted or refused, each connected session has heard just the journal's logged
+    /// broadcasts that are due to it, none missing, none twice and in order, where its client always
+    /// named truly what it got last, its rooms stayed the same from that broadcast to the loss, and
+    /// no full outbox dropped one for it.
     pub fn cast(&mut self, alloc: Global, cast: Cast, now: u64) -> Result<CastDone, HubError>
         ensures does { CastDoes self.old self.new now cast result }
+        ensures continuity { (p : ℕ) → HearsWhatIsDue self.new.base self.new.limits self.new.journal p }
     {
-        let (broadcast, messages) = self.make(alloc, cast)?;
-        if self.cast_is_spent(&broadcast, &messages) {
-            return Err(HubError::Spent);
-        }
-        let entry = log_entry(alloc, self.moment_at(now), &broadcast)?;
-        self.send(alloc, broadcast, messages, entry, now)
+        let done = self.make_and_send(alloc, cast, now);
+        // The prover needs what holds of every hub.
+        self.facts();
+        done
     }
 }

@@ -23,6 +23,7 @@ ghost use Rattle.journal.specs.Refusals.{or_spent, session_refusal, have_no_plac
 ghost use Rattle.journal.specs.Legal.{RightRecovery};
 ghost use Rattle.journal.specs.Command.{Does};
 ghost use Rattle.journal.specs.declared.socket.Socket.{Socket};
+ghost use Rattle.continuity.specs.Truly.{HearsWhatIsDue};
 ghost use Rattle.hub_state.specs.Returning.{socket_again, gets_back};
 ghost use Rattle.journal.specs.declared.step.What.{What};
 
@@ -459,6 +460,11 @@ impl State {
     /// the logarithm of the clients, sockets, namespaces and saved sessions, walks what the log has
     /// past the offset twice, first to see whether there is place for all, then to share it, and
     /// each of the session's rooms takes the logarithm of the sockets and of the rooms.
+    ///
+    /// After it, accepted or refused, each connected session, so also the one that came back, has
+    /// heard just the journal's logged broadcasts that are due to it, none missing, none twice and
+    /// in order, where its client always named truly what it got last, its rooms stayed the same
+    /// from that broadcast to the loss, and no full outbox dropped one for it.
     pub fn recover(
         &mut self,
         alloc: Global,
@@ -470,8 +476,12 @@ impl State {
     ) -> Result<Sid, HubError>
         ensures sid { IfOk result (λ sid. let recovery = recovery_of self.old.base self.old.limits self.old.journal client (place_of self.old.limits space.now) pid offset in sid ≡ recovery.socket.sid) }
         ensures does { let recovery = recovery_of self.old.base self.old.limits self.old.journal client (place_of self.old.limits space.now) pid offset in Does self.old self.new now (What.Recovered recovery) result }
+        ensures continuity { (p : ℕ) → HearsWhatIsDue self.new.base self.new.limits self.new.journal p }
     {
         let place = self.place_of(space);
-        self.recover_at(alloc, client, place, pid, offset, now)
+        let back = self.recover_at(alloc, client, place, pid, offset, now);
+        // The prover needs what holds of every hub.
+        self.facts();
+        back
     }
 }
