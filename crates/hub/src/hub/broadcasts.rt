@@ -1,6 +1,8 @@
 //! Broadcasts through a hub, and whom they may reach.
 #![tactic(auto, unfolding(journal::specs::Totals::commands, journal::specs::Totals::handed_out, journal::specs::Journal::total))]
 
+ghost use Rattle.std.specs.Prelude.{ℕ};
+ghost use Rattle.continuity.specs.Truly.{HearsWhatIsDue};
 ghost use Rattle.hub.specs.Pass.{CastDoesCounted, Rises};
 
 use crate::hub::Hub;
@@ -18,6 +20,11 @@ impl<C: Ledger, T: Ledger> Hub<C, T> {
     /// which may come in place of `Spent`. It takes the logarithm of the namespaces, and walks the
     /// members of the rooms in all namespaces, or where no room is named the sockets of its
     /// namespace alone, each with the logarithm and the excepted rooms.
+    ///
+    /// After it, accepted or refused, each connected session has heard just the journal's logged
+    /// broadcasts that are due to it, none missing, none twice and in order, where its client always
+    /// named truly what it got last, its rooms stayed the same from that broadcast to the loss, and
+    /// no full outbox dropped one for it.
     pub fn cast(
         &mut self,
         alloc: Global,
@@ -27,6 +34,7 @@ impl<C: Ledger, T: Ledger> Hub<C, T> {
     ) -> Result<CastDone, HubError>
         ensures does { CastDoesCounted self.old self.new pass.old pass.new now cast result }
         ensures rises { Rises self.old self.new pass.old pass.new }
+        ensures continuity { let g = self.new.history in (p : ℕ) → HearsWhatIsDue g.base g.limits g.journal p }
     {
         let done = self.state.cast(alloc, cast, now)?;
         self.books.count(pass, &self.state, 0);

@@ -2,7 +2,7 @@
 //! "Connection state recovery").
 #![tactic(auto, unfolding(journal::specs::Totals::commands, journal::specs::Totals::handed_out, journal::specs::Journal::total))]
 
-ghost use Rattle.std.specs.Prelude.{◌≡◌, ◌+◌, [], None, IfOk, IfErr, OnOk, OnErr, length};
+ghost use Rattle.std.specs.Prelude.{◌≡◌, ℕ, ◌+◌, [], None, IfOk, IfErr, OnOk, OnErr, length};
 ghost use Rattle.journal.specs.Totals.{is_spent};
 ghost use Rattle.journal.specs.Sessions.{sessions};
 ghost use Rattle.journal.specs.Log.{log};
@@ -14,6 +14,7 @@ ghost use Rattle.journal.specs.Refusals.{or_spent, park_refusal, recover_refusal
 ghost use Rattle.hub.specs.Pass.{DoesCounted, Rises};
 ghost use Rattle.journal.specs.Seal.{IsSealed, SaysTheSame};
 ghost use Rattle.journal.specs.declared.step.What.{What};
+ghost use Rattle.continuity.specs.Truly.{HearsWhatIsDue};
 
 use crate::hub::Hub;
 use crate::pass::Pass;
@@ -51,6 +52,11 @@ impl<C: Ledger, T: Ledger> Hub<C, T> {
     /// `OutboxFull` where not all of them have a place, `Spent`, then for `Memory`. It takes the
     /// logarithm of the clients, sockets, namespaces and saved sessions, and walks the session's
     /// rooms, and the log past the offset.
+    ///
+    /// After it, accepted or refused, each connected session, so also the one that came back, has
+    /// heard just the journal's logged broadcasts that are due to it, none missing, none twice and
+    /// in order, where its client always named truly what it got last, its rooms stayed the same
+    /// from that broadcast to the loss, and no full outbox dropped one for it.
     pub fn recover(
         &mut self,
         alloc: Global,
@@ -64,6 +70,7 @@ impl<C: Ledger, T: Ledger> Hub<C, T> {
         ensures sid { let h = self.old.history in IfOk result (λ sid. sid ≡ (recovery_of h.base h.limits h.journal client (place_of h.limits space.now) pid offset).socket.sid) }
         ensures does { let h = self.old.history in let recovery = recovery_of h.base h.limits h.journal client (place_of h.limits space.now) pid offset in DoesCounted self.old self.new pass.old pass.new now (What.Recovered recovery) result }
         ensures rises { Rises self.old self.new pass.old pass.new }
+        ensures continuity { let g = self.new.history in (p : ℕ) → HearsWhatIsDue g.base g.limits g.journal p }
     {
         let sid = self.state.recover(alloc, client, space, pid, offset, now)?;
         self.books.count(pass, &self.state, 0);
