@@ -8,3 +8,5 @@ pub mod CountsLemmas
 pub mod OffsetsLemmas
 pub mod MembersLemmas
 pub mod SessionsLemmas
+pub mod DueLemmas
+pub mod HeardLemmas

@@ -9,6 +9,8 @@
 
 mod clients;
 mod counts;
+mod due_list;
+mod heard_list;
 mod log_list;
 mod member_list;
 mod offsets;
@@ -19,6 +21,8 @@ mod socket_list;
 
 pub use clients::open_clients;
 pub use counts::totals;
+pub use due_list::due_casts;
+pub use heard_list::heard;
 pub use log_list::log;
 pub use member_list::members;
 pub use offsets::next;

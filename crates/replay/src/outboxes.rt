@@ -89,14 +89,14 @@ fn is_in_any(pairs: &[(Sid, Room)], sid: Sid, rooms: &[Room]) -> bool
 }
 
 /// Whether no room is named.
-fn names_no_room(rooms: &[Room]) -> bool
+pub(crate) fn names_no_room(rooms: &[Room]) -> bool
     ensures { result ≡ addressed.names_no_room rooms.now }
 {
     rooms.is_empty()
 }
 
 /// Whether a broadcast is for one who is in these rooms.
-fn is_for(broadcast: &Broadcast, pairs: &[(Sid, Room)], sid: Sid) -> bool
+pub(crate) fn is_for(broadcast: &Broadcast, pairs: &[(Sid, Room)], sid: Sid) -> bool
     ensures { result ≡ addressed.is_for broadcast.now.rooms broadcast.now.excepted (lists.is_pair_listed pairs.now sid) }
 {
     (names_no_room(&broadcast.rooms) || is_in_any(pairs, sid, &broadcast.rooms))
@@ -131,7 +131,7 @@ fn reached(
 }
 
 /// The sockets that get a broadcast that is made after these steps.
-fn receivers(
+pub(crate) fn receivers(
     alloc: Global,
     base: &Base,
     before: &[Step],
