@@ -3,7 +3,7 @@
 use crate::expected::expect_each_in_room;
 
 /// Sessions of the room.
-const SESSIONS: [(&str, &str, &str, &str); 7] = [
+const SESSIONS: [(&str, &str, &str, &str); 9] = [
     (
         "a session comes back with what it missed, and only once",
         "",
@@ -170,6 +170,78 @@ ok
 C 0{\"sid\":\"00000000000000000000000000000007\",\"upgrades\":[\"websocket\"],\"pingInterval\":25000,\"pingTimeout\":20000,\"maxPayload\":1000000}
 ok
 sealed 15
+C 40{\"sid\":\"00000000000000000000000000000005\",\"pid\":\"00000000000000000000000000000006\"}\u{1e}42[\"say\",\"r\",\"2\",\"0000000000000002\"]\u{1e}42[\"say\",\"r\",\"3\",\"0000000000000003\"]
+ok
+C 42[\"say\",\"r\",\"4\",\"0000000000000004\"]
+ok
+ok
+D 0{\"sid\":\"00000000000000000000000000000008\",\"upgrades\":[\"websocket\"],\"pingInterval\":25000,\"pingTimeout\":20000,\"maxPayload\":1000000}
+ok
+D 40{\"sid\":\"00000000000000000000000000000005\",\"pid\":\"00000000000000000000000000000006\"}\u{1e}42[\"say\",\"r\",\"4\",\"0000000000000004\"]\u{1e}42[\"say\",\"r\",\"5\",\"0000000000000005\"]
+",
+    ),
+    (
+        "a session comes back twice in one epoch, and gets each broadcast once",
+        "",
+        r#"text A 42["say","r","1"]
+take B
+text A 42["say","r","2"]
+lost B
+text A 42["say","r","3"]
+open C
+text C 40{"pid":"00000000000000000000000000000006","offset":"0000000000000001"}
+take C
+text A 42["say","r","4"]
+take C
+lost C
+text A 42["say","r","5"]
+open D
+text D 40{"pid":"00000000000000000000000000000006","offset":"0000000000000004"}
+take D
+"#,
+        "ok
+B 42[\"say\",\"r\",\"1\",\"0000000000000001\"]
+ok
+ok
+ok
+C 0{\"sid\":\"00000000000000000000000000000007\",\"upgrades\":[\"websocket\"],\"pingInterval\":25000,\"pingTimeout\":20000,\"maxPayload\":1000000}
+ok
+C 40{\"sid\":\"00000000000000000000000000000005\",\"pid\":\"00000000000000000000000000000006\"}\u{1e}42[\"say\",\"r\",\"2\",\"0000000000000002\"]\u{1e}42[\"say\",\"r\",\"3\",\"0000000000000003\"]
+ok
+C 42[\"say\",\"r\",\"4\",\"0000000000000004\"]
+ok
+ok
+D 0{\"sid\":\"00000000000000000000000000000008\",\"upgrades\":[\"websocket\"],\"pingInterval\":25000,\"pingTimeout\":20000,\"maxPayload\":1000000}
+ok
+D 40{\"sid\":\"00000000000000000000000000000005\",\"pid\":\"00000000000000000000000000000006\"}\u{1e}42[\"say\",\"r\",\"5\",\"0000000000000005\"]
+",
+    ),
+    (
+        "a session comes back twice in one epoch, and gets again what it took and doesn't name",
+        "",
+        r#"text A 42["say","r","1"]
+take B
+text A 42["say","r","2"]
+lost B
+text A 42["say","r","3"]
+open C
+text C 40{"pid":"00000000000000000000000000000006","offset":"0000000000000001"}
+take C
+text A 42["say","r","4"]
+take C
+lost C
+text A 42["say","r","5"]
+open D
+text D 40{"pid":"00000000000000000000000000000006","offset":"0000000000000003"}
+take D
+"#,
+        "ok
+B 42[\"say\",\"r\",\"1\",\"0000000000000001\"]
+ok
+ok
+ok
+C 0{\"sid\":\"00000000000000000000000000000007\",\"upgrades\":[\"websocket\"],\"pingInterval\":25000,\"pingTimeout\":20000,\"maxPayload\":1000000}
+ok
 C 40{\"sid\":\"00000000000000000000000000000005\",\"pid\":\"00000000000000000000000000000006\"}\u{1e}42[\"say\",\"r\",\"2\",\"0000000000000002\"]\u{1e}42[\"say\",\"r\",\"3\",\"0000000000000003\"]
 ok
 C 42[\"say\",\"r\",\"4\",\"0000000000000004\"]
