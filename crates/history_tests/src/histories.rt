@@ -18,7 +18,7 @@ use terms::Text;
 
 const PARTS: u64 = 65_536;
 
-fn spaces(alloc: Global) -> Result<Vec<Text>, HubError> {
+pub fn spaces(alloc: Global) -> Result<Vec<Text>, HubError> {
     let mut spaces = Vec::new(alloc);
     push_space(alloc, &mut spaces, "/")?;
     push_space(alloc, &mut spaces, "/a")?;

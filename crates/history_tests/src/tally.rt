@@ -107,7 +107,7 @@ impl Tally {
     }
 }
 
-fn first_none(counts: &[(u64, &'static str)]) -> Option<&'static str> {
+pub fn first_none(counts: &[(u64, &'static str)]) -> Option<&'static str> {
     for (count, name) in counts {
         if *count == 0 {
             return Some(*name);
@@ -116,6 +116,6 @@ fn first_none(counts: &[(u64, &'static str)]) -> Option<&'static str> {
     None
 }
 
-fn raise(count: &mut u64, by: u64) {
+pub fn raise(count: &mut u64, by: u64) {
     *count = count.saturating_add(by);
 }
