@@ -1,0 +1,3 @@
+pub mod Media
+pub mod Answer
+pub mod Pages
