@@ -5,6 +5,7 @@ ghost use Rattle.std.specs.Process.{exit_status};
 ghost use Rattle.clap.specs.Words.{kind_of};
 ghost use Rattle.script.specs.declared.faults.RunError.TheVariants.{Memory, Writing};
 
+use crate::folder::{FolderFault, read_folder};
 use crate::options::{self, Options};
 use clap::error::ErrorKind;
 use clap::{Command, Error};
@@ -12,7 +13,7 @@ use script::RunError;
 use std::alloc::{AllocError, Global};
 use std::convert::AsStr;
 use std::process::ExitCode;
-use std::rt::Env;
+use std::rt::{Env, Files};
 use std::{env, io};
 
 /// What the arguments ask for.
@@ -25,9 +26,39 @@ pub enum Task {
 }
 
 /// Reads the program's arguments. `--help` too is answered by an error.
-pub fn read_arguments<R: Env + AllocGlobal>(rt: &R, processors: usize) -> Result<Task, Error> {
+pub fn read_arguments<R: Env + Files + AllocGlobal + Clone + Drop>(
+    rt: &R,
+    processors: usize,
+) -> Result<Task, Error> {
     let words = words(rt)?;
-    task_of(rt.alloc(), words.as_slice(), processors)
+    match task_of(rt.alloc(), words.as_slice(), processors)? {
+        Task::Serve(options) => Ok(Task::Serve(with_page(rt, options)?)),
+        task => Ok(task),
+    }
+}
+
+/// The options with the files of their folder.
+fn with_page<R: Files + AllocGlobal + Clone + Drop>(
+    rt: &R,
+    options: Options,
+) -> Result<Options, Error> {
+    let mut options = options;
+    if let Some(folder) = &options.folder {
+        options.settings.page = match read_folder(rt, folder.as_str()) {
+            Ok(page) => page,
+            Err(fault) => return Err(bad_folder(rt.alloc(), folder.as_str(), &fault)?),
+        };
+    }
+    Ok(options)
+}
+
+/// The error of a folder that can't be served.
+fn bad_folder(alloc: Global, folder: &str, fault: &FolderFault) -> Result<Error, AllocError> {
+    if matches!(fault, FolderFault::Memory) {
+        return Err(AllocError);
+    }
+    let message = format!(in alloc; "--page {folder}: {fault}")?;
+    program(alloc)?.error(ErrorKind::InvalidValue, message.as_str())
 }
 
 /// The arguments as text, the program's name first.

@@ -3,6 +3,7 @@
 #![tactic(auto)]
 
 mod commands;
+mod folder;
 mod options;
 mod serving;
 
@@ -42,6 +43,7 @@ fn main(rt: HostRuntime) -> ExitCode {
                 settings,
                 until_eof,
                 verbose,
+                folder: _,
             } = options;
             match serving::listen(&rt, settings, verbose) {
                 Ok(server) => {

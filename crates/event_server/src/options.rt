@@ -3,12 +3,15 @@
 use clap::builder::ValueParser;
 use clap::{Arg, ArgAction, ArgMatches, Command};
 use loops::{Limits, Settings};
+use page::Page;
 use std::alloc::{AllocError, Global};
 
 /// What `event_server serve` is asked for.
 #[derive(Drop)]
 pub struct Options {
     pub settings: Settings,
+    /// The folder whose files are served, if there is one.
+    pub folder: Option<String>,
     /// Whether the server ends once standard input does.
     pub until_eof: bool,
     /// Whether the end of each client is told.
@@ -128,8 +131,12 @@ pub fn command<'a>(alloc: Global) -> Result<Command<'a>, AllocError> {
         .long("origin")
         .action(ArgAction::Append)
         .help("Serves only pages of this origin; may come again");
+    let page = Arg::new(alloc, "page")
+        .long("page")
+        .help("A folder whose files are served beside the socket's path");
     serve
         .arg(origin)?
+        .arg(page)?
         .arg(flag(alloc, "until-eof", "Ends once standard input does"))?
         .arg(flag(
             alloc,
@@ -176,13 +183,22 @@ pub fn read_options(
         together: count(matches, "together"),
         poll_entries: size(matches, "poll-entries"),
         origins: origins(alloc, matches)?,
+        page: Page::new(alloc),
         report: count(matches, "report"),
     };
     Ok(Options {
         settings,
+        folder: folder(alloc, matches)?,
         until_eof: matches.get_flag("until-eof"),
         verbose: matches.get_flag("verbose"),
     })
+}
+
+fn folder(alloc: Global, matches: &ArgMatches<'_>) -> Result<Option<String>, AllocError> {
+    match matches.get_str("page") {
+        Some(folder) => Ok(Some(String::from_str(alloc, folder)?)),
+        None => Ok(None),
+    }
 }
 
 fn count(matches: &ArgMatches<'_>, name: &str) -> u64 {

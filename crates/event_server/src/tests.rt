@@ -1,9 +1,12 @@
 //! The program's arguments.
 
 use crate::commands::{Task, task_of};
+use crate::folder::{FolderFault, read_folder};
 use crate::options::Options;
 use clap::error::ErrorKind;
+use page::Page;
 use std::alloc::Global;
+use std::fs;
 
 /// What arguments ask for.
 #[derive(Clone, Copy, Debug, PartialEq, Eq)]
@@ -136,6 +139,8 @@ fn all_options(alloc: Global) -> Option<Options> {
         "http://a",
         "--origin",
         "http://b",
+        "--page",
+        "folder",
         "--report",
         "13",
         "--until-eof",
@@ -159,11 +164,16 @@ fn are_all(options: &Options) -> bool {
     let is_kept = limits.log == 9 && limits.saved == 10 && limits.keep == 11;
     let is_told = settings.report == 13 && options.until_eof && options.verbose;
     let origins = settings.origins.len() == 2;
+    let folder = match &options.folder {
+        Some(folder) => folder.as_str() == "folder",
+        None => false,
+    };
     is_named
         && is_limited
         && is_kept
         && is_told
         && origins
+        && folder
         && settings.connections == 5
         && settings.poll_entries == 12
 }
@@ -201,7 +211,7 @@ fn are_usual(options: &Options) -> bool {
     let is_limited = limits.clients == 10_000 && limits.capacity == 64 && limits.bytes == 8_388_608;
     let is_kept = limits.log == 1_024 && limits.saved == 4_096 && limits.keep == 120_000;
     let is_told = settings.report == 0 && !options.until_eof && !options.verbose;
-    let origins = settings.origins.is_empty();
+    let origins = settings.origins.is_empty() && options.folder.is_none();
     is_named
         && is_limited
         && is_kept
@@ -223,4 +233,35 @@ fn usual(rt: HostRuntime) {
         None => false,
     };
     assert!(rt; are_right);
+}
+
+/// Whether the path asks for a file with these bytes.
+fn has(page: &Page, path: &str, bytes: &[u8]) -> bool {
+    match page.look_up(path) {
+        Some(file) => file.bytes.as_slice() == bytes,
+        None => false,
+    }
+}
+
+/// Whether a folder can't be read.
+fn is_unreadable(read: &Result<Page, FolderFault>) -> bool {
+    matches!(read, Err(FolderFault::Unreadable(_)))
+}
+
+#[test]
+fn files_of_a_folder(rt: HostRuntime) {
+    assert!(rt; fs::create_dir_all(&rt, "made/inner").is_ok());
+    assert!(rt; fs::write(&rt, "made/index.html", "<p>").is_ok());
+    assert!(rt; fs::write(&rt, "made/b.txt", "b").is_ok());
+    assert!(rt; fs::write(&rt, "made/inner/c.txt", "c").is_ok());
+    match read_folder(&rt, "made") {
+        Ok(page) => {
+            assert!(rt; has(&page, "/", b"<p>") && has(&page, "/b.txt", b"b"));
+            assert!(rt; page.size() == 4 && page.look_up("/inner").is_none());
+        }
+        Err(_) => panic!(rt; "the folder wasn't read"),
+    }
+    assert!(rt; is_unreadable(&read_folder(&rt, "made/none")));
+    assert!(rt; is_unreadable(&read_folder(&rt, "made/b.txt")));
+    assert!(rt; fs::remove_dir_all(&rt, "made").is_ok());
 }

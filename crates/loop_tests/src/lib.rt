@@ -6,6 +6,8 @@ mod bounds;
 #[cfg(test)]
 mod made;
 #[cfg(test)]
+mod pages;
+#[cfg(test)]
 mod polling;
 #[cfg(test)]
 mod pressure;

@@ -3,6 +3,7 @@
 use hub_gate::{Report, WorkerCounts};
 use journal::Totals;
 use loops::{Ended, Limits, Log, Settings};
+use page::Page;
 use std::alloc::{AllocError, Global};
 use std::sync::atomic::{AtomicU64, Ordering};
 
@@ -46,6 +47,7 @@ pub fn settings(alloc: Global, plan: &Plan) -> Result<Settings, AllocError> {
         together: 1,
         poll_entries: plan.entries,
         origins,
+        page: Page::new(alloc),
         report: 1,
     })
 }

@@ -2,7 +2,7 @@
 
 use crate::made::{Ear, Heard, Plan, Seen, seen_of, settings};
 use crate::requests::Place;
-use crate::{bounds, polling, pressure, returning, speaking, spread, stopping};
+use crate::{bounds, pages, polling, pressure, returning, speaking, spread, stopping};
 use loops::Server;
 use relay::RelayApp;
 use std::alloc::Global;
@@ -42,6 +42,8 @@ pub enum Task {
     Crowd,
     /// Requests at their bounds.
     Check,
+    /// A page is read beside the socket.
+    Browse,
     /// A stop while clients wait.
     Stop,
     /// A stop while nothing comes.
@@ -63,6 +65,7 @@ fn plan(task: Task) -> Plan {
         Task::Fill => bounds::FULL,
         Task::Crowd => bounds::CROWDED,
         Task::Check => bounds::STRICT,
+        Task::Browse => pages::PLAN,
         Task::Stop | Task::StopSilent => stopping::PLAN,
     }
 }
@@ -83,6 +86,7 @@ fn play<R: Net<Stream = TcpStream> + Clock + Wait + Abort>(place: &Place<'_, R>,
         Task::Fill => bounds::fill(place),
         Task::Crowd => bounds::crowd(place),
         Task::Check => bounds::check(place),
+        Task::Browse => pages::play(place),
         Task::Stop => stopping::stop(place),
         Task::StopSilent => stopping::stop_silent(place),
     }
@@ -132,7 +136,10 @@ fn run<
         + Send
         + 'static,
 >(rt: &R, alloc: Global, heard: &Heard, task: Task) -> Option<Seen> {
-    let settings = settings(alloc, &plan(task)).ok()?;
+    let mut settings = settings(alloc, &plan(task)).ok()?;
+    if matches!(task, Task::Browse) {
+        settings.page = pages::page(alloc)?;
+    }
     let server = Server::listen(rt, alloc, settings, Ear { heard }).ok()?;
     let shared = server.shared().ok()?;
     let place = Place {

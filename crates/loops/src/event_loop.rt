@@ -2,6 +2,7 @@
 
 use crate::buffered::Buffered;
 use crate::connections::Connections;
+use crate::download::asks_for_file;
 use crate::inbox::{Handed, Mail};
 use crate::link::{Connection, Drained, Mode, Next, Reading, Stream};
 use crate::news::Log;
@@ -402,6 +403,10 @@ impl<'a, R: Wait + Clock + Copy + Drop, L: Log> EventLoop<'a, R, L> {
                 return;
             }
         };
+        if target == Target::NotFound && asks_for_file(&self.rules.page, &request) {
+            self.hand_out(key, request, now);
+            return;
+        }
         let owner = owner_of(target, self.rules.loops, self.number);
         if owner == self.number {
             self.serve(key, request, target);
@@ -409,6 +414,18 @@ impl<'a, R: Wait + Clock + Copy + Drop, L: Log> EventLoop<'a, R, L> {
         } else {
             self.hand_on(key, owner, request, target);
         }
+    }
+
+    /// Answers by the file that a request asks for.
+    fn hand_out(&mut self, key: usize, request: Request, now: u64) {
+        let Ok(page) = Arc::try_clone(&self.rules.page) else {
+            self.refuse(key, EdgeError::Memory, now);
+            return;
+        };
+        if let Some(connection) = self.connections.get_mut(key) {
+            connection.hand_out(self.alloc, page, request, now);
+        }
+        self.connections.note_unsent(key);
     }
 
     /// Begins to serve a request. A GET of a client that was told just so that nothing waits is served

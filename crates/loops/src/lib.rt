@@ -5,6 +5,7 @@
 mod acceptor;
 mod buffered;
 mod connections;
+mod download;
 mod drawn;
 mod event_loop;
 mod fault;

@@ -1,6 +1,7 @@
 //! One connection.
 
 use crate::buffered::Buffered;
+use crate::download::Download;
 use crate::watch::Watch;
 use dispatch::{Event, Outcome, WsFrame};
 use effects::CoreError;
@@ -10,15 +11,17 @@ use http_edge::{
 use hub_gate::Peer;
 use loop_rules::left_after_message;
 use mio::net::TcpStream;
+use page::Page;
 use peers::{
     PollPeer, PollRequest, Reply, SocketPeer, SocketRequest, accept_socket, reply_to_fault,
     reply_to_target,
 };
 use std::alloc::Global;
 use std::io::{ErrorKind, Read};
-use std::mem;
 use std::net::Shutdown;
 use std::rt::Clock;
+use std::sync::Arc;
+use std::{io, mem};
 
 /// What a connection reads and writes.
 pub(crate) type Stream = Buffered<TcpStream>;
@@ -58,6 +61,8 @@ enum Stage<R> {
     Speaking(Speaker<R>),
     /// Nobody any more.
     Answered(Stream),
+    /// Nobody any more, while a file goes out.
+    Downloading { stream: Stream, download: Download },
     /// Its stream was handed on, or dropped.
     Gone,
 }
@@ -190,6 +195,10 @@ impl<R: Clock + Drop> Connection<R> {
             Stage::Polling(peer) => Some(peer.wire_mut().get_mut()),
             Stage::Speaking(peer) => Some(peer.stream_mut().get_mut().get_mut()),
             Stage::Answered(stream) => Some(stream),
+            Stage::Downloading {
+                stream,
+                download: _,
+            } => Some(stream),
             Stage::Gone => None,
         }
     }
@@ -290,6 +299,15 @@ impl<R: Clock + Drop> Connection<R> {
     pub(crate) fn refuse(&mut self, alloc: Global, fault: EdgeError, now: u64) {
         self.stage = match self.take_stream() {
             Some(stream) => answered_fault(alloc, stream, fault),
+            None => Stage::Gone,
+        };
+        self.end(now);
+    }
+
+    /// Answers by the file that a request asks for. It ends then.
+    pub(crate) fn hand_out(&mut self, alloc: Global, page: Arc<Page>, request: Request, now: u64) {
+        self.stage = match self.take_stream() {
+            Some(stream) => downloading(alloc, stream, page, request),
             None => Stage::Gone,
         };
         self.end(now);
@@ -427,6 +445,9 @@ impl<R: Clock + Drop> Connection<R> {
 
     /// Sends what is unsent.
     pub(crate) fn send(&mut self, now: u64) -> Sent {
+        if self.write_more().is_err() {
+            return self.after_failure(now);
+        }
         let Some(stream) = self.stream() else {
             return Sent::Remove;
         };
@@ -442,7 +463,39 @@ impl<R: Clock + Drop> Connection<R> {
         }
     }
 
+    /// Where all was sent, the next piece of a file is written.
+    fn write_more(&mut self) -> io::Result<()> {
+        match &mut self.stage {
+            Stage::Downloading { stream, download } => {
+                if stream.unsent() == 0 {
+                    download.write_piece(stream)?;
+                }
+                Ok(())
+            }
+            _ => Ok(()),
+        }
+    }
+
+    /// Whether a file has pieces that are not written yet.
+    fn has_more(&self) -> bool {
+        match &self.stage {
+            Stage::Downloading {
+                stream: _,
+                download,
+            } => !download.is_over(),
+            _ => false,
+        }
+    }
+
     fn after_send(&mut self, left: usize, now: u64) -> Sent {
+        if self.has_more() {
+            // The next piece has its turn after those of others.
+            return if left == 0 {
+                Sent::Queue
+            } else {
+                Sent::Nothing
+            };
+        }
         if left == 0 && self.mode == Mode::Closes {
             return self.part(now);
         }
@@ -580,6 +633,18 @@ fn answered<R>(alloc: Global, stream: Stream, reply: &Reply<'_>) -> Stage<R> {
     let mut wire = OnStream::new(stream);
     match write_response(alloc, &mut wire, reply.status, reply.body) {
         Ok(()) => Stage::Answered(wire.into_stream()),
+        Err(_) => Stage::Gone,
+    }
+}
+
+/// The answer that is a file, of which the head and a first piece are written.
+fn downloading<R>(alloc: Global, stream: Stream, page: Arc<Page>, request: Request) -> Stage<R> {
+    let mut stream = stream;
+    let Ok(mut download) = Download::begin(alloc, &mut stream, page, request) else {
+        return Stage::Gone;
+    };
+    match download.write_piece(&mut stream) {
+        Ok(()) => Stage::Downloading { stream, download },
         Err(_) => Stage::Gone,
     }
 }

@@ -107,6 +107,7 @@ impl<L: Log + Sync + Drop> Server<L> {
             loops: workers,
             poll_entries: settings.poll_entries,
             origins: settings.origins,
+            page: Arc::new(alloc, settings.page)?,
             report: settings.report,
         };
         let lives = Lives::new(alloc, log.hears_clients());

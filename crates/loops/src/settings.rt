@@ -2,6 +2,9 @@
 
 ghost use Rattle.std.specs.Prelude.{◌<◌};
 
+use page::Page;
+use std::sync::Arc;
+
 /// What a server is started with.
 #[derive(Drop)]
 pub struct Settings {
@@ -20,6 +23,8 @@ pub struct Settings {
     pub poll_entries: usize,
     /// The origins that a browser's request may have; all where there are none.
     pub origins: Vec<String>,
+    /// The files that are served beside the socket's path.
+    pub page: Page,
     /// Every how many seconds the log is told the totals; 0 says never.
     pub report: u64,
 }
@@ -50,6 +55,8 @@ pub(crate) struct Rules {
     pub poll_entries: usize,
     /// The origins that a request may have; all where there are none.
     pub origins: Vec<String>,
+    /// The files that are served beside the socket's path.
+    pub page: Arc<Page>,
     /// Every how many seconds the totals are told; 0 says never.
     pub report: u64,
     ghost some: { 0 < loops },

@@ -1,0 +1,101 @@
+//! The folder whose files are served beside the socket's path.
+
+use page::{File, MOST_BYTES, MOST_FILES, Page, PageError};
+use std::alloc::{AllocError, Global};
+use std::io::{ErrorKind, Read};
+use std::path::Path;
+use std::rt::Files;
+use std::{fs, io};
+use terms::{Bytes, Text};
+use thiserror::Error;
+
+/// Why a folder can't be served.
+#[derive(Debug, Drop, Error)]
+pub enum FolderFault {
+    #[error("out of memory")]
+    Memory,
+    /// The folder, or a file of it.
+    #[error("{0} can't be read")]
+    Unreadable(String),
+    #[error("the name of a file in it is not UTF-8")]
+    NotUtf8,
+    #[error("it has more than {MOST_FILES} files")]
+    TooMany,
+    #[error("its files have more than {MOST_BYTES} bytes together")]
+    TooLarge,
+}
+
+impl From<AllocError> for FolderFault {
+    fn from(_refused: AllocError) -> FolderFault {
+        FolderFault::Memory
+    }
+}
+
+impl From<PageError> for FolderFault {
+    fn from(error: PageError) -> FolderFault {
+        match error {
+            PageError::TooMany => FolderFault::TooMany,
+            PageError::TooLarge => FolderFault::TooLarge,
+            PageError::Memory => FolderFault::Memory,
+        }
+    }
+}
+
+/// What a failed call on this path comes to.
+fn fault_at(alloc: Global, path: &str, error: &io::Error) -> FolderFault {
+    match error.kind() {
+        ErrorKind::OutOfMemory => FolderFault::Memory,
+        // The one fault of a name.
+        ErrorKind::InvalidFilename => FolderFault::NotUtf8,
+        _ => match String::from_str(alloc, path) {
+            Ok(path) => FolderFault::Unreadable(path),
+            Err(_) => FolderFault::Memory,
+        },
+    }
+}
+
+/// The files of a folder. What else is in it, as other folders, is left out.
+pub fn read_folder<R: Files + AllocGlobal + Clone + Drop>(
+    rt: &R,
+    folder: &str,
+) -> Result<Page, FolderFault> {
+    let alloc = rt.alloc();
+    let mut page = Page::new(alloc);
+    let entries = fs::read_dir(rt, folder).map_err(|error| fault_at(alloc, folder, &error))?;
+    for entry in entries {
+        let entry = entry.map_err(|error| fault_at(alloc, folder, &error))?;
+        add_entry(rt, &mut page, entry.file_name(), entry.path())?;
+    }
+    Ok(page)
+}
+
+/// Adds an entry of a folder, if it is a file.
+fn add_entry<R: Files + AllocGlobal>(
+    rt: &R,
+    page: &mut Page,
+    name: &str,
+    path: Path<'_>,
+) -> Result<(), FolderFault> {
+    let alloc = rt.alloc();
+    let text = path.as_str();
+    let found = fs::metadata(rt, path).map_err(|error| fault_at(alloc, text, &error))?;
+    if !found.is_file() {
+        return Ok(());
+    }
+    let read = read_file(rt, path, MOST_BYTES - page.size());
+    let bytes = read.map_err(|error| fault_at(alloc, text, &error))?;
+    page.add(File {
+        name: Text::copy_of(alloc, name)?,
+        bytes: Bytes::from_vec(bytes),
+    })?;
+    Ok(())
+}
+
+/// The bytes of a file, but just one more than there is room for where it has more.
+fn read_file<R: Files + AllocGlobal>(rt: &R, path: Path<'_>, room: usize) -> io::Result<Vec<u8>> {
+    let file = fs::open(rt, path)?;
+    let most = (room as u64).saturating_add(1);
+    let mut bytes = Vec::new(rt.alloc());
+    file.take(most).read_to_end(&mut bytes)?;
+    Ok(bytes)
+}
