@@ -32,6 +32,22 @@ struct Told {
 }
 
 /// Posts a payload that joins a room and speaks to another.
+fn posts_two<C: Ledger, T: Ledger>(
+    alloc: Global,
+    server: &mut Server<C, T>,
+) -> Result<Told, CoreError> {
+    let one = server.welcomes(alloc)?;
+    server.welcomes(alloc)?;
+    let before = done_of(alloc, server);
+    let body = "42[\"join\",\"q\"]\u{1e}42[\"say\",\"r\",\"x\"]";
+    let error = server.posts(alloc, one, body).err();
+    Ok(Told {
+        before,
+        error,
+        after: done_of(alloc, server),
+    })
+}
+
 fn post_two<C: Ledger, T: Ledger>(
     alloc: Global,
     commands: Blank,
@@ -41,17 +57,7 @@ fn post_two<C: Ledger, T: Ledger>(
     requires taken { (taken.name ≡ T.name) × (taken.parts ≡ T.parts) × (taken.parts ≡ 65536) }
 {
     let mut server = new_server::<C, T>(alloc, commands, taken)?;
-    let one = server.welcomes(alloc)?;
-    server.welcomes(alloc)?;
-    let before = done_of(alloc, &server);
-    let body = "42[\"join\",\"q\"]\u{1e}42[\"say\",\"r\",\"x\"]";
-    let error = server.posts(alloc, one, body).err();
-    let after = done_of(alloc, &server);
-    Ok(Told {
-        before,
-        error,
-        after,
-    })
+    posts_two(alloc, &mut server)
 }
 
 fn post_two_anew(alloc: Global) -> Result<Told, CoreError> {

@@ -1,4 +1,4 @@
-//! Random events of all kinds, each on two cores side by side.
+//! Random events of all kinds, the same on two cores.
 
 mod agreement;
 mod answers;

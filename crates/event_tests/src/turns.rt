@@ -35,33 +35,48 @@ fn two_are_there<C: Ledger, T: Ledger>(
     Ok(())
 }
 
-/// A GET waits, finds nothing, and gets what the other client says.
-fn one_speaks<C: Ledger, T: Ledger>(
+/// A GET waits, and finds nothing.
+fn two_waits<C: Ledger, T: Ledger>(
+    rt: &(impl Abort + AllocGlobal),
+    server: &mut Server<C, T>,
+    two: u128,
+) -> Result<(), CoreError> {
+    let begun = server.does(rt.alloc(), &Event::PollBegin { client: two })?;
+    assert!(rt; begun == Seen::Begun);
+    let take = Event::PollTake {
+        client: two,
+        most: 64,
+    };
+    let nothing = server.does(rt.alloc(), &take)?;
+    assert!(rt; nothing == Seen::Nothing);
+    Ok(())
+}
+
+/// The other client says something.
+fn one_says<C: Ledger, T: Ledger>(
     rt: &(impl Abort + AllocGlobal),
     server: &mut Server<C, T>,
     one: u128,
     two: u128,
 ) -> Result<(), CoreError> {
-    let alloc = rt.alloc();
-    let begun = server.does(alloc, &Event::PollBegin { client: two })?;
-    assert!(rt; begun == Seen::Begun);
-    let nothing = server.does(
-        alloc,
-        &Event::PollTake {
-            client: two,
-            most: 64,
-        },
-    )?;
-    assert!(rt; nothing == Seen::Nothing);
-    let done = server.posts(alloc, one, "42[\"say\",\"r\",\"x\"]")?;
+    let done = server.posts(rt.alloc(), one, "42[\"say\",\"r\",\"x\"]")?;
     let want = SeenDone {
         effects: 1,
         receivers: Some((1, two)),
         ..WORKED_ON_ONE
     };
     assert!(rt; done == Seen::Done(want));
+    Ok(())
+}
+
+/// The GET gets it.
+fn two_gets<C: Ledger, T: Ledger>(
+    rt: &(impl Abort + AllocGlobal),
+    server: &mut Server<C, T>,
+    two: u128,
+) -> Result<(), CoreError> {
     let want = "42[\"say\",\"r\",\"x\",\"0000000000000001\"]";
-    assert!(rt; server.takes(alloc, two, want)?);
+    assert!(rt; server.takes(rt.alloc(), two, want)?);
     Ok(())
 }
 
@@ -142,7 +157,9 @@ fn a_conversation<C: Ledger, T: Ledger>(
     let one = server.welcomes(rt.alloc())?;
     let two = server.welcomes(rt.alloc())?;
     two_are_there(rt, server)?;
-    one_speaks(rt, server, one, two)?;
+    two_waits(rt, server, two)?;
+    one_says(rt, server, one, two)?;
+    two_gets(rt, server, two)?;
     one_leaves(rt, server, one)?;
     two_is_lost(rt, server, two)?;
     the_books_agree(rt, server)
@@ -184,7 +201,28 @@ fn answer_seen(answer: &Result<Outcome, CoreError>) -> Result<Seen, CoreError> {
     }
 }
 
-/// What these events are answered with by a new server, five of them.
+/// What the tests compare of the first five answers.
+fn first_seen(answers: &[Result<Outcome, CoreError>]) -> [Result<Seen, CoreError>; 5] {
+    let mut seen = [Ok(Seen::Nothing); 5];
+    for (answer, slot) in answers.iter().zip(seen.iter_mut()) {
+        *slot = answer_seen(answer);
+    }
+    seen
+}
+
+/// What these events are answered with by a server.
+fn answers_by<C: Ledger, T: Ledger>(
+    alloc: Global,
+    server: &mut Server<C, T>,
+    events: &[(Event, u64)],
+) -> Result<[Result<Seen, CoreError>; 5], CoreError> {
+    let Server { core, pass, ids } = server;
+    match core.apply_all(alloc, pass, &RelayApp, events, ids) {
+        Ok(answers) => Ok(first_seen(answers.as_slice())),
+        Err(_) => Err(CoreFault::Memory.at_once()),
+    }
+}
+
 fn answers_to<C: Ledger, T: Ledger>(
     alloc: Global,
     events: &[(Event, u64)],
@@ -195,15 +233,7 @@ fn answers_to<C: Ledger, T: Ledger>(
     requires taken { (taken.name ≡ T.name) × (taken.parts ≡ T.parts) × (taken.parts ≡ 65536) }
 {
     let mut server = new_server::<C, T>(alloc, commands, taken)?;
-    let Server { core, pass, ids } = &mut server;
-    let Ok(answers) = core.apply_all(alloc, pass, &RelayApp, events, ids) else {
-        return Err(CoreFault::Memory.at_once());
-    };
-    let mut all = [Ok(Seen::Nothing); 5];
-    for (answer, slot) in answers.iter().zip(all.iter_mut()) {
-        *slot = answer_seen(answer);
-    }
-    Ok(all)
+    answers_by(alloc, &mut server, events)
 }
 
 fn new_answers_to(

@@ -1,4 +1,4 @@
-//! Whether two cores answered the same, and whether an answer may be.
+//! Whether two answers are the same, and whether an answer may be.
 
 use crate::made::look_at;
 use crate::random::known::KnownClient;

@@ -3,9 +3,10 @@
 ghost use Rattle.std.specs.Prelude.{◌≡◌};
 
 use crate::made::PARTS;
+use crate::random::answers::is_same;
 use crate::random::drawn::Random;
 use crate::random::known::Clients;
-use crate::random::runs::Run;
+use crate::random::runs::{Run, Told};
 use crate::random::sides::{bad_side, new_side};
 use crate::random::tally::{NOTHING, Tally};
 use effects::CoreFault;
@@ -23,32 +24,30 @@ fn first_offset(seed: u64) -> u64 {
     if seed % 8 == 7 { u64::MAX - 2 } else { 1 }
 }
 
-/// Two new cores for the list of a seed.
-fn begun<C: Ledger, T: Ledger, D: Ledger, U: Ledger>(
+/// What came up in a list and before, and what its events were answered.
+#[derive(Drop)]
+struct Listed {
+    tally: Tally,
+    told: Vec<Told>,
+}
+
+/// A new core for the list of a seed.
+fn begun<C: Ledger, T: Ledger>(
     alloc: Global,
     seed: u64,
     tally: Tally,
     commands: Blank,
     taken: Blank,
-    other_commands: Blank,
-    other_taken: Blank,
-) -> Result<Run<C, T, D, U>, AllocError>
+) -> Result<Run<C, T>, AllocError>
     requires commands { (commands.name ≡ C.name) × (commands.parts ≡ C.parts) × (commands.parts ≡ 65536) }
     requires taken { (taken.name ≡ T.name) × (taken.parts ≡ T.parts) × (taken.parts ≡ 65536) }
-    requires other_commands { (other_commands.name ≡ D.name) × (other_commands.parts ≡ D.parts) × (other_commands.parts ≡ 65536) }
-    requires other_taken { (other_taken.name ≡ U.name) × (other_taken.parts ≡ U.parts) × (other_taken.parts ≡ 65536) }
 {
-    let first = first_offset(seed);
-    let Ok(one) = new_side(alloc, first, commands, taken) else {
-        return Err(AllocError);
-    };
-    let Ok(other) = new_side(alloc, first, other_commands, other_taken) else {
+    let Ok(side) = new_side(alloc, first_offset(seed), commands, taken) else {
         return Err(AllocError);
     };
     Ok(Run {
         alloc,
-        one,
-        other,
+        side,
         clients: Clients {
             list: Vec::new(alloc),
         },
@@ -56,62 +55,74 @@ fn begun<C: Ledger, T: Ledger, D: Ledger, U: Ledger>(
         random: Random { state: seed },
         now: 0,
         tally,
+        told: Vec::new(alloc),
     })
 }
 
-/// The turns of a list, at moments that jump and go back: what came up in them and before, or nothing
-/// where something was wrong.
-fn goes_on<C: Ledger, T: Ledger, D: Ledger, U: Ledger>(
-    run: &mut Run<C, T, D, U>,
-) -> Result<Option<Tally>, AllocError> {
+/// The turns of a list, at moments that jump and go back. Says whether all was right, and whether the
+/// one pass of the core has all that its hub counts.
+fn goes_on<C: Ledger, T: Ledger>(run: &mut Run<C, T>) -> Result<bool, AllocError> {
     for count in 0..TURNS {
         run.now = run.random.moment(count);
         if !run.turn()? {
-            return Ok(None);
+            return Ok(false);
         }
     }
-    Ok(run.tally_if_settled())
+    Ok(run.side.settles())
 }
 
-/// The list of a seed: what came up in it and before, or nothing where something was wrong.
-fn list<C: Ledger, T: Ledger, D: Ledger, U: Ledger>(
+/// The list of a seed on a new core, or nothing where something was wrong.
+fn list_on<C: Ledger, T: Ledger>(
     alloc: Global,
     seed: u64,
     tally: Tally,
     commands: Blank,
     taken: Blank,
-    other_commands: Blank,
-    other_taken: Blank,
-) -> Result<Option<Tally>, AllocError>
+) -> Result<Option<Listed>, AllocError>
     requires commands { (commands.name ≡ C.name) × (commands.parts ≡ C.parts) × (commands.parts ≡ 65536) }
     requires taken { (taken.name ≡ T.name) × (taken.parts ≡ T.parts) × (taken.parts ≡ 65536) }
-    requires other_commands { (other_commands.name ≡ D.name) × (other_commands.parts ≡ D.parts) × (other_commands.parts ≡ 65536) }
-    requires other_taken { (other_taken.name ≡ U.name) × (other_taken.parts ≡ U.parts) × (other_taken.parts ≡ 65536) }
 {
-    let mut run = begun::<C, T, D, U>(
-        alloc,
-        seed,
-        tally,
-        commands,
-        taken,
-        other_commands,
-        other_taken,
-    )?;
-    goes_on(&mut run)
+    let mut run = begun::<C, T>(alloc, seed, tally, commands, taken)?;
+    if !goes_on(&mut run)? {
+        return Ok(None);
+    }
+    Ok(Some(Listed {
+        tally: run.tally,
+        told: run.told,
+    }))
 }
 
-fn list_once(alloc: Global, seed: u64, tally: Tally) -> Result<Option<Tally>, AllocError> {
+fn new_list(alloc: Global, seed: u64, tally: Tally) -> Result<Option<Listed>, AllocError> {
     let (commands, taken) = (Blank::new(PARTS), Blank::new(PARTS));
-    let (other_commands, other_taken) = (Blank::new(PARTS), Blank::new(PARTS));
-    list::<Brand, Brand, Brand, Brand>(
-        alloc,
-        seed,
-        tally,
-        commands,
-        taken,
-        other_commands,
-        other_taken,
-    )
+    list_on::<Brand, Brand>(alloc, seed, tally, commands, taken)
+}
+
+fn are_same(some: &[Told], others: &[Told]) -> bool {
+    let mut same = some.len() == others.len();
+    for (one, other) in some.iter().zip(others.iter()) {
+        same = same && one.look == other.look && is_same(&one.answer, &other.answer);
+    }
+    same
+}
+
+/// What came up in two lists that went alike.
+fn tally_of(one: &Option<Listed>, other: &Option<Listed>) -> Option<Tally> {
+    let (Some(one), Some(other)) = (one, other) else {
+        return None;
+    };
+    if are_same(&one.told, &other.told) {
+        Some(one.tally)
+    } else {
+        None
+    }
+}
+
+/// The list of a seed on two cores, of which both have to answer the same: what came up in it and
+/// before, or nothing where something was wrong.
+fn list_once(alloc: Global, seed: u64, tally: Tally) -> Result<Option<Tally>, AllocError> {
+    let one = new_list(alloc, seed, tally)?;
+    let other = new_list(alloc, seed, tally)?;
+    Ok(tally_of(&one, &other))
 }
 
 /// The same, anew where an allocation was refused.

@@ -1,4 +1,4 @@
-//! The two cores.
+//! A core with small limits.
 
 ghost use Rattle.std.specs.Prelude.{◌≡◌};
 ghost use Rattle.relay.specs.Counter.{counted_from};
