@@ -71,12 +71,26 @@ fn text_from(alloc: Global, socket: &mut Socket) -> Option<String> {
     }
 }
 
-/// Whether the next message is this text, or nothing where it is a ping.
+/// Whether a message is this text, or nothing where it is a ping.
+fn is_text(message: &Message, text: &str) -> Option<bool> {
+    match message {
+        Message::Text(got) => {
+            if got.as_str() == text {
+                Some(true)
+            } else if got.as_str() == "2" {
+                None
+            } else {
+                Some(false)
+            }
+        }
+        _ => Some(false),
+    }
+}
+
 fn hears_at_once(socket: &mut Socket, text: &str) -> Option<bool> {
     match socket.read() {
-        Ok(Message::Text(got)) if got.as_str() == text => Some(true),
-        Ok(Message::Text(got)) if got.as_str() == "2" => None,
-        _ => Some(false),
+        Ok(message) => is_text(&message, text),
+        Err(_) => Some(false),
     }
 }
 
