@@ -1,23 +1,39 @@
 -- The frames that packets are sent as.
-use Rattle.std.proofs.Common.{◌≡◌, ℕ, ◌+◌, ◌<◌, List, [], ◌∷◌, ◌++◌, length, take, get_or, sym, ◌∙◌, ap, subst}
+use Rattle.std.proofs.Common.{◌≡◌, ℕ, ◌+◌, Bool, true, false, List, [], ◌∷◌, ◌++◌, length, map, take, codes, sym, refl, subst, Some, slice_get, if◌then◌else◌}
 use Rattle.std.specs.List.{AllZip}
-use Rattle.std.proofs.lemmas.List.{take_more}
 use Rattle.eio_wire.specs.declared.packet.Packet.{Packet}
+use Rattle.eio_wire.specs.declared.packet.Packet.TheVariants.{Ping, Message, Binary}
+use Rattle.sio_wire.specs.declared.entry.Entry.{Entry}
 use Rattle.dispatch.specs.declared.event.WsFrame.{WsFrame}
-use Rattle.dispatch.specs.Frames.{IsSentAs}
+use Rattle.dispatch.specs.declared.event.WsFrame.TheVariants as frame
+use Rattle.dispatch.specs.Frames.{IsSentAs, frames_of}
+use Rattle.dispatch.specs.Takes.{packets_of, carried}
+use Rattle.dispatch.proofs.TakeLemmas.{carried-more}
 
-sent-push : (packets : List Packet) (frames : List WsFrame) (packet : Packet) (frame : WsFrame) → AllZip IsSentAs packets frames → IsSentAs packet frame
-    → AllZip IsSentAs (packets ++ packet ∷ []) (frames ++ frame ∷ [])
-sent-push [] [] packet frame all is = (is, tt)
-sent-push (p ∷ packets) (f ∷ frames) packet frame all is = (all.0, sent-push packets frames packet frame all.1 is)
-sent-push [] (f ∷ frames) packet frame all is = absurd all
-sent-push (p ∷ packets) [] packet frame all is = absurd all
+sent-append : (packets more : List Packet) (frames others : List WsFrame) → AllZip IsSentAs packets frames → AllZip IsSentAs more others
+    → AllZip IsSentAs (packets ++ more) (frames ++ others)
+sent-append [] more [] others all rest = rest
+sent-append (p ∷ packets) more (f ∷ frames) others all rest = (all.0, sent-append packets more frames others all.1 rest)
+sent-append [] more (f ∷ frames) others all rest = absurd all
+sent-append (p ∷ packets) more [] others all rest = absurd all
 
--- one packet more is sent
-pub sent-more : (packets : List Packet) (i : ℕ) (packet : Packet) (frames more : List WsFrame) (frame : WsFrame) → i < length packets → packet ≡ get_or packets i packet
-    → AllZip IsSentAs (take i packets) frames → IsSentAs packet frame → more ≡ frames ++ frame ∷ [] → AllZip IsSentAs (take (i + 1) packets) more
-sent-more packets i packet frames more frame within is sent next pushed =
-    let taken : take (i + 1) packets ≡ take i packets ++ packet ∷ [] = take_more packets i packet within ∙ ap (λ (x : Packet). take i packets ++ x ∷ []) (sym is) in
-    subst (λ (ps : List Packet). AllZip IsSentAs ps more) (sym taken)
-    (subst (λ (fs : List WsFrame). AllZip IsSentAs (take i packets ++ packet ∷ []) fs) (sym pushed)
-    (sent-push (take i packets) frames packet frame sent next))
+sent-parts : (parts : List (List ℕ)) → AllZip IsSentAs (map Binary parts) (map frame.Bytes parts)
+sent-parts [] = tt
+sent-parts (part ∷ parts) = (refl, sent-parts parts)
+
+sent-entry : (e : Entry) → AllZip IsSentAs (packets_of e) (frames_of e)
+sent-entry e = ((codes "4" ++ e.text, refl, refl), sent-parts e.attachments)
+
+-- a ping is sent first, where one is due
+pub sent-first : (ping : Bool) (frames : List WsFrame) → frames ≡ (if ping then frame.Text (codes "2") ∷ [] else [])
+    → AllZip IsSentAs (if ping then Ping [] ∷ [] else []) frames
+sent-first true frames is = subst (λ (fs : List WsFrame). AllZip IsSentAs (Ping [] ∷ []) fs) (sym is) ((codes "2", refl, refl), tt)
+sent-first false frames is = subst (λ (fs : List WsFrame). AllZip IsSentAs [] fs) (sym is) tt
+
+-- one entry more is sent
+pub sent-more : (ping : Bool) (w : List Entry) (i : ℕ) (e : Entry) (frames more : List WsFrame) → slice_get w i ≡ Some e
+    → AllZip IsSentAs (carried ping (take i w)) frames → more ≡ frames ++ frames_of e → AllZip IsSentAs (carried ping (take (i + 1) w)) more
+sent-more ping w i e frames more is sent pushed =
+    subst (λ (ps : List Packet). AllZip IsSentAs ps more) (carried-more ping w i e is)
+    (subst (λ (fs : List WsFrame). AllZip IsSentAs (carried ping (take i w) ++ packets_of e) fs) (sym pushed)
+    (sent-append (carried ping (take i w)) (packets_of e) frames (frames_of e) sent (sent-entry e)))

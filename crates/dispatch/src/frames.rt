@@ -1,29 +1,30 @@
 //! What comes and what goes over a client's WebSocket (Engine.IO protocol 4, "WebSocket").
 
-ghost use Rattle.std.specs.Prelude.{◌≡◌, ◌≢◌, ◌⊎◌, ◌++◌, ◌∷◌, ℕ, [], true, IfOk, IfErr, OnOk};
+ghost use Rattle.std.specs.Prelude.{◌≡◌, ◌≢◌, ◌⊎◌, ◌++◌, ◌∷◌, ℕ, [], true, codes, IfOk, IfErr, OnOk, if◌then◌else◌};
 ghost use Rattle.std.specs.List.{AllZip};
 ghost use Rattle.journal.specs.Journal.{History};
 ghost use Rattle.journal.specs.Membership.{is_open};
 ghost use Rattle.hub.specs.Pass.{PlainHub, PlainPass};
 ghost use Rattle.connection.specs.Line.{Advances};
 ghost use Rattle.effects.specs.Following.{TurnsFor, WorksFor, Spares};
-ghost use Rattle.dispatch.specs.declared.event.WsFrame.{WsFrame as SentFrame};
+ghost use Rattle.dispatch.specs.declared.event.WsFrame.TheVariants as frame_of;
 ghost use Rattle.dispatch.specs.Answers.{ForClient};
-ghost use Rattle.dispatch.specs.Frames.{is_too_long, IsFrameOf, IsNoFrame, IsSentAs, Sends, SendsWaiting, SendsFor};
+ghost use Rattle.dispatch.specs.Frames.{is_too_long, IsFrameOf, IsNoFrame, IsSentAs, frames_of, Sends, SendsWaiting, SendsFor};
 ghost use Rattle.dispatch.specs.Machine.{HearsFor, TakesFrames, listed};
 ghost use Rattle.dispatch.specs.Place.{place, Agree};
 ghost use Rattle.dispatch.specs.Takes.{handed, carried, ping_calls};
 
 use crate::event::WsFrame;
 use crate::outcome::{Frames, Outcome};
-use crate::takes::{count, packets_for};
+use crate::takes::count;
 use crate::turns::{close_unread, transport_of, work_on};
 use connection::Line;
 use effects::{App, Cause, CoreError, CoreFault, IdSource};
-use eio_wire::{Packet, WireError, read_packet, write_packet};
+use eio_wire::{Packet, WireError, read_packet};
 use hub::{Hub, Pass};
 use session_clock::Transport;
-use std::alloc::Global;
+use sio_wire::Entry;
+use std::alloc::{AllocError, Global};
 use std::collections::BTreeMap;
 use std::sync::ledger::Ledger;
 use terms::Text;
@@ -90,39 +91,58 @@ pub(crate) fn hear<C: Ledger, T: Ledger, A: App, I: IdSource>(
     }
 }
 
-/// The frame that a packet is sent as.
-fn frame_of(alloc: Global, packet: &Packet) -> Result<WsFrame, CoreFault>
-    ensures ok { IfOk result (λ frame. IsSentAs packet.now frame) }
-    ensures err { IfErr result (λ f. f ≡ CoreFault.Memory) }
+/// The text of a message.
+fn message_text(alloc: Global, rest: &str) -> Result<Text, AllocError>
+    ensures { IfOk result (λ text. text ≡ codes "4" ++ rest.now) }
 {
-    if let Packet::Binary(bytes) = packet {
-        return Ok(WsFrame::Bytes(bytes.clone()?));
-    }
-    match write_packet(alloc, packet) {
-        Ok(text) => Ok(WsFrame::Text(Text::from_string(text))),
-        Err(_) => Err(CoreFault::Memory),
-    }
+    let mut text = String::with_capacity(alloc, rest.len().saturating_add(1))?;
+    text.push_str("4")?;
+    text.push_str(rest)?;
+    Ok(Text::from_string(text))
 }
 
-/// Adds the frame that a packet is sent as.
-fn push_frame(alloc: Global, frames: &mut Vec<WsFrame>, packet: &Packet) -> Result<(), CoreFault>
-    ensures ok { OnOk result ((frame : SentFrame) × IsSentAs packet.now frame × (frames.new.items ≡ frames.old.items ++ frame ∷ [])) }
-    ensures err { IfErr result (λ f. f ≡ CoreFault.Memory) }
+/// Adds the frames of an entry: its text as a message, and then its attachments.
+fn push_entry(alloc: Global, frames: &mut Vec<WsFrame>, entry: &Entry) -> Result<(), AllocError>
+    ensures { OnOk result (frames.new.items ≡ frames.old.items ++ frames_of entry.now) }
 {
-    frames.push(frame_of(alloc, packet)?)?;
+    let text = message_text(alloc, entry.text.as_str())?;
+    frames.push(WsFrame::Text(text))?;
+    for part in entry.attachments.as_slice() {
+        frames.push(WsFrame::Bytes(part.clone()?))?;
+    }
     Ok(())
 }
 
-/// The frames that these packets are sent as.
-fn frames_of(alloc: Global, packets: &[Packet]) -> Result<Frames, CoreFault>
-    ensures ok { IfOk result (λ frames. AllZip IsSentAs packets.now frames) }
-    ensures err { IfErr result (λ f. f ≡ CoreFault.Memory) }
+/// The frames before the entries: a ping where one is due.
+fn first_frames(alloc: Global, ping: bool) -> Result<Vec<WsFrame>, AllocError>
+    ensures { IfOk result (λ frames. frames.items ≡ (if ping then frame_of.Text (codes "2") ∷ [] else [])) }
 {
     let mut frames = Vec::new(alloc);
-    for packet in packets {
-        push_frame(alloc, &mut frames, packet)?;
+    if ping {
+        frames.push(WsFrame::Text(Text::copy_of(alloc, "2")?))?;
     }
-    Ok(Frames::from_vec(frames))
+    Ok(frames)
+}
+
+/// The frames that a take of at most so many entries carries. Each text is copied once.
+fn frames_for<C: Ledger, T: Ledger>(
+    alloc: Global,
+    hub: &Hub<C, T>,
+    client: u128,
+    ping: bool,
+    most: usize,
+) -> Result<Vec<WsFrame>, AllocError>
+    requires open_client { is_open hub.now.history.base hub.now.history.journal client ≡ true }
+    ensures { IfOk result (λ frames. AllZip IsSentAs (carried ping (handed hub.now.history client most)) frames.items) }
+{
+    let mut frames = first_frames(alloc, ping)?;
+    for index in 0..most {
+        let Some(entry) = hub.state().front(client, index) else {
+            return Ok(frames);
+        };
+        push_entry(alloc, &mut frames, entry)?;
+    }
+    Ok(frames)
 }
 
 /// A ping that was due is carried.
@@ -134,7 +154,7 @@ fn carry_ping(line: &mut Line, ping: bool)
     }
 }
 
-/// Hands out the frames of these packets. They are written before the entries are taken.
+/// Hands out frames that are written. They are written before the entries are taken.
 fn send<C: Ledger, T: Ledger>(
     alloc: Global,
     hub: &mut Hub<C, T>,
@@ -143,20 +163,19 @@ fn send<C: Ledger, T: Ledger>(
     client: u128,
     most: usize,
     ping: bool,
-    packets: &[Packet],
+    frames: Vec<WsFrame>,
     now: u64,
 ) -> Result<Outcome, CoreFault>
     requires open_client { is_open hub.old.history.base hub.old.history.journal client ≡ true }
-    requires carried { packets.now ≡ carried ping (handed hub.old.history client most) }
+    requires sent { AllZip IsSentAs (carried ping (handed hub.old.history client most)) frames.items }
     ensures does { Sends client most now ping result hub.old.history hub.new.history line.old line.new }
     ensures open_still { is_open hub.new.history.base hub.new.history.journal client ≡ true }
     ensures turns { (h : PlainHub) (p : PlainPass) → TurnsFor client h hub.old p pass.old → TurnsFor client h hub.new p pass.new }
     ensures spares { (h : History) → Spares client h hub.old.history [] → Spares client h hub.new.history [] }
 {
-    let frames = frames_of(alloc, packets)?;
     count(alloc, hub, pass, client, most, now)?;
     carry_ping(line, ping);
-    Ok(Outcome::Frames(frames))
+    Ok(Outcome::Frames(Frames::from_vec(frames)))
 }
 
 /// Hands out the frames of a client that speaks over a WebSocket, or says that there is nothing.
@@ -176,21 +195,11 @@ fn send_waiting<C: Ledger, T: Ledger>(
     ensures turns { (h : PlainHub) (p : PlainPass) → TurnsFor client h hub.old p pass.old → TurnsFor client h hub.new p pass.new }
     ensures spares { (h : History) → Spares client h hub.old.history [] → Spares client h hub.new.history [] }
 {
-    let packets = packets_for(alloc, hub, client, ping, most)?;
-    if packets.is_empty() {
+    let frames = frames_for(alloc, hub, client, ping, most)?;
+    if frames.is_empty() {
         return Ok(Outcome::Nothing);
     }
-    send(
-        alloc,
-        hub,
-        pass,
-        line,
-        client,
-        most,
-        ping,
-        packets.as_slice(),
-        now,
-    )
+    send(alloc, hub, pass, line, client, most, ping, frames, now)
 }
 
 /// Takes the frames for a client's WebSocket.

@@ -46,7 +46,7 @@ fn first_packets(alloc: Global, ping: bool) -> Result<Vec<Packet>, AllocError>
 }
 
 /// The packets that a take of at most so many entries carries.
-pub(crate) fn packets_for<C: Ledger, T: Ledger>(
+fn packets_for<C: Ledger, T: Ledger>(
     alloc: Global,
     hub: &Hub<C, T>,
     client: u128,

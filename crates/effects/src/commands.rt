@@ -290,7 +290,8 @@ pub fn park<C: Ledger, T: Ledger>(
     }
 }
 
-/// Takes the first entries that wait for an open client.
+/// The first entries that wait for an open client are taken. Who carries them away has read them by
+/// then.
 pub fn take<C: Ledger, T: Ledger>(
     alloc: Global,
     hub: &mut Hub<C, T>,
@@ -307,11 +308,8 @@ pub fn take<C: Ledger, T: Ledger>(
     ensures turns { (h : PlainHub) (p : PlainPass) → TurnsFor client h hub.old p pass.old → TurnsFor client h hub.new p pass.new }
     ensures spares { (h : History) (lists : List (List ℕ)) → Spares client h hub.old.history lists → Spares client h hub.new.history lists }
 {
-    match hub.take(alloc, pass, client, most, now) {
-        Ok(entries) => {
-            drop(entries);
-            Ok(())
-        }
+    match hub.take_away(alloc, pass, client, most, now) {
+        Ok(_number) => Ok(()),
         Err(error) => Err(CoreFault::of(error)),
     }
 }

@@ -96,16 +96,33 @@ pub(crate) fn record(journal: &mut Steps, last: &mut u64, now: u64, what: What)
     journal.push(Step { at: *last, what });
 }
 
-/// Counts one more command, with what it put, dropped, handed out and discarded.
-pub(crate) fn count(counts: &mut Counts, puts: u64, drops: u64, takes: u64, discards: u64)
-    requires { CanCount counts.old puts drops takes discards }
-    ensures { counts.new ≡ record { commands = counts.old.commands + 1; placed = counts.old.placed + puts; dropped = counts.old.dropped + drops; taken = counts.old.taken + takes; discarded = counts.old.discarded + discards } }
+/// What a command adds to the counts beside itself, in entries.
+#[derive(Clone, Copy)]
+pub(crate) struct Added {
+    pub(crate) placed: u64,
+    pub(crate) dropped: u64,
+    pub(crate) taken: u64,
+    pub(crate) discarded: u64,
+}
+
+/// Nothing.
+pub(crate) const NONE: Added = Added {
+    placed: 0,
+    dropped: 0,
+    taken: 0,
+    discarded: 0,
+};
+
+/// Counts one more command, with what it adds.
+pub(crate) fn count(counts: &mut Counts, added: Added)
+    requires { CanCount counts.old added.placed added.dropped added.taken added.discarded }
+    ensures { counts.new ≡ record { commands = counts.old.commands + 1; placed = counts.old.placed + added.placed; dropped = counts.old.dropped + added.dropped; taken = counts.old.taken + added.taken; discarded = counts.old.discarded + added.discarded } }
 {
     counts.commands += 1;
-    counts.placed += puts;
-    counts.dropped += drops;
-    counts.taken += takes;
-    counts.discarded += discards;
+    counts.placed += added.placed;
+    counts.dropped += added.dropped;
+    counts.taken += added.taken;
+    counts.discarded += added.discarded;
 }
 
 /// An empty log, as the limits say.

@@ -15,7 +15,7 @@ use tungstenite::{NoCallback, NoMask, WebSocket, WebSocketConfig};
 const LONGEST: usize = 1_048_576;
 
 /// How many bytes one read asks for. Two such buffers are kept for each socket.
-const READ_SIZE: usize = 2_048;
+const READ_SIZE: usize = 1_024;
 
 /// A WebSocket over a stream whose first bytes were read before: the head of its request, and what
 /// came with it.

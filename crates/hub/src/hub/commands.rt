@@ -167,4 +167,25 @@ impl<C: Ledger, T: Ledger> Hub<C, T> {
         self.books.count(pass, &self.state, entries.len() as u64);
         Ok(entries)
     }
+
+    /// The first `most` entries that wait for a client, or all where fewer wait, are taken as by
+    /// `take`, but not handed out: who wants them has read them by `front` of the state. Tells how many
+    /// they are. Refused as `UnknownClient`, `Spent`, then for `Memory`. It takes the logarithm of the
+    /// clients, and copies nothing.
+    pub fn take_away(
+        &mut self,
+        alloc: Global,
+        pass: &mut Pass<C, T>,
+        client: u128,
+        most: usize,
+        now: u64,
+    ) -> Result<usize, HubError>
+        ensures number { let h = self.old.history in IfOk result (λ number. number ≡ min most (length (waiting h.base h.limits h.journal client))) }
+        ensures does { let h = self.old.history in let number = min most (length (waiting h.base h.limits h.journal client)) in DoesCounted self.old self.new pass.old pass.new now (What.Took client most number) result }
+        ensures rises { Rises self.old self.new pass.old pass.new }
+    {
+        let number = self.state.take_away(alloc, client, most, now)?;
+        self.books.count(pass, &self.state, number as u64);
+        Ok(number)
+    }
 }

@@ -27,7 +27,7 @@ ghost use Rattle.sio_wire.specs.Offset.{is_bracket, payload_with_offset};
 ghost use Rattle.continuity.specs.Truly.{HearsWhatIsDue};
 
 use crate::state::deliver::put_entry;
-use crate::state::{State, count, record, reserve};
+use crate::state::{Added, NONE, State, count, record, reserve};
 use hub_parts::{Client, Seats};
 use journal::{Broadcast, Cast, CastDone, HubError, Message, Socket, What};
 use recovery::{Logged, PacketLog};
@@ -470,7 +470,12 @@ impl State {
         reserve(&mut self.journal)?;
         put_messages(&mut self.clients, messages);
         push_logged(&mut self.log, entry);
-        count(&mut self.counts, done.placed, done.dropped, 0, 0);
+        let added = Added {
+            placed: done.placed,
+            dropped: done.dropped,
+            ..NONE
+        };
+        count(&mut self.counts, added);
         let what = What::Cast(broadcast);
         record(&mut self.journal, &mut self.last, now, what);
         Ok(done)

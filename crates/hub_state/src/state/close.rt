@@ -16,7 +16,7 @@ ghost use Rattle.journal.specs.declared.socket.Socket.{Socket};
 ghost use Rattle.journal.specs.declared.step.What.{What};
 
 use crate::state::end::forget_all;
-use crate::state::{State, count, record, reserve};
+use crate::state::{Added, NONE, State, count, record, reserve};
 use hub_parts::{Client, Seats};
 use journal::{HubError, What};
 use recovery::Pid;
@@ -80,7 +80,11 @@ impl State {
             client,
         );
         self.rooms.kept_facts();
-        count(&mut self.counts, 0, 0, 0, discards as u64);
+        let added = Added {
+            discarded: discards as u64,
+            ..NONE
+        };
+        count(&mut self.counts, added);
         record(&mut self.journal, &mut self.last, now, What::Closed(client));
         Ok(())
     }

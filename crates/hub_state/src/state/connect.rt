@@ -23,7 +23,7 @@ ghost use Rattle.journal.specs.declared.socket.Socket.{Socket};
 ghost use Rattle.journal.specs.declared.step.What.{What};
 
 use crate::state::deliver::put_entry;
-use crate::state::{State, count, record, reserve};
+use crate::state::{Added, NONE, State, count, record, reserve};
 use hub_parts::{Client, Seats};
 use journal::{HubError, Socket, What};
 use recovery::Pid;
@@ -390,7 +390,8 @@ impl State {
         }
         self.rooms.kept_facts();
         put_entry(&mut self.clients, client, answer);
-        count(&mut self.counts, 1, 0, 0, 0);
+        let added = Added { placed: 1, ..NONE };
+        count(&mut self.counts, added);
         let what = What::Attached(socket);
         record(&mut self.journal, &mut self.last, now, what);
         Ok(())

@@ -13,7 +13,7 @@ ghost use Rattle.journal.specs.Fields.{without_first, with_entry};
 ghost use Rattle.std.specs.Option.{option_map};
 ghost use Rattle.journal.specs.declared.step.What.{What};
 
-use crate::state::{State, count, record, reserve};
+use crate::state::{Added, NONE, State, count, record, reserve};
 use hub_parts::Client;
 use journal::{HubError, Message, What};
 use sio_wire::Entry;
@@ -92,7 +92,8 @@ impl State {
         let (entry, shared) = share(alloc, entry)?;
         reserve(&mut self.journal)?;
         put_entry(&mut self.clients, client, shared);
-        count(&mut self.counts, 1, 0, 0, 0);
+        let added = Added { placed: 1, ..NONE };
+        count(&mut self.counts, added);
         let what = What::Told(Message { client, entry });
         record(&mut self.journal, &mut self.last, now, what);
         Ok(())
@@ -142,15 +143,38 @@ impl State {
     {
         let number = self.takes(client, most)?;
         let entries = self.copies(alloc, client, number)?;
+        self.take_away(alloc, client, most, now)?;
+        Ok(entries)
+    }
+
+    /// The first `most` entries that wait for a client, or all where fewer wait, are taken as by
+    /// `take`, but not handed out: who wants them has read them by `front`. Tells how many they are.
+    /// Refused as `UnknownClient`, `Spent`, then for `Memory`. It takes the logarithm of the clients,
+    /// and copies nothing.
+    pub fn take_away(
+        &mut self,
+        _alloc: Global,
+        client: u128,
+        most: usize,
+        now: u64,
+    ) -> Result<usize, HubError>
+        ensures number { IfOk result (λ number. number ≡ min most (length (waiting self.old.base self.old.limits self.old.journal client))) }
+        ensures does { let number = min most (length (waiting self.old.base self.old.limits self.old.journal client)) in Does self.old self.new now (What.Took client most number) result }
+    {
+        let number = self.takes(client, most)?;
         reserve(&mut self.journal)?;
         hand_out(&mut self.clients, client, number);
-        count(&mut self.counts, 0, 0, number as u64, 0);
+        let added = Added {
+            taken: number as u64,
+            ..NONE
+        };
+        count(&mut self.counts, added);
         record(
             &mut self.journal,
             &mut self.last,
             now,
             What::Took(client, most, number),
         );
-        Ok(entries)
+        Ok(number)
     }
 }

@@ -28,7 +28,7 @@ ghost use Rattle.journal.specs.declared.step.What.{What};
 
 use crate::state::cast::{messages_for, put_messages, receivers, sockets_in};
 use crate::state::end::{drop_from, forget};
-use crate::state::{State, count, record, reserve};
+use crate::state::{Added, NONE, State, count, record, reserve};
 use hub_parts::{Client, Seats};
 use journal::{Dismissal, Dismissed, HubError, Message, Socket, What};
 use recovery::Pid;
@@ -190,7 +190,11 @@ impl State {
         drop_all(&mut self.clients, &sockets, place);
         forget_each(&mut self.seats, &mut self.pids, &mut self.rooms, &sockets);
         self.rooms.kept_facts();
-        count(&mut self.counts, told, 0, 0, 0);
+        let added = Added {
+            placed: told,
+            ..NONE
+        };
+        count(&mut self.counts, added);
         let what = What::AllEnded(dismissal);
         record(&mut self.journal, &mut self.last, now, what);
         Ok(())

@@ -17,7 +17,7 @@ ghost use Rattle.journal.specs.declared.socket.Socket.{Socket};
 ghost use Rattle.journal.specs.declared.step.What.{What};
 
 use crate::state::connect::{drop_pid, drop_seat};
-use crate::state::{State, count, record, reserve};
+use crate::state::{NONE, State, count, record, reserve};
 use hub_parts::{Client, Seats, Sockets};
 use journal::{HubError, Socket, What};
 use recovery::Pid;
@@ -109,7 +109,7 @@ impl State {
         drop_from(&mut self.clients, socket.client, usize::from(socket.space));
         forget(&mut self.seats, &mut self.pids, &mut self.rooms, socket);
         self.rooms.kept_facts();
-        count(&mut self.counts, 0, 0, 0, 0);
+        count(&mut self.counts, NONE);
         record(&mut self.journal, &mut self.last, now, What::Ended(sid));
         Ok(())
     }

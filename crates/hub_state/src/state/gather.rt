@@ -11,7 +11,7 @@ ghost use Rattle.journal.specs.Command.{refusal, Does};
 ghost use Rattle.journal.specs.declared.step.What.{What};
 
 use crate::state::members::keep_here;
-use crate::state::{State, count, record, reserve};
+use crate::state::{NONE, State, count, record, reserve};
 use journal::{HubError, RoomChange, What};
 use room_maps::{Room, Rooms, Sid};
 use std::alloc::Global;
@@ -138,7 +138,7 @@ impl State {
             return Err(HubError::Memory);
         };
         self.rooms.kept_facts();
-        count(&mut self.counts, 0, 0, 0, 0);
+        count(&mut self.counts, NONE);
         let what = What::AllJoined(change);
         record(&mut self.journal, &mut self.last, now, what);
         Ok(joined)
@@ -164,7 +164,7 @@ impl State {
             return Err(HubError::Memory);
         };
         self.rooms.kept_facts();
-        count(&mut self.counts, 0, 0, 0, 0);
+        count(&mut self.counts, NONE);
         let what = What::AllLeft(change);
         record(&mut self.journal, &mut self.last, now, what);
         Ok(left)

@@ -11,7 +11,7 @@ ghost use Rattle.journal.specs.Command.{Does};
 ghost use Rattle.journal.specs.Fields.{new_client};
 ghost use Rattle.journal.specs.declared.step.What.{What};
 
-use crate::state::{State, count, record, reserve};
+use crate::state::{NONE, State, count, record, reserve};
 use hub_parts::{Client, Outbox, Sockets};
 use journal::{HubError, What};
 use std::alloc::Global;
@@ -94,7 +94,7 @@ impl State {
         let opened = self.new_client(alloc)?;
         reserve(&mut self.journal)?;
         put_client(&mut self.clients, client, opened)?;
-        count(&mut self.counts, 0, 0, 0, 0);
+        count(&mut self.counts, NONE);
         record(&mut self.journal, &mut self.last, now, What::Opened(client));
         Ok(())
     }

@@ -28,7 +28,7 @@ ghost use Rattle.hub_state.specs.Returning.{socket_again, gets_back};
 ghost use Rattle.journal.specs.declared.step.What.{What};
 
 use crate::state::connect::{add_pid, add_seat, add_socket, drop_pid, drop_seat, drop_socket};
-use crate::state::{State, count, record, reserve};
+use crate::state::{Added, NONE, State, count, record, reserve};
 use hub_parts::{Client, Outbox, Seats, room_after};
 use journal::{HubError, Recovery, RecoveryRefusal, Socket, What};
 use recovery::{Logged, Pid, Saved, SavedTable};
@@ -427,7 +427,11 @@ impl State {
         self.rooms.kept_facts();
         put_all(&mut self.clients, client, puts);
         take_session(&mut self.saved, pid);
-        count(&mut self.counts, number, 0, 0, 0);
+        let added = Added {
+            placed: number,
+            ..NONE
+        };
+        count(&mut self.counts, added);
         let what = What::Recovered(recovery);
         record(&mut self.journal, &mut self.last, now, what);
         Ok(sid)

@@ -8,7 +8,7 @@ ghost use Rattle.journal.specs.Refusals.{or_spent, join_refusal, leave_refusal};
 ghost use Rattle.journal.specs.Command.{Does};
 ghost use Rattle.journal.specs.declared.step.What.{What};
 
-use crate::state::{State, count, record, reserve};
+use crate::state::{NONE, State, count, record, reserve};
 use journal::{HubError, What};
 use room_maps::{Room, RoomError, Rooms, Sid};
 use std::alloc::Global;
@@ -73,7 +73,7 @@ impl State {
             return Err(HubError::Memory);
         }
         self.rooms.kept_facts();
-        count(&mut self.counts, 0, 0, 0, 0);
+        count(&mut self.counts, NONE);
         record(
             &mut self.journal,
             &mut self.last,
@@ -93,7 +93,7 @@ impl State {
         }
         reserve(&mut self.journal)?;
         take_out(&mut self.rooms, sid, room);
-        count(&mut self.counts, 0, 0, 0, 0);
+        count(&mut self.counts, NONE);
         record(
             &mut self.journal,
             &mut self.last,

@@ -11,7 +11,7 @@ ghost use Rattle.journal.specs.Refusals.{or_spent};
 ghost use Rattle.journal.specs.Command.{Does};
 ghost use Rattle.journal.specs.declared.step.What.{What};
 
-use crate::state::{State, count, record, reserve};
+use crate::state::{NONE, State, count, record, reserve};
 use hub_parts::Limits;
 use journal::{HubError, Swept, What};
 use recovery::{PacketLog, SavedTable};
@@ -51,7 +51,7 @@ impl State {
         reserve(&mut self.journal)?;
         let at = now.max(self.last);
         let swept = drop_outdated(&mut self.log, &mut self.saved, &self.limits, at);
-        count(&mut self.counts, 0, 0, 0, 0);
+        count(&mut self.counts, NONE);
         record(&mut self.journal, &mut self.last, now, What::Swept);
         Ok(swept)
     }

@@ -1,6 +1,6 @@
 use Rattle.std.proofs.Common.{rules}
 use Rattle.journal.proofs.CommandLemmas.{took, can_take}
-use Rattle.hub_state.proofs.state.State.take.Goals as goal
+use Rattle.hub_state.proofs.state.State.take_away.Goals as goal
 
 pub invariant_of-self-2 : goal.invariant_of-self-2
 invariant_of-self-2 c =

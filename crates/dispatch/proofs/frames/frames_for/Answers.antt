@@ -1,0 +1,15 @@
+use Rattle.std.proofs.Common.{rules, ◌≡◌, arith, slice_get, Some}
+use Rattle.std.proofs.lemmas.Option.{slice_get_within}
+use Rattle.journal.specs.Outboxes.{waiting}
+use Rattle.dispatch.proofs.FrameLemmas.{sent-more}
+use Rattle.dispatch.proofs.frames.frames_for.Goals as goal
+
+pub loop-index-preserved : goal.loop-index-preserved
+loop-index-preserved g c =
+    let w = waiting c.args.hub.now.history.base c.args.hub.now.history.limits c.args.hub.now.history.journal c.args.client in
+    let found : slice_get w c.loop-index.index ≡ Some c.in-Some.entry.now = search rules in
+    let within = slice_get_within w c.loop-index.index c.in-Some.entry.now found in
+    record {
+      sent = sent-more c.args.ping w c.loop-index.index c.in-Some.entry.now _ _ found c.loop-index.invariant.sent c.in_ok-push_entry.ensures;
+      few = omega (arith, within);
+    }
