@@ -1,8 +1,8 @@
 -- The frames that packets are sent as.
-use Rattle.std.proofs.Common.{◌≡◌, ℕ, ◌+◌, Bool, true, false, List, [], ◌∷◌, ◌++◌, length, map, take, codes, sym, refl, subst, Some, slice_get, if◌then◌else◌}
+use Rattle.std.proofs.Common.{◌≡◌, ℕ, ◌+◌, Bool, List, [], ◌∷◌, ◌++◌, map, take, codes, sym, refl, subst, Some, slice_get}
 use Rattle.std.specs.List.{AllZip}
 use Rattle.eio_wire.specs.declared.packet.Packet.{Packet}
-use Rattle.eio_wire.specs.declared.packet.Packet.TheVariants.{Ping, Message, Binary}
+use Rattle.eio_wire.specs.declared.packet.Packet.TheVariants.{Binary}
 use Rattle.sio_wire.specs.declared.entry.Entry.{Entry}
 use Rattle.dispatch.specs.declared.event.WsFrame.{WsFrame}
 use Rattle.dispatch.specs.declared.event.WsFrame.TheVariants as frame
@@ -23,12 +23,6 @@ sent-parts (part ∷ parts) = (refl, sent-parts parts)
 
 sent-entry : (e : Entry) → AllZip IsSentAs (packets_of e) (frames_of e)
 sent-entry e = ((codes "4" ++ e.text, refl, refl), sent-parts e.attachments)
-
--- a ping is sent first, where one is due
-pub sent-first : (ping : Bool) (frames : List WsFrame) → frames ≡ (if ping then frame.Text (codes "2") ∷ [] else [])
-    → AllZip IsSentAs (if ping then Ping [] ∷ [] else []) frames
-sent-first true frames is = subst (λ (fs : List WsFrame). AllZip IsSentAs (Ping [] ∷ []) fs) (sym is) ((codes "2", refl, refl), tt)
-sent-first false frames is = subst (λ (fs : List WsFrame). AllZip IsSentAs [] fs) (sym is) tt
 
 -- one entry more is sent
 pub sent-more : (ping : Bool) (w : List Entry) (i : ℕ) (e : Entry) (frames more : List WsFrame) → slice_get w i ≡ Some e
