@@ -200,6 +200,14 @@ impl<R: Clock + Drop> Connections<R> {
         }
     }
 
+    /// Whether a connection has so much to send that it is to be sent at once.
+    pub(crate) fn has_much_unsent(&mut self, key: usize) -> bool {
+        match self.slots.get_mut(key) {
+            Some(connection) => connection.has_much_unsent(),
+            None => false,
+        }
+    }
+
     /// One that may have bytes to send.
     pub(crate) fn pop_unsent(&mut self) -> Option<usize> {
         let key = self.unsent.pop()?;

@@ -363,10 +363,18 @@ impl<'a, R: Wait + Clock + Copy + Drop, L: Log> EventLoop<'a, R, L> {
         }
     }
 
-    /// The turn of a connection is over.
+    /// The turn of a connection is over. What it has to send goes out at the end of the loop's turn, or
+    /// at once where that is much.
     fn rest(&mut self, key: usize) {
-        self.connections.note_unsent(key);
         self.current = None;
+        if !self.connections.has_much_unsent(key) {
+            self.connections.note_unsent(key);
+            return;
+        }
+        let now = self.watch.tell();
+        if self.connections.send(key, now) {
+            self.close(key);
+        }
     }
 
     /// Reads what has come of a request, and begins to serve it once it is whole.

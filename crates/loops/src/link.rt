@@ -50,6 +50,10 @@ const DUE: u64 = 10;
 /// A connection with more bytes unsent than this is not served until they have gone.
 const MOST_UNSENT: usize = 65_536;
 
+/// So many bytes are sent when their connection's turn ends, while they are at hand in the processor's
+/// caches. Fewer wait for the end of the loop's turn, so that more may go out with them.
+const MUCH_UNSENT: usize = 32_768;
+
 /// Who serves a connection.
 #[derive(Drop)]
 enum Stage<R> {
@@ -264,6 +268,14 @@ impl<R: Clock + Drop> Connection<R> {
     pub(crate) fn is_full(&mut self) -> bool {
         match self.stream() {
             Some(stream) => stream.unsent() > MOST_UNSENT,
+            None => false,
+        }
+    }
+
+    /// Whether so much is unsent that it is to be sent at once.
+    pub(crate) fn has_much_unsent(&mut self) -> bool {
+        match self.stream() {
+            Some(stream) => stream.unsent() >= MUCH_UNSENT,
             None => false,
         }
     }
