@@ -9,6 +9,7 @@ mod serving;
 
 use commands::Task;
 use options::Options;
+use relay::RelayApp;
 use script::{RunError, run_script};
 use serving::ServeFault;
 use std::io::BufWriter;
@@ -84,7 +85,7 @@ fn told(served: Result<(), ServeFault>) -> Result<ExitCode, Fault> {
 fn play<R: Input + Print + AllocGlobal>(rt: &R) -> Result<ExitCode, Fault> {
     let mut reader = rt.reader();
     let mut writer = BufWriter::new(rt.alloc(), io::writer(rt)).map_err(|_| RunError::Memory)?;
-    run_script(rt.alloc(), &mut reader, &mut writer)?;
+    run_script(rt.alloc(), &RelayApp, &mut reader, &mut writer)?;
     Ok(ExitCode::SUCCESS)
 }
 

@@ -13,6 +13,10 @@ use Rattle.connection.specs.Line.{PlainLine}
 use Rattle.journal.specs.Membership.{place_of, is_open, is_space, is_in_space, rooms}
 use Rattle.journal.specs.Seal.{IsSealed}
 use Rattle.journal.specs.Totals as counted
+use Rattle.effects.specs.declared.app.Arrived.{Arrived}
+use Rattle.effects.specs.declared.app.Effect.{Effect}
+use Rattle.effects.specs.declared.app.Who.{Who}
+use Rattle.effects.specs.App.{PlainVerdict}
 use Rattle.dispatch.specs.declared.event.Event.{Event}
 use Rattle.dispatch.specs.declared.event.Event.TheVariants as event
 use Rattle.dispatch.specs.declared.event.WsFrame.{WsFrame}
@@ -23,7 +27,6 @@ use Rattle.dispatch.specs.Machine.{Does}
 use Rattle.dispatch.specs.Place.{PlainCore, line_of, place}
 use Rattle.dispatch.specs.Takes.{IsOn}
 use Rattle.relay.specs.Counter.{counted_from}
-use Rattle.relay.specs.Relay.{Allows, decided}
 use Rattle.script.specs.declared.script_line.ScriptLine.{ScriptLine}
 use Rattle.script.specs.declared.script_line.ScriptLine.TheVariants as line
 use Rattle.script.specs.declared.play.Play.{Play}
@@ -46,17 +49,7 @@ new_server core = record { core = core; clients = λ name. None; now = 0; next =
 abbrev pub server_of : {C T : Type 0} → Play C T → Server
 server_of play = record { core = play.core; clients = get_by_text play.clients; now = play.now; next = play.ids }
 
--- ---- an event
-
--- the event happens to the server at its moment, as the machine's row says: the app is the demonstration app, and the ids
--- count up; no name stands for another client than before
-pub record Happens (s : Server) (event : Event) (answer : Answer) (t : Server) : Type 0 where
-  pub does : Does (λ who arrived effects. effects ≡ decided who arrived) (λ space payload verdict. Allows payload verdict) s.now s.core.timing s.core.numbers event
-      (place s.core.hub.history s.core.lines) (counted_from s.next) answer (place t.core.hub.history t.core.lines) (counted_from t.next)
-  pub same_timing : t.core.timing ≡ s.core.timing
-  pub same_numbers : t.core.numbers ≡ s.core.numbers
-  pub same_clients : t.clients ≡ s.clients
-  pub same_now : t.now ≡ s.now
+-- ---- what is printed
 
 -- what is printed of an event's answer for the client of this name
 abbrev pub told : (name : List ℕ) → Answer → List ℕ
@@ -67,10 +60,6 @@ told name (Err e) = codes "refused: " ++ fault_name e.fault
 abbrev pub told_frame : (name : List ℕ) → Answer → List ℕ
 told_frame name (Ok outcome) = heard_text name outcome
 told_frame name (Err e) = codes "refused: " ++ fault_name e.fault
-
--- the event happens, and its own answer is printed
-abbrev pub Asks : (name : List ℕ) → Event → Server → (said : List ℕ) → Server → Type 0
-Asks name event s said t = (answer : Answer) × Happens s event answer t × (said ≡ told name answer)
 
 -- ---- names
 
@@ -97,30 +86,12 @@ abbrev pub NamesOpened : (name : List ℕ) → Answer → Server → Server → 
 NamesOpened name (Ok (outcome.Opened opening)) s t = Names name opening.client s t
 NamesOpened name _ s t = t ≡ s
 
--- ---- the lines
-
--- a client is opened, for which the name stands from now on
-abbrev pub Opens : (name : List ℕ) → (socket : Bool) → Server → (said : List ℕ) → Server → Type 0
-Opens name socket s said t = (answer : Answer) × (m : Server) × Happens s (event.Opened socket) answer m × NamesOpened name answer m t × (said ≡ told name answer)
-
--- a frame comes from the client
-abbrev pub Hears : (name : List ℕ) → (c : ℕ) → WsFrame → Server → (said : List ℕ) → Server → Type 0
-Hears name c frame s said t = (answer : Answer) × Happens s (event.Frame c frame) answer t × (said ≡ told_frame name answer)
-
--- a binary frame comes from the client, if these digits spell its bytes
-abbrev pub HearsBytes : (name hex : List ℕ) → (c : ℕ) → Server → (said : List ℕ) → Server → Type 0
-HearsBytes name hex c s said t =
-    ((bytes : List ℕ) × IsBytes bytes × (hex ≡ encode_lower bytes) × Hears name c (frame.Bytes bytes) s said t)
-    ⊎ (((bytes : List ℕ) → IsBytes bytes → hex ≢ encode_lower bytes) × IsBadLine s said t)
-
 -- the client is open and speaks over this transport, or it isn't open
 abbrev pub Speaks : (c : ℕ) → Option Transport → PlainCore → Type 0
 Speaks c (Some on) core = (line : PlainLine) × (line_of core.lines c ≡ Some line) × IsOn on line
 Speaks c None core = is_open core.hub.history.base core.hub.history.journal c ≡ false
 
--- what waits for the client is taken, as it speaks
-abbrev pub TakesWaiting : (name : List ℕ) → (c most : ℕ) → Server → (said : List ℕ) → Server → Type 0
-TakesWaiting name c most s said t = (on : Option Transport) × Speaks c on s.core × Asks name (take_of on c most) s said t
+-- ---- what no event is asked for
 
 -- the ids of sockets, each after a space
 abbrev pub members_text : List ℕ → List ℕ
@@ -162,19 +133,55 @@ abbrev pub Prints : (List ℕ → Type 0) → Option (List ℕ) → Type 0
 Prints row None = ⊥
 Prints row (Some said) = row said
 
--- what a line does to the server and prints; its limits can't be set any more
-abbrev pub Plays : ScriptLine → Server → (said : Option (List ℕ)) → Server → Type 0
-Plays (line.At moment) s said t = (said ≡ None) × (t ≡ record s { now = moment })
-Plays (line.Open name) s said t = Prints (λ text. Opens name.now false s text t) said
-Plays (line.OpenSocket name) s said t = Prints (λ text. Opens name.now true s text t) said
-Plays (line.Text name rest) s said t = Prints (λ text. ForName name.now (λ c. Asks name.now (event.Post c rest.now) s text t) s text t) said
-Plays (line.Frame name rest) s said t = Prints (λ text. ForName name.now (λ c. Hears name.now c (frame.Text rest.now) s text t) s text t) said
-Plays (line.Bytes name hex) s said t = Prints (λ text. ForName name.now (λ c. HearsBytes name.now hex.now c s text t) s text t) said
-Plays (line.Notice word name) s said t = Prints (λ text. ForName name.now (λ c. Asks name.now (event_of word c) s text t) s text t) said
-Plays (line.Take name most) s said t = Prints (λ text. ForName name.now (λ c. TakesWaiting name.now c most s text t) s text t) said
-Plays (line.Members space room) s said t = Prints (λ text. AsksMembers space.now room.now s text) said × (t ≡ s)
-Plays line.Totals s said t = Prints (λ text. TellsTotals s text) said × (t ≡ s)
-Plays line.Seal s said t = Prints (λ text. Seals s text t) said
-Plays line.Sweep s said t = Prints (λ text. Asks [] event.Sweep s text t) said
-Plays line.Nothing s said t = (said ≡ None) × (t ≡ s)
-Plays _ s said t = Prints (λ text. IsBadLine s text t) said
+-- ---- an event, and the lines
+
+-- of the app: which effects it decides on, and which verdicts it allows
+module _ (decides : Who → Arrived → List Effect → Type 0) (allows : (space payload : List ℕ) → PlainVerdict → Type 0) where
+  -- the event happens to the server at its moment, as the machine's row says: the app decides and allows what its own
+  -- words say, and the ids count up; no name stands for another client than before
+  pub record Happens (s : Server) (event : Event) (answer : Answer) (t : Server) : Type 0 where
+    pub does : Does decides allows s.now s.core.timing s.core.numbers event
+        (place s.core.hub.history s.core.lines) (counted_from s.next) answer (place t.core.hub.history t.core.lines) (counted_from t.next)
+    pub same_timing : t.core.timing ≡ s.core.timing
+    pub same_numbers : t.core.numbers ≡ s.core.numbers
+    pub same_clients : t.clients ≡ s.clients
+    pub same_now : t.now ≡ s.now
+
+  -- the event happens, and its own answer is printed
+  abbrev pub Asks : (name : List ℕ) → Event → Server → (said : List ℕ) → Server → Type 0
+  Asks name event s said t = (answer : Answer) × Happens s event answer t × (said ≡ told name answer)
+
+  -- a client is opened, for which the name stands from now on
+  abbrev pub Opens : (name : List ℕ) → (socket : Bool) → Server → (said : List ℕ) → Server → Type 0
+  Opens name socket s said t = (answer : Answer) × (m : Server) × Happens s (event.Opened socket) answer m × NamesOpened name answer m t × (said ≡ told name answer)
+
+  -- a frame comes from the client
+  abbrev pub Hears : (name : List ℕ) → (c : ℕ) → WsFrame → Server → (said : List ℕ) → Server → Type 0
+  Hears name c frame s said t = (answer : Answer) × Happens s (event.Frame c frame) answer t × (said ≡ told_frame name answer)
+
+  -- a binary frame comes from the client, if these digits spell its bytes
+  abbrev pub HearsBytes : (name hex : List ℕ) → (c : ℕ) → Server → (said : List ℕ) → Server → Type 0
+  HearsBytes name hex c s said t =
+      ((bytes : List ℕ) × IsBytes bytes × (hex ≡ encode_lower bytes) × Hears name c (frame.Bytes bytes) s said t)
+      ⊎ (((bytes : List ℕ) → IsBytes bytes → hex ≢ encode_lower bytes) × IsBadLine s said t)
+
+  -- what waits for the client is taken, as it speaks
+  abbrev pub TakesWaiting : (name : List ℕ) → (c most : ℕ) → Server → (said : List ℕ) → Server → Type 0
+  TakesWaiting name c most s said t = (on : Option Transport) × Speaks c on s.core × Asks name (take_of on c most) s said t
+
+  -- what a line does to the server and prints; its limits can't be set any more
+  abbrev pub Plays : ScriptLine → Server → (said : Option (List ℕ)) → Server → Type 0
+  Plays (line.At moment) s said t = (said ≡ None) × (t ≡ record s { now = moment })
+  Plays (line.Open name) s said t = Prints (λ text. Opens name.now false s text t) said
+  Plays (line.OpenSocket name) s said t = Prints (λ text. Opens name.now true s text t) said
+  Plays (line.Text name rest) s said t = Prints (λ text. ForName name.now (λ c. Asks name.now (event.Post c rest.now) s text t) s text t) said
+  Plays (line.Frame name rest) s said t = Prints (λ text. ForName name.now (λ c. Hears name.now c (frame.Text rest.now) s text t) s text t) said
+  Plays (line.Bytes name hex) s said t = Prints (λ text. ForName name.now (λ c. HearsBytes name.now hex.now c s text t) s text t) said
+  Plays (line.Notice word name) s said t = Prints (λ text. ForName name.now (λ c. Asks name.now (event_of word c) s text t) s text t) said
+  Plays (line.Take name most) s said t = Prints (λ text. ForName name.now (λ c. TakesWaiting name.now c most s text t) s text t) said
+  Plays (line.Members space room) s said t = Prints (λ text. AsksMembers space.now room.now s text) said × (t ≡ s)
+  Plays line.Totals s said t = Prints (λ text. TellsTotals s text) said × (t ≡ s)
+  Plays line.Seal s said t = Prints (λ text. Seals s text t) said
+  Plays line.Sweep s said t = Prints (λ text. Asks [] event.Sweep s text t) said
+  Plays line.Nothing s said t = (said ≡ None) × (t ≡ s)
+  Plays _ s said t = Prints (λ text. IsBadLine s text t) said

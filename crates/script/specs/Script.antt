@@ -5,8 +5,12 @@ use Rattle.std.specs.Borrow.{Bor}
 use Rattle.std.specs.declared.sync.ledger.Ledger.{Ghosts}
 use Rattle.std.specs.Io.KnownBytes.{Appends, Consumes}
 use Rattle.journal.specs.Config.{config_refusal}
+use Rattle.effects.specs.declared.app.Arrived.{Arrived}
+use Rattle.effects.specs.declared.app.Effect.{Effect}
+use Rattle.effects.specs.declared.app.Who.{Who}
 use Rattle.effects.specs.declared.fault.CoreFault.{CoreFault}
 use Rattle.effects.specs.declared.fault.CoreFault.TheVariants.{BadConfig}
+use Rattle.effects.specs.App.{PlainVerdict}
 use Rattle.script.specs.declared.script_line.Key.{Key}
 use Rattle.script.specs.declared.script_line.ScriptLine.{ScriptLine}
 use Rattle.script.specs.declared.script_line.ScriptLine.TheVariants as line
@@ -24,7 +28,13 @@ pub data Stage : Type 0 where
   Playing : Server → Stage
   Over : Stage
 
--- ---- a line
+-- the stage of a run
+abbrev pub stage_of : {C T : Type 0} {of_c : Ghosts C} {of_t : Ghosts T} → Run C T of_c of_t → Stage
+stage_of (run.Setting setup ledgers) = Setting setup
+stage_of (run.Playing play) = Playing (server_of play)
+stage_of run.Over = Over
+
+-- ---- limits, and the server
 
 -- a limit is set, as long as there is no server
 abbrev pub Sets : Key → ℕ → Stage → (said : Option (List ℕ)) → Stage → Type 0
@@ -39,27 +49,7 @@ Begins (Setting setup) (Some fault) t = (config_refusal (limits_of setup) ≢ No
 Begins (Playing server) fault t = (fault ≡ None) × (t ≡ Playing server)
 Begins Over fault t = (fault ≡ None) × (t ≡ Over)
 
--- the line is played where there is a server
-abbrev pub PlaysOn : ScriptLine → Stage → (said : Option (List ℕ)) → Stage → Type 0
-PlaysOn line (Playing server) said t = (after : Server) × Plays line server said after × (t ≡ Playing after)
-PlaysOn line stage said t = (said ≡ None) × (t ≡ stage)
-
--- where there is none that is the answer
-abbrev pub PlaysUnless : Option CoreFault → ScriptLine → Stage → (said : Option (List ℕ)) → Stage → Type 0
-PlaysUnless None line s said t = PlaysOn line s said t
-PlaysUnless (Some fault) line s said t = (said ≡ Some (codes "refused: " ++ fault_name fault)) × (t ≡ s)
-
--- what a line does and prints
-abbrev pub Answers : ScriptLine → Stage → (said : Option (List ℕ)) → Stage → Type 0
-Answers line.Nothing s said t = (said ≡ None) × (t ≡ s)
-Answers (line.Config key number) s said t = Sets key number s said t
-Answers line s said t = (fault : Option CoreFault) × (m : Stage) × Begins s fault m × PlaysUnless fault line m said t
-
--- what the bytes of a line do and print
-abbrev pub AnswersBytes : (bytes : List ℕ) → Stage → (said : Option (List ℕ)) → Stage → Type 0
-AnswersBytes bytes s said t = (line : ScriptLine) × IsReadAs bytes line × Answers line s said t
-
--- ---- a script
+-- ---- the text of a script
 
 -- the line feed that ends a line
 abbrev pub LF : ℕ
@@ -74,44 +64,64 @@ abbrev pub printed : Option (List ℕ) → List ℕ
 printed None = []
 printed (Some text) = text ++ LF ∷ []
 
--- the lines are answered in order, each once, and the output is their answers and nothing else
-unfoldable pub Script : (lines : List (List ℕ)) → (before : Stage) → (output : List ℕ) → (after : Stage) → Type 0
-Script [] s output t = (output ≡ []) × (t ≡ s)
-Script (line ∷ lines) s output t =
-    (said : Option (List ℕ)) × (m : Stage) × (rest : List ℕ)
-    × AnswersBytes line s said m × (output ≡ printed said ++ rest) × Script lines m rest t
-
--- the writer got the answers to the lines of the input, from a stage where nothing is set, and nothing else
-abbrev pub IsAnswered : (input : Option (List ℕ)) → (before after : Option (List ℕ)) → Type 0
-IsAnswered input before after = IfSome input (λ text. (output : List ℕ) × (last : Stage) × Script (lines_of text) (Setting USUAL) output last × Appends before after output)
-
--- ---- a script of which a part was read
-
 -- no line ends in it
 abbrev pub IsUnended : List ℕ → Type 0
 IsUnended text = All (λ byte. (byte == LF) ≡ false) text
-
--- from a stage with `begun` of a line, these bytes were read and this was written, and `left` of a line is left: whatever
--- follows, the answers to it complete those that were written
-abbrev pub Continues : Stage → (begun read written left : List ℕ) → Stage → Type 0
-Continues s begun read written left m = (rest output : List ℕ) (t : Stage)
-    → Script (lines_of (left ++ rest)) m output t → Script (lines_of (begun ++ (read ++ rest))) s (written ++ output) t
-
--- what was written so continues
-abbrev pub WritesOn : (before after : Option (List ℕ)) → Stage → (begun read left : List ℕ) → Stage → Type 0
-WritesOn before after s begun read left m = (written : List ℕ) × Appends before after written × Continues s begun read written left m
-
--- what was written answers one line
-abbrev pub WritesLine : (before after : Option (List ℕ)) → (bytes : List ℕ) → Stage → Stage → Type 0
-WritesLine before after bytes s t = (said : Option (List ℕ)) × Appends before after (printed said) × AnswersBytes bytes s said t
 
 -- the known bytes begin with what a read gave, and lose it; an interrupted one gave nothing
 abbrev pub Gives : (before : Option (List ℕ)) → Option (Bor (List ℕ)) → (after : Option (List ℕ)) → Type 0
 Gives before None after = Consumes before after []
 Gives before (Some bytes) after = Consumes before after bytes.now
 
--- the stage of a run
-abbrev pub stage_of : {C T : Type 0} {of_c : Ghosts C} {of_t : Ghosts T} → Run C T of_c of_t → Stage
-stage_of (run.Setting setup ledgers) = Setting setup
-stage_of (run.Playing play) = Playing (server_of play)
-stage_of run.Over = Over
+-- ---- the lines
+
+-- of the app: which effects it decides on, and which verdicts it allows
+module _ (decides : Who → Arrived → List Effect → Type 0) (allows : (space payload : List ℕ) → PlainVerdict → Type 0) where
+  -- the line is played where there is a server
+  abbrev pub PlaysOn : ScriptLine → Stage → (said : Option (List ℕ)) → Stage → Type 0
+  PlaysOn line (Playing server) said t = (after : Server) × Plays decides allows line server said after × (t ≡ Playing after)
+  PlaysOn line stage said t = (said ≡ None) × (t ≡ stage)
+
+  -- where there is none that is the answer
+  abbrev pub PlaysUnless : Option CoreFault → ScriptLine → Stage → (said : Option (List ℕ)) → Stage → Type 0
+  PlaysUnless None line s said t = PlaysOn line s said t
+  PlaysUnless (Some fault) line s said t = (said ≡ Some (codes "refused: " ++ fault_name fault)) × (t ≡ s)
+
+  -- what a line does and prints
+  abbrev pub Answers : ScriptLine → Stage → (said : Option (List ℕ)) → Stage → Type 0
+  Answers line.Nothing s said t = (said ≡ None) × (t ≡ s)
+  Answers (line.Config key number) s said t = Sets key number s said t
+  Answers line s said t = (fault : Option CoreFault) × (m : Stage) × Begins s fault m × PlaysUnless fault line m said t
+
+  -- what the bytes of a line do and print
+  abbrev pub AnswersBytes : (bytes : List ℕ) → Stage → (said : Option (List ℕ)) → Stage → Type 0
+  AnswersBytes bytes s said t = (line : ScriptLine) × IsReadAs bytes line × Answers line s said t
+
+  -- ---- a script
+
+  -- the lines are answered in order, each once, and the output is their answers and nothing else
+  unfoldable pub Script : (lines : List (List ℕ)) → (before : Stage) → (output : List ℕ) → (after : Stage) → Type 0
+  Script [] s output t = (output ≡ []) × (t ≡ s)
+  Script (line ∷ lines) s output t =
+      (said : Option (List ℕ)) × (m : Stage) × (rest : List ℕ)
+      × AnswersBytes line s said m × (output ≡ printed said ++ rest) × Script lines m rest t
+
+  -- the writer got the answers to the lines of the input, from a stage where nothing is set, and nothing else
+  abbrev pub IsAnswered : (input : Option (List ℕ)) → (before after : Option (List ℕ)) → Type 0
+  IsAnswered input before after = IfSome input (λ text. (output : List ℕ) × (last : Stage) × Script (lines_of text) (Setting USUAL) output last × Appends before after output)
+
+  -- ---- a script of which a part was read
+
+  -- from a stage with `begun` of a line, these bytes were read and this was written, and `left` of a line is left: whatever
+  -- follows, the answers to it complete those that were written
+  abbrev pub Continues : Stage → (begun read written left : List ℕ) → Stage → Type 0
+  Continues s begun read written left m = (rest output : List ℕ) (t : Stage)
+      → Script (lines_of (left ++ rest)) m output t → Script (lines_of (begun ++ (read ++ rest))) s (written ++ output) t
+
+  -- what was written so continues
+  abbrev pub WritesOn : (before after : Option (List ℕ)) → Stage → (begun read left : List ℕ) → Stage → Type 0
+  WritesOn before after s begun read left m = (written : List ℕ) × Appends before after written × Continues s begun read written left m
+
+  -- what was written answers one line
+  abbrev pub WritesLine : (before after : Option (List ℕ)) → (bytes : List ℕ) → Stage → Stage → Type 0
+  WritesLine before after bytes s t = (said : Option (List ℕ)) × Appends before after (printed said) × AnswersBytes bytes s said t

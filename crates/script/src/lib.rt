@@ -1,5 +1,5 @@
-//! Scripts: their lines are read from a reader, played to a server of the demonstration app, and
-//! answered to a writer.
+//! Scripts: their lines are read from a reader, played to a server of any app, and answered to a
+//! writer.
 #![tactic(auto)]
 
 mod events;

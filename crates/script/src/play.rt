@@ -16,10 +16,10 @@ use crate::faults::RunError;
 use crate::printing::{Answer, Posted, frame_lines, id_list};
 use crate::script_line::{Notice, ScriptLine};
 use dispatch::{Core, Event, Outcome, WsFrame};
-use effects::{Cause, CoreError, CoreFault};
+use effects::{App, Cause, CoreError, CoreFault};
 use hub::Pass;
 use journal::HubError;
-use relay::{Counter, RelayApp};
+use relay::Counter;
 use room_maps::Room;
 use std::alloc::{AllocError, Global};
 use std::collections::BTreeMap;
@@ -51,14 +51,15 @@ impl<C: Ledger, T: Ledger> Play<C, T> {
     }
 
     /// Does what a line asks for. A limit can't be set any more.
-    pub(crate) fn answer<'a>(
+    pub(crate) fn answer<'a, A: App>(
         &mut self,
         alloc: Global,
+        app: &A,
         line: ScriptLine<'a>,
     ) -> Result<Option<Answer<'a>>, RunError>
         ensures nothing { line.entry ≡ ScriptLine.Nothing → result ≡ Ok None }
         ensures bad { line.entry ≡ ScriptLine.Bad → result ≡ Ok (Some Answer.BadLine) }
-        ensures plays { IfOk result (λ answer. Plays line.entry (server_of self.old) (option_map answer_text answer) (server_of self.new)) }
+        ensures plays { IfOk result (λ answer. Plays (A.decides app.now) (A.allows app.now) line.entry (server_of self.old) (option_map answer_text answer) (server_of self.new)) }
         ensures err { IsOkUnless result Memory }
     {
         match line {
@@ -66,72 +67,68 @@ impl<C: Ledger, T: Ledger> Play<C, T> {
                 self.now = now;
                 Ok(None)
             }
-            ScriptLine::Open(name) => Ok(Some(self.open(alloc, name, false)?)),
-            ScriptLine::OpenSocket(name) => Ok(Some(self.open(alloc, name, true)?)),
-            ScriptLine::Text(name, rest) => Ok(Some(self.text(alloc, name, rest)?)),
-            ScriptLine::Frame(name, rest) => Ok(Some(self.text_frame(alloc, name, rest)?)),
-            ScriptLine::Bytes(name, hex) => Ok(Some(self.byte_frame(alloc, name, hex)?)),
-            ScriptLine::Notice(notice, name) => Ok(Some(self.notice(alloc, notice, name)?)),
-            ScriptLine::Take(name, most) => Ok(Some(self.take(alloc, name, most)?)),
+            ScriptLine::Open(name) => Ok(Some(self.open(alloc, app, name, false)?)),
+            ScriptLine::OpenSocket(name) => Ok(Some(self.open(alloc, app, name, true)?)),
+            ScriptLine::Text(name, rest) => Ok(Some(self.text(alloc, app, name, rest)?)),
+            ScriptLine::Frame(name, rest) => Ok(Some(self.text_frame(alloc, app, name, rest)?)),
+            ScriptLine::Bytes(name, hex) => Ok(Some(self.byte_frame(alloc, app, name, hex)?)),
+            ScriptLine::Notice(notice, name) => Ok(Some(self.notice(alloc, app, notice, name)?)),
+            ScriptLine::Take(name, most) => Ok(Some(self.take(alloc, app, name, most)?)),
             ScriptLine::Members(space, room) => Ok(Some(self.members(alloc, space, room)?)),
             ScriptLine::Totals => Ok(Some(Answer::Totals(self.core.hub().state().totals()))),
             ScriptLine::Seal => Ok(Some(self.seal(alloc)?)),
-            ScriptLine::Sweep => Ok(Some(self.sweep(alloc)?)),
+            ScriptLine::Sweep => Ok(Some(self.sweep(alloc, app)?)),
             ScriptLine::Nothing => Ok(None),
             ScriptLine::Config(..) | ScriptLine::Bad => Ok(Some(Answer::BadLine)),
         }
     }
 
     /// What becomes of an event, or why it is refused. Want of memory ends the run.
-    fn apply(
+    fn apply<A: App>(
         &mut self,
         alloc: Global,
+        app: &A,
         event: &Event,
     ) -> Result<Result<Outcome, CoreError>, RunError>
-        ensures happens { IfOk result (λ answer. Happens (server_of self.old) event.now answer (server_of self.new)) }
+        ensures happens { IfOk result (λ answer. Happens (A.decides app.now) (A.allows app.now) (server_of self.old) event.now answer (server_of self.new)) }
         ensures err { IsOkUnless result Memory }
     {
         let core = &mut self.core;
-        match core.apply(
-            alloc,
-            &mut self.pass,
-            &RelayApp,
-            event,
-            self.now,
-            &mut self.ids,
-        ) {
+        match core.apply(alloc, &mut self.pass, app, event, self.now, &mut self.ids) {
             Err(error) if error.fault == CoreFault::Memory => Err(RunError::Memory),
             answer => Ok(answer),
         }
     }
 
     /// What a client of this name is answered at an event.
-    fn done<'a>(
+    fn done<'a, A: App>(
         &mut self,
         alloc: Global,
+        app: &A,
         name: &'a str,
         event: &Event,
     ) -> Result<Answer<'a>, RunError>
-        ensures asks { IfOk result (λ answer. Asks name.entry.now event.now (server_of self.old) (answer_text answer) (server_of self.new)) }
+        ensures asks { IfOk result (λ answer. Asks (A.decides app.now) (A.allows app.now) name.entry.now event.now (server_of self.old) (answer_text answer) (server_of self.new)) }
         ensures err { IsOkUnless result Memory }
     {
-        match self.apply(alloc, event)? {
+        match self.apply(alloc, app, event)? {
             Ok(outcome) => Ok(answer_of(alloc, name, outcome)?),
             Err(error) => Ok(Answer::Refused(error.fault)),
         }
     }
 
     /// Opens a client, for which the name stands from now on.
-    fn open<'a>(
+    fn open<'a, A: App>(
         &mut self,
         alloc: Global,
+        app: &A,
         name: &'a str,
         socket: bool,
     ) -> Result<Answer<'a>, RunError>
-        ensures opens { IfOk result (λ answer. Opens name.entry.now socket (server_of self.old) (answer_text answer) (server_of self.new)) }
+        ensures opens { IfOk result (λ answer. Opens (A.decides app.now) (A.allows app.now) name.entry.now socket (server_of self.old) (answer_text answer) (server_of self.new)) }
         ensures err { IsOkUnless result Memory }
     {
-        match self.apply(alloc, &Event::Opened { socket })? {
+        match self.apply(alloc, app, &Event::Opened { socket })? {
             Ok(Outcome::Opened(opening)) => {
                 self.call(alloc, name, opening.client)?;
                 Ok(Answer::Opened(name, opening.text))
@@ -152,50 +149,53 @@ impl<C: Ledger, T: Ledger> Play<C, T> {
     }
 
     /// Hands the server a payload from the client of this name.
-    fn text<'a>(
+    fn text<'a, A: App>(
         &mut self,
         alloc: Global,
+        app: &A,
         name: &'a str,
         payload: &str,
     ) -> Result<Answer<'a>, RunError>
         ensures unknown { get_by_text self.old.clients name.entry.now ≡ None → result ≡ Ok Answer.BadLine }
-        ensures plays { IfOk result (λ answer. ForName name.entry.now (λ c. Asks name.entry.now (event.Post c payload.now) (server_of self.old) (answer_text answer) (server_of self.new)) (server_of self.old) (answer_text answer) (server_of self.new)) }
+        ensures plays { IfOk result (λ answer. ForName name.entry.now (λ c. Asks (A.decides app.now) (A.allows app.now) name.entry.now (event.Post c payload.now) (server_of self.old) (answer_text answer) (server_of self.new)) (server_of self.old) (answer_text answer) (server_of self.new)) }
         ensures err { IsOkUnless result Memory }
     {
         let Some(client) = self.clients.get(name).copied() else {
             return Ok(Answer::BadLine);
         };
         let body = Text::copy_of(alloc, payload)?;
-        self.done(alloc, name, &Event::Post { client, body })
+        self.done(alloc, app, name, &Event::Post { client, body })
     }
 
     /// Hands the server a text frame from the client of this name.
-    fn text_frame<'a>(
+    fn text_frame<'a, A: App>(
         &mut self,
         alloc: Global,
+        app: &A,
         name: &'a str,
         text: &str,
     ) -> Result<Answer<'a>, RunError>
         ensures unknown { get_by_text self.old.clients name.entry.now ≡ None → result ≡ Ok Answer.BadLine }
-        ensures plays { IfOk result (λ answer. ForName name.entry.now (λ c. Hears name.entry.now c (frame_of.Text text.now) (server_of self.old) (answer_text answer) (server_of self.new)) (server_of self.old) (answer_text answer) (server_of self.new)) }
+        ensures plays { IfOk result (λ answer. ForName name.entry.now (λ c. Hears (A.decides app.now) (A.allows app.now) name.entry.now c (frame_of.Text text.now) (server_of self.old) (answer_text answer) (server_of self.new)) (server_of self.old) (answer_text answer) (server_of self.new)) }
         ensures err { IsOkUnless result Memory }
     {
         let Some(client) = self.clients.get(name).copied() else {
             return Ok(Answer::BadLine);
         };
         let frame = WsFrame::Text(Text::copy_of(alloc, text)?);
-        self.heard(alloc, name, client, frame)
+        self.heard(alloc, app, name, client, frame)
     }
 
     /// Hands the server a binary frame from the client of this name, where the text has its bytes.
-    fn byte_frame<'a>(
+    fn byte_frame<'a, A: App>(
         &mut self,
         alloc: Global,
+        app: &A,
         name: &'a str,
         hex: &str,
     ) -> Result<Answer<'a>, RunError>
         ensures unknown { get_by_text self.old.clients name.entry.now ≡ None → result ≡ Ok Answer.BadLine }
-        ensures plays { IfOk result (λ answer. ForName name.entry.now (λ c. HearsBytes name.entry.now hex.now c (server_of self.old) (answer_text answer) (server_of self.new)) (server_of self.old) (answer_text answer) (server_of self.new)) }
+        ensures plays { IfOk result (λ answer. ForName name.entry.now (λ c. HearsBytes (A.decides app.now) (A.allows app.now) name.entry.now hex.now c (server_of self.old) (answer_text answer) (server_of self.new)) (server_of self.old) (answer_text answer) (server_of self.new)) }
         ensures no_bytes { ((bytes : List ℕ) → IsBytes bytes → hex.now ≢ encode_lower bytes) → IfOk result (λ answer. answer ≡ Answer.BadLine) }
         ensures err { IsOkUnless result Memory }
     {
@@ -203,61 +203,64 @@ impl<C: Ledger, T: Ledger> Play<C, T> {
             return Ok(Answer::BadLine);
         };
         match bytes_of(alloc, hex)? {
-            Some(bytes) => self.heard(alloc, name, client, WsFrame::Bytes(bytes)),
+            Some(bytes) => self.heard(alloc, app, name, client, WsFrame::Bytes(bytes)),
             None => Ok(Answer::BadLine),
         }
     }
 
     /// What the client of this name is answered at its frame.
-    fn heard<'a>(
+    fn heard<'a, A: App>(
         &mut self,
         alloc: Global,
+        app: &A,
         name: &'a str,
         client: u128,
         frame: WsFrame,
     ) -> Result<Answer<'a>, RunError>
-        ensures hears { IfOk result (λ answer. Hears name.entry.now client frame (server_of self.old) (answer_text answer) (server_of self.new)) }
+        ensures hears { IfOk result (λ answer. Hears (A.decides app.now) (A.allows app.now) name.entry.now client frame (server_of self.old) (answer_text answer) (server_of self.new)) }
         ensures err { IsOkUnless result Memory }
     {
-        match self.apply(alloc, &Event::Frame { client, frame })? {
+        match self.apply(alloc, app, &Event::Frame { client, frame })? {
             Ok(outcome) => Ok(answer_of_frame(alloc, name, outcome)?),
             Err(error) => Ok(Answer::Refused(error.fault)),
         }
     }
 
     /// What a line says of the client of this name happens.
-    fn notice<'a>(
+    fn notice<'a, A: App>(
         &mut self,
         alloc: Global,
+        app: &A,
         notice: Notice,
         name: &'a str,
     ) -> Result<Answer<'a>, RunError>
         ensures unknown { get_by_text self.old.clients name.entry.now ≡ None → result ≡ Ok Answer.BadLine }
-        ensures plays { IfOk result (λ answer. ForName name.entry.now (λ c. Asks name.entry.now (event_of notice c) (server_of self.old) (answer_text answer) (server_of self.new)) (server_of self.old) (answer_text answer) (server_of self.new)) }
+        ensures plays { IfOk result (λ answer. ForName name.entry.now (λ c. Asks (A.decides app.now) (A.allows app.now) name.entry.now (event_of notice c) (server_of self.old) (answer_text answer) (server_of self.new)) (server_of self.old) (answer_text answer) (server_of self.new)) }
         ensures err { IsOkUnless result Memory }
     {
         let Some(client) = self.clients.get(name).copied() else {
             return Ok(Answer::BadLine);
         };
-        self.done(alloc, name, &event_of(notice, client))
+        self.done(alloc, app, name, &event_of(notice, client))
     }
 
     /// Takes what waits for the client of this name.
-    fn take<'a>(
+    fn take<'a, A: App>(
         &mut self,
         alloc: Global,
+        app: &A,
         name: &'a str,
         most: usize,
     ) -> Result<Answer<'a>, RunError>
         ensures unknown { get_by_text self.old.clients name.entry.now ≡ None → result ≡ Ok Answer.BadLine }
-        ensures plays { IfOk result (λ answer. ForName name.entry.now (λ c. TakesWaiting name.entry.now c most (server_of self.old) (answer_text answer) (server_of self.new)) (server_of self.old) (answer_text answer) (server_of self.new)) }
+        ensures plays { IfOk result (λ answer. ForName name.entry.now (λ c. TakesWaiting (A.decides app.now) (A.allows app.now) name.entry.now c most (server_of self.old) (answer_text answer) (server_of self.new)) (server_of self.old) (answer_text answer) (server_of self.new)) }
         ensures err { IsOkUnless result Memory }
     {
         let Some(client) = self.clients.get(name).copied() else {
             return Ok(Answer::BadLine);
         };
         let event = take_of(self.core.transport(client), client, most);
-        self.done(alloc, name, &event)
+        self.done(alloc, app, name, &event)
     }
 
     /// The sockets of a namespace that are in a room, whose name has at most 64 bytes.
@@ -278,11 +281,11 @@ impl<C: Ledger, T: Ledger> Play<C, T> {
     }
 
     /// What the server keeps no longer is dropped. That is of no client, and prints no name.
-    fn sweep(&mut self, alloc: Global) -> Result<Answer<'static>, RunError>
-        ensures asks { IfOk result (λ answer. Asks [] event.Sweep (server_of self.old) (answer_text answer) (server_of self.new)) }
+    fn sweep<A: App>(&mut self, alloc: Global, app: &A) -> Result<Answer<'static>, RunError>
+        ensures asks { IfOk result (λ answer. Asks (A.decides app.now) (A.allows app.now) [] event.Sweep (server_of self.old) (answer_text answer) (server_of self.new)) }
         ensures err { IsOkUnless result Memory }
     {
-        self.done(alloc, "", &Event::Sweep)
+        self.done(alloc, app, "", &Event::Sweep)
     }
 
     /// Ends an epoch.

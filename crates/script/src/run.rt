@@ -13,7 +13,7 @@ use crate::play::Play;
 use crate::printing::Answer;
 use crate::script_line::{Key, ScriptLine, read_line};
 use crate::setup::Setup;
-use effects::CoreFault;
+use effects::{App, CoreFault};
 use std::alloc::Global;
 use std::io::{ErrorKind, Read, Write};
 use std::marker::Brand;
@@ -26,19 +26,21 @@ const PARTS: u64 = 65_536;
 /// How many bytes one read asks for.
 const READ_SIZE: usize = 4096;
 
-/// Reads script lines to the end of the input and writes the answers. What was answered is flushed
-/// before each read and at the end. The last line may lack its LF. Where the limits allow no server,
-/// that is the last answer, and the lines after it ask for nothing.
-pub fn run_script<R: Read, W: Write>(
+/// Reads script lines to the end of the input, plays them to a server with this app, and writes the
+/// answers. What was answered is flushed before each read and at the end. The last line may lack its
+/// LF. Where the limits allow no server, that is the last answer, and the lines after it ask for
+/// nothing.
+pub fn run_script<A: App, R: Read, W: Write>(
     alloc: Global,
+    app: &A,
     reader: &mut R,
     writer: &mut W,
 ) -> Result<(), RunError>
     ensures end { OnOk result (IsAtEnd (R.remaining reader.new)) }
-    ensures answered { OnOk result (IsAnswered (R.remaining reader.old) (W.contents writer.old) (W.contents writer.new)) }
+    ensures answered { OnOk result (IsAnswered (A.decides app.now) (A.allows app.now) (R.remaining reader.old) (W.contents writer.old) (W.contents writer.new)) }
 {
     let (commands, taken) = (Blank::new(PARTS), Blank::new(PARTS));
-    let served = serve::<Brand, Brand, R, W>(alloc, reader, writer, commands, taken);
+    let served = serve::<Brand, Brand, A, R, W>(alloc, app, reader, writer, commands, taken);
     if served.is_err() {
         // The fault that ended the run is told, and not one more.
         let _ = flush(writer);
@@ -46,8 +48,9 @@ pub fn run_script<R: Read, W: Write>(
     served
 }
 
-fn serve<C: Ledger, T: Ledger, R: Read, W: Write>(
+fn serve<C: Ledger, T: Ledger, A: App, R: Read, W: Write>(
     alloc: Global,
+    app: &A,
     reader: &mut R,
     writer: &mut W,
     commands: Blank,
@@ -56,21 +59,22 @@ fn serve<C: Ledger, T: Ledger, R: Read, W: Write>(
     requires commands { (commands.name ≡ C.name) × (commands.parts ≡ C.parts) × (commands.parts ≡ 65536) }
     requires taken { (taken.name ≡ T.name) × (taken.parts ≡ T.parts) × (taken.parts ≡ 65536) }
     ensures end { OnOk result (IsAtEnd (R.remaining reader.new)) }
-    ensures answered { OnOk result (IsAnswered (R.remaining reader.old) (W.contents writer.old) (W.contents writer.new)) }
+    ensures answered { OnOk result (IsAnswered (A.decides app.now) (A.allows app.now) (R.remaining reader.old) (W.contents writer.old) (W.contents writer.new)) }
 {
     let mut run: Run<C, T> = Run::new(commands, taken);
-    answer_all(alloc, &mut run, reader, writer)
+    answer_all(alloc, app, &mut run, reader, writer)
 }
 
 /// Reads to the end of the input, and answers each line.
-fn answer_all<C: Ledger, T: Ledger, R: Read, W: Write>(
+fn answer_all<C: Ledger, T: Ledger, A: App, R: Read, W: Write>(
     alloc: Global,
+    app: &A,
     run: &mut Run<C, T>,
     reader: &mut R,
     writer: &mut W,
 ) -> Result<(), RunError>
     ensures end { OnOk result (IsAtEnd (R.remaining reader.new)) }
-    ensures answered { OnOk result (stage_of run.old ≡ Setting USUAL → IsAnswered (R.remaining reader.old) (W.contents writer.old) (W.contents writer.new)) }
+    ensures answered { OnOk result (stage_of run.old ≡ Setting USUAL → IsAnswered (A.decides app.now) (A.allows app.now) (R.remaining reader.old) (W.contents writer.old) (W.contents writer.new)) }
 {
     let mut line = Vec::new(alloc);
     let mut buffer = [0u8; READ_SIZE];
@@ -80,11 +84,11 @@ fn answer_all<C: Ledger, T: Ledger, R: Read, W: Write>(
             continue;
         };
         if bytes.is_empty() {
-            answer_line(alloc, run, &mut line, writer)?;
+            answer_line(alloc, app, run, &mut line, writer)?;
             flush(writer)?;
             return Ok(());
         }
-        answer_lines(alloc, run, &mut line, bytes, writer)?;
+        answer_lines(alloc, app, run, &mut line, bytes, writer)?;
     }
     Err(RunError::Reading)
 }
@@ -115,54 +119,57 @@ fn flush<W: Write>(writer: &mut W) -> Result<(), RunError>
 
 /// Answers each line that these bytes end, the first of them begun by `line`, and leaves in `line`
 /// what they begin.
-fn answer_lines<C: Ledger, T: Ledger, W: Write>(
+fn answer_lines<C: Ledger, T: Ledger, A: App, W: Write>(
     alloc: Global,
+    app: &A,
     run: &mut Run<C, T>,
     line: &mut Vec<u8>,
     bytes: &[u8],
     writer: &mut W,
 ) -> Result<(), RunError>
     ensures unended { OnOk result (IsUnended line.old.items → IsUnended line.new.items) }
-    ensures answered { OnOk result (IsUnended line.old.items → WritesOn (W.contents writer.old) (W.contents writer.new) (stage_of run.old) line.old.items bytes.now line.new.items (stage_of run.new)) }
+    ensures answered { OnOk result (IsUnended line.old.items → WritesOn (A.decides app.now) (A.allows app.now) (W.contents writer.old) (W.contents writer.new) (stage_of run.old) line.old.items bytes.now line.new.items (stage_of run.new)) }
     ensures err { IfErr result (λ fault. fault ≢ Reading) }
 {
     for byte in bytes {
-        answer_byte(alloc, run, line, *byte, writer)?;
+        answer_byte(alloc, app, run, line, *byte, writer)?;
     }
     Ok(())
 }
 
 /// One byte more: an LF ends the line, which is answered, and any other belongs to it.
-fn answer_byte<C: Ledger, T: Ledger, W: Write>(
+fn answer_byte<C: Ledger, T: Ledger, A: App, W: Write>(
     alloc: Global,
+    app: &A,
     run: &mut Run<C, T>,
     line: &mut Vec<u8>,
     byte: u8,
     writer: &mut W,
 ) -> Result<(), RunError>
     ensures unended { OnOk result (IsUnended line.old.items → IsUnended line.new.items) }
-    ensures answered { OnOk result (IsUnended line.old.items → WritesOn (W.contents writer.old) (W.contents writer.new) (stage_of run.old) line.old.items (byte ∷ []) line.new.items (stage_of run.new)) }
+    ensures answered { OnOk result (IsUnended line.old.items → WritesOn (A.decides app.now) (A.allows app.now) (W.contents writer.old) (W.contents writer.new) (stage_of run.old) line.old.items (byte ∷ []) line.new.items (stage_of run.new)) }
     ensures err { IfErr result (λ fault. fault ≢ Reading) }
 {
     if byte == b'\n' {
-        return answer_line(alloc, run, line, writer);
+        return answer_line(alloc, app, run, line, writer);
     }
     line.push(byte)?;
     Ok(())
 }
 
 /// Answers a whole line and empties it for the next.
-fn answer_line<C: Ledger, T: Ledger, W: Write>(
+fn answer_line<C: Ledger, T: Ledger, A: App, W: Write>(
     alloc: Global,
+    app: &A,
     run: &mut Run<C, T>,
     line: &mut Vec<u8>,
     writer: &mut W,
 ) -> Result<(), RunError>
     ensures emptied { OnOk result (line.new.items ≡ []) }
-    ensures answered { OnOk result (WritesLine (W.contents writer.old) (W.contents writer.new) line.old.items (stage_of run.old) (stage_of run.new)) }
+    ensures answered { OnOk result (WritesLine (A.decides app.now) (A.allows app.now) (W.contents writer.old) (W.contents writer.new) line.old.items (stage_of run.old) (stage_of run.new)) }
     ensures err { IfErr result (λ fault. fault ≢ Reading) }
 {
-    print_any(writer, run.answer(alloc, read_line(line.as_slice()))?)?;
+    print_any(writer, run.answer(alloc, app, read_line(line.as_slice()))?)?;
     line.clear();
     Ok(())
 }
@@ -207,13 +214,14 @@ impl<C: Ledger, T: Ledger> Run<C, T> {
     }
 
     /// Does what a line asks for. A blank line or a comment has no answer.
-    fn answer<'a>(
+    fn answer<'a, A: App>(
         &mut self,
         alloc: Global,
+        app: &A,
         line: ScriptLine<'a>,
     ) -> Result<Option<Answer<'a>>, RunError>
         ensures nothing { line.entry ≡ ScriptLine.Nothing → result ≡ Ok None }
-        ensures answers { IfOk result (λ answer. Answers line.entry (stage_of self.old) (option_map answer_text answer) (stage_of self.new)) }
+        ensures answers { IfOk result (λ answer. Answers (A.decides app.now) (A.allows app.now) line.entry (stage_of self.old) (option_map answer_text answer) (stage_of self.new)) }
         ensures err { IsOkUnless result Memory }
     {
         match line {
@@ -221,7 +229,7 @@ impl<C: Ledger, T: Ledger> Run<C, T> {
             ScriptLine::Config(key, number) => Ok(self.set(key, number)),
             _ => match self.begin(alloc)? {
                 Some(fault) => Ok(Some(Answer::Refused(fault))),
-                None => self.play(alloc, line),
+                None => self.play(alloc, app, line),
             },
         }
     }
@@ -277,16 +285,17 @@ impl<C: Ledger, T: Ledger> Run<C, T> {
     }
 
     /// Plays a line, where there is a server.
-    fn play<'a>(
+    fn play<'a, A: App>(
         &mut self,
         alloc: Global,
+        app: &A,
         line: ScriptLine<'a>,
     ) -> Result<Option<Answer<'a>>, RunError>
-        ensures plays { IfOk result (λ answer. PlaysOn line.entry (stage_of self.old) (option_map answer_text answer) (stage_of self.new)) }
+        ensures plays { IfOk result (λ answer. PlaysOn (A.decides app.now) (A.allows app.now) line.entry (stage_of self.old) (option_map answer_text answer) (stage_of self.new)) }
         ensures err { IsOkUnless result Memory }
     {
         match self {
-            Run::Playing(play) => play.answer(alloc, line),
+            Run::Playing(play) => play.answer(alloc, app, line),
             Run::Setting(..) | Run::Over => Ok(None),
         }
     }

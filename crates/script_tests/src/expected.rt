@@ -1,6 +1,7 @@
 //! What a script must print.
 
 use crate::devices::{Paper, Tape};
+use relay::RelayApp;
 use script::{RunError, run_script};
 use std::alloc::Global;
 use std::process::Abort;
@@ -42,7 +43,7 @@ struct Played {
 /// Runs a script, and compares what it prints with what is wanted.
 fn play(alloc: Global, mut script: Tape<'_>, printed: &[&[u8]]) -> Played {
     let mut paper = Paper::wanting(printed);
-    let ending = run_script(alloc, &mut script, &mut paper);
+    let ending = run_script(alloc, &RelayApp, &mut script, &mut paper);
     Played {
         ending,
         is_begun: paper.is_begun(),

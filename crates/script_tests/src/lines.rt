@@ -2,6 +2,7 @@
 
 use crate::devices::{Flushes, Paper, Tape};
 use crate::expected::{expect_ended, expect_of, expect_printed};
+use relay::RelayApp;
 use script::{RunError, run_script};
 use std::alloc::Global;
 use std::io;
@@ -168,7 +169,7 @@ fn a_reader_that_fails(rt: HostRuntime) {
 fn fills_a_writer(alloc: Global) -> Option<bool> {
     let mut paper = Cursor::new([0u8; 12]);
     let mut script = Tape::sound(&[b"close A\nclose B\nclose C\n"]);
-    match run_script(alloc, &mut script, &mut paper) {
+    match run_script(alloc, &RelayApp, &mut script, &mut paper) {
         Err(RunError::Memory) => None,
         Err(RunError::Writing) => Some(paper.get_ref().as_slice() == b"bad line\nbad".as_slice()),
         _ => Some(false),
@@ -188,7 +189,7 @@ fn a_writer_that_is_full(rt: HostRuntime) {
 fn flushes_in_time(alloc: Global) -> Option<bool> {
     let mut flushes = Flushes::none();
     let mut script = Tape::sound(&[b"close A\n", b"close B\nclo", b"se C"]);
-    match run_script(alloc, &mut script, &mut flushes) {
+    match run_script(alloc, &RelayApp, &mut script, &mut flushes) {
         Err(RunError::Memory) => None,
         Ok(()) => Some(flushes.noted() == [0, 9, 18, 18, 27].as_slice()),
         _ => Some(false),
