@@ -19,7 +19,7 @@ use tungstenite::{NoMask, Role, WebSocket};
 type Speaker = SocketPeer<Spoken, Still>;
 
 /// One whose head was read before.
-type Accepted = SocketPeer<Replay<Replay<Spoken>>, Still>;
+pub type Accepted = SocketPeer<Replay<Replay<Spoken>>, Still>;
 
 /// What a WebSocket brings, how many bytes it takes and how many events it has, and what is to become
 /// of it.
@@ -63,6 +63,10 @@ const ATTACHED: Piece = Piece::Bytes(b"\x82\x82\x00\x00\x00\x00\x01\x02");
 /// The server's frames. In these rows a client that is opened has the id 2.
 const OPENED: &[u8] =
     b"\x81w0{\"sid\":\"00000000000000000000000000000002\",\"upgrades\":[],\"pingInterval\":25000,\"pingTimeout\":20000,\"maxPayload\":1000000}";
+
+/// The same of a client with the id 3.
+const OPENED_THIRD: &[u8] =
+    b"\x81w0{\"sid\":\"00000000000000000000000000000003\",\"upgrades\":[],\"pingInterval\":25000,\"pingTimeout\":20000,\"maxPayload\":1000000}";
 
 const CONNECTED: &[u8] =
     b"\x81U40{\"sid\":\"00000000000000000000000000000003\",\"pid\":\"00000000000000000000000000000004\"}";
@@ -134,6 +138,15 @@ fn served<C: Ledger, T: Ledger>(
     (peer, end)
 }
 
+/// Whether the server does as the row says.
+fn does_row<C: Ledger, T: Ledger>(alloc: Global, server: &mut Server<C, T>, row: &Row) -> bool {
+    let (peer, end) = served(alloc, server, row);
+    end == row.end
+        && is_joined(peer.stream().written.as_slice(), row.written)
+        && peer.is_idle() == row.idle
+        && server.core.transport(1) == row.transport
+}
+
 /// Whether a server with one client that polls does as the row says.
 fn does_once<C: Ledger, T: Ledger>(
     alloc: Global,
@@ -146,13 +159,7 @@ fn does_once<C: Ledger, T: Ledger>(
 {
     let mut server = new_server::<C, T>(alloc, commands, taken)?;
     server.apply(alloc, &Event::Opened { socket: false }, 0)?;
-    let (peer, end) = served(alloc, &mut server, row);
-    Ok(
-        end == row.end
-            && is_joined(peer.stream().written.as_slice(), row.written)
-            && peer.is_idle() == row.idle
-            && server.core.transport(1) == row.transport,
-    )
+    Ok(does_row(alloc, &mut server, row))
 }
 
 fn new_does(alloc: Global, row: &Row) -> Result<bool, CoreError> {
@@ -317,7 +324,75 @@ fn a_client_that_comes_over(rt: HostRuntime) {
     }
 }
 
-static HEAD: &[u8] =
+/// Whether the server does as each row says, one after another.
+fn does_rows<C: Ledger, T: Ledger>(alloc: Global, server: &mut Server<C, T>, rows: &[Row]) -> bool {
+    for row in rows {
+        if !does_row(alloc, server, row) {
+            return false;
+        }
+    }
+    true
+}
+
+/// The same of a server with two clients that poll, so that one more has a place.
+fn fills_once<C: Ledger, T: Ledger>(
+    alloc: Global,
+    rows: &[Row],
+    commands: Blank,
+    taken: Blank,
+) -> Result<bool, CoreError>
+    requires commands { (commands.name ≡ C.name) × (commands.parts ≡ C.parts) × (commands.parts ≡ 65536) }
+    requires taken { (taken.name ≡ T.name) × (taken.parts ≡ T.parts) × (taken.parts ≡ 65536) }
+{
+    let mut server = new_server::<C, T>(alloc, commands, taken)?;
+    server.apply(alloc, &Event::Opened { socket: false }, 0)?;
+    server.apply(alloc, &Event::Opened { socket: false }, 0)?;
+    Ok(does_rows(alloc, &mut server, rows))
+}
+
+fn new_fills(alloc: Global, rows: &[Row]) -> Result<bool, CoreError> {
+    let (commands, taken) = (Blank::new(PARTS), Blank::new(PARTS));
+    fills_once::<Brand, Brand>(alloc, rows, commands, taken)
+}
+
+/// In one of two runs.
+fn fills(alloc: Global, rows: &[Row]) -> bool {
+    for _ in 0..2 {
+        if new_fills(alloc, rows) == Ok(true) {
+            return true;
+        }
+    }
+    false
+}
+
+#[test]
+fn the_last_place_and_one_more(rt: HostRuntime) {
+    static ROWS: [Row; 3] = [
+        Row {
+            pieces: &[Piece::Wait],
+            events: 3,
+            end: End::Spent,
+            written: &[OPENED_THIRD],
+            idle: true,
+            ..SPEAKS
+        },
+        // It hears nothing, whatever it would say, and so does another one.
+        Row {
+            pieces: &[CONNECT],
+            end: End::Over,
+            written: &[],
+            ..SPEAKS
+        },
+        Row {
+            end: End::Over,
+            written: &[],
+            ..SPEAKS
+        },
+    ];
+    assert!(rt; fills(rt.alloc(), &ROWS));
+}
+
+pub static HEAD: &[u8] =
     b"GET /socket.io/?EIO=4&transport=websocket HTTP/1.1\r\nHost: a\r\nUpgrade: websocket\r\nConnection: Upgrade\r\nSec-WebSocket-Key: dGhlIHNhbXBsZSBub25jZQ==\r\nSec-WebSocket-Version: 13\r\n\r\n";
 
 static NO_KEY: &[u8] =
@@ -342,14 +417,20 @@ fn early<C: Ledger, T: Ledger>(
     server: &mut Server<C, T>,
     head: &[u8],
 ) -> Option<bool> {
-    let mut peer = accepted(alloc, head)?;
+    let rest = Vec::from_slice(alloc, FRAME).ok()?;
+    let mut peer = accepted(alloc, head, rest, &LEAVES)?;
     let end = server.serve(alloc, &mut peer, 1_000);
     Some(end == End::Failed(PeerFault::Ended) && is_told_all(&peer))
 }
 
-fn accepted(alloc: Global, head: &[u8]) -> Option<Accepted> {
-    let stream = Spoken::new(alloc, &LEAVES, 1_000);
-    let rest = Vec::from_slice(alloc, FRAME).ok()?;
+/// A peer of a stream whose head and more were read before.
+pub fn accepted(
+    alloc: Global,
+    head: &[u8],
+    rest: Vec<u8>,
+    pieces: &'static [Piece],
+) -> Option<Accepted> {
+    let stream = Spoken::new(alloc, pieces, 1_000);
     let head = Vec::from_slice(alloc, head).ok()?;
     let socket = accept_socket(alloc, stream, head, rest)?;
     Some(SocketPeer::new(alloc, socket, Still, SocketRequest::Open))
