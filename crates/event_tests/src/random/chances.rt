@@ -139,6 +139,16 @@ fn fault_of_none(alloc: Global) -> Option<CoreFault> {
     bad_side::<Brand, Brand>(alloc, commands, taken)
 }
 
+/// Notes as what a core for no client is refused. It is asked for twice, since an allocation may be
+/// refused.
+fn note_none(alloc: Global, tally: &mut Tally) {
+    for _ in 0..2 {
+        if let Some(fault) = fault_of_none(alloc) {
+            tally.note_fault(fault);
+        }
+    }
+}
+
 #[test]
 fn one_list_is_answered_alike(rt: HostRuntime) -> Result<(), AllocError> {
     assert!(rt; list_of(rt.alloc(), 1, NOTHING)?.is_some());
@@ -148,9 +158,7 @@ fn one_list_is_answered_alike(rt: HostRuntime) -> Result<(), AllocError> {
 #[test]
 fn random_events(rt: HostRuntime) -> Result<(), AllocError> {
     let mut tally = NOTHING;
-    if let Some(fault) = fault_of_none(rt.alloc()) {
-        tally.note_fault(fault);
-    }
+    note_none(rt.alloc(), &mut tally);
     for seed in 0..SEEDS {
         let raised = list_of(rt.alloc(), seed, tally)?;
         assert!(rt; raised.is_some(), "at the seed {seed}");
