@@ -2,13 +2,11 @@
 //! script` serves the clients of a script.
 #![tactic(auto)]
 
-mod commands;
-mod folder;
-mod options;
+mod refused;
 mod serving;
 
-use commands::Task;
-use options::Options;
+use arguments::options::Options;
+use arguments::task::{Task, read_arguments};
 use relay::RelayApp;
 use script::{RunError, run_script};
 use serving::ServeFault;
@@ -37,7 +35,7 @@ impl From<RunError> for Fault {
 }
 
 fn main(rt: HostRuntime) -> ExitCode {
-    let done = match commands::read_arguments(&rt, processors(&rt)) {
+    let done = match read_arguments(&rt, processors(&rt)) {
         Ok(Task::Script) => play(&rt),
         Ok(Task::Serve(options)) => {
             let Options {
@@ -59,7 +57,7 @@ fn main(rt: HostRuntime) -> ExitCode {
                 Err(fault) => Err(Fault::Serve(fault)),
             }
         }
-        Err(refused) => match commands::tell(&rt, &refused) {
+        Err(refused) => match refused::tell(&rt, &refused) {
             Ok(code) => Ok(code),
             Err(fault) => Err(Fault::Script(fault)),
         },
@@ -96,6 +94,3 @@ fn processors(rt: &impl Threads) -> usize {
         Err(_) => 1,
     }
 }
-
-#[cfg(test)]
-mod tests;

@@ -45,7 +45,7 @@ pub fn new_server<C: Ledger, T: Ledger>(
     alloc: Global,
     commands: Blank,
     taken: Blank,
-) -> Result<Server<C, T>, CoreError>
+) -> Result<Box<Server<C, T>>, CoreError>
     requires commands { (commands.name ≡ C.name) × (commands.parts ≡ C.parts) × (commands.parts ≡ 65536) }
     requires taken { (taken.name ≡ T.name) × (taken.parts ≡ T.parts) × (taken.parts ≡ 65536) }
 {
@@ -63,11 +63,12 @@ pub fn new_server<C: Ledger, T: Ledger>(
         max_payload: 1_000_000,
     };
     let (core, pass) = Core::new(alloc, config, timing, numbers, commands, taken)?;
-    Ok(Server {
+    let server = Server {
         core,
         pass,
         ids: Counter::new(),
-    })
+    };
+    Box::new(alloc, server).map_err(|_| CoreFault::Memory.at_once())
 }
 
 /// What the tests compare of an outcome.

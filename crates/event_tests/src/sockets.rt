@@ -115,7 +115,7 @@ fn answers_so<C: Ledger, T: Ledger>(
     requires taken { (taken.name ≡ T.name) × (taken.parts ≡ T.parts) × (taken.parts ≡ 65536) }
 {
     let mut server = new_server::<C, T>(alloc, commands, taken)?;
-    let Server { core, pass, ids } = &mut server;
+    let Server { core, pass, ids } = &mut *server;
     let Ok(answers) = core.apply_all(alloc, pass, &RelayApp, events, ids) else {
         return Err(CoreFault::Memory.at_once());
     };

@@ -43,7 +43,7 @@ pub fn new_server<C: Ledger, T: Ledger>(
     alloc: Global,
     commands: Blank,
     taken: Blank,
-) -> Result<Server<C, T>, CoreError>
+) -> Result<Box<Server<C, T>>, CoreError>
     requires commands { (commands.name ≡ C.name) × (commands.parts ≡ C.parts) × (commands.parts ≡ 65536) }
     requires taken { (taken.name ≡ T.name) × (taken.parts ≡ T.parts) × (taken.parts ≡ 65536) }
 {
@@ -61,10 +61,11 @@ pub fn new_server<C: Ledger, T: Ledger>(
         return Err(CoreFault::Memory.at_once());
     };
     let (core, pass) = Core::new(alloc, config, timing, numbers, commands, taken)?;
-    Ok(Server {
+    let server = Server {
         locked: Locked::new(core),
         pass,
-    })
+    };
+    Box::new(alloc, server).map_err(|_| CoreFault::Memory.at_once())
 }
 
 /// Ids that begin behind so many.

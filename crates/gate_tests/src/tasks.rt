@@ -67,6 +67,16 @@ fn is_left_by<C: Ledger, T: Ledger>(
     }
 }
 
+fn is_left<C: Ledger, T: Ledger>(
+    alloc: Global,
+    server: Server<C, T>,
+    task: Task,
+    sealed: u64,
+) -> bool {
+    let core = server.locked.into_core();
+    is_left_by(alloc, &core, task, sealed)
+}
+
 /// Whether a task is done as it should be, with a core of its own.
 fn run<C: Ledger + Send + Sync, T: Ledger + Send + Sync, R: Threads + Wait + Clock + Sync>(
     rt: &R,
@@ -82,8 +92,7 @@ fn run<C: Ledger + Send + Sync, T: Ledger + Send + Sync, R: Threads + Wait + Clo
     let Some(sealed) = does(rt, alloc, &mut server, task) else {
         return Ok(false);
     };
-    let core = server.locked.into_core();
-    Ok(is_left_by(alloc, &core, task, sealed))
+    Ok(is_left(alloc, Box::into_inner(server), task, sealed))
 }
 
 fn run_once<R: Threads + Wait + Clock + Sync>(

@@ -171,13 +171,13 @@ fn begun<C: Ledger, T: Ledger>(
     tally: BreakTally,
     commands: Blank,
     taken: Blank,
-) -> Result<Stage<C, T>, HubError>
+) -> Result<Box<Stage<C, T>>, HubError>
     requires commands { (commands.name ≡ C.name) × (commands.parts ≡ C.parts) × (commands.parts ≡ 65536) }
     requires taken { (taken.name ≡ T.name) × (taken.parts ≡ T.parts) × (taken.parts ≡ 65536) }
 {
     let limits = config(alloc)?;
     let (hub, pass) = Hub::<C, T>::new(alloc, config(alloc)?, commands, taken)?;
-    Ok(Stage {
+    let stage = Stage {
         alloc,
         config: limits,
         hub,
@@ -187,7 +187,8 @@ fn begun<C: Ledger, T: Ledger>(
         id: 0,
         are_moving: seed % 2 == 1,
         tally,
-    })
+    };
+    Ok(Box::new(alloc, stage)?)
 }
 
 /// A history of many breaks: what came up in it and before, or nothing where something else was

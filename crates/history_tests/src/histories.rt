@@ -105,13 +105,13 @@ fn begun<C: Ledger, T: Ledger>(
     tally: Tally,
     commands: Blank,
     taken: Blank,
-) -> Result<Run<C, T>, HubError>
+) -> Result<Box<Run<C, T>>, HubError>
     requires commands { (commands.name ≡ C.name) × (commands.parts ≡ C.parts) × (commands.parts ≡ 65536) }
     requires taken { (taken.name ≡ T.name) × (taken.parts ≡ T.parts) × (taken.parts ≡ 65536) }
 {
     let limits = config(alloc)?;
     let (hub, pass) = Hub::<C, T>::new(alloc, config(alloc)?, commands, taken)?;
-    Ok(Run {
+    let run = Run {
         alloc,
         config: limits,
         hub,
@@ -119,7 +119,8 @@ fn begun<C: Ledger, T: Ledger>(
         random: Random { state: seed },
         now: 0,
         tally,
-    })
+    };
+    Ok(Box::new(alloc, run)?)
 }
 
 /// A history of random commands: what came up in it and before, or nothing where the hub and the

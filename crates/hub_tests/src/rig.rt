@@ -25,17 +25,18 @@ pub fn new_rig<C: Ledger, T: Ledger>(
     limits: Limits,
     commands: Blank,
     taken: Blank,
-) -> Result<Rig<C, T>, HubError>
+) -> Result<Box<Rig<C, T>>, HubError>
     requires commands { (commands.name ≡ C.name) × (commands.parts ≡ C.parts) × (commands.parts ≡ 65536) }
     requires taken { (taken.name ≡ T.name) × (taken.parts ≡ T.parts) × (taken.parts ≡ 65536) }
 {
     let (hub, pass) = Hub::new(alloc, config(alloc, limits)?, commands, taken)?;
-    Ok(Rig {
+    let rig = Rig {
         alloc,
         hub,
         pass,
         now: 0,
-    })
+    };
+    Ok(Box::new(alloc, rig)?)
 }
 
 impl<C: Ledger, T: Ledger> Rig<C, T> {

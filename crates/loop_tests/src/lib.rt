@@ -1,10 +1,12 @@
-//! Tests of whole servers over loopback sockets.
+//! Tests of whole servers over loopback sockets, and of the program's arguments.
 #![tactic(auto)]
 
 #[cfg(test)]
 mod bounds;
 #[cfg(test)]
 mod made;
+#[cfg(test)]
+mod options;
 #[cfg(test)]
 mod pages;
 #[cfg(test)]

@@ -39,8 +39,21 @@ fn config(alloc: Global) -> Result<Config, AllocError> {
     })
 }
 
-/// A core with no clients.
+/// A core with no clients, which its owner borrows.
 pub fn new_server<C: Ledger, T: Ledger>(
+    alloc: Global,
+    commands: Blank,
+    taken: Blank,
+) -> Result<Box<Server<C, T>>, CoreError>
+    requires commands { (commands.name ≡ C.name) × (commands.parts ≡ C.parts) × (commands.parts ≡ 65536) }
+    requires taken { (taken.name ≡ T.name) × (taken.parts ≡ T.parts) × (taken.parts ≡ 65536) }
+{
+    let server = new_parts(alloc, commands, taken)?;
+    Box::new(alloc, server).map_err(|_| CoreFault::Memory.at_once())
+}
+
+/// A core with no clients, whose parts are given away.
+pub fn new_parts<C: Ledger, T: Ledger>(
     alloc: Global,
     commands: Blank,
     taken: Blank,

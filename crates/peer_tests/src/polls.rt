@@ -2,7 +2,7 @@
 
 ghost use Rattle.std.specs.Prelude.{◌≡◌};
 
-use crate::made::{End, PARTS, Server, new_server};
+use crate::made::{End, PARTS, Server, new_parts, new_server};
 use crate::sheet::{Sheet, Still};
 use dispatch::Event;
 use effects::{CoreError, CoreFault};
@@ -124,7 +124,7 @@ fn worked_on_new<C: Ledger, T: Ledger>(
     requires commands { (commands.name ≡ C.name) × (commands.parts ≡ C.parts) × (commands.parts ≡ 65536) }
     requires taken { (taken.name ≡ T.name) × (taken.parts ≡ T.parts) × (taken.parts ≡ 65536) }
 {
-    let server = new_server::<C, T>(alloc, commands, taken).ok()?;
+    let server = new_parts::<C, T>(alloc, commands, taken).ok()?;
     worked(rt, alloc, server, askers(alloc).ok()?)
 }
 

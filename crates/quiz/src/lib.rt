@@ -3,7 +3,5 @@
 #![tactic(auto)]
 
 mod quiz;
-#[cfg(test)]
-mod tests;
 
 pub use quiz::Quiz;

@@ -27,7 +27,7 @@ pub struct Told {
 #[derive(Drop)]
 pub struct Run<C: Ledger, T: Ledger> {
     pub alloc: Global,
-    pub side: Side<C, T>,
+    pub side: Box<Side<C, T>>,
     pub clients: Clients,
     /// The private id of the session that was lost last.
     pub lost: u128,

@@ -88,7 +88,7 @@ fn side_for<C: Ledger, T: Ledger>(
     first_offset: u64,
     commands: Blank,
     taken: Blank,
-) -> Result<Side<C, T>, CoreError>
+) -> Result<Box<Side<C, T>>, CoreError>
     requires commands { (commands.name ≡ C.name) × (commands.parts ≡ C.parts) × (commands.parts ≡ 65536) }
     requires taken { (taken.name ≡ T.name) × (taken.parts ≡ T.parts) × (taken.parts ≡ 65536) }
 {
@@ -96,11 +96,12 @@ fn side_for<C: Ledger, T: Ledger>(
         return Err(CoreFault::Memory.at_once());
     };
     let (core, pass) = Core::new(alloc, config, TIMING, NUMBERS, commands, taken)?;
-    Ok(Side {
+    let side = Side {
         core,
         pass,
         ids: Ids { next: 1 },
-    })
+    };
+    Box::new(alloc, side).map_err(|_| CoreFault::Memory.at_once())
 }
 
 /// A core with no clients.
@@ -109,7 +110,7 @@ pub fn new_side<C: Ledger, T: Ledger>(
     first_offset: u64,
     commands: Blank,
     taken: Blank,
-) -> Result<Side<C, T>, CoreError>
+) -> Result<Box<Side<C, T>>, CoreError>
     requires commands { (commands.name ≡ C.name) × (commands.parts ≡ C.parts) × (commands.parts ≡ 65536) }
     requires taken { (taken.name ≡ T.name) × (taken.parts ≡ T.parts) × (taken.parts ≡ 65536) }
 {

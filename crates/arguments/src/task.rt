@@ -1,18 +1,11 @@
-//! The program's arguments.
-
-ghost use Rattle.std.specs.Prelude.{◌≡◌, ◌≢◌, ◌⊎◌, Err, IsOkAnd, MatchResult};
-ghost use Rattle.std.specs.Process.{exit_status};
-ghost use Rattle.clap.specs.Words.{kind_of};
-ghost use Rattle.script.specs.declared.faults.RunError.TheVariants.{Memory, Writing};
+//! What the program is asked to do.
 
 use crate::folder::{FolderFault, read_folder};
 use crate::options::{self, Options};
 use clap::error::ErrorKind;
 use clap::{Command, Error};
-use script::RunError;
 use std::alloc::{AllocError, Global};
 use std::convert::AsStr;
-use std::process::ExitCode;
 use std::rt::{Env, Files};
 use std::{env, io};
 
@@ -74,7 +67,9 @@ fn words<R: Env + AllocGlobal>(rt: &R) -> Result<Vec<String>, Error> {
     }
 }
 
-pub(crate) fn task_of<'a, S: AsStr>(
+/// What these words ask for, the program's name first, where so many threads serve if none says how
+/// many. The files of a folder are not read yet.
+pub fn task_of<'a, S: AsStr>(
     alloc: Global,
     words: &'a [S],
     processors: usize,
@@ -96,26 +91,4 @@ fn program<'a>(alloc: Global) -> Result<Command<'a>, AllocError> {
         .subcommand_required(true)
         .subcommand(script)?
         .subcommand(options::command(alloc)?)
-}
-
-/// Shows the text of a parse without matches, and gives the status: 0 for help, 2 for bad arguments.
-pub fn tell<R: Print + Eprint>(rt: &R, refused: &Error) -> Result<ExitCode, RunError>
-    ensures memory { kind_of refused.now ≡ ErrorKind.OutOfMemory → result ≡ Err Memory }
-    ensures mistake { kind_of refused.now ≢ ErrorKind.OutOfMemory
-        → kind_of refused.now ≢ ErrorKind.DisplayHelp → kind_of refused.now ≢ ErrorKind.DisplayVersion
-        → IsOkAnd result (λ code. exit_status code ≡ 2) }
-    ensures asked { (kind_of refused.now ≡ ErrorKind.DisplayHelp) ⊎ (kind_of refused.now ≡ ErrorKind.DisplayVersion)
-        → MatchResult result (λ code. exit_status code ≡ 0) (λ fault. fault ≡ Writing) }
-{
-    if refused.kind() == ErrorKind::OutOfMemory {
-        return Err(RunError::Memory);
-    }
-    let shown = refused.print(rt);
-    if refused.use_stderr() {
-        return Ok(ExitCode::from(2));
-    }
-    match shown {
-        Ok(()) => Ok(ExitCode::SUCCESS),
-        Err(_) => Err(RunError::Writing),
-    }
 }

@@ -1,8 +1,8 @@
 //! The program's arguments.
 
-use crate::commands::{Task, task_of};
-use crate::folder::{FolderFault, read_folder};
-use crate::options::Options;
+use arguments::folder::{FolderFault, read_folder};
+use arguments::options::Options;
+use arguments::task::{Task, task_of};
 use clap::error::ErrorKind;
 use page::Page;
 use std::alloc::Global;

@@ -1,0 +1,6 @@
+//! The arguments of `event_server`: what they ask for, and the folder that they name.
+#![tactic(auto)]
+
+pub mod folder;
+pub mod options;
+pub mod task;

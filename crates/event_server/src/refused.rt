@@ -1,0 +1,33 @@
+//! What is told of arguments that ask for nothing that runs.
+
+ghost use Rattle.std.specs.Prelude.{◌≡◌, ◌≢◌, ◌⊎◌, Err, IsOkAnd, MatchResult};
+ghost use Rattle.std.specs.Process.{exit_status};
+ghost use Rattle.clap.specs.Words.{kind_of};
+ghost use Rattle.script.specs.declared.faults.RunError.TheVariants.{Memory, Writing};
+
+use clap::Error;
+use clap::error::ErrorKind;
+use script::RunError;
+use std::process::ExitCode;
+
+/// Shows the text of a parse without matches, and gives the status: 0 for help, 2 for bad arguments.
+pub fn tell<R: Print + Eprint>(rt: &R, refused: &Error) -> Result<ExitCode, RunError>
+    ensures memory { kind_of refused.now ≡ ErrorKind.OutOfMemory → result ≡ Err Memory }
+    ensures mistake { kind_of refused.now ≢ ErrorKind.OutOfMemory
+        → kind_of refused.now ≢ ErrorKind.DisplayHelp → kind_of refused.now ≢ ErrorKind.DisplayVersion
+        → IsOkAnd result (λ code. exit_status code ≡ 2) }
+    ensures asked { (kind_of refused.now ≡ ErrorKind.DisplayHelp) ⊎ (kind_of refused.now ≡ ErrorKind.DisplayVersion)
+        → MatchResult result (λ code. exit_status code ≡ 0) (λ fault. fault ≡ Writing) }
+{
+    if refused.kind() == ErrorKind::OutOfMemory {
+        return Err(RunError::Memory);
+    }
+    let shown = refused.print(rt);
+    if refused.use_stderr() {
+        return Ok(ExitCode::from(2));
+    }
+    match shown {
+        Ok(()) => Ok(ExitCode::SUCCESS),
+        Err(_) => Err(RunError::Writing),
+    }
+}
