@@ -60,7 +60,7 @@ impl fmt::Display for EventTask {
 /// A core under way, whose clients have the ids that the counter gave.
 #[derive(Drop)]
 struct Server<C: Ledger, T: Ledger> {
-    core: Core<C, T>,
+    core: Box<Core<C, T>>,
     pass: Pass<C, T>,
     ids: Counter,
 }
@@ -160,7 +160,7 @@ pub fn new_core<C: Ledger, T: Ledger>(
     clients: u64,
     commands: Blank,
     taken: Blank,
-) -> Result<(Core<C, T>, Pass<C, T>), Fault>
+) -> Result<(Box<Core<C, T>>, Pass<C, T>), Fault>
     requires commands { (commands.name ≡ C.name) × (commands.parts ≡ C.parts) × (commands.parts ≡ 65536) }
     requires taken { (taken.name ≡ T.name) × (taken.parts ≡ T.parts) × (taken.parts ≡ 65536) }
 {
@@ -175,7 +175,11 @@ pub fn new_core<C: Ledger, T: Ledger>(
         ping_timeout: 20_000,
         max_payload: 1_000_000,
     };
-    Ok(Core::new(alloc, limits, timing, numbers, commands, taken)?)
+    let (core, pass) = Core::new(alloc, limits, timing, numbers, commands, taken)?;
+    match Box::new(alloc, core) {
+        Ok(core) => Ok((core, pass)),
+        Err(_) => Err(Fault::Memory),
+    }
 }
 
 fn new_server<C: Ledger, T: Ledger>(

@@ -66,12 +66,13 @@ pub fn new_hub<C: Ledger, T: Ledger>(
     clients: u64,
     commands: Blank,
     taken: Blank,
-) -> Result<(Hub<C, T>, Pass<C, T>), HubError>
+) -> Result<(Box<Hub<C, T>>, Pass<C, T>), HubError>
     requires commands { (commands.name ≡ C.name) × (commands.parts ≡ C.parts) × (commands.parts ≡ 65536) }
     requires taken { (taken.name ≡ T.name) × (taken.parts ≡ T.parts) × (taken.parts ≡ 65536) }
 {
     let limits = config(alloc, clients)?;
-    Hub::new(alloc, limits, commands, taken)
+    let (hub, pass) = Hub::new(alloc, limits, commands, taken)?;
+    Ok((Box::new(alloc, hub)?, pass))
 }
 
 fn open<C: Ledger, T: Ledger>(

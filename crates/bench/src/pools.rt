@@ -119,13 +119,15 @@ fn bands<'a, R: Clock + Wait>(
 fn play<C: Ledger + Send + Sync, T: Ledger + Send + Sync, R: Clock + Threads + Wait + Sync>(
     rt: &R,
     alloc: Global,
-    core: Core<C, T>,
+    core: Box<Core<C, T>>,
     mut pass: Pass<C, T>,
     bands: Vec<Band<'_, R>>,
     workers: usize,
 ) -> Result<Totals, Fault> {
-    let locked = Locked::new(core);
     let ids = sources(alloc, workers as u64)?;
+    let Ok(locked) = Box::new(alloc, Locked::new(Box::into_inner(core))) else {
+        return Err(Fault::Memory);
+    };
     let served = serve_peers(
         rt,
         alloc,
@@ -168,7 +170,7 @@ fn ids_behind(count: u64) -> Counter {
 /// Plays each band in turn, without a lock.
 fn play_alone<C: Ledger, T: Ledger, P: Peer + Drop>(
     alloc: Global,
-    core: Core<C, T>,
+    core: Box<Core<C, T>>,
     pass: Pass<C, T>,
     bands: Vec<P>,
 ) -> Result<Totals, Fault> {
