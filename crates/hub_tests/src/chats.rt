@@ -205,7 +205,7 @@ impl<C: Ledger, T: Ledger> Rig<C, T> {
             Some(place) => Some(place),
             None => self.first_wrong(lines, sealed),
         };
-        let is_settled = self.hub.settle(&mut self.pass).is_ok();
+        let is_settled = self.settle().is_ok();
         wrong.or(if is_settled { None } else { Some(lines.len()) })
     }
 }

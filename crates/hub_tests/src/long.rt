@@ -1,9 +1,10 @@
 //! Many steps, many clients and many sockets of one client.
 
-use crate::made::{AMPLE, Limits, broadcast, entry};
+use crate::made::{AMPLE, Event, Limits, broadcast, entry};
 use crate::rig::Rig;
 use crate::tasks::{Task, expect};
 use journal::{HubError, Totals};
+use room_maps::Sid;
 use std::sync::ledger::Ledger;
 
 const CLIENT: u128 = 7;
@@ -53,15 +54,15 @@ impl<C: Ledger, T: Ledger> Rig<C, T> {
         self.open(CLIENT)?;
         self.tell_and_take_often()?;
         let steps = self.seal()? as u64;
-        Ok(steps == 66_001 && self.hub.settle(&mut self.pass) == Ok(TOLD))
+        Ok(steps == 66_001 && self.settle() == Ok(TOLD))
     }
 
     /// The next socket of the client is connected and ended.
     fn come_and_go(&mut self, number: u64) -> Result<(), HubError> {
         let sid = u128::from(number);
-        self.attach(CLIENT, sid)?;
+        self.attach_next(CLIENT, sid)?;
         self.take_one(CLIENT)?;
-        self.end(sid)
+        self.end(Sid::new(sid))
     }
 
     /// Whether a client connects and ends many sockets, one after the other.
@@ -77,7 +78,7 @@ impl<C: Ledger, T: Ledger> Rig<C, T> {
     /// Opens a client, with a socket whose answer to CONNECT is taken.
     fn connect(&mut self, id: u128) -> Result<(), HubError> {
         self.open(id)?;
-        self.attach(id, id)?;
+        self.attach_next(id, id)?;
         self.take_one(id)
     }
 
@@ -99,8 +100,15 @@ impl<C: Ledger, T: Ledger> Rig<C, T> {
 
     /// How many clients get a broadcast to everybody.
     fn cast_to_all(&mut self) -> Result<u64, HubError> {
-        let event = broadcast(self.alloc, &[], &[], true, "[\"a\"]")?;
-        let done = self.cast(event)?;
+        let event = Event {
+            space: "/",
+            rooms: &[],
+            excepted: &[],
+            logged: true,
+            payload: "[\"a\"]",
+            parts: &[],
+        };
+        let done = self.cast(broadcast(self.alloc, event)?)?;
         Ok(done.placed.min(done.clients.len() as u64))
     }
 

@@ -14,7 +14,10 @@ pub struct Limits {
     pub bytes: usize,
     pub log: usize,
     pub saved: usize,
+    pub keep: u64,
     pub first_offset: u64,
+    /// The names of the namespaces.
+    pub spaces: &'static [&'static str],
     /// Whether the journal is sealed after each line.
     pub sealed: bool,
 }
@@ -25,26 +28,39 @@ pub const AMPLE: Limits = Limits {
     bytes: 8_388_608,
     log: 1024,
     saved: 4096,
+    keep: 120_000,
     first_offset: 1,
+    spaces: &["/"],
     sealed: false,
 };
 
+fn push_name(alloc: Global, names: &mut Vec<Text>, name: &str) -> Result<(), HubError> {
+    let name = Text::copy_of(alloc, name)?;
+    Ok(names.push(name)?)
+}
+
+fn names_of(alloc: Global, spaces: &[&str]) -> Result<Vec<Text>, HubError> {
+    let mut names = Vec::new(alloc);
+    for space in spaces {
+        push_name(alloc, &mut names, space)?;
+    }
+    Ok(names)
+}
+
 fn config_once(alloc: Global, limits: Limits) -> Result<Config, HubError> {
-    let mut spaces = Vec::new(alloc);
-    spaces.push(Text::copy_of(alloc, "/")?)?;
     Ok(Config {
         clients: limits.clients,
         capacity: limits.capacity,
         bytes: limits.bytes,
         log: limits.log,
         saved: limits.saved,
-        keep: 120_000,
+        keep: limits.keep,
         first_offset: limits.first_offset,
-        spaces,
+        spaces: names_of(alloc, limits.spaces)?,
     })
 }
 
-/// The config of a hub with the one namespace `/`. One growth may be refused.
+/// The config of a hub with these limits. One growth may be refused.
 pub fn config(alloc: Global, limits: Limits) -> Result<Config, HubError> {
     match config_once(alloc, limits) {
         Err(HubError::Memory) => config_once(alloc, limits),
@@ -91,20 +107,24 @@ pub fn entry(alloc: Global, text: &str, parts: &[&[u8]]) -> Result<Entry, HubErr
     })
 }
 
-/// A broadcast of an event.
-pub fn broadcast(
-    alloc: Global,
-    rooms: &[Room],
-    excepted: &[Room],
-    logged: bool,
-    payload: &str,
-) -> Result<Cast, HubError> {
+/// An event that is broadcast, and to whom.
+#[derive(Clone, Copy)]
+pub struct Event<'a> {
+    pub space: &'a str,
+    pub rooms: &'a [Room],
+    pub excepted: &'a [Room],
+    pub logged: bool,
+    pub payload: &'a str,
+    pub parts: &'a [&'a [u8]],
+}
+
+pub fn broadcast(alloc: Global, event: Event<'_>) -> Result<Cast, HubError> {
     Ok(Cast {
-        space: Text::copy_of(alloc, "/")?,
-        rooms: Vec::from_slice(alloc, rooms)?,
-        excepted: Vec::from_slice(alloc, excepted)?,
-        logged,
-        payload: Text::copy_of(alloc, payload)?,
-        attachments: Attachments::new(alloc),
+        space: Text::copy_of(alloc, event.space)?,
+        rooms: Vec::from_slice(alloc, event.rooms)?,
+        excepted: Vec::from_slice(alloc, event.excepted)?,
+        logged: event.logged,
+        payload: Text::copy_of(alloc, event.payload)?,
+        attachments: attachments_of(alloc, event.parts)?,
     })
 }

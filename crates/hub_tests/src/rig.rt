@@ -3,8 +3,8 @@
 ghost use Rattle.std.specs.Prelude.{◌≡◌};
 
 use crate::made::{Limits, config};
-use hub::{Hub, Pass};
-use journal::{Cast, CastDone, Dismissed, HubError};
+use hub::{Hub, NotAll, Pass};
+use journal::{Cast, CastDone, Dismissed, HubError, Swept, Totals};
 use recovery::Pid;
 use room_maps::{Room, Sid};
 use sio_wire::Entry;
@@ -19,7 +19,7 @@ pub struct Rig<C: Ledger, T: Ledger> {
     pub now: u64,
 }
 
-/// A new hub with the one namespace `/`.
+/// A new hub.
 pub fn new_rig<C: Ledger, T: Ledger>(
     alloc: Global,
     limits: Limits,
@@ -39,7 +39,26 @@ pub fn new_rig<C: Ledger, T: Ledger>(
     Ok(Box::new(alloc, rig)?)
 }
 
+/// What a refused command leaves as it was, but for what the clauses alone can say.
+#[derive(PartialEq, Eq, Clone, Copy)]
+pub struct Counts {
+    pub totals: Totals,
+    steps: usize,
+    commands: u64,
+    taken: u64,
+}
+
 impl<C: Ledger, T: Ledger> Rig<C, T> {
+    pub fn counts(&self) -> Counts {
+        let state = self.hub.state();
+        Counts {
+            totals: state.totals(),
+            steps: state.steps().len(),
+            commands: self.pass.commands(),
+            taken: self.pass.taken(),
+        }
+    }
+
     pub fn open(&mut self, client: u128) -> Result<(), HubError> {
         self.hub.open(self.alloc, &mut self.pass, client, self.now)
     }
@@ -52,25 +71,60 @@ impl<C: Ledger, T: Ledger> Rig<C, T> {
         self.hub.close(self.alloc, &mut self.pass, client, self.now)
     }
 
-    /// Connects a socket, whose private id is the next number.
-    pub fn attach(&mut self, client: u128, sid: u128) -> Result<(), HubError> {
-        let (sid, pid) = (Sid::new(sid), Pid::new(sid.saturating_add(1)));
-        self.hub.attach(self.alloc, &mut self.pass, client, "/", sid, pid, self.now)
+    pub fn attach(
+        &mut self,
+        client: u128,
+        space: &str,
+        sid: Sid,
+        pid: Pid,
+    ) -> Result<(), HubError> {
+        self.hub.attach(
+            self.alloc,
+            &mut self.pass,
+            client,
+            space,
+            sid,
+            pid,
+            self.now,
+        )
     }
 
-    pub fn end(&mut self, sid: u128) -> Result<(), HubError> {
-        self.hub
-            .end(self.alloc, &mut self.pass, Sid::new(sid), self.now)
+    /// Connects a socket to `/`, whose private id is the next number.
+    pub fn attach_next(&mut self, client: u128, sid: u128) -> Result<(), HubError> {
+        let pid = Pid::new(sid.saturating_add(1));
+        self.attach(client, "/", Sid::new(sid), pid)
     }
 
-    pub fn join(&mut self, sid: u128, room: Room) -> Result<(), HubError> {
-        self.hub
-            .join(self.alloc, &mut self.pass, Sid::new(sid), room, self.now)
+    pub fn recover(
+        &mut self,
+        client: u128,
+        space: &str,
+        pid: Pid,
+        offset: u64,
+    ) -> Result<Sid, HubError> {
+        self.hub.recover(
+            self.alloc,
+            &mut self.pass,
+            client,
+            space,
+            pid,
+            offset,
+            self.now,
+        )
     }
 
-    pub fn leave(&mut self, sid: u128, room: Room) -> Result<(), HubError> {
+    pub fn end(&mut self, sid: Sid) -> Result<(), HubError> {
+        self.hub.end(self.alloc, &mut self.pass, sid, self.now)
+    }
+
+    pub fn join(&mut self, sid: Sid, room: Room) -> Result<(), HubError> {
         self.hub
-            .leave(self.alloc, &mut self.pass, Sid::new(sid), room, self.now)
+            .join(self.alloc, &mut self.pass, sid, room, self.now)
+    }
+
+    pub fn leave(&mut self, sid: Sid, room: Room) -> Result<(), HubError> {
+        self.hub
+            .leave(self.alloc, &mut self.pass, sid, room, self.now)
     }
 
     pub fn tell(&mut self, client: u128, entry: Entry) -> Result<(), HubError> {
@@ -87,8 +141,34 @@ impl<C: Ledger, T: Ledger> Rig<C, T> {
         self.hub.cast(self.alloc, &mut self.pass, cast, self.now)
     }
 
-    /// Ends the sockets of a namespace that are in one of the rooms, or all where there is none, but
-    /// for those in an excepted one.
+    /// The sockets of a namespace that are in one of the rooms, or all where there is none, but for
+    /// those in an excepted one, join a room.
+    pub fn join_all(
+        &mut self,
+        space: &str,
+        rooms: Vec<Room>,
+        excepted: Vec<Room>,
+        room: Room,
+    ) -> Result<Vec<Sid>, HubError> {
+        let (alloc, pass, now) = (self.alloc, &mut self.pass, self.now);
+        self.hub
+            .sockets_join(alloc, pass, space, rooms, excepted, room, now)
+    }
+
+    /// They leave a room.
+    pub fn leave_all(
+        &mut self,
+        space: &str,
+        rooms: Vec<Room>,
+        excepted: Vec<Room>,
+        room: Room,
+    ) -> Result<Vec<Sid>, HubError> {
+        let (alloc, pass, now) = (self.alloc, &mut self.pass, self.now);
+        self.hub
+            .sockets_leave(alloc, pass, space, rooms, excepted, room, now)
+    }
+
+    /// They end.
     pub fn end_all(
         &mut self,
         space: &str,
@@ -100,8 +180,16 @@ impl<C: Ledger, T: Ledger> Rig<C, T> {
             .disconnect_sockets(alloc, pass, space, rooms, excepted, now)
     }
 
+    pub fn sweep(&mut self) -> Result<Swept, HubError> {
+        self.hub.sweep(self.alloc, &mut self.pass, self.now)
+    }
+
     /// Seals the journal, and says how many steps were handed out.
     pub fn seal(&mut self) -> Result<usize, HubError> {
         Ok(self.hub.seal(self.alloc)?.steps.len())
+    }
+
+    pub fn settle(&mut self) -> Result<Totals, NotAll> {
+        self.hub.settle(&mut self.pass)
     }
 }

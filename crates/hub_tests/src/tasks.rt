@@ -12,7 +12,8 @@ use std::marker::Brand;
 use std::process::Abort;
 use std::sync::ledger::{Blank, Ledger};
 
-const PARTS: u64 = 65_536;
+/// How many parts a hub has its ledgers cut into.
+pub const PARTS: u64 = 65_536;
 
 #[derive(Clone, Copy)]
 pub enum Task {

@@ -2,11 +2,11 @@
 
 use super::dues::{are_entries, is_back, is_cast, is_done, is_sealed, is_swept};
 use super::{Answer, Line};
-use crate::made::{attachments_of, broadcast, entry, own, room};
+use crate::made::{Event, broadcast, entry, own, room};
 use crate::rig::Rig;
-use journal::{Cast, HubError};
+use journal::HubError;
 use recovery::Pid;
-use room_maps::Room;
+use room_maps::{Room, Sid};
 use std::sync::ledger::Ledger;
 
 impl<C: Ledger, T: Ledger> Rig<C, T> {
@@ -38,11 +38,11 @@ impl<C: Ledger, T: Ledger> Rig<C, T> {
             Line::Open(client) => self.open(client)?,
             Line::Park(client) => self.park(client)?,
             Line::Close(client) => self.close(client)?,
-            Line::Attach(client, sid) => self.attach(client, sid)?,
-            Line::End(sid) => self.end(sid)?,
-            Line::Join(sid, name) => self.join(sid, room(name))?,
-            Line::Leave(sid, name) => self.leave(sid, room(name))?,
-            Line::LeaveOwn(sid) => self.leave(sid, own(sid))?,
+            Line::Attach(client, sid) => self.attach_next(client, sid)?,
+            Line::End(sid) => self.end(Sid::new(sid))?,
+            Line::Join(sid, name) => self.join(Sid::new(sid), room(name))?,
+            Line::Leave(sid, name) => self.leave(Sid::new(sid), room(name))?,
+            Line::LeaveOwn(sid) => self.leave(Sid::new(sid), own(sid))?,
             said => return self.says(said, answer),
         }
         Ok(is_done(answer))
@@ -60,15 +60,12 @@ impl<C: Ledger, T: Ledger> Rig<C, T> {
         offset: u64,
         answer: Answer,
     ) -> Result<bool, HubError> {
-        let (pass, pid) = (&mut self.pass, Pid::new(pid));
-        let sid = self
-            .hub
-            .recover(self.alloc, pass, client, "/", pid, offset, self.now)?;
+        let sid = self.recover(client, "/", Pid::new(pid), offset)?;
         Ok(is_back(sid, answer))
     }
 
     fn sweeps(&mut self, answer: Answer) -> Result<bool, HubError> {
-        let swept = self.hub.sweep(self.alloc, &mut self.pass, self.now)?;
+        let swept = self.sweep()?;
         Ok(is_swept(swept, answer))
     }
 
@@ -90,7 +87,8 @@ impl<C: Ledger, T: Ledger> Rig<C, T> {
     }
 
     /// Broadcasts an event, and says whether it was answered so.
-    fn casts(&mut self, cast: Cast, answer: Answer) -> Result<bool, HubError> {
+    fn casts(&mut self, event: Event<'_>, answer: Answer) -> Result<bool, HubError> {
+        let cast = broadcast(self.alloc, event)?;
         let done = self.cast(cast)?;
         Ok(is_cast(&done, answer))
     }
@@ -103,9 +101,15 @@ impl<C: Ledger, T: Ledger> Rig<C, T> {
         parts: &[&[u8]],
         answer: Answer,
     ) -> Result<bool, HubError> {
-        let mut cast = broadcast(self.alloc, &[room("r")], &[own(sid)], true, text)?;
-        cast.attachments = attachments_of(self.alloc, parts)?;
-        self.casts(cast, answer)
+        let event = Event {
+            space: "/",
+            rooms: &[room("r")],
+            excepted: &[own(sid)],
+            logged: true,
+            payload: text,
+            parts,
+        };
+        self.casts(event, answer)
     }
 
     /// Does a line that is a broadcast.
@@ -130,7 +134,14 @@ impl<C: Ledger, T: Ledger> Rig<C, T> {
         payload: &str,
         answer: Answer,
     ) -> Result<bool, HubError> {
-        let cast = broadcast(self.alloc, rooms, excepted, logged, payload)?;
-        self.casts(cast, answer)
+        let event = Event {
+            space: "/",
+            rooms,
+            excepted,
+            logged,
+            payload,
+            parts: &[],
+        };
+        self.casts(event, answer)
     }
 }

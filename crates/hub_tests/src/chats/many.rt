@@ -8,7 +8,7 @@ use super::{
 use crate::made::{own, room, rooms_of};
 use crate::rig::Rig;
 use journal::{HubError, RecoveryRefusal};
-use room_maps::{Room, RoomError};
+use room_maps::{Room, RoomError, Sid};
 use std::sync::ledger::Ledger;
 
 /// A namespace that the hub doesn't have.
@@ -17,37 +17,33 @@ const STRAY: &str = "/stray";
 impl<C: Ledger, T: Ledger> Rig<C, T> {
     /// The sockets of a namespace that are in one of the rooms, or where none is named all, join a
     /// room.
-    fn join_all(
+    fn pulls(
         &mut self,
         space: &str,
         names: &[&str],
         room: Room,
         answer: Answer,
     ) -> Result<bool, HubError> {
-        let (alloc, pass, now) = (self.alloc, &mut self.pass, self.now);
-        let rooms = rooms_of(alloc, names)?;
-        let sids = self
-            .hub
-            .sockets_join(alloc, pass, space, rooms, Vec::new(alloc), room, now)?;
+        let rooms = rooms_of(self.alloc, names)?;
+        let sids = self.join_all(space, rooms, Vec::new(self.alloc), room)?;
         Ok(are_changed(&sids, answer))
     }
 
-    fn leave_all(
+    /// They leave a room.
+    fn pushes(
         &mut self,
         space: &str,
         names: &[&str],
         room: Room,
         answer: Answer,
     ) -> Result<bool, HubError> {
-        let (alloc, pass, now) = (self.alloc, &mut self.pass, self.now);
-        let rooms = rooms_of(alloc, names)?;
-        let sids = self
-            .hub
-            .sockets_leave(alloc, pass, space, rooms, Vec::new(alloc), room, now)?;
+        let rooms = rooms_of(self.alloc, names)?;
+        let sids = self.leave_all(space, rooms, Vec::new(self.alloc), room)?;
         Ok(are_changed(&sids, answer))
     }
 
-    fn kick_all(
+    /// They end.
+    fn kicks(
         &mut self,
         space: &str,
         rooms: Vec<Room>,
@@ -61,17 +57,17 @@ impl<C: Ledger, T: Ledger> Rig<C, T> {
     /// Does a line by which many sockets join a room.
     pub(super) fn pull(&mut self, line: Line, answer: Answer) -> Result<bool, HubError> {
         match line {
-            Line::Pull(names, into) => self.join_all("/", names, room(into), answer),
-            _ => self.join_all(STRAY, &["r"], room("q"), answer),
+            Line::Pull(names, into) => self.pulls("/", names, room(into), answer),
+            _ => self.pulls(STRAY, &["r"], room("q"), answer),
         }
     }
 
     /// Does a line by which many sockets leave a room.
     pub(super) fn push(&mut self, line: Line, answer: Answer) -> Result<bool, HubError> {
         match line {
-            Line::Push(names, from) => self.leave_all("/", names, room(from), answer),
-            Line::PushOwn(names, sid) => self.leave_all("/", names, own(sid), answer),
-            _ => self.leave_all(STRAY, &["r"], room("q"), answer),
+            Line::Push(names, from) => self.pushes("/", names, room(from), answer),
+            Line::PushOwn(names, sid) => self.pushes("/", names, own(sid), answer),
+            _ => self.pushes(STRAY, &["r"], room("q"), answer),
         }
     }
 
@@ -87,21 +83,21 @@ impl<C: Ledger, T: Ledger> Rig<C, T> {
     fn kick_but(&mut self, names: &[&str], but: &[&str], answer: Answer) -> Result<bool, HubError> {
         let rooms = rooms_of(self.alloc, names)?;
         let excepted = rooms_of(self.alloc, but)?;
-        self.kick_all("/", rooms, excepted, answer)
+        self.kicks("/", rooms, excepted, answer)
     }
 
     fn kick_others(&mut self, name: &str, own: Room, answer: Answer) -> Result<bool, HubError> {
         let rooms = rooms_of(self.alloc, &[name])?;
         let excepted = Vec::from_slice(self.alloc, &[own])?;
-        self.kick_all("/", rooms, excepted, answer)
+        self.kicks("/", rooms, excepted, answer)
     }
 
     fn kick_astray(&mut self, answer: Answer) -> Result<bool, HubError> {
         let rooms = rooms_of(self.alloc, &["r"])?;
-        self.kick_all(STRAY, rooms, Vec::new(self.alloc), answer)
+        self.kicks(STRAY, rooms, Vec::new(self.alloc), answer)
     }
 
-    fn join_again(&mut self, sid: u128, room: Room) -> Result<(), HubError> {
+    fn join_again(&mut self, sid: Sid, room: Room) -> Result<(), HubError> {
         match self.join(sid, room) {
             Err(HubError::Memory) => self.join(sid, room),
             joined => joined,
@@ -111,7 +107,7 @@ impl<C: Ledger, T: Ledger> Rig<C, T> {
     /// A socket that is in two rooms joins 254 more. One growth of the run may be refused.
     pub(super) fn fill(&mut self, sid: u128, answer: Answer) -> Result<bool, HubError> {
         for number in 0..254u64 {
-            self.join_again(sid, own(u128::from(number).saturating_add(1000)))?;
+            self.join_again(Sid::new(sid), own(u128::from(number).saturating_add(1000)))?;
         }
         Ok(is_done(answer))
     }

@@ -3,19 +3,16 @@
 use super::dues::are_sids;
 use super::{A, B, C, D, OF_A, OF_B, OF_C, OF_D, Sight};
 use crate::made::room;
-use crate::rig::Rig;
+use crate::rig::{Counts, Rig};
 use journal::{Base, HubError, Step, Totals, What};
 use room_maps::Sid;
 use std::sync::ledger::Ledger;
 
-/// All that a refused command leaves as it was, but for what the clauses alone can say.
+/// The counts and the clients, which a refused command leaves as they were.
 #[derive(PartialEq, Eq, Clone, Copy)]
 pub(super) struct Look {
-    totals: Totals,
-    steps: usize,
+    counts: Counts,
     clients: [Place; 4],
-    commands: u64,
-    taken: u64,
 }
 
 /// A client and its socket: what waits, and whether the socket is connected.
@@ -29,16 +26,13 @@ struct Place {
 impl<C: Ledger, T: Ledger> Rig<C, T> {
     pub(super) fn look(&self) -> Look {
         Look {
-            totals: self.hub.state().totals(),
-            steps: self.hub.state().steps().len(),
+            counts: self.counts(),
             clients: [
                 self.look_at(A, OF_A),
                 self.look_at(B, OF_B),
                 self.look_at(C, OF_C),
                 self.look_at(D, OF_D),
             ],
-            commands: self.pass.commands(),
-            taken: self.pass.taken(),
         }
     }
 
@@ -84,8 +78,12 @@ impl<C: Ledger, T: Ledger> Rig<C, T> {
         }
     }
 
-    fn has_socket(&self, client: u128, space: &str, sid: Option<u128>) -> bool {
-        self.hub.state().socket_of(client, space) == sid.map(|id| Sid::new(id))
+    fn has_socket(&self, client: u128, space: &str, due: Option<u128>) -> bool {
+        match (self.hub.state().socket_of(client, space), due) {
+            (Some(sid), Some(id)) => sid == Sid::new(id),
+            (None, None) => true,
+            _ => false,
+        }
     }
 
     /// How many entries wait for a client, and how many bytes they have.

@@ -1,10 +1,18 @@
 //! Numbers, ids, texts and broadcasts that look random.
 
+use crate::made::{Event, broadcast, entry, room};
 use journal::{Cast, HubError};
 use room_maps::{Room, Sid};
-use sio_wire::{Attachments, Entry};
+use sio_wire::Entry;
 use std::alloc::Global;
-use terms::{Bytes, Text};
+
+/// Which sockets a command is for.
+#[derive(Drop)]
+pub struct Choice {
+    pub space: &'static str,
+    pub rooms: Vec<Room>,
+    pub excepted: Vec<Room>,
+}
 
 /// Numbers that look random: a linear congruential generator, of which the upper bits are used.
 #[derive(Clone, Copy)]
@@ -51,31 +59,47 @@ impl Random {
     }
 
     pub fn room(&mut self) -> Room {
-        let name = match self.below(3) {
-            0 => "r",
-            1 => "s",
-            _ => return Room::own(self.sid()),
-        };
-        match Room::read(name) {
-            Some(room) => room,
-            None => Room::own(Sid::new(0)),
+        match self.below(3) {
+            0 => room("r"),
+            1 => room("s"),
+            _ => Room::own(self.sid()),
         }
     }
 
     /// Adds no room, one or two.
-    pub fn gather(&mut self, rooms: &mut Vec<Room>) -> Result<(), HubError> {
+    fn gather(&mut self, rooms: &mut Vec<Room>) -> Result<(), HubError> {
         for _more in 0..self.below(3) {
             rooms.push(self.room())?;
         }
         Ok(())
     }
 
-    /// Often none, and else one.
-    fn attach(&mut self, alloc: Global, attachments: &mut Attachments) -> Result<(), HubError> {
-        if self.below(4) == 0 {
-            attachments.push(Bytes::copy_of(alloc, &[1, 2, 3])?)?;
+    /// Mostly sockets of a room or two, and sometimes all of a namespace.
+    pub fn choice(&mut self, alloc: Global) -> Result<Choice, HubError> {
+        let mut choice = Choice {
+            space: "/",
+            rooms: Vec::new(alloc),
+            excepted: Vec::new(alloc),
+        };
+        self.choose(&mut choice)?;
+        Ok(choice)
+    }
+
+    fn choose(&mut self, choice: &mut Choice) -> Result<(), HubError> {
+        if self.below(2) != 0 {
+            self.gather(&mut choice.excepted)?;
         }
-        Ok(())
+        choice.space = self.space();
+        self.gather(&mut choice.rooms)
+    }
+
+    /// The attachments of an entry: often none, and else one.
+    fn parts(&mut self) -> &'static [&'static [u8]] {
+        if self.below(4) == 0 {
+            &[&[1, 2, 3]]
+        } else {
+            &[]
+        }
     }
 
     fn text(&mut self) -> &'static str {
@@ -87,12 +111,8 @@ impl Random {
     }
 
     pub fn entry(&mut self, alloc: Global) -> Result<Entry, HubError> {
-        let mut entry = Entry {
-            text: Text::copy_of(alloc, self.text())?,
-            attachments: Attachments::new(alloc),
-        };
-        self.attach(alloc, &mut entry.attachments)?;
-        Ok(entry)
+        let (text, parts) = (self.text(), self.parts());
+        entry(alloc, text, parts)
     }
 
     /// An event's array, or a text that is none and has no bracket.
@@ -106,30 +126,18 @@ impl Random {
 
     /// A broadcast, often to no room and with no excepted one.
     pub fn cast(&mut self, alloc: Global) -> Result<Cast, HubError> {
-        let mut cast = Cast {
-            space: Text::from_string(String::new(alloc)),
-            rooms: Vec::new(alloc),
-            excepted: Vec::new(alloc),
-            logged: false,
-            payload: Text::from_string(String::new(alloc)),
-            attachments: Attachments::new(alloc),
-        };
-        self.draw_rooms(alloc, &mut cast)?;
-        self.draw_event(alloc, &mut cast)?;
-        Ok(cast)
+        let choice = self.choice(alloc)?;
+        broadcast(alloc, self.event(&choice))
     }
 
-    fn draw_rooms(&mut self, alloc: Global, cast: &mut Cast) -> Result<(), HubError> {
-        if self.below(2) != 0 {
-            self.gather(&mut cast.excepted)?;
+    fn event<'a>(&mut self, choice: &'a Choice) -> Event<'a> {
+        Event {
+            space: choice.space,
+            rooms: &choice.rooms,
+            excepted: &choice.excepted,
+            logged: self.below(2) == 0,
+            payload: self.payload(),
+            parts: self.parts(),
         }
-        cast.space = Text::copy_of(alloc, self.space())?;
-        self.gather(&mut cast.rooms)
-    }
-
-    fn draw_event(&mut self, alloc: Global, cast: &mut Cast) -> Result<(), HubError> {
-        cast.logged = self.below(2) == 0;
-        cast.payload = Text::copy_of(alloc, self.payload())?;
-        self.attach(alloc, &mut cast.attachments)
     }
 }

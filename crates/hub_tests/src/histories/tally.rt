@@ -1,6 +1,6 @@
 //! What came up in the histories, so that none of it is left out.
 
-use crate::run::Got;
+use super::run::Got;
 use journal::{HubError, RecoveryRefusal};
 use room_maps::RoomError;
 

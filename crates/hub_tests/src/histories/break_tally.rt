@@ -1,6 +1,6 @@
 //! What came up in histories of many breaks, so that none of it is left out.
 
-use crate::tally::{first_none, raise};
+use super::tally::{first_none, raise};
 use journal::{HubError, RecoveryRefusal};
 
 /// How often each of these came up.

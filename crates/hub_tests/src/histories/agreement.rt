@@ -1,8 +1,8 @@
-//! Whether a hub and the slow program say the same of what may be read.
+//! Whether a hub's state and the slow program say the same of what may be read.
 
-use crate::entries::{is_same, total_size};
-use crate::run::Run;
-use hub::Hub;
+use super::entries::{is_same, total_size};
+use super::run::Run;
+use hub_state::State;
 use journal::{HubError, Socket};
 use replay::{
     is_connected, is_in_space, members, next, open_clients, put, room_sockets, rooms, sockets,
@@ -19,28 +19,27 @@ pub fn name_of(place: u16) -> &'static str {
 
 /// The session id of the one of a client's sockets that is in the namespace at this place.
 fn sid_in(sockets: &[Socket], place: u16) -> Option<Sid> {
-    let socket = sockets.iter().find(|socket| socket.space == place)?;
-    Some(socket.sid)
+    for socket in sockets {
+        if socket.space == place {
+            return Some(socket.sid);
+        }
+    }
+    None
 }
 
 /// Whether the entries are just those that wait for the client.
-fn is_front<C: Ledger, T: Ledger>(hub: &Hub<C, T>, client: u128, entries: &[Entry]) -> bool {
-    let mut same = hub.state().waiting(client) == Some(entries.len())
-        && hub.state().waiting_bytes(client) == Some(total_size(entries));
+fn is_front(state: &State, client: u128, entries: &[Entry]) -> bool {
+    let mut same = state.waiting(client) == Some(entries.len())
+        && state.waiting_bytes(client) == Some(total_size(entries));
     for (index, entry) in entries.iter().enumerate() {
-        same = same && waits_at(hub, client, index, entry);
+        same = same && waits_at(state, client, index, entry);
     }
     same
 }
 
 /// Whether this entry waits for the client at this place.
-fn waits_at<C: Ledger, T: Ledger>(
-    hub: &Hub<C, T>,
-    client: u128,
-    index: usize,
-    entry: &Entry,
-) -> bool {
-    match hub.state().front(client, index) {
+fn waits_at(state: &State, client: u128, index: usize, entry: &Entry) -> bool {
+    match state.front(client, index) {
         Some(other) => is_same(other, entry),
         None => false,
     }
@@ -48,30 +47,30 @@ fn waits_at<C: Ledger, T: Ledger>(
 
 /// Whether a room has the same members by the hub and by the slow program, in each namespace, and
 /// just these are with the room among the slow program's pairs.
-fn have_members<C: Ledger, T: Ledger>(
+fn have_members(
     alloc: Global,
-    hub: &Hub<C, T>,
+    state: &State,
     pairs: &[(Sid, Room)],
     room: Room,
 ) -> Result<bool, HubError> {
-    let main = hub.state().members(alloc, "/", room)?;
-    let other = hub.state().members(alloc, "/a", room)?;
+    let main = state.members(alloc, "/", room)?;
+    let other = state.members(alloc, "/a", room)?;
     Ok(
-        are_members(alloc, hub, 0, room, &main)?
-            && are_members(alloc, hub, 1, room, &other)?
+        are_members(alloc, state, 0, room, &main)?
+            && are_members(alloc, state, 1, room, &other)?
             && are_with(pairs, room, &main, &other),
     )
 }
 
 /// Whether these are the members of a room by the slow program, in the namespace at this place.
-fn are_members<C: Ledger, T: Ledger>(
+fn are_members(
     alloc: Global,
-    hub: &Hub<C, T>,
+    state: &State,
     place: u16,
     room: Room,
     sids: &[Sid],
 ) -> Result<bool, HubError> {
-    let due = members(alloc, hub.state().base(), hub.state().steps(), place, room)?;
+    let due = members(alloc, state.base(), state.steps(), place, room)?;
     Ok(due.as_slice() == sids)
 }
 
@@ -90,19 +89,15 @@ fn is_in_one(sid: Sid, main: &[Sid], other: &[Sid]) -> bool {
 }
 
 /// Whether both say the same of who is in which room.
-fn agree_on_rooms<C: Ledger, T: Ledger>(alloc: Global, hub: &Hub<C, T>) -> Result<bool, HubError> {
-    let pairs = rooms(alloc, hub.state().base(), hub.state().steps())?;
-    Ok(agree_on_names(alloc, hub, &pairs)? && agree_on_own_rooms(alloc, hub, &pairs)?)
+fn agree_on_rooms(alloc: Global, state: &State) -> Result<bool, HubError> {
+    let pairs = rooms(alloc, state.base(), state.steps())?;
+    Ok(agree_on_names(alloc, state, &pairs)? && agree_on_own_rooms(alloc, state, &pairs)?)
 }
 
-fn agree_on_names<C: Ledger, T: Ledger>(
-    alloc: Global,
-    hub: &Hub<C, T>,
-    pairs: &[(Sid, Room)],
-) -> Result<bool, HubError> {
+fn agree_on_names(alloc: Global, state: &State, pairs: &[(Sid, Room)]) -> Result<bool, HubError> {
     for name in ["r", "s"] {
         if let Some(room) = Room::read(name) {
-            if !have_members(alloc, hub, pairs, room)? {
+            if !have_members(alloc, state, pairs, room)? {
                 return Ok(false);
             }
         }
@@ -110,14 +105,14 @@ fn agree_on_names<C: Ledger, T: Ledger>(
     Ok(true)
 }
 
-fn agree_on_own_rooms<C: Ledger, T: Ledger>(
+fn agree_on_own_rooms(
     alloc: Global,
-    hub: &Hub<C, T>,
+    state: &State,
     pairs: &[(Sid, Room)],
 ) -> Result<bool, HubError> {
     for id in 0..5u64 {
         let own = Room::own(Sid::new(u128::from(id)));
-        if !have_members(alloc, hub, pairs, own)? {
+        if !have_members(alloc, state, pairs, own)? {
             return Ok(false);
         }
     }
@@ -126,148 +121,147 @@ fn agree_on_own_rooms<C: Ledger, T: Ledger>(
 
 /// Whether both say the same of the socket with an id: whether it is connected, and in which
 /// namespace it is in its own room.
-fn agree_on_socket<C: Ledger, T: Ledger>(
-    alloc: Global,
-    hub: &Hub<C, T>,
-    sid: Sid,
-) -> Result<bool, HubError> {
+fn agree_on_socket(alloc: Global, state: &State, sid: Sid) -> Result<bool, HubError> {
     Ok(
-        agree_on_connection(alloc, hub, sid)?
-            && agree_on_space(alloc, hub, 0, sid)?
-            && agree_on_space(alloc, hub, 1, sid)?,
+        agree_on_connection(alloc, state, sid)?
+            && agree_on_space(alloc, state, 0, sid)?
+            && agree_on_space(alloc, state, 1, sid)?,
     )
 }
 
 /// Whether both say the same of whether a socket is connected, and whether it is in rooms.
-fn agree_on_connection<C: Ledger, T: Ledger>(
-    alloc: Global,
-    hub: &Hub<C, T>,
-    sid: Sid,
-) -> Result<bool, HubError> {
-    let (base, steps) = (hub.state().base(), hub.state().steps());
-    let connected = hub.state().is_connected(sid);
+fn agree_on_connection(alloc: Global, state: &State, sid: Sid) -> Result<bool, HubError> {
+    let (base, steps) = (state.base(), state.steps());
+    let connected = state.is_connected(sid);
     let has_rooms = room_sockets(alloc, base, steps)?.contains(&sid);
     Ok(connected == is_connected(alloc, base, steps, sid)? && connected == has_rooms)
 }
 
 /// Whether both say the same of whether a socket is in its own room in the namespace at this place.
-fn agree_on_space<C: Ledger, T: Ledger>(
-    alloc: Global,
-    hub: &Hub<C, T>,
-    place: u16,
-    sid: Sid,
-) -> Result<bool, HubError> {
-    let (base, steps) = (hub.state().base(), hub.state().steps());
-    let members = hub.state().members(alloc, name_of(place), Room::own(sid))?;
+fn agree_on_space(alloc: Global, state: &State, place: u16, sid: Sid) -> Result<bool, HubError> {
+    let (base, steps) = (state.base(), state.steps());
+    let members = state.members(alloc, name_of(place), Room::own(sid))?;
     Ok(members.contains(&sid) == is_in_space(alloc, base, steps, place, sid)?)
 }
 
 /// Whether both say the same of a client: whether it is open, which sockets it has, and what waits.
 fn agree_on_client<C: Ledger, T: Ledger>(run: &Run<C, T>, client: u128) -> Result<bool, HubError> {
-    let (alloc, hub) = (run.alloc, &run.hub);
-    let is_open = open_clients(alloc, hub.state().base(), hub.state().steps())?.contains(&client);
+    let (alloc, state) = (run.rig.alloc, run.rig.hub.state());
+    let is_open = open_clients(alloc, state.base(), state.steps())?.contains(&client);
     Ok(
-        hub.state().is_open(client) == is_open
-            && agree_on_sockets(alloc, hub, client)?
+        state.is_open(client) == is_open
+            && agree_on_sockets(alloc, state, client)?
             && (agree_on_entries(run, client)? || !is_open),
     )
 }
 
 /// Whether both say the same of a client's sockets.
-fn agree_on_sockets<C: Ledger, T: Ledger>(
-    alloc: Global,
-    hub: &Hub<C, T>,
-    client: u128,
-) -> Result<bool, HubError> {
-    let sockets = sockets_of(alloc, hub.state().base(), hub.state().steps(), client)?;
+fn agree_on_sockets(alloc: Global, state: &State, client: u128) -> Result<bool, HubError> {
+    let sockets = sockets_of(alloc, state.base(), state.steps(), client)?;
     Ok(
-        hub.state().socket_of(client, "/") == sid_in(&sockets, 0)
-            && hub.state().socket_of(client, "/a") == sid_in(&sockets, 1),
+        state.socket_of(client, "/") == sid_in(&sockets, 0)
+            && state.socket_of(client, "/a") == sid_in(&sockets, 1),
     )
 }
 
 /// Whether both say the same of what waits for a client.
 fn agree_on_entries<C: Ledger, T: Ledger>(run: &Run<C, T>, client: u128) -> Result<bool, HubError> {
-    let state = run.hub.state();
-    let waits = waiting(run.alloc, state.base(), &run.config, state.steps(), client)?;
-    Ok(is_front(&run.hub, client, &waits))
+    let state = run.rig.hub.state();
+    let waits = waiting(
+        run.rig.alloc,
+        state.base(),
+        &run.config,
+        state.steps(),
+        client,
+    )?;
+    Ok(is_front(state, client, &waits))
 }
 
 /// Whether the hub has each socket that the slow program lists.
-fn has_sockets<C: Ledger, T: Ledger>(alloc: Global, hub: &Hub<C, T>) -> Result<bool, HubError> {
-    let sockets = sockets(alloc, hub.state().base(), hub.state().steps())?;
-    Ok(has_all(hub, &sockets))
+fn has_sockets(alloc: Global, state: &State) -> Result<bool, HubError> {
+    let sockets = sockets(alloc, state.base(), state.steps())?;
+    Ok(has_all(state, &sockets))
 }
 
-fn has_all<C: Ledger, T: Ledger>(hub: &Hub<C, T>, sockets: &[Socket]) -> bool {
+fn has_all(state: &State, sockets: &[Socket]) -> bool {
     let mut same = true;
     for socket in sockets {
-        let found = hub.state().socket_of(socket.client, name_of(socket.space));
+        let found = state.socket_of(socket.client, name_of(socket.space));
         same = same && found == Some(socket.sid);
     }
     same
 }
 
 /// Whether the entry is the one that waits for its client so many before the end.
-fn is_at<C: Ledger, T: Ledger>(hub: &Hub<C, T>, put: &(u128, Entry), from_end: usize) -> bool {
+fn is_at(state: &State, put: &(u128, Entry), from_end: usize) -> bool {
     let (client, entry) = put;
-    let count = hub.state().waiting(*client).unwrap_or(0);
-    waits_at(hub, *client, count.saturating_sub(from_end), entry)
+    let count = state.waiting(*client).unwrap_or(0);
+    waits_at(state, *client, count.saturating_sub(from_end), entry)
+}
+
+/// How many of the entries were put for a client.
+fn count(puts: &[(u128, Entry)], client: u128) -> usize {
+    let mut count: usize = 0;
+    for put in puts {
+        count = count.saturating_add(usize::from(put.0 == client));
+    }
+    count
 }
 
 /// How many of the entries from a place on were put for a client.
 fn count_from(puts: &[(u128, Entry)], place: usize, client: u128) -> usize {
     match puts.get(place..) {
-        Some(rest) => rest.iter().filter(|put| put.0 == client).count(),
+        Some(rest) => count(rest, client),
         None => 0,
     }
 }
 
 /// Whether what the last step put is what waits last.
 fn agree_on_last<C: Ledger, T: Ledger>(run: &Run<C, T>) -> Result<bool, HubError> {
-    let (hub, steps) = (&run.hub, run.hub.state().steps());
-    let Some((last, before)) = steps.split_last() else {
+    let state = run.rig.hub.state();
+    let Some((last, before)) = state.steps().split_last() else {
         return Ok(true);
     };
-    let base = hub.state().base();
-    let puts = put(run.alloc, base, &run.config, before, &last.what)?;
-    Ok(wait_last(hub, &puts))
+    let base = state.base();
+    let puts = put(run.rig.alloc, base, &run.config, before, &last.what)?;
+    Ok(wait_last(state, &puts))
 }
 
 /// Whether these entries are what waits last.
-fn wait_last<C: Ledger, T: Ledger>(hub: &Hub<C, T>, puts: &[(u128, Entry)]) -> bool {
+fn wait_last(state: &State, puts: &[(u128, Entry)]) -> bool {
     let mut same = true;
     for (place, put) in puts.iter().enumerate() {
-        same = same && is_at(hub, put, count_from(puts, place, put.0));
+        same = same && is_at(state, put, count_from(puts, place, put.0));
     }
     same
 }
 
 /// Whether both say the same of the counts and of the next offset, and the one pass has all.
 fn agree_on_numbers<C: Ledger, T: Ledger>(run: &Run<C, T>) -> Result<bool, HubError> {
-    let (hub, pass) = (&run.hub, &run.pass);
-    let (base, steps) = (hub.state().base(), hub.state().steps());
-    let counts = hub.state().totals();
+    let (state, pass) = (run.rig.hub.state(), &run.rig.pass);
+    let (base, steps) = (state.base(), state.steps());
+    let counts = state.totals();
     Ok(
-        totals(run.alloc, base, &run.config, steps)? == Some(counts)
-            && next(base, steps) == hub.state().next_offset()
+        totals(run.rig.alloc, base, &run.config, steps)? == Some(counts)
+            && next(base, steps) == state.next_offset()
             && (pass.commands(), pass.taken()) == (counts.commands, counts.taken),
     )
 }
 
 /// Whether both say the same.
 fn agree_once<C: Ledger, T: Ledger>(run: &Run<C, T>) -> Result<bool, HubError> {
+    let (alloc, state) = (run.rig.alloc, run.rig.hub.state());
     for id in 0..5u64 {
         let id = u128::from(id);
-        if !agree_on_client(run, id)? || !agree_on_socket(run.alloc, &run.hub, Sid::new(id))? {
+        if !agree_on_client(run, id)? || !agree_on_socket(alloc, state, Sid::new(id))? {
             return Ok(false);
         }
     }
     Ok(
         agree_on_numbers(run)?
             && agree_on_last(run)?
-            && has_sockets(run.alloc, &run.hub)?
-            && agree_on_rooms(run.alloc, &run.hub)?,
+            && has_sockets(alloc, state)?
+            && agree_on_rooms(alloc, state)?,
     )
 }
 

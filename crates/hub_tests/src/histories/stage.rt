@@ -1,26 +1,22 @@
 //! A hub that listeners are lost from and come back to, and what is done there.
 
-use crate::break_tally::BreakTally;
-use crate::listener::{Listener, Said};
-use crate::random::Random;
-use crate::tally::raise;
-use hub::{Hub, Pass};
+use super::break_tally::BreakTally;
+use super::listener::{Listener, Said};
+use super::random::Random;
+use super::tally::raise;
+use crate::made::{Event, broadcast, room, rooms_of};
+use crate::rig::Rig;
 use journal::{Cast, Config, HubError, What};
 use recovery::Pid;
-use room_maps::{Room, Sid};
-use sio_wire::Attachments;
+use room_maps::Sid;
 use std::alloc::Global;
 use std::sync::ledger::Ledger;
-use terms::Text;
 
 #[derive(Drop)]
 pub struct Stage<C: Ledger, T: Ledger> {
-    pub alloc: Global,
+    pub rig: Box<Rig<C, T>>,
     pub config: Config,
-    pub hub: Hub<C, T>,
-    pub pass: Pass<C, T>,
     pub random: Random,
-    pub now: u64,
     /// The last id that was used.
     pub id: u128,
     /// Whether sessions change their rooms once they began.
@@ -28,33 +24,28 @@ pub struct Stage<C: Ledger, T: Ledger> {
     pub tally: BreakTally,
 }
 
-fn room(is_r: bool) -> Room {
-    match Room::read(if is_r { "r" } else { "s" }) {
-        Some(room) => room,
-        None => Room::own(Sid::new(0)),
+/// The names of the rooms `r` and `s`, as far as they are meant.
+fn names(r: bool, s: bool) -> &'static [&'static str] {
+    match (r, s) {
+        (true, true) => &["r", "s"],
+        (true, false) => &["r"],
+        (false, true) => &["s"],
+        (false, false) => &[],
     }
-}
-
-fn rooms_of(alloc: Global, r: bool, s: bool) -> Result<Vec<Room>, HubError> {
-    let mut rooms = Vec::new(alloc);
-    if r {
-        rooms.push(room(true))?;
-    }
-    if s {
-        rooms.push(room(false))?;
-    }
-    Ok(rooms)
 }
 
 fn cast_of(alloc: Global, said: Said) -> Result<Cast, HubError> {
-    Ok(Cast {
-        space: Text::copy_of(alloc, said.space)?,
-        rooms: rooms_of(alloc, said.to_r, said.to_s)?,
-        excepted: rooms_of(alloc, false, said.but_s)?,
+    let rooms = rooms_of(alloc, names(said.to_r, said.to_s))?;
+    let excepted = rooms_of(alloc, names(false, said.but_s))?;
+    let event = Event {
+        space: said.space,
+        rooms: &rooms,
+        excepted: &excepted,
         logged: said.logged,
-        payload: Text::copy_of(alloc, "[\"a\"]")?,
-        attachments: Attachments::new(alloc),
-    })
+        payload: "[\"a\"]",
+        parts: &[],
+    };
+    broadcast(alloc, event)
 }
 
 /// Tells each listener what was said with this offset.
@@ -86,7 +77,7 @@ impl<C: Ledger, T: Ledger> Stage<C, T> {
 
     /// The next offset.
     fn next(&self) -> u64 {
-        self.hub.state().next_offset().unwrap_or(0)
+        self.rig.hub.state().next_offset().unwrap_or(0)
     }
 
     /// What is said next: mostly logged, and to a room or to all.
@@ -104,8 +95,8 @@ impl<C: Ledger, T: Ledger> Stage<C, T> {
     /// Says something, which the listeners account for.
     pub fn say(&mut self, listeners: &mut [Listener]) -> Result<(), HubError> {
         let said = self.draw();
-        let cast = cast_of(self.alloc, said)?;
-        let done = self.hub.cast(self.alloc, &mut self.pass, cast, self.now)?;
+        let cast = cast_of(self.rig.alloc, said)?;
+        let done = self.rig.cast(cast)?;
         if let Some(offset) = done.offset {
             raise(
                 &mut self.tally.wraps,
@@ -118,7 +109,7 @@ impl<C: Ledger, T: Ledger> Stage<C, T> {
 
     /// Notes for which listeners the last step, a logged broadcast, was dropped.
     fn note_drops(&mut self, listeners: &mut [Listener]) {
-        if let Some(step) = self.hub.state().steps().last() {
+        if let Some(step) = self.rig.hub.state().steps().last() {
             if let What::Cast(broadcast) = &step.what {
                 let count = note_dropped(listeners, &broadcast.dropped);
                 raise(&mut self.tally.drops, count);
@@ -129,11 +120,11 @@ impl<C: Ledger, T: Ledger> Stage<C, T> {
     /// The session joins a room, or leaves it where it is in it.
     fn change_rooms(&mut self, listener: &mut Listener, is_r: bool) -> Result<(), HubError> {
         let is_in = if is_r { listener.in_r } else { listener.in_s };
-        let (hub, pass, sid) = (&mut self.hub, &mut self.pass, listener.sid);
+        let room = room(if is_r { "r" } else { "s" });
         if is_in {
-            hub.leave(self.alloc, pass, sid, room(is_r), self.now)?;
+            self.rig.leave(listener.sid, room)?;
         } else {
-            hub.join(self.alloc, pass, sid, room(is_r), self.now)?;
+            self.rig.join(listener.sid, room)?;
         }
         listener.enter(is_r, self.next());
         Ok(())
@@ -148,8 +139,7 @@ impl<C: Ledger, T: Ledger> Stage<C, T> {
     /// Begins a session at a client, in the room `r`, in `s` or in neither.
     fn begin(&mut self, listener: &mut Listener, client: u128) -> Result<(), HubError> {
         let (sid, pid) = (Sid::new(self.new_id()), Pid::new(self.new_id()));
-        let (hub, pass, space) = (&mut self.hub, &mut self.pass, listener.space);
-        hub.attach(self.alloc, pass, client, space, sid, pid, self.now)?;
+        self.rig.attach(client, listener.space, sid, pid)?;
         listener.begin(client, sid, pid);
         match self.random.below(4) {
             0 => Ok(()),
@@ -162,7 +152,7 @@ impl<C: Ledger, T: Ledger> Stage<C, T> {
     /// back. Says whether it came back.
     pub fn bring_back(&mut self, listener: &mut Listener) -> Result<bool, HubError> {
         let client = self.new_id();
-        self.hub.open(self.alloc, &mut self.pass, client, self.now)?;
+        self.rig.open(client)?;
         match self.recover(listener, client) {
             Ok(()) => {
                 self.note_back(listener, client);
@@ -178,14 +168,13 @@ impl<C: Ledger, T: Ledger> Stage<C, T> {
     }
 
     fn recover(&mut self, listener: &Listener, client: u128) -> Result<(), HubError> {
-        let (hub, pass, space) = (&mut self.hub, &mut self.pass, listener.space);
-        let (pid, last) = (listener.pid, listener.last());
-        hub.recover(self.alloc, pass, client, space, pid, last, self.now)?;
+        self.rig
+            .recover(client, listener.space, listener.pid, listener.last())?;
         Ok(())
     }
 
     fn note_back(&mut self, listener: &mut Listener, client: u128) {
-        let has_missed = self.hub.state().waiting(client).unwrap_or(0) > 1;
+        let has_missed = self.rig.hub.state().waiting(client).unwrap_or(0) > 1;
         let forgot = listener.come_back(client);
         raise(&mut self.tally.backs, 1);
         raise(&mut self.tally.missed, u64::from(has_missed));
@@ -195,15 +184,13 @@ impl<C: Ledger, T: Ledger> Stage<C, T> {
     /// Takes some of what waits.
     pub fn take(&mut self, listener: &mut Listener, client: u128) -> Result<(), HubError> {
         let most = self.random.below(8) as usize;
-        let entries = self
-            .hub
-            .take(self.alloc, &mut self.pass, client, most, self.now)?;
+        let entries = self.rig.take(client, most)?;
         listener.hold(&entries)
     }
 
     /// Loses the client, whose session is saved or, where it has no place, ends.
     pub fn lose(&mut self, listener: &mut Listener, client: u128) -> Result<(), HubError> {
-        match self.hub.park(self.alloc, &mut self.pass, client, self.now) {
+        match self.rig.park(client) {
             Err(HubError::SavedFull) => self.close(client)?,
             parked => parked?,
         }
@@ -215,21 +202,20 @@ impl<C: Ledger, T: Ledger> Stage<C, T> {
     }
 
     fn close(&mut self, client: u128) -> Result<(), HubError> {
-        self.hub
-            .close(self.alloc, &mut self.pass, client, self.now)?;
+        self.rig.close(client)?;
         raise(&mut self.tally.unsaved, 1);
         Ok(())
     }
 
     pub fn sweep(&mut self) -> Result<(), HubError> {
-        let swept = self.hub.sweep(self.alloc, &mut self.pass, self.now)?;
+        let swept = self.rig.sweep()?;
         raise(&mut self.tally.swept_entries, swept.log as u64);
         raise(&mut self.tally.swept_sessions, swept.saved as u64);
         Ok(())
     }
 
     pub fn seal(&mut self) -> Result<(), HubError> {
-        self.hub.seal(self.alloc)?;
+        self.rig.seal()?;
         raise(&mut self.tally.seals, 1);
         Ok(())
     }

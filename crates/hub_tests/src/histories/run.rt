@@ -1,26 +1,22 @@
 //! A hub that gets random commands.
 
-use crate::agreement::name_of;
-use crate::entries::are_same;
-use crate::random::Random;
-use crate::tally::Tally;
-use hub::{Hub, Pass};
+use super::agreement::name_of;
+use super::entries::are_same;
+use super::random::Random;
+use super::tally::Tally;
+use crate::rig::{Counts, Rig};
 use journal::{CastDone, Config, HubError, Totals};
 use recovery::{Pid, Saved};
 use replay::{next, sessions, waiting};
 use room_maps::Sid;
 use sio_wire::Entry;
-use std::alloc::Global;
 use std::sync::ledger::Ledger;
 
 #[derive(Drop)]
 pub struct Run<C: Ledger, T: Ledger> {
-    pub alloc: Global,
+    pub rig: Box<Rig<C, T>>,
     pub config: Config,
-    pub hub: Hub<C, T>,
-    pub pass: Pass<C, T>,
     pub random: Random,
-    pub now: u64,
     pub tally: Tally,
 }
 
@@ -42,33 +38,15 @@ pub enum Got {
     Dismissed(u64, u64),
 }
 
-/// What a refused command leaves as it was, but for what the clauses alone can say.
-#[derive(PartialEq, Eq, Clone, Copy)]
-struct Look {
-    totals: Totals,
-    steps: usize,
-    commands: u64,
-    taken: u64,
-}
-
 impl<C: Ledger, T: Ledger> Run<C, T> {
-    fn look(&self) -> Look {
-        Look {
-            totals: self.hub.state().totals(),
-            steps: self.hub.state().steps().len(),
-            commands: self.pass.commands(),
-            taken: self.pass.taken(),
-        }
-    }
-
     /// Makes a random command. One allocation of the run may be refused: then the command is made a
     /// second time. Says whether it was answered as the slow program says, and where it was refused
     /// left the hub as it was.
     pub fn command(&mut self) -> Result<bool, HubError> {
-        let (start, before) = (self.random, self.look());
+        let (start, before) = (self.random, self.rig.counts());
         match self.act() {
             Err(HubError::Memory) => {
-                let is_unchanged = self.look() == before;
+                let is_unchanged = self.rig.counts() == before;
                 self.random = start;
                 Ok(self.again(before)? && is_unchanged)
             }
@@ -77,16 +55,16 @@ impl<C: Ledger, T: Ledger> Run<C, T> {
     }
 
     /// Makes the command a second time.
-    fn again(&mut self, before: Look) -> Result<bool, HubError> {
+    fn again(&mut self, before: Counts) -> Result<bool, HubError> {
         match self.act() {
             Err(HubError::Memory) => Err(HubError::Memory),
             got => Ok(self.is_right(before, got)),
         }
     }
 
-    fn is_right(&mut self, before: Look, got: Result<Got, HubError>) -> bool {
+    fn is_right(&mut self, before: Counts, got: Result<Got, HubError>) -> bool {
         self.tally.note(got);
-        let after = self.look();
+        let after = self.rig.counts();
         match got {
             Ok(done) => is_due(before.totals, after.totals, done),
             Err(_) => after == before,
@@ -117,7 +95,7 @@ impl<C: Ledger, T: Ledger> Run<C, T> {
     /// A client, more often one that is open.
     fn client(&mut self) -> u128 {
         let client = self.random.id();
-        if self.hub.state().is_open(client) {
+        if self.rig.hub.state().is_open(client) {
             client
         } else {
             self.random.id()
@@ -127,7 +105,7 @@ impl<C: Ledger, T: Ledger> Run<C, T> {
     /// A socket, more often one that is connected.
     fn sid(&mut self) -> Sid {
         let sid = self.random.sid();
-        if self.hub.state().is_connected(sid) {
+        if self.rig.hub.state().is_connected(sid) {
             sid
         } else {
             self.random.sid()
@@ -136,60 +114,55 @@ impl<C: Ledger, T: Ledger> Run<C, T> {
 
     fn open(&mut self) -> Result<Got, HubError> {
         let client = self.random.id();
-        self.hub.open(self.alloc, &mut self.pass, client, self.now)?;
+        self.rig.open(client)?;
         Ok(Got::Done)
     }
 
     fn attach(&mut self) -> Result<Got, HubError> {
         let (client, space) = (self.client(), self.random.space());
         let (sid, pid) = (self.random.sid(), Pid::new(self.random.id()));
-        let (hub, pass) = (&mut self.hub, &mut self.pass);
-        hub.attach(self.alloc, pass, client, space, sid, pid, self.now)?;
+        self.rig.attach(client, space, sid, pid)?;
         Ok(Got::Done)
     }
 
     fn join(&mut self) -> Result<Got, HubError> {
         let (sid, room) = (self.sid(), self.random.room());
-        self.hub
-            .join(self.alloc, &mut self.pass, sid, room, self.now)?;
+        self.rig.join(sid, room)?;
         Ok(Got::Done)
     }
 
     fn leave(&mut self) -> Result<Got, HubError> {
         let (sid, room) = (self.sid(), self.random.room());
-        self.hub
-            .leave(self.alloc, &mut self.pass, sid, room, self.now)?;
+        self.rig.leave(sid, room)?;
         Ok(Got::Done)
     }
 
     fn tell(&mut self) -> Result<Got, HubError> {
-        let (client, entry) = (self.client(), self.random.entry(self.alloc)?);
-        self.hub
-            .tell(self.alloc, &mut self.pass, client, entry, self.now)?;
+        let (client, entry) = (self.client(), self.random.entry(self.rig.alloc)?);
+        self.rig.tell(client, entry)?;
         Ok(Got::Done)
     }
 
     fn end(&mut self) -> Result<Got, HubError> {
         let sid = self.sid();
-        self.hub.end(self.alloc, &mut self.pass, sid, self.now)?;
+        self.rig.end(sid)?;
         Ok(Got::Done)
     }
 
     fn close(&mut self) -> Result<Got, HubError> {
         let client = self.client();
-        self.hub
-            .close(self.alloc, &mut self.pass, client, self.now)?;
+        self.rig.close(client)?;
         Ok(Got::Done)
     }
 
     fn park(&mut self) -> Result<Got, HubError> {
         let client = self.client();
-        self.hub.park(self.alloc, &mut self.pass, client, self.now)?;
+        self.rig.park(client)?;
         Ok(Got::Done)
     }
 
     fn sweep(&mut self) -> Result<Got, HubError> {
-        let swept = self.hub.sweep(self.alloc, &mut self.pass, self.now)?;
+        let swept = self.rig.sweep()?;
         Ok(Got::Swept(swept.log as u64, swept.saved as u64))
     }
 
@@ -198,50 +171,46 @@ impl<C: Ledger, T: Ledger> Run<C, T> {
         let (due, pid, place) = self.lost()?;
         let offset = self.last_offset().saturating_sub(self.random.below(4));
         let client = self.client();
-        let (hub, pass) = (&mut self.hub, &mut self.pass);
-        let space = name_of(place);
-        let sid = hub.recover(self.alloc, pass, client, space, pid, offset, self.now)?;
+        let sid = self.rig.recover(client, name_of(place), pid, offset)?;
         Ok(if sid == due { Got::Back } else { Got::Wrong })
     }
 
     fn last_offset(&self) -> u64 {
-        let next = self.hub.state().next_offset();
+        let next = self.rig.hub.state().next_offset();
         next.unwrap_or(0).saturating_sub(1)
     }
 
     /// The first of the saved sessions with the place of its namespace, or ids of none.
     fn lost(&self) -> Result<(Sid, Pid, u16), HubError> {
-        let state = self.hub.state();
-        let saved = sessions(self.alloc, state.base(), &self.config, state.steps())?;
+        let state = self.rig.hub.state();
+        let saved = sessions(self.rig.alloc, state.base(), &self.config, state.steps())?;
         Ok(first_of(&saved))
     }
 
     /// What waits for a client, as the slow program says.
     fn waiting(&self, client: u128) -> Result<Vec<Entry>, HubError> {
-        let (state, config) = (self.hub.state(), &self.config);
-        Ok(waiting(self.alloc, state.base(), config, state.steps(), client)?)
+        let (state, config) = (self.rig.hub.state(), &self.config);
+        Ok(waiting(self.rig.alloc, state.base(), config, state.steps(), client)?)
     }
 
     fn take(&mut self) -> Result<Got, HubError> {
         let (client, most) = (self.client(), self.random.below(3) as usize);
         let waited = self.waiting(client)?;
-        let entries = self
-            .hub
-            .take(self.alloc, &mut self.pass, client, most, self.now)?;
+        let entries = self.rig.take(client, most)?;
         Ok(took(&waited, most, &entries))
     }
 
     fn cast(&mut self) -> Result<Got, HubError> {
-        let cast = self.random.cast(self.alloc)?;
+        let cast = self.random.cast(self.rig.alloc)?;
         let offset = self.due_offset(cast.logged);
-        let done = self.hub.cast(self.alloc, &mut self.pass, cast, self.now)?;
+        let done = self.rig.cast(cast)?;
         Ok(reached(offset, &done))
     }
 
     /// The next offset of the slow program, where a broadcast is logged.
     fn due_offset(&self, logged: bool) -> Option<u64> {
         if logged {
-            next(self.hub.state().base(), self.hub.state().steps())
+            next(self.rig.hub.state().base(), self.rig.hub.state().steps())
         } else {
             None
         }

@@ -1,5 +1,5 @@
 -- Each blank's own name and parts are those of its ledger.
-use Rattle.history_tests.proofs.breaks.told_once.Given as goal
+use Rattle.hub_tests.proofs.histories.breaks.told_once.Given as goal
 
 abbrev pub ghosts-history-C-Ledger : goal.ghosts-history-C-Ledger
 ghosts-history-C-Ledger g = record { name = g.commands.name; parts = g.commands.parts }

@@ -2,66 +2,52 @@
 
 ghost use Rattle.std.specs.Prelude.{◌≡◌};
 
-use crate::agreement::agree;
-use crate::entries::{are_same_broadcasts, are_same_sessions};
-use crate::random::Random;
-use crate::run::Run;
-use crate::tally::{NOTHING, Tally};
-use hub::Hub;
-use journal::{Base, Config, HubError};
+use super::SPACES;
+use super::agreement::agree;
+use super::entries::{are_same_broadcasts, are_same_sessions};
+use super::random::Random;
+use super::run::Run;
+use super::tally::{NOTHING, Tally};
+use crate::made::{Limits, config};
+use crate::rig::{Rig, new_rig};
+use crate::tasks::PARTS;
+use journal::{Base, HubError};
 use recovery::{Logged, Saved};
 use replay::{log, sessions};
 use std::alloc::Global;
 use std::marker::Brand;
 use std::sync::ledger::{Blank, Ledger};
-use terms::Text;
 
-const PARTS: u64 = 65_536;
-
-pub fn spaces(alloc: Global) -> Result<Vec<Text>, HubError> {
-    let mut spaces = Vec::new(alloc);
-    push_space(alloc, &mut spaces, "/")?;
-    push_space(alloc, &mut spaces, "/a")?;
-    Ok(spaces)
-}
-
-fn push_space(alloc: Global, spaces: &mut Vec<Text>, name: &str) -> Result<(), HubError> {
-    let space = Text::copy_of(alloc, name)?;
-    Ok(spaces.push(space)?)
-}
-
-fn config(alloc: Global) -> Result<Config, HubError> {
-    let spaces = spaces(alloc)?;
-    Ok(Config {
-        clients: 3,
-        capacity: 3,
-        bytes: 250,
-        log: 4,
-        saved: 2,
-        keep: 40,
-        first_offset: 1,
-        spaces,
-    })
-}
+const LIMITS: Limits = Limits {
+    clients: 3,
+    capacity: 3,
+    bytes: 250,
+    log: 4,
+    saved: 2,
+    keep: 40,
+    first_offset: 1,
+    spaces: &SPACES,
+    sealed: false,
+};
 
 /// Seals the hub, and says whether its new base has the sessions and the log that the slow program
 /// computed before.
 fn seals_once<C: Ledger, T: Ledger>(run: &mut Run<C, T>) -> Result<bool, HubError> {
-    let (alloc, config, hub) = (run.alloc, &run.config, &mut run.hub);
-    let saved = sessions(alloc, hub.state().base(), config, hub.state().steps())?;
-    let broadcasts = log(alloc, hub.state().base(), config, hub.state().steps())?;
-    seals_with(alloc, hub, &saved, &broadcasts)
+    let (alloc, state) = (run.rig.alloc, run.rig.hub.state());
+    let saved = sessions(alloc, state.base(), &run.config, state.steps())?;
+    let broadcasts = log(alloc, state.base(), &run.config, state.steps())?;
+    seals_with(&mut run.rig, &saved, &broadcasts)
 }
 
 /// Seals the hub, and says whether its new base has these sessions and this log.
 fn seals_with<C: Ledger, T: Ledger>(
-    alloc: Global,
-    hub: &mut Hub<C, T>,
+    rig: &mut Rig<C, T>,
     saved: &[Saved],
     broadcasts: &[Logged],
 ) -> Result<bool, HubError> {
-    hub.seal(alloc)?;
-    Ok(has(hub.state().base(), saved, broadcasts) && hub.state().steps().is_empty())
+    rig.seal()?;
+    let state = rig.hub.state();
+    Ok(has(state.base(), saved, broadcasts) && state.steps().is_empty())
 }
 
 /// Whether a base has these sessions and this log.
@@ -80,12 +66,12 @@ fn seals<C: Ledger, T: Ledger>(run: &mut Run<C, T>) -> Result<bool, HubError> {
 /// said the same after each 20. The hub is sealed then too, or after 80 where epochs are long.
 fn goes_on<C: Ledger, T: Ledger>(run: &mut Run<C, T>, are_long: bool) -> Result<bool, HubError> {
     for count in 1..101u64 {
-        run.now = run.random.moment(count);
+        run.rig.now = run.random.moment(count);
         if !run.command()? || !stands(run, count, are_long)? {
             return Ok(false);
         }
     }
-    Ok(run.hub.settle(&mut run.pass) == Ok(run.hub.state().totals()))
+    Ok(run.rig.settle() == Ok(run.rig.hub.state().totals()))
 }
 
 /// Whether both say the same where it is time to ask, and the hub is sealed well where it is time.
@@ -109,15 +95,11 @@ fn begun<C: Ledger, T: Ledger>(
     requires commands { (commands.name ≡ C.name) × (commands.parts ≡ C.parts) × (commands.parts ≡ 65536) }
     requires taken { (taken.name ≡ T.name) × (taken.parts ≡ T.parts) × (taken.parts ≡ 65536) }
 {
-    let limits = config(alloc)?;
-    let (hub, pass) = Hub::<C, T>::new(alloc, config(alloc)?, commands, taken)?;
+    let rig = new_rig::<C, T>(alloc, LIMITS, commands, taken)?;
     let run = Run {
-        alloc,
-        config: limits,
-        hub,
-        pass,
+        rig,
+        config: config(alloc, LIMITS)?,
         random: Random { state: seed },
-        now: 0,
         tally,
     };
     Ok(Box::new(alloc, run)?)

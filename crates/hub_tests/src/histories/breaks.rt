@@ -3,34 +3,32 @@
 
 ghost use Rattle.std.specs.Prelude.{◌≡◌};
 
-use crate::break_tally::{BreakTally, NO_BREAKS};
-use crate::histories::spaces;
-use crate::listener::{Listener, offset_of, since};
-use crate::random::Random;
-use crate::stage::Stage;
-use crate::tally::raise;
-use hub::Hub;
-use journal::{Config, HubError};
+use super::SPACES;
+use super::break_tally::{BreakTally, NO_BREAKS};
+use super::listener::{Listener, offset_of, since};
+use super::random::Random;
+use super::stage::Stage;
+use super::tally::raise;
+use crate::made::{Limits, config};
+use crate::rig::new_rig;
+use crate::tasks::PARTS;
+use journal::HubError;
 use replay::{due_casts, heard};
 use std::alloc::Global;
 use std::marker::Brand;
 use std::sync::ledger::{Blank, Ledger};
 
-const PARTS: u64 = 65_536;
-
-fn config(alloc: Global) -> Result<Config, HubError> {
-    let spaces = spaces(alloc)?;
-    Ok(Config {
-        clients: 3,
-        capacity: 5,
-        bytes: 1_000,
-        log: 14,
-        saved: 3,
-        keep: 60,
-        first_offset: 1,
-        spaces,
-    })
-}
+const LIMITS: Limits = Limits {
+    clients: 3,
+    capacity: 5,
+    bytes: 1_000,
+    log: 14,
+    saved: 3,
+    keep: 60,
+    first_offset: 1,
+    spaces: &SPACES,
+    sealed: false,
+};
 
 /// Three listeners who have no session yet, one of them in another namespace.
 fn listeners(alloc: Global) -> Result<Vec<Listener>, HubError> {
@@ -44,9 +42,9 @@ fn listeners(alloc: Global) -> Result<Vec<Listener>, HubError> {
 impl<C: Ledger, T: Ledger> Stage<C, T> {
     /// The offsets of the entries that wait for a client.
     fn waiting(&self, client: u128) -> Result<Vec<u64>, HubError> {
-        let mut offsets = Vec::new(self.alloc);
-        for index in 0..self.hub.state().waiting(client).unwrap_or(0) {
-            if let Some(entry) = self.hub.state().front(client, index) {
+        let mut offsets = Vec::new(self.rig.alloc);
+        for index in 0..self.rig.hub.state().waiting(client).unwrap_or(0) {
+            if let Some(entry) = self.rig.hub.state().front(client, index) {
                 if let Some(offset) = offset_of(entry) {
                     offsets.push(offset)?;
                 }
@@ -57,16 +55,16 @@ impl<C: Ledger, T: Ledger> Stage<C, T> {
 
     /// The offsets of what the listener holds and of what waits for it, since the base.
     fn got(&self, listener: &Listener, client: u128) -> Result<Vec<u64>, HubError> {
-        let mut offsets = since(self.alloc, &listener.held, self.start())?;
+        let mut offsets = since(self.rig.alloc, &listener.held, self.start())?;
         let waiting = self.waiting(client)?;
-        let more = since(self.alloc, &waiting, self.start())?;
+        let more = since(self.rig.alloc, &waiting, self.start())?;
         offsets.extend_from_slice(&more)?;
         Ok(offsets)
     }
 
     /// The first offset of the journal.
     fn start(&self) -> u64 {
-        self.hub.state().base().next.unwrap_or(0)
+        self.rig.hub.state().base().next.unwrap_or(0)
     }
 
     /// Whether the session has heard what the listener holds and what waits for it.
@@ -80,18 +78,18 @@ impl<C: Ledger, T: Ledger> Stage<C, T> {
     /// Whether what is due to the session is what was said to it by the listener's account, and is
     /// heard, where nothing may lack.
     fn is_due(&self, listener: &Listener, heard: &[u64]) -> Result<bool, HubError> {
-        let state = self.hub.state();
+        let state = self.rig.hub.state();
         let (base, steps) = (state.base(), state.steps());
-        let due = due_casts(self.alloc, base, &self.config, steps, listener.pid)?;
-        let said = since(self.alloc, &listener.due, self.start())?;
+        let due = due_casts(self.rig.alloc, base, &self.config, steps, listener.pid)?;
+        let said = since(self.rig.alloc, &listener.due, self.start())?;
         Ok(due == said && (!listener.is_sure || due.as_slice() == heard))
     }
 
     /// Whether all three say the same of a listener that is connected.
     fn is_right(&self, listener: &Listener) -> Result<bool, HubError> {
-        let state = self.hub.state();
+        let state = self.rig.hub.state();
         let (base, steps) = (state.base(), state.steps());
-        let heard = heard(self.alloc, base, &self.config, steps, listener.pid)?;
+        let heard = heard(self.rig.alloc, base, &self.config, steps, listener.pid)?;
         Ok(self.has_heard(listener, &heard)? && self.is_due(listener, &heard)?)
     }
 
@@ -149,7 +147,7 @@ impl<C: Ledger, T: Ledger> Stage<C, T> {
     fn wait(&mut self) {
         let leap = if self.random.below(32) == 0 { 60 } else { 0 };
         let more = self.random.below(4).saturating_add(leap);
-        self.now = self.now.saturating_add(more);
+        self.rig.now = self.rig.now.saturating_add(more);
     }
 
     /// Does much, and says whether all said the same after each recovery and at the end.
@@ -175,15 +173,11 @@ fn begun<C: Ledger, T: Ledger>(
     requires commands { (commands.name ≡ C.name) × (commands.parts ≡ C.parts) × (commands.parts ≡ 65536) }
     requires taken { (taken.name ≡ T.name) × (taken.parts ≡ T.parts) × (taken.parts ≡ 65536) }
 {
-    let limits = config(alloc)?;
-    let (hub, pass) = Hub::<C, T>::new(alloc, config(alloc)?, commands, taken)?;
+    let rig = new_rig::<C, T>(alloc, LIMITS, commands, taken)?;
     let stage = Stage {
-        alloc,
-        config: limits,
-        hub,
-        pass,
+        rig,
+        config: config(alloc, LIMITS)?,
         random: Random { state: seed },
-        now: 0,
         id: 0,
         are_moving: seed % 2 == 1,
         tally,
