@@ -70,14 +70,14 @@ impl Acceptor {
         connections: u64,
         together: u64,
         most: u64,
-    ) -> io::Result<Acceptor> {
+    ) -> io::Result<Box<Acceptor>> {
         let mut listener = listener;
         poll.registry()
             .register(&mut listener, LISTENER, Interest::READABLE)?;
         let Ok(events) = Events::with_capacity(alloc, EVENTS) else {
             return Err(io::Error::from(ErrorKind::OutOfMemory));
         };
-        Ok(Acceptor {
+        let acceptor = Acceptor {
             alloc,
             poll,
             listener,
@@ -91,7 +91,8 @@ impl Acceptor {
             refused: VecDeque::new(alloc),
             together,
             given: 0,
-        })
+        };
+        Box::new(alloc, acceptor).map_err(|_| io::Error::from(ErrorKind::OutOfMemory))
     }
 
     /// Accepts connections until the server is to end, or had as many as it was to have.

@@ -1,6 +1,6 @@
 //! The connections of a loop, and which of them have something to do.
 
-use crate::link::{Connection, Mode, Sent};
+use crate::link::{Connection, Mode, Sent, Stream};
 use loop_rules::{Overdue, Part, find_overdue};
 use mio::Token;
 use mio::event::Event;
@@ -15,7 +15,7 @@ pub(crate) const BELL: Token = Token(usize::MAX);
 /// The connections of a loop. Each has a key.
 #[derive(Drop)]
 pub(crate) struct Connections<R> {
-    slots: Slab<Connection<R>>,
+    slots: Slab<Box<Connection<R>>>,
     generation: u32,
     /// The connection to which what is put for a client goes.
     takers: HashMap<u128, usize>,
@@ -66,22 +66,29 @@ impl<R: Clock + Drop> Connections<R> {
     }
 
     /// Adds a connection, for which the next token was given. None where there is no memory for it.
-    pub(crate) fn add(&mut self, connection: Connection<R>) -> Option<usize> {
+    pub(crate) fn add(&mut self, connection: Box<Connection<R>>) -> Option<usize> {
         self.slots.insert(connection).ok()
     }
 
     /// The connection with this key.
     pub(crate) fn get_mut(&mut self, key: usize) -> Option<&mut Connection<R>> {
-        self.slots.get_mut(key)
+        let connection = self.slots.get_mut(key)?;
+        Some(connection)
     }
 
     /// Takes a connection out.
-    pub(crate) fn remove(&mut self, key: usize) -> Option<Connection<R>> {
+    pub(crate) fn remove(&mut self, key: usize) -> Option<Box<Connection<R>>> {
         let connection = self.slots.try_remove(key)?;
         if let Some(client) = connection.client() {
             self.release(client, key);
         }
         Some(connection)
+    }
+
+    /// Takes a connection out whose request was read, and leaves its stream of it.
+    pub(crate) fn take_stream(&mut self, key: usize) -> Option<Stream> {
+        let mut connection = self.remove(key)?;
+        connection.take_stream()
     }
 
     /// What is put for this client goes to this connection from now on.
@@ -139,11 +146,8 @@ impl<R: Clock + Drop> Connections<R> {
         if connection.queued {
             return;
         }
-        if self.ready.push_back(key).is_ok() {
-            connection.queued = true;
-        } else {
-            self.overlooked = true;
-        }
+        connection.queued = self.ready.push_back(key).is_ok();
+        self.overlooked |= !connection.queued;
     }
 
     /// Queues a connection for the next turn of the loop.
@@ -154,19 +158,14 @@ impl<R: Clock + Drop> Connections<R> {
         if connection.queued {
             return;
         }
-        if self.again.push(key).is_ok() {
-            connection.queued = true;
-        } else {
-            self.overlooked = true;
-        }
+        connection.queued = self.again.push(key).is_ok();
+        self.overlooked |= !connection.queued;
     }
 
     /// The next turn of the loop begins: those that have more to do are queued.
     pub(crate) fn begin_turn(&mut self) {
         for key in self.again.drain(..) {
-            if self.ready.push_back(key).is_err() {
-                self.overlooked = true;
-            }
+            self.overlooked |= self.ready.push_back(key).is_err();
         }
     }
 
@@ -178,7 +177,7 @@ impl<R: Clock + Drop> Connections<R> {
     /// The next one that has something to do.
     pub(crate) fn pop(&mut self) -> Option<usize> {
         let key = self.ready.pop_front()?;
-        if let Some(connection) = self.slots.get_mut(key) {
+        if let Some(connection) = self.get_mut(key) {
             connection.queued = false;
             connection.begin();
         }
@@ -193,16 +192,13 @@ impl<R: Clock + Drop> Connections<R> {
         if connection.unsent {
             return;
         }
-        if self.unsent.push(key).is_ok() {
-            connection.unsent = true;
-        } else {
-            self.overlooked = true;
-        }
+        connection.unsent = self.unsent.push(key).is_ok();
+        self.overlooked |= !connection.unsent;
     }
 
     /// Whether a connection has so much to send that it is to be sent at once.
     pub(crate) fn has_much_unsent(&mut self, key: usize) -> bool {
-        match self.slots.get_mut(key) {
+        match self.get_mut(key) {
             Some(connection) => connection.has_much_unsent(),
             None => false,
         }
@@ -211,7 +207,7 @@ impl<R: Clock + Drop> Connections<R> {
     /// One that may have bytes to send.
     pub(crate) fn pop_unsent(&mut self) -> Option<usize> {
         let key = self.unsent.pop()?;
-        if let Some(connection) = self.slots.get_mut(key) {
+        if let Some(connection) = self.get_mut(key) {
             connection.unsent = false;
         }
         Some(key)
@@ -219,7 +215,7 @@ impl<R: Clock + Drop> Connections<R> {
 
     /// Sends the bytes of a connection, and tells whether it is over.
     pub(crate) fn send(&mut self, key: usize, now: u64) -> bool {
-        let Some(connection) = self.slots.get_mut(key) else {
+        let Some(connection) = self.get_mut(key) else {
             return false;
         };
         match connection.send(now) {
@@ -238,16 +234,14 @@ impl<R: Clock + Drop> Connections<R> {
             return;
         }
         let key = event.token().0 & 0xffff_ffff;
-        let Some(connection) = self.slots.get_mut(key) else {
+        let Some(connection) = self.get_mut(key) else {
             return;
         };
         if token_of(connection.generation, key) != event.token() {
             return;
         }
         if event.is_readable() {
-            if let Some(stream) = connection.stream() {
-                stream.note_readable(event.is_read_closed());
-            }
+            connection.note_readable(event.is_read_closed());
             self.queue(key);
         }
         if event.is_writable() {
@@ -263,9 +257,22 @@ impl<R: Clock + Drop> Connections<R> {
         }
     }
 
+    /// Whose connection it is, once that is known.
+    pub(crate) fn client(&self, key: usize) -> Option<u128> {
+        self.slots.get(key)?.client()
+    }
+
+    /// Whether the connection is a WebSocket.
+    pub(crate) fn is_socket(&self, key: usize) -> bool {
+        match self.slots.get(key) {
+            Some(connection) => connection.is_socket(),
+            None => false,
+        }
+    }
+
     /// The client of a connection is told as lost.
     pub(crate) fn leave(&mut self, key: usize, now: u64) {
-        if let Some(connection) = self.slots.get_mut(key) {
+        if let Some(connection) = self.get_mut(key) {
             connection.leave(now);
         }
     }
@@ -289,7 +296,7 @@ impl<R: Clock + Drop> Connections<R> {
             _ if cutting => return Overdue::Fail,
             part => part,
         };
-        match self.slots.get_mut(key) {
+        match self.get_mut(key) {
             Some(connection) => {
                 let age = now.saturating_sub(connection.since);
                 find_overdue(part, age, connection.stalled(now))
@@ -322,21 +329,17 @@ impl<R: Clock + Drop> Connections<R> {
 
     /// Does what is to be done with a connection, and tells whether it is to be closed at once.
     pub(crate) fn part_with(&mut self, key: usize, overdue: Overdue, now: u64) -> bool {
-        let Some(connection) = self.slots.get_mut(key) else {
+        let Some(connection) = self.get_mut(key) else {
             return false;
         };
+        connection.part_with(overdue, now);
         match overdue {
-            Overdue::Nothing => return false,
-            Overdue::Close => return true,
-            Overdue::GiveUp => connection.give_up(),
-            Overdue::Cut => connection.cut(),
-            Overdue::Fail => {
-                connection.cut();
-                connection.fail(now);
+            Overdue::Nothing => false,
+            Overdue::Close => true,
+            _ => {
+                self.queue(key);
+                false
             }
-            Overdue::Look => {}
         }
-        self.queue(key);
-        false
     }
 }

@@ -35,10 +35,10 @@ impl Download {
         alloc: Global,
         stream: &mut Buffered<S>,
         page: Arc<Page>,
-        request: Request,
+        request: Box<Request>,
     ) -> io::Result<Download> {
         write_head(alloc, stream, page.look_up(request.path.as_str()))?;
-        let Request { method, path, .. } = request;
+        let Request { method, path, .. } = Box::into_inner(request);
         Ok(Download {
             page,
             path,

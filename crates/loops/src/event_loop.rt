@@ -3,6 +3,7 @@
 use crate::buffered::Buffered;
 use crate::connections::Connections;
 use crate::download::asks_for_file;
+use crate::fault::ServerFault;
 use crate::inbox::{Handed, Mail};
 use crate::link::{Connection, Drained, Mode, Next, Reading, Stream};
 use crate::news::Log;
@@ -15,8 +16,9 @@ use effects::{Cause, CoreError, Done};
 use http_edge::{EdgeError, Refusal, Request, Target, route};
 use hub_gate::{Peer, PeerFault};
 use loop_rules::{Turn, Verdict, loop_of, owner_of};
+use mio::net::TcpStream;
 use mio::{Events, Interest, Poll};
-use std::alloc::{AllocError, Global};
+use std::alloc::Global;
 use std::collections::{HashMap, VecDeque};
 use std::mem;
 use std::rt::Clock;
@@ -108,8 +110,9 @@ impl<'a, R: Wait + Clock + Copy + Drop, L: Log> EventLoop<'a, R, L> {
         rules: Arc<Rules>,
         poll: Poll,
         watch: Watch<R>,
-    ) -> Result<EventLoop<'a, R, L>, AllocError> {
+    ) -> Result<EventLoop<'a, R, L>, ServerFault> {
         let outbound = Outbound::new(alloc, rules.loops)?;
+        let events = Events::with_capacity(alloc, EVENTS)?;
         Ok(EventLoop {
             rt,
             alloc,
@@ -118,7 +121,7 @@ impl<'a, R: Wait + Clock + Copy + Drop, L: Log> EventLoop<'a, R, L> {
             shared,
             rules,
             poll,
-            events: Events::with_capacity(alloc, EVENTS)?,
+            events,
             watch,
             connections: Connections::new(alloc),
             mail: Mail::new(alloc),
@@ -171,18 +174,27 @@ impl<'a, R: Wait + Clock + Copy + Drop, L: Log> EventLoop<'a, R, L> {
     /// Waits for streams, for what others hand in, or for the next moment at which something is due.
     /// Answers whether it could.
     fn wait(&mut self) -> bool {
+        let timeout = self.timeout();
+        let waited = self.poll.poll(&mut self.events, Some(timeout));
+        self.note_ready();
+        waited.is_ok()
+    }
+
+    /// How long it waits at the most.
+    fn timeout(&mut self) -> Duration {
         let timeout = if self.may_sleep() {
             self.time_to_sleep()
         } else {
             0
         };
-        let waited = self
-            .poll
-            .poll(&mut self.events, Some(Duration::from_millis(timeout)));
+        Duration::from_millis(timeout)
+    }
+
+    /// Notes which streams are ready.
+    fn note_ready(&mut self) {
         for event in self.events.iter() {
             self.connections.note(event);
         }
-        waited.is_ok()
     }
 
     /// Whether nothing is to be done, and nothing was handed in.
@@ -211,28 +223,37 @@ impl<'a, R: Wait + Clock + Copy + Drop, L: Log> EventLoop<'a, R, L> {
         }
         self.add_streams();
         self.adopt_handed();
-        for client in self.mail.woken.drain(..) {
-            self.connections.wake(client);
-        }
+        self.wake_told();
         let everyone = mem::replace(&mut self.mail.everyone, false);
         if self.connections.has_overlooked() || everyone {
             self.connections.wake_all();
         }
+        self.do_due(everyone);
+        true
+    }
+
+    /// Wakes the clients for which other loops put something.
+    fn wake_told(&mut self) {
+        for client in self.mail.woken.drain(..) {
+            self.connections.wake(client);
+        }
+    }
+
+    /// Does what is due. Where all connections are to be looked at, their deadlines are.
+    fn do_due(&mut self, everyone: bool) {
         let now = self.watch.tell();
         self.queue_delayed(now);
         if now >= self.beat || everyone {
             self.beat = now.saturating_add(BEAT);
             self.keep_deadlines(now);
         }
-        true
     }
 
     /// Adds the new streams.
     fn add_streams(&mut self) {
         let now = self.watch.tell();
         for stream in self.mail.streams.drain(..) {
-            let stream = Buffered::new(self.alloc, stream);
-            let added = add(self.alloc, &self.poll, &mut self.connections, stream, now);
+            let added = add_new(self.alloc, &self.poll, &mut self.connections, stream, now);
             if added.is_none() {
                 self.shared.note_closed(&self.rt);
             }
@@ -328,39 +349,25 @@ impl<'a, R: Wait + Clock + Copy + Drop, L: Log> EventLoop<'a, R, L> {
             self.current = None;
             return None;
         };
-        if connection.is_full() || connection.not_before > now {
-            connection.held = connection.is_full();
-            self.rest(key);
-            return None;
-        }
-        if connection.is_waiting() && connection.drain() == Drained::Ended {
-            connection.fail(now);
-            return None;
-        }
-        match connection.next() {
-            Next::Brings(event, moment) if connection.asks_again(&event, moment) => {
-                // Nothing can be due that wasn't, so the core need not be asked.
-                let nothing = Outcome::Ticked {
-                    ping: false,
-                    closed: None,
-                };
-                self.hear(key, &Ok(nothing));
-                None
-            }
+        match connection.next(now) {
             Next::Brings(event, moment) => {
                 self.comes_over = matches!(event, Event::Upgraded { client: _ });
-                Some((event, moment))
+                return Some((event, moment));
             }
-            Next::Ends => {
-                connection.end(now);
-                self.rest(key);
-                None
-            }
-            Next::Fails => {
-                connection.fail(now);
-                None
-            }
+            Next::AsksAgain => self.hear_nothing(key),
+            Next::Rests => self.rest(key),
+            Next::Fails => {}
         }
+        None
+    }
+
+    /// Nothing can be due that wasn't, so the core need not be asked.
+    fn hear_nothing(&mut self, key: usize) {
+        let nothing = Outcome::Ticked {
+            ping: false,
+            closed: None,
+        };
+        self.hear(key, &Ok(nothing));
     }
 
     /// The turn of a connection is over. What it has to send goes out at the end of the loop's turn, or
@@ -401,20 +408,29 @@ impl<'a, R: Wait + Clock + Copy + Drop, L: Log> EventLoop<'a, R, L> {
         self.connections.note_unsent(key);
     }
 
-    /// Serves a request, or hands it to the loop that has its client.
-    fn direct(&mut self, key: usize, request: Request, now: u64) {
-        let target = match route(self.alloc, &request) {
-            Ok(_) if !self.rules.allows(&request.origin) => Target::Refuse(Refusal::BadRequest),
-            Ok(target) => target,
-            Err(fault) => {
-                self.refuse(key, fault, now);
-                return;
+    /// Answers a request, or has it served.
+    fn direct(&mut self, key: usize, request: Box<Request>, now: u64) {
+        match self.target_of(&request) {
+            Ok(Target::NotFound) if asks_for_file(&self.rules.page, &request) => {
+                self.hand_out(key, request, now);
             }
-        };
-        if target == Target::NotFound && asks_for_file(&self.rules.page, &request) {
-            self.hand_out(key, request, now);
-            return;
+            Ok(target) => self.assign(key, request, target),
+            Err(fault) => self.refuse(key, fault, now),
         }
+    }
+
+    /// What a request asks for. One of a foreign origin asks for nothing that is allowed.
+    fn target_of(&self, request: &Request) -> Result<Target, EdgeError> {
+        let target = route(self.alloc, request)?;
+        if self.rules.allows(&request.origin) {
+            Ok(target)
+        } else {
+            Ok(Target::Refuse(Refusal::BadRequest))
+        }
+    }
+
+    /// Serves a request, or hands it to the loop that has its client.
+    fn assign(&mut self, key: usize, request: Box<Request>, target: Target) {
         let owner = owner_of(target, self.rules.loops, self.number);
         if owner == self.number {
             self.serve(key, request, target);
@@ -425,7 +441,7 @@ impl<'a, R: Wait + Clock + Copy + Drop, L: Log> EventLoop<'a, R, L> {
     }
 
     /// Answers by the file that a request asks for.
-    fn hand_out(&mut self, key: usize, request: Request, now: u64) {
+    fn hand_out(&mut self, key: usize, request: Box<Request>, now: u64) {
         let Ok(page) = Arc::try_clone(&self.rules.page) else {
             self.refuse(key, EdgeError::Memory, now);
             return;
@@ -438,51 +454,64 @@ impl<'a, R: Wait + Clock + Copy + Drop, L: Log> EventLoop<'a, R, L> {
 
     /// Begins to serve a request. A GET of a client that was told just so that nothing waits is served
     /// a little later, since such a client asks at once again.
-    fn serve(&mut self, key: usize, request: Request, target: Target) {
+    fn serve(&mut self, key: usize, request: Box<Request>, target: Target) {
         let now = self.watch.tell();
-        let told = match target {
-            Target::Poll(client) => self.noops.get(&client).copied(),
-            _ => None,
-        };
+        let was_told = self.was_told(target, now);
         let Some(connection) = self.connections.get_mut(key) else {
             return;
         };
         let most = self.rules.poll_entries;
         connection.serve(self.alloc, request, target, self.watch, most, now);
-        let is_told = match told {
-            Some(moment) => moment.saturating_add(PACE) > now,
-            None => false,
-        };
         let later = now.saturating_add(PACE);
         let generation = connection.generation;
-        if is_told && self.delayed.push_back((later, key, generation)).is_ok() {
+        if was_told && self.delayed.push_back((later, key, generation)).is_ok() {
             connection.not_before = later;
         }
         self.connections.note_unsent(key);
     }
 
-    /// Hands a request to another loop, with its stream.
-    fn hand_on(&mut self, key: usize, owner: usize, request: Request, target: Target) {
-        let stream = match self.connections.remove(key) {
-            Some(mut connection) => connection.take_stream(),
-            None => None,
+    /// Whether a target is a GET of a client that was told just so that nothing waits.
+    fn was_told(&self, target: Target, now: u64) -> bool {
+        let told = match target {
+            Target::Poll(client) => self.noops.get(&client).copied(),
+            _ => None,
         };
-        let given = match (stream, self.shared.inboxes().get(owner)) {
-            (Some(mut stream), Some(inbox)) => {
-                let _ = self.poll.registry().deregister(stream.get_mut());
-                inbox.hand(
-                    &self.rt,
-                    Handed {
-                        stream,
-                        request,
-                        target,
-                    },
-                )
-            }
-            _ => false,
+        match told {
+            Some(moment) => moment.saturating_add(PACE) > now,
+            None => false,
+        }
+    }
+
+    /// Hands a request to another loop, with its stream.
+    fn hand_on(&mut self, key: usize, owner: usize, request: Box<Request>, target: Target) {
+        let given = match self.take_stream(key) {
+            Some(stream) => self.hand(
+                owner,
+                Handed {
+                    stream,
+                    request,
+                    target,
+                },
+            ),
+            None => false,
         };
         if !given {
             self.shared.note_closed(&self.rt);
+        }
+    }
+
+    /// Takes a connection out, of whose stream the loop hears no more.
+    fn take_stream(&mut self, key: usize) -> Option<Stream> {
+        let mut stream = self.connections.take_stream(key)?;
+        let _ = self.poll.registry().deregister(stream.get_mut());
+        Some(stream)
+    }
+
+    /// Hands a request to another loop, and tells whether it was taken.
+    fn hand(&self, owner: usize, handed: Handed) -> bool {
+        match self.shared.inboxes().get(owner) {
+            Some(inbox) => inbox.hand(&self.rt, handed),
+            None => false,
         }
     }
 
@@ -499,24 +528,18 @@ impl<'a, R: Wait + Clock + Copy + Drop, L: Log> EventLoop<'a, R, L> {
             self.current = None;
             return;
         };
-        let heard = connection.hear(got);
-        if !heard {
-            connection.fail(now);
-        }
-        let rests = connection.may_rest();
-        let verdict = if heard {
-            self.turn.next(rests, connection.is_full())
-        } else {
-            Verdict::GoesOn
-        };
-        connection.held = verdict == Verdict::Held;
-        connection.rests = verdict == Verdict::Rests;
+        let verdict = connection.follow(&mut self.turn, got, now);
         let has_brought_all = connection.has_brought_all();
         self.note(key, got);
         if has_brought_all && matches!(got, Ok(Outcome::Done(_))) {
             // The others may begin while this one goes on.
             self.outbound.send(&self.rt, self.shared.inboxes());
         }
+        self.end_turn(key, verdict);
+    }
+
+    /// The turn of a connection is over, unless it goes on.
+    fn end_turn(&mut self, key: usize, verdict: Verdict) {
         match verdict {
             Verdict::GoesOn => {}
             Verdict::Again => {
@@ -529,44 +552,45 @@ impl<'a, R: Wait + Clock + Copy + Drop, L: Log> EventLoop<'a, R, L> {
 
     /// Notes whom the answer to an event of a connection concerns.
     fn note(&mut self, key: usize, got: &Result<Outcome, CoreError>) {
-        let client = match self.connections.get_mut(key) {
-            Some(connection) => connection.client(),
-            None => None,
-        };
-        let Some(client) = client else {
+        let Some(client) = self.connections.client(key) else {
             return;
         };
         match got {
-            Ok(Outcome::Done(done)) => self.note_done(client, key, done),
-            Ok(Outcome::Opened(_)) => self.note_opened(client, key),
-            Ok(Outcome::Begun) => self.connections.settle(client, key),
-            Ok(Outcome::Payload(text)) => self.note_payload(client, text.as_str()),
-            Ok(Outcome::Probed(_)) => self.connections.wake(client),
-            Ok(Outcome::Lost { saved: _ }) => self.note_end(client, None),
-            Ok(
-                Outcome::Ticked {
-                    ping: _,
-                    closed: Some(cause),
-                },
-            ) => self.note_end(client, Some(*cause)),
-            Ok(_) => {}
-            Err(error) => {
-                if error.packets > 0 || error.effects > 0 {
-                    self.connections.wake(client);
-                    self.outbound.note_everyone();
-                }
-            }
+            Ok(outcome) => self.note_outcome(client, key, outcome),
+            Err(error) => self.note_error(client, error),
+        }
+    }
+
+    /// Notes whom the outcome of a client's event concerns.
+    fn note_outcome(&mut self, client: u128, key: usize, outcome: &Outcome) {
+        match outcome {
+            Outcome::Done(done) => self.note_done(client, key, done),
+            Outcome::Opened(_) => self.note_opened(client, key),
+            Outcome::Begun => self.connections.settle(client, key),
+            Outcome::Payload(text) => self.note_payload(client, text.as_str()),
+            Outcome::Probed(_) => self.connections.wake(client),
+            Outcome::Lost { saved: _ } => self.note_end(client, None),
+            Outcome::Ticked {
+                ping: _,
+                closed: Some(cause),
+            } => self.note_end(client, Some(*cause)),
+            _ => {}
+        }
+    }
+
+    /// A client's event failed. Where it put something first, those for whom it did are not known.
+    fn note_error(&mut self, client: u128, error: &CoreError) {
+        if error.packets > 0 || error.effects > 0 {
+            self.connections.wake(client);
+            self.outbound.note_everyone();
         }
     }
 
     /// An event of a client was worked on: those for whom something was put are woken.
     fn note_done(&mut self, client: u128, key: usize, done: &Done) {
-        for list in done.clients.lists() {
-            self.wake_all(list.as_slice());
-        }
+        self.wake_others(done);
         if self.comes_over {
-            self.connections.settle(client, key);
-            self.shared.lives().note_upgraded(&self.rt, client);
+            self.come_over(client, key);
         }
         if done.closed.is_some() {
             self.note_end(client, done.closed);
@@ -576,21 +600,31 @@ impl<'a, R: Wait + Clock + Copy + Drop, L: Log> EventLoop<'a, R, L> {
         }
     }
 
+    /// Wakes those for whom an event put something.
+    fn wake_others(&mut self, done: &Done) {
+        for list in done.clients.lists() {
+            self.wake_all(list.as_slice());
+        }
+    }
+
+    /// A client comes over to its WebSocket.
+    fn come_over(&mut self, client: u128, key: usize) {
+        self.connections.settle(client, key);
+        self.shared.lives().note_upgraded(&self.rt, client);
+    }
+
     /// A client has ended, which its waiting GET is to be told.
     fn note_end(&mut self, client: u128, cause: Option<Cause>) {
         self.connections.wake(client);
         let now = self.watch.tell();
-        if let Some(ended) = self.shared.lives().end(&self.rt, client, cause, now) {
-            self.log.client_ended(&ended);
-        }
+        self.shared
+            .lives()
+            .end(&self.rt, self.log, client, cause, now);
     }
 
     /// A client was opened. What is put for it goes to its WebSocket, if it has one.
     fn note_opened(&mut self, client: u128, key: usize) {
-        let is_socket = match self.connections.get_mut(key) {
-            Some(connection) => connection.is_socket(),
-            None => false,
-        };
+        let is_socket = self.connections.is_socket(key);
         if is_socket {
             self.connections.settle(client, key);
         }
@@ -655,5 +689,17 @@ fn add<R: Clock + Drop>(
     if registered.is_err() {
         return None;
     }
-    connections.add(Connection::new(alloc, stream, generation, now))
+    connections.add(Connection::new(alloc, stream, generation, now)?)
+}
+
+/// Adds a stream of which nothing was read yet.
+fn add_new<R: Clock + Drop>(
+    alloc: Global,
+    poll: &Poll,
+    connections: &mut Connections<R>,
+    stream: TcpStream,
+    now: u64,
+) -> Option<usize> {
+    let stream = Box::new(alloc, Buffered::new(alloc, stream)).ok()?;
+    add(alloc, poll, connections, stream, now)
 }

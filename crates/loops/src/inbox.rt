@@ -12,7 +12,7 @@ use std::sync::{Mutex, Wait};
 #[derive(Drop)]
 pub(crate) struct Handed {
     pub(crate) stream: Stream,
-    pub(crate) request: Request,
+    pub(crate) request: Box<Request>,
     pub(crate) target: Target,
 }
 

@@ -9,6 +9,7 @@ use dispatch::{Event, Outcome};
 use effects::{Cause, CoreError};
 use hub::Pass;
 use hub_gate::{Locked, Peer, PeerFault};
+use journal::Totals;
 use loop_rules::loop_of;
 use std::alloc::Global;
 use std::rt::Clock;
@@ -99,23 +100,32 @@ impl<'a, R: Wait + Clock + Copy, L: Log, C: Ledger, T: Ledger> Keeper<'a, R, L, 
             {
                 return false;
             }
-            // A journal that can't be sealed for want of memory is sealed at the next look.
-            let _ = self.locked.seal(&self.rt, self.alloc, STEPS, BYTES);
+            self.seal();
         }
         true
+    }
+
+    /// Seals the journal, where it is long.
+    fn seal(&self) {
+        // One that can't be sealed for want of memory is sealed at the next look.
+        let _ = self.locked.seal(&self.rt, self.alloc, STEPS, BYTES);
     }
 
     /// Lists the clients. Where there is no memory for the list, they are asked about in the next
     /// round.
     fn list(&mut self) {
+        self.clients = self.listed().into_iter();
+    }
+
+    fn listed(&mut self) -> Vec<u128> {
         let listed = self
             .locked
             .look(&self.rt, &mut self.pass)
             .clients(self.alloc);
-        self.clients = match listed {
-            Ok(clients) => clients.into_iter(),
-            Err(_) => Vec::new(self.alloc).into_iter(),
-        };
+        match listed {
+            Ok(clients) => clients,
+            Err(_) => Vec::new(self.alloc),
+        }
     }
 
     /// Tells the totals, where it is time.
@@ -125,38 +135,53 @@ impl<'a, R: Wait + Clock + Copy, L: Log, C: Ledger, T: Ledger> Keeper<'a, R, L, 
             return;
         }
         self.report = now.saturating_add(self.rules.report.saturating_mul(1_000));
-        let totals = self
-            .locked
+        let totals = self.totals();
+        self.log.totals(totals);
+    }
+
+    fn totals(&mut self) -> Totals {
+        self.locked
             .look(&self.rt, &mut self.pass)
             .hub()
             .state()
-            .totals();
-        self.log.totals(totals);
+            .totals()
     }
 
     /// A client was given up.
     fn note_end(&mut self, cause: Cause) {
         let now = self.watch.tell();
-        if let Some(ended) = self
-            .shared
+        self.shared
             .lives()
-            .end(&self.rt, self.client, Some(cause), now)
-        {
-            self.log.client_ended(&ended);
+            .end(&self.rt, self.log, self.client, Some(cause), now);
+    }
+
+    /// Waits for the next round and begins it, and tells whether there is one.
+    fn begin_round(&mut self) -> bool {
+        self.outbound.send(&self.rt, self.shared.inboxes());
+        if !self.rests() {
+            return false;
         }
+        self.tell_totals();
+        self.list();
+        self.duty = Duty::Ticks;
+        true
     }
 
     /// The next event of the round, if it has one.
     fn next_of_round(&mut self) -> Option<Event> {
-        if self.duty == Duty::Ticks {
-            if let Some(client) = self.clients.next() {
-                self.client = client;
-                return Some(Event::Tick { client });
-            }
-            self.duty = Duty::Sweeps;
-            return Some(Event::Sweep);
+        if self.duty != Duty::Ticks {
+            return None;
         }
-        None
+        Some(match self.clients.next() {
+            Some(client) => {
+                self.client = client;
+                Event::Tick { client }
+            }
+            None => {
+                self.duty = Duty::Sweeps;
+                Event::Sweep
+            }
+        })
     }
 }
 
@@ -170,13 +195,9 @@ impl<R: Wait + Clock + Copy, L: Log, C: Ledger, T: Ledger> Peer for Keeper<'_, R
             if let Some(event) = self.next_of_round() {
                 return Ok(Some((event, self.watch.tell())));
             }
-            self.outbound.send(&self.rt, self.shared.inboxes());
-            if !self.rests() {
+            if !self.begin_round() {
                 break;
             }
-            self.tell_totals();
-            self.list();
-            self.duty = Duty::Ticks;
         }
         Ok(None)
     }

@@ -8,8 +8,8 @@ use effects::CoreError;
 use http_edge::{
     EdgeError, Gathered, OnStream, Refusal, Replay, Request, Target, refusal_body, write_response,
 };
-use hub_gate::Peer;
-use loop_rules::left_after_message;
+use hub_gate::{Peer, PeerFault};
+use loop_rules::{Overdue, Turn, Verdict, left_after_message};
 use mio::net::TcpStream;
 use page::Page;
 use peers::{
@@ -24,7 +24,7 @@ use std::sync::Arc;
 use std::{io, mem};
 
 /// What a connection reads and writes.
-pub(crate) type Stream = Buffered<TcpStream>;
+pub(crate) type Stream = Box<Buffered<TcpStream>>;
 
 type Poller<R> = PollPeer<OnStream<Stream>, Watch<R>>;
 
@@ -60,9 +60,9 @@ enum Stage<R> {
     /// Nobody yet: its request is coming.
     Gathering { stream: Stream, gathered: Gathered },
     /// A request over HTTP.
-    Polling(Poller<R>),
+    Polling(Box<Poller<R>>),
     /// A WebSocket.
-    Speaking(Speaker<R>),
+    Speaking(Box<Speaker<R>>),
     /// Nobody any more.
     Answered(Stream),
     /// Nobody any more, while a file goes out.
@@ -127,7 +127,7 @@ pub(crate) enum Reading {
     Waits,
     /// There may be more of it.
     GoesOn,
-    Whole(Request),
+    Whole(Box<Request>),
     Failed(EdgeError),
 }
 
@@ -147,8 +147,10 @@ pub(crate) enum Drained {
 pub(crate) enum Next {
     /// It brings an event, at this moment.
     Brings(Event, u64),
-    /// It has none any more.
-    Ends,
+    /// It asks what is due, a moment after that was asked.
+    AsksAgain,
+    /// It has none now, or none any more.
+    Rests,
     /// It failed.
     Fails,
 }
@@ -164,9 +166,14 @@ pub(crate) enum Sent {
 }
 
 impl<R: Clock + Drop> Connection<R> {
-    /// Its request is coming.
-    pub(crate) fn new(alloc: Global, stream: Stream, generation: u32, now: u64) -> Connection<R> {
-        Connection {
+    /// Its request is coming. None where there is no memory for it.
+    pub(crate) fn new(
+        alloc: Global,
+        stream: Stream,
+        generation: u32,
+        now: u64,
+    ) -> Option<Box<Connection<R>>> {
+        let connection = Connection {
             generation,
             queued: false,
             unsent: false,
@@ -186,7 +193,8 @@ impl<R: Clock + Drop> Connection<R> {
                 stream,
                 gathered: Gathered::new(alloc),
             },
-        }
+        };
+        Box::new(alloc, connection).ok()
     }
 
     /// The stream, if it is still here.
@@ -204,6 +212,13 @@ impl<R: Clock + Drop> Connection<R> {
                 download: _,
             } => Some(stream),
             Stage::Gone => None,
+        }
+    }
+
+    /// Its stream was reported readable, and whether the other side has sent its last byte.
+    pub(crate) fn note_readable(&mut self, ended: bool) {
+        if let Some(stream) = self.stream() {
+            stream.note_readable(ended);
         }
     }
 
@@ -259,7 +274,7 @@ impl<R: Clock + Drop> Connection<R> {
 
     /// Whether it may rest: it has nothing to do, and nothing came for it since it began to look. Where
     /// something came, it looks once more.
-    pub(crate) fn may_rest(&mut self) -> bool {
+    fn may_rest(&mut self) -> bool {
         let has_looked = self.is_idle() || (self.ticks && self.dry);
         has_looked && !mem::replace(&mut self.stirred, false)
     }
@@ -280,15 +295,28 @@ impl<R: Clock + Drop> Connection<R> {
         }
     }
 
+    /// Does what is to be done with it, where it took too long or is to end.
+    pub(crate) fn part_with(&mut self, overdue: Overdue, now: u64) {
+        match overdue {
+            Overdue::GiveUp => self.give_up(),
+            Overdue::Cut => self.cut(),
+            Overdue::Fail => {
+                self.cut();
+                self.fail(now);
+            }
+            Overdue::Nothing | Overdue::Close | Overdue::Look => {}
+        }
+    }
+
     /// A GET that waits asks no more.
-    pub(crate) fn give_up(&mut self) {
+    fn give_up(&mut self) {
         match &mut self.stage {
             Stage::Polling(peer) => peer.give_up(),
             _ => {}
         }
     }
 
-    /// The stream without its connection.
+    /// The stream without its connection, which is gone then.
     pub(crate) fn take_stream(&mut self) -> Option<Stream> {
         match mem::replace(&mut self.stage, Stage::Gone) {
             Stage::Gathering {
@@ -309,19 +337,23 @@ impl<R: Clock + Drop> Connection<R> {
 
     /// Answers where no request was read. It ends then.
     pub(crate) fn refuse(&mut self, alloc: Global, fault: EdgeError, now: u64) {
-        self.stage = match self.take_stream() {
-            Some(stream) => answered_fault(alloc, stream, fault),
-            None => Stage::Gone,
-        };
+        if let Some(stream) = self.take_stream() {
+            self.stage = answered_fault(alloc, stream, fault);
+        }
         self.end(now);
     }
 
     /// Answers by the file that a request asks for. It ends then.
-    pub(crate) fn hand_out(&mut self, alloc: Global, page: Arc<Page>, request: Request, now: u64) {
-        self.stage = match self.take_stream() {
-            Some(stream) => downloading(alloc, stream, page, request),
-            None => Stage::Gone,
-        };
+    pub(crate) fn hand_out(
+        &mut self,
+        alloc: Global,
+        page: Arc<Page>,
+        request: Box<Request>,
+        now: u64,
+    ) {
+        if let Some(stream) = self.take_stream() {
+            self.stage = downloading(alloc, stream, page, request);
+        }
         self.end(now);
     }
 
@@ -329,21 +361,18 @@ impl<R: Clock + Drop> Connection<R> {
     pub(crate) fn serve(
         &mut self,
         alloc: Global,
-        request: Request,
+        request: Box<Request>,
         target: Target,
         watch: Watch<R>,
         most: usize,
         now: u64,
     ) {
         self.unread = request.rest.len();
-        self.stage = match self.take_stream() {
-            Some(mut stream) => {
-                // The head, and the rest with it.
-                let _ = stream.take_read();
-                stage_for(alloc, stream, request, target, watch, most)
-            }
-            None => Stage::Gone,
-        };
+        if let Some(mut stream) = self.take_stream() {
+            // The head, and the rest with it.
+            let _ = stream.take_read();
+            self.stage = stage_for(alloc, stream, request, target, watch, most);
+        }
         self.since = now;
         if self.client_is_over() {
             self.end(now);
@@ -355,21 +384,45 @@ impl<R: Clock + Drop> Connection<R> {
         matches!(&self.stage, Stage::Answered(_) | Stage::Gone)
     }
 
-    /// The next event.
-    pub(crate) fn next(&mut self) -> Next {
-        let brought = match &mut self.stage {
+    /// What it does next. It ends where it has no event any more.
+    pub(crate) fn next(&mut self, now: u64) -> Next {
+        if self.is_full() || self.not_before > now {
+            self.held = self.is_full();
+            return Next::Rests;
+        }
+        if self.is_waiting() && self.drain() == Drained::Ended {
+            self.fail(now);
+            return Next::Fails;
+        }
+        match self.next_event() {
+            Ok(Some((event, moment))) => self.bring(event, moment),
+            Ok(None) => {
+                self.end(now);
+                Next::Rests
+            }
+            Err(_) => {
+                self.fail(now);
+                Next::Fails
+            }
+        }
+    }
+
+    fn next_event(&mut self) -> Result<Option<(Event, u64)>, PeerFault> {
+        match &mut self.stage {
             Stage::Polling(peer) => peer.next(),
             Stage::Speaking(peer) => peer.next(),
             _ => Ok(None),
-        };
-        match brought {
-            Ok(Some((event, now))) => {
-                self.note_read(&event);
-                self.note_event(&event);
-                Next::Brings(event, now)
-            }
-            Ok(None) => Next::Ends,
-            Err(_) => Next::Fails,
+        }
+    }
+
+    /// Brings an event, unless what it asks was asked just so.
+    fn bring(&mut self, event: Event, moment: u64) -> Next {
+        self.note_read(&event);
+        self.note_event(&event);
+        if self.asks_again(&event, moment) {
+            Next::AsksAgain
+        } else {
+            Next::Brings(event, moment)
         }
     }
 
@@ -407,7 +460,7 @@ impl<R: Clock + Drop> Connection<R> {
     }
 
     /// Whether an event asks what is due, a moment after that was asked.
-    pub(crate) fn asks_again(&mut self, event: &Event, now: u64) -> bool {
+    fn asks_again(&mut self, event: &Event, now: u64) -> bool {
         if !matches!(event, Event::Tick { client: _ }) {
             return false;
         }
@@ -431,13 +484,33 @@ impl<R: Clock + Drop> Connection<R> {
     }
 
     /// Hears the answer to its event, and tells whether it could.
-    pub(crate) fn hear(&mut self, got: &Result<Outcome, CoreError>) -> bool {
+    fn hear(&mut self, got: &Result<Outcome, CoreError>) -> bool {
         self.note_answer(got);
         match &mut self.stage {
             Stage::Polling(peer) => peer.answer(got).is_ok(),
             Stage::Speaking(peer) => peer.answer(got).is_ok(),
             _ => true,
         }
+    }
+
+    /// Hears the answer to its event, and tells what follows in its turn. It fails where it could not.
+    pub(crate) fn follow(
+        &mut self,
+        turn: &mut Turn,
+        got: &Result<Outcome, CoreError>,
+        now: u64,
+    ) -> Verdict {
+        let heard = self.hear(got);
+        let rests = self.may_rest();
+        let verdict = if heard {
+            turn.next(rests, self.is_full())
+        } else {
+            self.fail(now);
+            Verdict::GoesOn
+        };
+        self.held = verdict == Verdict::Held;
+        self.rests = verdict == Verdict::Rests;
+        verdict
     }
 
     /// It is served no more, and ends once its bytes have gone.
@@ -479,10 +552,10 @@ impl<R: Clock + Drop> Connection<R> {
     fn write_more(&mut self) -> io::Result<()> {
         match &mut self.stage {
             Stage::Downloading { stream, download } => {
-                if stream.unsent() == 0 {
-                    download.write_piece(stream)?;
+                if stream.unsent() > 0 {
+                    return Ok(());
                 }
-                Ok(())
+                download.write_piece(stream)
             }
             _ => Ok(()),
         }
@@ -550,7 +623,7 @@ impl<R: Clock + Drop> Connection<R> {
     }
 
     /// Nothing more is read of it, or sent.
-    pub(crate) fn cut(&mut self) {
+    fn cut(&mut self) {
         if let Some(stream) = self.stream() {
             stream.cut();
         }
@@ -609,13 +682,29 @@ fn read_request(alloc: Global, stream: &mut Stream, gathered: &mut Gathered) -> 
         if count == 0 {
             return Reading::Failed(EdgeError::EarlyEnd);
         }
-        match gathered.feed(alloc, &piece[..count]) {
-            Ok(None) => {}
-            Ok(Some(request)) => return Reading::Whole(request),
-            Err(fault) => return Reading::Failed(fault),
+        match gather(alloc, gathered, &piece[..count]) {
+            Reading::GoesOn => {}
+            reading => return reading,
         }
     }
     Reading::GoesOn
+}
+
+/// Takes a piece of a request in.
+fn gather(alloc: Global, gathered: &mut Gathered, piece: &[u8]) -> Reading {
+    match gathered.feed(alloc, piece) {
+        Ok(None) => Reading::GoesOn,
+        Ok(Some(request)) => whole(alloc, request),
+        Err(fault) => Reading::Failed(fault),
+    }
+}
+
+/// A request that was read whole.
+fn whole(alloc: Global, request: Request) -> Reading {
+    match Box::new(alloc, request) {
+        Ok(request) => Reading::Whole(request),
+        Err(_) => Reading::Failed(EdgeError::Memory),
+    }
 }
 
 /// Reads and forgets what comes.
@@ -650,7 +739,12 @@ fn answered<R>(alloc: Global, stream: Stream, reply: &Reply<'_>) -> Stage<R> {
 }
 
 /// The answer that is a file, of which the head and a first piece are written.
-fn downloading<R>(alloc: Global, stream: Stream, page: Arc<Page>, request: Request) -> Stage<R> {
+fn downloading<R>(
+    alloc: Global,
+    stream: Stream,
+    page: Arc<Page>,
+    request: Box<Request>,
+) -> Stage<R> {
     let mut stream = stream;
     let Ok(mut download) = Download::begin(alloc, &mut stream, page, request) else {
         return Stage::Gone;
@@ -665,7 +759,7 @@ fn downloading<R>(alloc: Global, stream: Stream, page: Arc<Page>, request: Reque
 fn stage_for<R: Clock + Drop>(
     alloc: Global,
     stream: Stream,
-    request: Request,
+    request: Box<Request>,
     target: Target,
     watch: Watch<R>,
     most: usize,
@@ -673,26 +767,41 @@ fn stage_for<R: Clock + Drop>(
     if let Some(reply) = reply_to_target(target) {
         return answered(alloc, stream, &reply);
     }
-    let Request {
-        head,
-        rest,
-        body,
-        ..
-    } = request;
-    if let Some(wanted) = SocketRequest::of(target) {
-        return match accept_socket(alloc, stream, head, rest) {
-            Some(socket) => Stage::Speaking(SocketPeer::new(alloc, socket, watch, wanted)),
-            None => Stage::Gone,
-        };
-    }
-    match PollRequest::of(target, body) {
-        Some(wanted) => Stage::Polling(PollPeer::new(
-            alloc,
-            OnStream::new(stream),
-            watch,
-            wanted,
-            most,
-        )),
+    let served = match SocketRequest::of(target) {
+        Some(wanted) => speaking(alloc, stream, request, wanted, watch),
+        None => polling(alloc, stream, request, target, watch, most),
+    };
+    match served {
+        Some(stage) => stage,
         None => Stage::Gone,
     }
+}
+
+/// A WebSocket, if its request could be accepted.
+fn speaking<R: Clock + Drop>(
+    alloc: Global,
+    stream: Stream,
+    request: Box<Request>,
+    wanted: SocketRequest,
+    watch: Watch<R>,
+) -> Option<Stage<R>> {
+    let Request { head, rest, .. } = Box::into_inner(request);
+    let socket = accept_socket(alloc, stream, head, rest)?;
+    let peer = SocketPeer::new(alloc, socket, watch, wanted);
+    Some(Stage::Speaking(Box::new(alloc, peer).ok()?))
+}
+
+/// A request over HTTP, if a peer serves it.
+fn polling<R: Clock + Drop>(
+    alloc: Global,
+    stream: Stream,
+    request: Box<Request>,
+    target: Target,
+    watch: Watch<R>,
+    most: usize,
+) -> Option<Stage<R>> {
+    let Request { body, .. } = Box::into_inner(request);
+    let wanted = PollRequest::of(target, body)?;
+    let peer = PollPeer::new(alloc, OnStream::new(stream), watch, wanted, most);
+    Some(Stage::Polling(Box::new(alloc, peer).ok()?))
 }

@@ -73,14 +73,21 @@ impl Lives {
         }
     }
 
-    /// A client has ended at this moment.
-    pub(crate) fn end(
+    /// A client has ended at this moment, of which the log is told.
+    pub(crate) fn end<R: Wait, L: Log>(
         &self,
-        rt: &impl Wait,
+        rt: &R,
+        log: &L,
         client: u128,
         cause: Option<Cause>,
         now: u64,
-    ) -> Option<Ended> {
+    ) {
+        if let Some(ended) = self.take(rt, client, cause, now) {
+            log.client_ended(&ended);
+        }
+    }
+
+    fn take(&self, rt: &impl Wait, client: u128, cause: Option<Cause>, now: u64) -> Option<Ended> {
         if !self.kept {
             return None;
         }

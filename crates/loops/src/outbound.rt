@@ -48,11 +48,16 @@ impl Outbound {
             if self.overlooked {
                 inbox.wake_everyone(rt);
             }
-            if !list.is_empty() {
-                inbox.wake(rt, list.as_slice());
-                list.clear();
-            }
+            tell(rt, inbox, list);
         }
         self.overlooked = false;
+    }
+}
+
+/// Tells a loop of its clients, if there are any.
+fn tell(rt: &impl Wait, inbox: &Inbox, list: &mut Vec<u128>) {
+    if !list.is_empty() {
+        inbox.wake(rt, list.as_slice());
+        list.clear();
     }
 }

@@ -1,6 +1,6 @@
 //! A server, from its listening to its totals.
 
-ghost use Rattle.std.specs.Prelude.{◌≡◌, ◌+◌, IfOk, vec_len, sum_by};
+ghost use Rattle.std.specs.Prelude.{◌≡◌, ◌<◌, ◌+◌, IfOk, vec_len, sum_by};
 
 use crate::acceptor::Acceptor;
 use crate::connections::BELL;
@@ -16,7 +16,7 @@ use crate::shared::Shared;
 use crate::watch::Watch;
 use crate::worker::{Open, Worker};
 use dispatch::Core;
-use effects::{App, CoreFault};
+use effects::{App, CoreError, CoreFault};
 use eio_wire::Numbers;
 use hub::Pass;
 use hub_gate::{Locked, Report, serve_peers};
@@ -66,7 +66,7 @@ const TIMING: Timing = Timing {
 pub struct Server<L> {
     log: L,
     port: u16,
-    acceptor: Acceptor,
+    acceptor: Box<Acceptor>,
     polls: Vec<Poll>,
     shared: Arc<Shared>,
     rules: Arc<Rules>,
@@ -92,33 +92,19 @@ impl<L: Log + Sync + Drop> Server<L> {
         settings: Settings,
         log: L,
     ) -> Result<Server<L>, ServerFault> {
-        let workers = settings.workers.clamp(1, MOST_WORKERS);
-        let listener = listen_at(rt, settings.host.as_str(), settings.port)?;
-        let most = most_connections(settings.limits.clients);
-        let address = listener.local_addr().map_err(listening)?;
-        let (polls, inboxes) = polls_for(rt, alloc, workers)?;
-        let poll = Poll::new(rt).map_err(starting)?;
-        let bell = Waker::new(poll.registry(), BELL).map_err(starting)?;
-        let (connections, together) = (settings.connections, settings.together);
-        let acceptor = Acceptor::new(alloc, poll, listener, connections, together, most).map_err(
-            starting,
-        )?;
-        let rules = Rules {
-            loops: workers,
-            poll_entries: settings.poll_entries,
-            origins: settings.origins,
-            page: Arc::new(alloc, settings.page)?,
-            report: settings.report,
-        };
-        let lives = Lives::new(alloc, log.hears_clients());
+        let (port, acceptor, bell) = acceptor_for(rt, alloc, &settings)?;
+        let (polls, inboxes) = polls_for(rt, alloc, workers_of(&settings))?;
+        let shared = shared_by(alloc, inboxes, bell, log.hears_clients())?;
+        let limits = settings.limits;
+        let rules = rules_for(alloc, settings)?;
         Ok(Server {
             log,
-            port: address.port(),
+            port,
             acceptor,
             polls,
-            shared: Arc::new(alloc, Shared::new(inboxes, bell, lives))?,
-            rules: Arc::new(alloc, rules)?,
-            limits: settings.limits,
+            shared,
+            rules,
+            limits,
         })
     }
 
@@ -178,7 +164,7 @@ fn run_in<
     let looks = core
         .new_pass()
         .map_err(|_| ServerFault::Device(Doing::Starting))?;
-    let locked = Locked::new(core);
+    let locked = lock(alloc, core)?;
     let start = Instant::now(rt).map_err(starting)?;
     let common = Common {
         rt: *rt,
@@ -188,8 +174,7 @@ fn run_in<
         rules,
         watch: Watch::new(*rt, start),
     };
-    let keeper = keeper_for(&common, &locked, looks)?;
-    let workers = workers_for(&common, polls, keeper)?;
+    let workers = workers_for(&common, polls, &locked, looks)?;
     let ids = sources(rt, alloc, workers.len())?;
     serve_all(rt, &common, &locked, &mut pass, app, acceptor, workers, ids)
 }
@@ -207,7 +192,7 @@ fn serve_all<
     locked: &Locked<C, T>,
     pass: &mut Pass<C, T>,
     app: &A,
-    acceptor: Acceptor,
+    acceptor: Box<Acceptor>,
     workers: Vec<Worker<'_, R, L, C, T>>,
     ids: Vec<DrawnIds<StdRng>>,
 ) -> Result<Report, ServerFault>
@@ -241,7 +226,7 @@ fn serve_all<
 fn start_accepting<R: Threads + Wait + Clock + Copy + Drop + Send + 'static, L>(
     rt: &R,
     common: &Common<'_, R, L>,
-    acceptor: Acceptor,
+    acceptor: Box<Acceptor>,
 ) -> Result<JoinHandle<()>, ServerFault> {
     let shared = Arc::try_clone(&common.shared)?;
     let handle = *rt;
@@ -250,6 +235,62 @@ fn start_accepting<R: Threads + Wait + Clock + Copy + Drop + Send + 'static, L>(
         Ok(accepting) => Ok(accepting),
         Err(_) => Err(ServerFault::Device(Doing::Starting)),
     }
+}
+
+/// How many loops serve.
+fn workers_of(settings: &Settings) -> usize
+    ensures { 0 < result }
+{
+    settings.workers.clamp(1, MOST_WORKERS)
+}
+
+/// Listens at the settings' port. Answers at which, who accepts there, and the bell that wakes it.
+fn acceptor_for<R: Net>(
+    rt: &R,
+    alloc: Global,
+    settings: &Settings,
+) -> Result<(u16, Box<Acceptor>, Waker), ServerFault> {
+    let listener = listen_at(rt, settings.host.as_str(), settings.port)?;
+    let port = listener.local_addr().map_err(listening)?.port();
+    let (poll, bell) = poll_with_bell(rt)?;
+    let most = most_connections(settings.limits.clients);
+    let (connections, together) = (settings.connections, settings.together);
+    let acceptor = Acceptor::new(alloc, poll, listener, connections, together, most).map_err(
+        starting,
+    )?;
+    Ok((port, acceptor, bell))
+}
+
+/// What all threads share of the server.
+fn shared_by(
+    alloc: Global,
+    inboxes: Vec<Inbox>,
+    bell: Waker,
+    hears_clients: bool,
+) -> Result<Arc<Shared>, ServerFault> {
+    let lives = Lives::new(alloc, hears_clients);
+    Ok(Arc::new(alloc, Shared::new(inboxes, bell, lives))?)
+}
+
+/// What the loops go by.
+fn rules_for(alloc: Global, settings: Settings) -> Result<Arc<Rules>, ServerFault> {
+    let loops = workers_of(&settings);
+    let Settings {
+        poll_entries,
+        origins,
+        page,
+        report,
+        ..
+    } = settings;
+    let page = Arc::new(alloc, page)?;
+    let rules = Rules {
+        loops,
+        poll_entries,
+        origins,
+        page,
+        report,
+    };
+    Ok(Arc::new(alloc, rules)?)
 }
 
 /// How many connections may be open at a time: one that waits and one that brings for each client, and
@@ -280,28 +321,53 @@ fn polls_for<R: Net>(
     let mut polls = Vec::new(alloc);
     let mut inboxes = Vec::new(alloc);
     for _worker in 0..workers {
-        let poll = Poll::new(rt).map_err(starting)?;
-        let bell = Waker::new(poll.registry(), BELL).map_err(starting)?;
+        let (poll, bell) = poll_with_bell(rt)?;
         inboxes.push(Inbox::new(alloc, bell))?;
         polls.push(poll)?;
     }
     Ok((polls, inboxes))
 }
 
+/// A poll, and the bell that ends its waiting.
+fn poll_with_bell<R: Net>(rt: &R) -> Result<(Poll, Waker), ServerFault> {
+    let poll = Poll::new(rt).map_err(starting)?;
+    let bell = Waker::new(poll.registry(), BELL).map_err(starting)?;
+    Ok((poll, bell))
+}
+
 /// The loops, and the keeper as the last worker.
 fn workers_for<'a, R: Wait + Clock + Copy + Drop, L: Log, C: Ledger, T: Ledger>(
     common: &Common<'a, R, L>,
     polls: Vec<Poll>,
-    keeper: Keeper<'a, R, L, C, T>,
+    locked: &'a Locked<C, T>,
+    looks: Pass<C, T>,
 ) -> Result<Vec<Worker<'a, R, L, C, T>>, ServerFault> {
     let mut workers = Vec::new(common.alloc);
-    let mut number: usize = 0;
     for poll in polls {
-        workers.push(Worker::Serves(loop_for(common, number, poll)?))?;
-        number = number.saturating_add(1);
+        add_loop(common, poll, &mut workers)?;
     }
-    workers.push(Worker::Keeps(keeper))?;
+    add_keeper(common, locked, looks, &mut workers)?;
     Ok(workers)
+}
+
+/// Adds a loop that waits with this poll. Its number is how many there are before it.
+fn add_loop<'a, R: Wait + Clock + Copy + Drop, L: Log, C: Ledger, T: Ledger>(
+    common: &Common<'a, R, L>,
+    poll: Poll,
+    workers: &mut Vec<Worker<'a, R, L, C, T>>,
+) -> Result<(), ServerFault> {
+    let own = loop_for(common, workers.len(), poll)?;
+    Ok(workers.push(Worker::Serves(own))?)
+}
+
+fn add_keeper<'a, R: Wait + Clock + Copy + Drop, L: Log, C: Ledger, T: Ledger>(
+    common: &Common<'a, R, L>,
+    locked: &'a Locked<C, T>,
+    looks: Pass<C, T>,
+    workers: &mut Vec<Worker<'a, R, L, C, T>>,
+) -> Result<(), ServerFault> {
+    let keeper = keeper_for(common, locked, looks)?;
+    Ok(workers.push(Worker::Keeps(keeper))?)
 }
 
 fn loop_for<'a, R: Wait + Clock + Copy + Drop, L: Log>(
@@ -309,9 +375,8 @@ fn loop_for<'a, R: Wait + Clock + Copy + Drop, L: Log>(
     number: usize,
     poll: Poll,
 ) -> Result<EventLoop<'a, R, L>, ServerFault> {
-    let shared = Arc::try_clone(&common.shared)?;
-    let rules = Arc::try_clone(&common.rules)?;
-    Ok(EventLoop::new(
+    let (shared, rules) = shares_of(common)?;
+    EventLoop::new(
         common.rt,
         common.alloc,
         common.log,
@@ -320,7 +385,14 @@ fn loop_for<'a, R: Wait + Clock + Copy + Drop, L: Log>(
         rules,
         poll,
         common.watch,
-    )?)
+    )
+}
+
+/// A worker's shares in what all of them have.
+fn shares_of<R, L>(common: &Common<'_, R, L>) -> Result<(Arc<Shared>, Arc<Rules>), ServerFault> {
+    let shared = Arc::try_clone(&common.shared)?;
+    let rules = Arc::try_clone(&common.rules)?;
+    Ok((shared, rules))
 }
 
 fn keeper_for<'a, R: Wait + Clock + Copy, L: Log, C: Ledger, T: Ledger>(
@@ -328,8 +400,7 @@ fn keeper_for<'a, R: Wait + Clock + Copy, L: Log, C: Ledger, T: Ledger>(
     locked: &'a Locked<C, T>,
     looks: Pass<C, T>,
 ) -> Result<Keeper<'a, R, L, C, T>, ServerFault> {
-    let shared = Arc::try_clone(&common.shared)?;
-    let rules = Arc::try_clone(&common.rules)?;
+    let (shared, rules) = shares_of(common)?;
     let outbound = Outbound::new(common.alloc, rules.loops)?;
     Ok(Keeper::new(
         common.rt,
@@ -370,17 +441,31 @@ fn new_core<C: Ledger, T: Ledger>(
     limits: Limits,
     commands: Blank,
     taken: Blank,
-) -> Result<(Core<C, T>, Pass<C, T>), ServerFault>
+) -> Result<(Box<Core<C, T>>, Pass<C, T>), ServerFault>
     requires commands { (commands.name ≡ C.name) × (commands.parts ≡ C.parts) × (commands.parts ≡ 65536) }
     requires taken { (taken.name ≡ T.name) × (taken.parts ≡ T.parts) × (taken.parts ≡ 65536) }
     ensures pass { IfOk result (λ made. made.1 ≡ record { commands = 0; taken = 0; parts = 1 }) }
 {
     let config = config(alloc, limits)?;
-    match Core::new(alloc, config, TIMING, NUMBERS, commands, taken) {
-        Ok(made) => Ok(made),
-        Err(error) if error.fault == CoreFault::Memory => Err(ServerFault::Memory),
-        Err(_) => Err(ServerFault::BadLimits),
+    let made = Core::new(alloc, config, TIMING, NUMBERS, commands, taken);
+    let (core, pass) = made.map_err(refused)?;
+    Ok((Box::new(alloc, core)?, pass))
+}
+
+/// Why there is no core.
+fn refused(error: CoreError) -> ServerFault {
+    match error.fault {
+        CoreFault::Memory => ServerFault::Memory,
+        _ => ServerFault::BadLimits,
     }
+}
+
+/// Puts a core under its lock.
+fn lock<C: Ledger, T: Ledger>(
+    alloc: Global,
+    core: Box<Core<C, T>>,
+) -> Result<Box<Locked<C, T>>, ServerFault> {
+    Ok(Box::new(alloc, Locked::new(Box::into_inner(core)))?)
 }
 
 /// The limits with the names of the two namespaces.
