@@ -106,43 +106,71 @@ static NUMBERS: [Number; 10] = [
 
 /// The subcommand.
 pub fn command<'a>(alloc: Global) -> Result<Command<'a>, AllocError> {
-    let port = Arg::new(alloc, "port")
-        .long("port")
-        .value_parser(ValueParser::unsigned(1, 65_535))
-        .required(true)
-        .help("The port to listen at");
-    let host = Arg::new(alloc, "host")
-        .long("host")
-        .default_value("127.0.0.1")
-        .help("The address to listen at");
-    let workers = Arg::new(alloc, "workers")
-        .long("workers")
-        .value_parser(ValueParser::unsigned(1, 1_023))
-        .help("The threads that serve [default: one a processor, at most 8]");
-    let mut serve = Command::new(alloc, "serve")
-        .about("Serves browsers and other clients over TCP")
-        .arg(port)?
-        .arg(host)?
-        .arg(workers)?;
+    let serve = Command::new(alloc, "serve").about("Serves browsers and other clients over TCP");
+    let serve = with_numbers(alloc, with_address(alloc, serve)?)?;
+    let eof = flag(alloc, "until-eof", "Ends once standard input does");
+    let verbose = flag(
+        alloc,
+        "verbose",
+        "Tells on standard error of each client that ends",
+    );
+    serve
+        .arg(origin(alloc))?
+        .arg(page(alloc))?
+        .arg(eof)?
+        .arg(verbose)
+}
+
+/// Adds where it listens, and by how many threads.
+fn with_address<'a>(alloc: Global, serve: Command<'a>) -> Result<Command<'a>, AllocError> {
+    serve
+        .arg(port(alloc))?
+        .arg(host(alloc))?
+        .arg(workers(alloc))
+}
+
+/// Adds the options with a number that have a usual value.
+fn with_numbers<'a>(alloc: Global, serve: Command<'a>) -> Result<Command<'a>, AllocError> {
+    let mut serve = serve;
     for number in NUMBERS.iter() {
         serve = serve.arg(number_option(alloc, number))?;
     }
-    let origin = Arg::new(alloc, "origin")
+    Ok(serve)
+}
+
+fn port<'a>(alloc: Global) -> Arg<'a> {
+    Arg::new(alloc, "port")
+        .long("port")
+        .value_parser(ValueParser::unsigned(1, 65_535))
+        .required(true)
+        .help("The port to listen at")
+}
+
+fn host<'a>(alloc: Global) -> Arg<'a> {
+    Arg::new(alloc, "host")
+        .long("host")
+        .default_value("127.0.0.1")
+        .help("The address to listen at")
+}
+
+fn workers<'a>(alloc: Global) -> Arg<'a> {
+    Arg::new(alloc, "workers")
+        .long("workers")
+        .value_parser(ValueParser::unsigned(1, 1_023))
+        .help("The threads that serve [default: one a processor, at most 8]")
+}
+
+fn origin<'a>(alloc: Global) -> Arg<'a> {
+    Arg::new(alloc, "origin")
         .long("origin")
         .action(ArgAction::Append)
-        .help("Serves only pages of this origin; may come again");
-    let page = Arg::new(alloc, "page")
+        .help("Serves only pages of this origin; may come again")
+}
+
+fn page<'a>(alloc: Global) -> Arg<'a> {
+    Arg::new(alloc, "page")
         .long("page")
-        .help("A folder whose files are served beside the socket's path");
-    serve
-        .arg(origin)?
-        .arg(page)?
-        .arg(flag(alloc, "until-eof", "Ends once standard input does"))?
-        .arg(flag(
-            alloc,
-            "verbose",
-            "Tells on standard error of each client that ends",
-        ))
+        .help("A folder whose files are served beside the socket's path")
 }
 
 fn number_option<'a>(alloc: Global, number: &Number) -> Arg<'a> {
@@ -166,32 +194,44 @@ pub fn read_options(
     matches: &ArgMatches<'_>,
     processors: usize,
 ) -> Result<Options, AllocError> {
-    let limits = Limits {
+    Ok(Options {
+        settings: settings(alloc, matches, processors)?,
+        folder: folder(alloc, matches)?,
+        until_eof: matches.get_flag("until-eof"),
+        verbose: matches.get_flag("verbose"),
+    })
+}
+
+fn settings(
+    alloc: Global,
+    matches: &ArgMatches<'_>,
+    processors: usize,
+) -> Result<Settings, AllocError> {
+    let host = String::from_str(alloc, matches.get_str("host").unwrap_or("127.0.0.1"))?;
+    let origins = origins(alloc, matches)?;
+    Ok(Settings {
+        host,
+        port: matches.get_one::<u16>("port").unwrap_or(0),
+        workers: matches.get_one::<usize>("workers").unwrap_or(processors),
+        connections: count(matches, "connections"),
+        limits: limits(matches),
+        together: count(matches, "together"),
+        poll_entries: size(matches, "poll-entries"),
+        origins,
+        page: Page::new(alloc),
+        report: count(matches, "report"),
+    })
+}
+
+fn limits(matches: &ArgMatches<'_>) -> Limits {
+    Limits {
         clients: size(matches, "clients"),
         capacity: size(matches, "capacity"),
         bytes: size(matches, "bytes"),
         log: size(matches, "log"),
         saved: size(matches, "saved"),
         keep: count(matches, "keep"),
-    };
-    let settings = Settings {
-        host: String::from_str(alloc, matches.get_str("host").unwrap_or("127.0.0.1"))?,
-        port: matches.get_one::<u16>("port").unwrap_or(0),
-        workers: matches.get_one::<usize>("workers").unwrap_or(processors),
-        connections: count(matches, "connections"),
-        limits,
-        together: count(matches, "together"),
-        poll_entries: size(matches, "poll-entries"),
-        origins: origins(alloc, matches)?,
-        page: Page::new(alloc),
-        report: count(matches, "report"),
-    };
-    Ok(Options {
-        settings,
-        folder: folder(alloc, matches)?,
-        until_eof: matches.get_flag("until-eof"),
-        verbose: matches.get_flag("verbose"),
-    })
+    }
 }
 
 fn folder(alloc: Global, matches: &ArgMatches<'_>) -> Result<Option<String>, AllocError> {

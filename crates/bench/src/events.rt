@@ -29,6 +29,20 @@ const BATCH: u64 = 64;
 /// The client that speaks: the first one.
 const SPEAKER: u128 = 1;
 
+/// What clients' clocks go by. No moment here is so late that anything is due.
+const TIMING: Timing = Timing {
+    ping_interval: 25_000,
+    ping_timeout: 20_000,
+    connect_timeout: 45_000,
+};
+
+/// What clients are told when they open.
+const NUMBERS: Numbers = Numbers {
+    ping_interval: 25_000,
+    ping_timeout: 20_000,
+    max_payload: 1_000_000,
+};
+
 /// What is measured.
 #[derive(Clone, Copy)]
 pub enum EventTask {
@@ -165,21 +179,8 @@ pub fn new_core<C: Ledger, T: Ledger>(
     requires taken { (taken.name ≡ T.name) × (taken.parts ≡ T.parts) × (taken.parts ≡ 65536) }
 {
     let limits = hall::config(alloc, clients)?;
-    let timing = Timing {
-        ping_interval: 25_000,
-        ping_timeout: 20_000,
-        connect_timeout: 45_000,
-    };
-    let numbers = Numbers {
-        ping_interval: 25_000,
-        ping_timeout: 20_000,
-        max_payload: 1_000_000,
-    };
-    let (core, pass) = Core::new(alloc, limits, timing, numbers, commands, taken)?;
-    match Box::new(alloc, core) {
-        Ok(core) => Ok((core, pass)),
-        Err(_) => Err(Fault::Memory),
-    }
+    let made = Core::new(alloc, limits, TIMING, NUMBERS, commands, taken)?;
+    Ok(hall::first_boxed(alloc, made)?)
 }
 
 fn new_server<C: Ledger, T: Ledger>(
@@ -203,6 +204,22 @@ impl<C: Ledger, T: Ledger> Server<C, T> {
     fn does(&mut self, alloc: Global, event: &Event) -> Result<Outcome, CoreError> {
         let now = hall::NOW;
         self.core.apply(alloc, &mut self.pass, &RelayApp, event, now, &mut self.ids)
+    }
+
+    /// A client opens.
+    fn opens(&mut self, alloc: Global) -> Result<u128, Fault> {
+        match self.does(alloc, &Event::Opened { socket: false })? {
+            Outcome::Opened(opening) => Ok(opening.client),
+            _ => Err(Fault::Dropped),
+        }
+    }
+
+    /// A client opens and connects, and takes the answer to that.
+    fn comes(&mut self, alloc: Global) -> Result<u128, Fault> {
+        let client = self.opens(alloc)?;
+        self.posts(alloc, client, "40")?;
+        self.takes(alloc, client)?;
+        Ok(client)
     }
 
     fn posts(&mut self, alloc: Global, client: u128, body: &str) -> Result<(), Fault> {
@@ -229,15 +246,10 @@ fn fill<C: Ledger, T: Ledger>(
 ) -> Result<Vec<u128>, Fault> {
     let mut members = Vec::new(alloc);
     for number in 0..clients {
-        let opened = server.does(alloc, &Event::Opened { socket: false })?;
-        let Outcome::Opened(opening) = opened else {
-            return Err(Fault::Dropped);
-        };
-        server.posts(alloc, opening.client, "40")?;
-        server.takes(alloc, opening.client)?;
+        let client = server.comes(alloc)?;
         if number < MEMBERS {
-            server.posts(alloc, opening.client, "42[\"join\",\"members\"]")?;
-            if members.push(opening.client).is_err() {
+            server.posts(alloc, client, "42[\"join\",\"members\"]")?;
+            if members.push(client).is_err() {
                 return Err(Fault::Memory);
             }
         }

@@ -3,9 +3,9 @@
 ghost use Rattle.std.specs.Prelude.{◌≡◌};
 
 use crate::fault::Fault;
-use crate::{crowd, gauge, hall};
-use hub::{Hub, Pass};
-use journal::Totals;
+use crate::hall::{Deed, Hall, Whom};
+use crate::{gauge, hall};
+use journal::{HubError, Totals};
 use std::alloc::Global;
 use std::fmt;
 use std::marker::Brand;
@@ -125,280 +125,222 @@ fn measure_in<C: Ledger, T: Ledger, R: Clock>(
     requires commands { (commands.name ≡ C.name) × (commands.parts ≡ C.parts) × (commands.parts ≡ 65536) }
     requires taken { (taken.name ≡ T.name) × (taken.parts ≡ T.parts) × (taken.parts ≡ 65536) }
 {
-    let (mut hub, mut pass) = hall::new_hub::<C, T>(alloc, scale.sockets, commands, taken)?;
-    act_and_settle(rt, alloc, &mut hub, &mut pass, task, scale)
-}
-
-fn act_and_settle<C: Ledger, T: Ledger, R: Clock>(
-    rt: &R,
-    alloc: Global,
-    hub: &mut Hub<C, T>,
-    pass: &mut Pass<C, T>,
-    task: Task,
-    scale: Scale,
-) -> Result<(Measured, Totals), Fault> {
-    let measured = act(rt, alloc, hub, pass, task, scale)?;
-    Ok((measured, hall::settle(hub, pass)?))
+    let mut hall = Hall::<C, T>::new(alloc, scale.sockets, commands, taken)?;
+    let measured = act(rt, &mut hall, task, scale)?;
+    Ok((measured, hall.settle()?))
 }
 
 /// Does a task.
 fn act<C: Ledger, T: Ledger, R: Clock>(
     rt: &R,
-    alloc: Global,
-    hub: &mut Hub<C, T>,
-    pass: &mut Pass<C, T>,
+    hall: &mut Hall<C, T>,
     task: Task,
     scale: Scale,
 ) -> Result<Measured, Fault> {
+    prepare(hall, task, scale)?;
     match task {
-        Task::Casts(members) => measure_casts(rt, alloc, hub, pass, scale, members, false),
-        Task::LoggedCasts(members) => measure_casts(rt, alloc, hub, pass, scale, members, true),
-        Task::FewCasts => measure_few_casts(rt, alloc, hub, pass, scale),
-        Task::Moves => measure_moves(rt, alloc, hub, pass, scale.sockets),
-        Task::RoomMoves => measure_room_moves(rt, alloc, hub, pass, scale),
-        Task::RoomEnds => measure_room_ends(rt, alloc, hub, pass, scale),
-        Task::Attaches => measure_attaches(rt, alloc, hub, pass, scale.sockets),
-        Task::Parks => measure_parks(rt, alloc, hub, pass, scale.sockets),
-        Task::Recoveries => measure_recoveries(rt, alloc, hub, pass, scale.sockets),
-        Task::Seal => measure_seal(rt, alloc, hub, pass, scale.sockets.min(MOST_SEALED)),
+        Task::Casts(members) => measure_casts(rt, hall, Whom::Room, members, scale.casts),
+        Task::LoggedCasts(members) => {
+            measure_casts(rt, hall, Whom::RoomLogged, members, scale.casts)
+        }
+        Task::FewCasts => measure_casts(rt, hall, Whom::Few, FEW, scale.casts),
+        Task::RoomEnds => measure_room_ends(rt, hall, scale.casts.min(MOST_ROUNDS)),
+        _ => measure_once(rt, hall, task, scale),
     }
 }
 
-/// So many clients with a socket each, for which nothing waits, and an empty journal.
-fn fill<C: Ledger, T: Ledger>(
-    alloc: Global,
-    hub: &mut Hub<C, T>,
-    pass: &mut Pass<C, T>,
-    sockets: u64,
-) -> Result<(), Fault> {
-    hall::open_all(alloc, hub, pass, sockets)?;
-    hall::attach_all(alloc, hub, pass, sockets)?;
-    hall::take_all(alloc, hub, pass, sockets)?;
-    let _epoch = hall::seal(alloc, hub)?;
-    Ok(())
+/// What is there before the clock begins to run.
+fn prepare<C: Ledger, T: Ledger>(
+    hall: &mut Hall<C, T>,
+    task: Task,
+    scale: Scale,
+) -> Result<(), HubError> {
+    match task {
+        Task::Casts(members) | Task::LoggedCasts(members) => fill(hall, scale.sockets, members),
+        Task::FewCasts => fill_few(hall, scale.sockets),
+        Task::Moves | Task::RoomEnds => fill(hall, scale.sockets, 0),
+        Task::RoomMoves => fill(hall, scale.sockets, CROWD),
+        Task::Attaches => lose(hall, scale.sockets),
+        Task::Parks => gather(hall, scale.sockets),
+        Task::Recoveries => miss(hall, scale.sockets),
+        Task::Seal => fill_outboxes(hall, most_sealed(scale)),
+    }
 }
 
+/// How many clients a hub that is sealed has.
+fn most_sealed(scale: Scale) -> u64 {
+    scale.sockets.min(MOST_SEALED)
+}
+
+/// So many clients with a socket each, of which the first are in the room; nothing waits for them, and
+/// before any is there the journal is empty.
+fn fill<C: Ledger, T: Ledger>(
+    hall: &mut Hall<C, T>,
+    sockets: u64,
+    members: u64,
+) -> Result<(), HubError> {
+    hall.each(sockets, Deed::Open)?;
+    hall.each(sockets, Deed::Attach)?;
+    hall.each(sockets, Deed::Take)?;
+    let _steps = hall.seal()?;
+    hall.each(members, Deed::Join)
+}
+
+/// The same with sockets in the namespace of few.
+fn fill_few<C: Ledger, T: Ledger>(hall: &mut Hall<C, T>, sockets: u64) -> Result<(), HubError> {
+    fill(hall, sockets, 0)?;
+    hall.each(FEW, Deed::AttachToFew)?;
+    hall.each(FEW, Deed::Take)
+}
+
+/// The same with entries that wait for each client.
+fn fill_outboxes<C: Ledger, T: Ledger>(
+    hall: &mut Hall<C, T>,
+    sockets: u64,
+) -> Result<(), HubError> {
+    fill(hall, sockets, 0)?;
+    hall.cast_to(Whom::Everybody, WAITING)
+}
+
+/// So many clients with a socket each, which are in one room and have their answers to CONNECT
+/// waiting.
+fn gather<C: Ledger, T: Ledger>(hall: &mut Hall<C, T>, sockets: u64) -> Result<(), HubError> {
+    hall.each(sockets, Deed::Open)?;
+    hall.each(sockets, Deed::Attach)?;
+    hall.each(sockets, Deed::Join)
+}
+
+/// So many sessions that were lost, and open clients beside them.
+fn lose<C: Ledger, T: Ledger>(hall: &mut Hall<C, T>, sockets: u64) -> Result<(), HubError> {
+    gather(hall, sockets)?;
+    hall.each(sockets, Deed::Park)?;
+    hall.each(sockets, Deed::Open)
+}
+
+/// The same with a log that was filled after they were lost.
+fn miss<C: Ledger, T: Ledger>(hall: &mut Hall<C, T>, sockets: u64) -> Result<(), HubError> {
+    gather(hall, sockets)?;
+    hall.each(sockets, Deed::Park)?;
+    hall.fill_log()?;
+    hall.each(sockets, Deed::Open)
+}
+
+/// Measures what is done once, for all clients.
+fn measure_once<C: Ledger, T: Ledger, R: Clock>(
+    rt: &R,
+    hall: &mut Hall<C, T>,
+    task: Task,
+    scale: Scale,
+) -> Result<Measured, Fault> {
+    let start = gauge::now(rt)?;
+    let number = perform(hall, task, scale)?;
+    let time = gauge::since(rt, start)?;
+    let number = conclude(hall, task, number)?;
+    Ok(Measured { number, time })
+}
+
+/// What the clock measures of such a task. Answers how many were done.
+fn perform<C: Ledger, T: Ledger>(
+    hall: &mut Hall<C, T>,
+    task: Task,
+    scale: Scale,
+) -> Result<u64, HubError> {
+    match task {
+        Task::Moves => move_each(hall, scale.sockets),
+        Task::RoomMoves => move_room(hall, scale.casts.min(MOST_ROUNDS)),
+        Task::Attaches => perform_each(hall, scale.sockets, Deed::AttachAnew),
+        Task::Parks => perform_each(hall, scale.sockets, Deed::Park),
+        Task::Recoveries => perform_each(hall, scale.sockets, Deed::Recover),
+        Task::Seal => hall.seal(),
+        _ => Ok(0),
+    }
+}
+
+fn perform_each<C: Ledger, T: Ledger>(
+    hall: &mut Hall<C, T>,
+    clients: u64,
+    deed: Deed,
+) -> Result<u64, HubError> {
+    hall.each(clients, deed)?;
+    Ok(clients)
+}
+
+fn move_each<C: Ledger, T: Ledger>(hall: &mut Hall<C, T>, sockets: u64) -> Result<u64, HubError> {
+    hall.each(sockets, Deed::Join)?;
+    hall.each(sockets, Deed::Leave)?;
+    Ok(sockets.saturating_mul(2))
+}
+
+fn move_room<C: Ledger, T: Ledger>(hall: &mut Hall<C, T>, rounds: u64) -> Result<u64, HubError> {
+    hall.move_room(rounds)?;
+    Ok(rounds.saturating_mul(2))
+}
+
+/// What follows after the clock has stopped: the sessions that were saved are counted, and what came
+/// back with others is taken.
+fn conclude<C: Ledger, T: Ledger>(
+    hall: &mut Hall<C, T>,
+    task: Task,
+    number: u64,
+) -> Result<u64, HubError> {
+    match task {
+        Task::Parks => hall.count_saved(),
+        Task::Recoveries => perform_each(hall, number, Deed::Take),
+        _ => Ok(number),
+    }
+}
+
+/// Measures casts, of which so many members take a batch before the next one is made.
 fn measure_casts<C: Ledger, T: Ledger, R: Clock>(
     rt: &R,
-    alloc: Global,
-    hub: &mut Hub<C, T>,
-    pass: &mut Pass<C, T>,
-    scale: Scale,
+    hall: &mut Hall<C, T>,
+    whom: Whom,
     members: u64,
-    logged: bool,
+    casts: u64,
 ) -> Result<Measured, Fault> {
-    fill(alloc, hub, pass, scale.sockets)?;
-    hall::join_all(alloc, hub, pass, members)?;
     let mut time = Duration::ZERO;
-    for first in (0..scale.casts).step_by(BATCH as usize) {
-        let times = scale.casts.saturating_sub(first).min(BATCH);
-        time = time.saturating_add(time_casts(rt, alloc, hub, pass, logged, times)?);
-        hall::take_all(alloc, hub, pass, members)?;
+    for first in (0..casts).step_by(BATCH as usize) {
+        let times = casts.saturating_sub(first).min(BATCH);
+        time = time.saturating_add(time_casts(rt, hall, whom, times)?);
+        hall.each(members, Deed::Take)?;
     }
-    let number = scale.casts;
+    let number = casts;
     Ok(Measured { number, time })
 }
 
 fn time_casts<C: Ledger, T: Ledger, R: Clock>(
     rt: &R,
-    alloc: Global,
-    hub: &mut Hub<C, T>,
-    pass: &mut Pass<C, T>,
-    logged: bool,
+    hall: &mut Hall<C, T>,
+    whom: Whom,
     times: u64,
 ) -> Result<Duration, Fault> {
     let start = gauge::now(rt)?;
-    hall::cast_to_room(alloc, hub, pass, logged, times)?;
+    hall.cast_to(whom, times)?;
     gauge::since(rt, start)
-}
-
-fn measure_few_casts<C: Ledger, T: Ledger, R: Clock>(
-    rt: &R,
-    alloc: Global,
-    hub: &mut Hub<C, T>,
-    pass: &mut Pass<C, T>,
-    scale: Scale,
-) -> Result<Measured, Fault> {
-    fill(alloc, hub, pass, scale.sockets)?;
-    hall::attach_few(alloc, hub, pass, FEW)?;
-    hall::take_all(alloc, hub, pass, FEW)?;
-    let mut time = Duration::ZERO;
-    for first in (0..scale.casts).step_by(BATCH as usize) {
-        let times = scale.casts.saturating_sub(first).min(BATCH);
-        time = time.saturating_add(time_few_casts(rt, alloc, hub, pass, times)?);
-        hall::take_all(alloc, hub, pass, FEW)?;
-    }
-    let number = scale.casts;
-    Ok(Measured { number, time })
-}
-
-fn time_few_casts<C: Ledger, T: Ledger, R: Clock>(
-    rt: &R,
-    alloc: Global,
-    hub: &mut Hub<C, T>,
-    pass: &mut Pass<C, T>,
-    times: u64,
-) -> Result<Duration, Fault> {
-    let start = gauge::now(rt)?;
-    hall::cast_to_few(alloc, hub, pass, times)?;
-    gauge::since(rt, start)
-}
-
-fn measure_room_moves<C: Ledger, T: Ledger, R: Clock>(
-    rt: &R,
-    alloc: Global,
-    hub: &mut Hub<C, T>,
-    pass: &mut Pass<C, T>,
-    scale: Scale,
-) -> Result<Measured, Fault> {
-    fill(alloc, hub, pass, scale.sockets)?;
-    hall::join_all(alloc, hub, pass, CROWD)?;
-    let rounds = scale.casts.min(MOST_ROUNDS);
-    let start = gauge::now(rt)?;
-    crowd::move_room(alloc, hub, pass, rounds)?;
-    let time = gauge::since(rt, start)?;
-    let number = rounds.saturating_mul(2);
-    Ok(Measured { number, time })
-}
-
-/// Fills the room, and says how long all of it took to end.
-fn time_room_end<C: Ledger, T: Ledger, R: Clock>(
-    rt: &R,
-    alloc: Global,
-    hub: &mut Hub<C, T>,
-    pass: &mut Pass<C, T>,
-) -> Result<Duration, Fault> {
-    hall::join_all(alloc, hub, pass, CROWD)?;
-    let start = gauge::now(rt)?;
-    crowd::end_room(alloc, hub, pass)?;
-    let time = gauge::since(rt, start)?;
-    hall::attach_all(alloc, hub, pass, CROWD)?;
-    hall::take_all(alloc, hub, pass, CROWD)?;
-    Ok(time)
 }
 
 fn measure_room_ends<C: Ledger, T: Ledger, R: Clock>(
     rt: &R,
-    alloc: Global,
-    hub: &mut Hub<C, T>,
-    pass: &mut Pass<C, T>,
-    scale: Scale,
+    hall: &mut Hall<C, T>,
+    number: u64,
 ) -> Result<Measured, Fault> {
-    fill(alloc, hub, pass, scale.sockets)?;
     let mut time = Duration::ZERO;
-    let number = scale.casts.min(MOST_ROUNDS);
     for _round in 0..number {
-        time = time.saturating_add(time_room_end(rt, alloc, hub, pass)?);
+        hall.each(CROWD, Deed::Join)?;
+        time = time.saturating_add(time_room_end(rt, hall)?);
+        hall.each(CROWD, Deed::Attach)?;
+        hall.each(CROWD, Deed::Take)?;
     }
     Ok(Measured { number, time })
 }
 
-fn measure_attaches<C: Ledger, T: Ledger, R: Clock>(
+fn time_room_end<C: Ledger, T: Ledger, R: Clock>(
     rt: &R,
-    alloc: Global,
-    hub: &mut Hub<C, T>,
-    pass: &mut Pass<C, T>,
-    sockets: u64,
-) -> Result<Measured, Fault> {
-    gather(alloc, hub, pass, sockets)?;
-    hall::park_all(alloc, hub, pass, sockets)?;
-    hall::open_all(alloc, hub, pass, sockets)?;
+    hall: &mut Hall<C, T>,
+) -> Result<Duration, Fault> {
     let start = gauge::now(rt)?;
-    hall::attach_anew(alloc, hub, pass, sockets)?;
-    let time = gauge::since(rt, start)?;
-    let number = sockets;
-    Ok(Measured { number, time })
-}
-
-fn measure_moves<C: Ledger, T: Ledger, R: Clock>(
-    rt: &R,
-    alloc: Global,
-    hub: &mut Hub<C, T>,
-    pass: &mut Pass<C, T>,
-    sockets: u64,
-) -> Result<Measured, Fault> {
-    fill(alloc, hub, pass, sockets)?;
-    let start = gauge::now(rt)?;
-    hall::join_all(alloc, hub, pass, sockets)?;
-    hall::leave_all(alloc, hub, pass, sockets)?;
-    let time = gauge::since(rt, start)?;
-    let number = sockets.saturating_mul(2);
-    Ok(Measured { number, time })
-}
-
-/// So many clients with a socket each, which are in one room and have their answers to CONNECT
-/// waiting.
-fn gather<C: Ledger, T: Ledger>(
-    alloc: Global,
-    hub: &mut Hub<C, T>,
-    pass: &mut Pass<C, T>,
-    sockets: u64,
-) -> Result<(), Fault> {
-    hall::open_all(alloc, hub, pass, sockets)?;
-    hall::attach_all(alloc, hub, pass, sockets)?;
-    hall::join_all(alloc, hub, pass, sockets)?;
-    Ok(())
-}
-
-fn measure_parks<C: Ledger, T: Ledger, R: Clock>(
-    rt: &R,
-    alloc: Global,
-    hub: &mut Hub<C, T>,
-    pass: &mut Pass<C, T>,
-    sockets: u64,
-) -> Result<Measured, Fault> {
-    gather(alloc, hub, pass, sockets)?;
-    let start = gauge::now(rt)?;
-    hall::park_all(alloc, hub, pass, sockets)?;
-    let time = gauge::since(rt, start)?;
-    let number = hall::count_saved(alloc, hub, pass)?;
-    Ok(Measured { number, time })
-}
-
-/// So many sessions that were lost before the log was filled, and open clients for them.
-fn lose<C: Ledger, T: Ledger>(
-    alloc: Global,
-    hub: &mut Hub<C, T>,
-    pass: &mut Pass<C, T>,
-    sockets: u64,
-) -> Result<(), Fault> {
-    hall::park_all(alloc, hub, pass, sockets)?;
-    hall::fill_log(alloc, hub, pass)?;
-    hall::open_all(alloc, hub, pass, sockets)?;
-    Ok(())
-}
-
-fn measure_recoveries<C: Ledger, T: Ledger, R: Clock>(
-    rt: &R,
-    alloc: Global,
-    hub: &mut Hub<C, T>,
-    pass: &mut Pass<C, T>,
-    sockets: u64,
-) -> Result<Measured, Fault> {
-    gather(alloc, hub, pass, sockets)?;
-    lose(alloc, hub, pass, sockets)?;
-    let start = gauge::now(rt)?;
-    hall::recover_all(alloc, hub, pass, sockets)?;
-    let time = gauge::since(rt, start)?;
-    hall::take_all(alloc, hub, pass, sockets)?;
-    let number = sockets;
-    Ok(Measured { number, time })
-}
-
-fn measure_seal<C: Ledger, T: Ledger, R: Clock>(
-    rt: &R,
-    alloc: Global,
-    hub: &mut Hub<C, T>,
-    pass: &mut Pass<C, T>,
-    sockets: u64,
-) -> Result<Measured, Fault> {
-    fill(alloc, hub, pass, sockets)?;
-    hall::cast_to_all(alloc, hub, pass, WAITING)?;
-    let start = gauge::now(rt)?;
-    let epoch = hall::seal(alloc, hub)?;
-    let time = gauge::since(rt, start)?;
-    let number = epoch.steps.len() as u64;
-    Ok(Measured { number, time })
+    hall.end_room()?;
+    gauge::since(rt, start)
 }
 
 /// How many bytes of memory an open client takes, with its socket and the steps that made them, or
@@ -417,20 +359,19 @@ fn measure_memory_in<C: Ledger, T: Ledger, R: Files + AllocGlobal>(
     requires commands { (commands.name ≡ C.name) × (commands.parts ≡ C.parts) × (commands.parts ≡ 65536) }
     requires taken { (taken.name ≡ T.name) × (taken.parts ≡ T.parts) × (taken.parts ≡ 65536) }
 {
-    let (mut hub, mut pass) = hall::new_hub::<C, T>(rt.alloc(), clients, commands, taken)?;
-    grow(rt, &mut hub, &mut pass, clients)
+    let mut hall = Hall::<C, T>::new(rt.alloc(), clients, commands, taken)?;
+    grow(rt, &mut hall, clients)
 }
 
 /// What each of so many new clients takes.
 fn grow<C: Ledger, T: Ledger, R: Files + AllocGlobal>(
     rt: &R,
-    hub: &mut Hub<C, T>,
-    pass: &mut Pass<C, T>,
+    hall: &mut Hall<C, T>,
     clients: u64,
 ) -> Result<Option<u64>, Fault> {
     let before = gauge::memory(rt);
-    hall::open_all(rt.alloc(), hub, pass, clients)?;
-    hall::attach_all(rt.alloc(), hub, pass, clients)?;
+    hall.each(clients, Deed::Open)?;
+    hall.each(clients, Deed::Attach)?;
     Ok(share(before, gauge::memory(rt), clients))
 }
 

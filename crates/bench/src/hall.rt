@@ -1,11 +1,11 @@
-//! The hub's commands, for one client and for all. The client with a number has one socket, in `/`,
-//! and its session id and its private id are that number too, where nothing else is said.
+//! A hub, and what its clients do, one or all. The client with a number has one socket, in `/`, and
+//! its session id and its private id are that number too, where nothing else is said.
 
 ghost use Rattle.std.specs.Prelude.{◌≡◌};
 
 use crate::fault::Fault;
 use hub::{Hub, Pass};
-use journal::{Cast, Config, Epoch, HubError, Totals};
+use journal::{Cast, Config, HubError, Totals};
 use recovery::Pid;
 use room_maps::{Room, Sid};
 use sio_wire::Attachments;
@@ -20,16 +20,19 @@ pub const PARTS: u64 = 65_536;
 const CAPACITY: usize = 128;
 
 /// How many broadcasts the log holds.
-pub const LOG: u64 = 1024;
+const LOG: u64 = 1024;
 
 /// The room that sockets join.
-pub const ROOM: &str = "members";
+const ROOM: &str = "members";
 
 /// The namespace in which few clients have a socket, beside their one in `/`.
 const FEW: &str = "/few";
 
 /// The first session id of the sockets that clients have beside, or after, the one of their number.
 const SECOND: u128 = 1 << 64;
+
+/// A room that the sockets in the room join, and leave again.
+const SECOND_ROOM: &str = "guests";
 
 /// A room that nobody joins.
 const EMPTY_ROOM: &str = "nobody";
@@ -60,252 +63,209 @@ pub fn config(alloc: Global, clients: u64) -> Result<Config, HubError> {
     })
 }
 
-/// A hub for so many clients, and its pass.
-pub fn new_hub<C: Ledger, T: Ledger>(
-    alloc: Global,
-    clients: u64,
-    commands: Blank,
-    taken: Blank,
-) -> Result<(Box<Hub<C, T>>, Pass<C, T>), HubError>
-    requires commands { (commands.name ≡ C.name) × (commands.parts ≡ C.parts) × (commands.parts ≡ 65536) }
-    requires taken { (taken.name ≡ T.name) × (taken.parts ≡ T.parts) × (taken.parts ≡ 65536) }
-{
-    let limits = config(alloc, clients)?;
-    let (hub, pass) = Hub::new(alloc, limits, commands, taken)?;
-    Ok((Box::new(alloc, hub)?, pass))
+/// Two values, the first in a box.
+pub fn first_boxed<A: Drop, B: Drop>(alloc: Global, both: (A, B)) -> Result<(Box<A>, B), HubError> {
+    let (first, second) = both;
+    Ok((Box::new(alloc, first)?, second))
 }
 
-fn open<C: Ledger, T: Ledger>(
-    alloc: Global,
-    hub: &mut Hub<C, T>,
-    pass: &mut Pass<C, T>,
-    number: u64,
-) -> Result<(), HubError> {
-    hub.open(alloc, pass, u128::from(number), NOW)
+/// What a client does.
+#[derive(Clone, Copy)]
+pub enum Deed {
+    Open,
+    /// Its socket connects; the answer to CONNECT waits then.
+    Attach,
+    /// It connects to the namespace of few too.
+    AttachToFew,
+    /// It connects to `/` with new ids.
+    AttachAnew,
+    /// It takes all that waits for it.
+    Take,
+    /// Its socket joins the room,
+    Join,
+    /// or leaves it.
+    Leave,
+    /// It is lost.
+    Park,
+    /// Its session comes back, which had the log's first broadcast.
+    Recover,
 }
 
-/// Opens the clients below a number.
-pub fn open_all<C: Ledger, T: Ledger>(
+/// A hub with its pass.
+#[derive(Drop)]
+pub struct Hall<C: Ledger, T: Ledger> {
     alloc: Global,
-    hub: &mut Hub<C, T>,
-    pass: &mut Pass<C, T>,
-    clients: u64,
-) -> Result<(), HubError> {
-    for number in 0..clients {
-        open(alloc, hub, pass, number)?;
+    hub: Box<Hub<C, T>>,
+    pass: Pass<C, T>,
+}
+
+impl<C: Ledger, T: Ledger> Hall<C, T> {
+    /// A hub for so many clients.
+    pub fn new(
+        alloc: Global,
+        clients: u64,
+        commands: Blank,
+        taken: Blank,
+    ) -> Result<Hall<C, T>, HubError>
+        requires commands { (commands.name ≡ C.name) × (commands.parts ≡ C.parts) × (commands.parts ≡ 65536) }
+        requires taken { (taken.name ≡ T.name) × (taken.parts ≡ T.parts) × (taken.parts ≡ 65536) }
+    {
+        let limits = config(alloc, clients)?;
+        let (hub, pass) = first_boxed(alloc, Hub::new(alloc, limits, commands, taken)?)?;
+        Ok(Hall { alloc, hub, pass })
     }
-    Ok(())
-}
 
-fn attach<C: Ledger, T: Ledger>(
-    alloc: Global,
-    hub: &mut Hub<C, T>,
-    pass: &mut Pass<C, T>,
-    number: u64,
-) -> Result<(), HubError> {
-    let id = u128::from(number);
-    hub.attach(alloc, pass, id, "/", Sid::new(id), Pid::new(id), NOW)
-}
-
-/// Connects the sockets below a number, whose answers to CONNECT wait then.
-pub fn attach_all<C: Ledger, T: Ledger>(
-    alloc: Global,
-    hub: &mut Hub<C, T>,
-    pass: &mut Pass<C, T>,
-    clients: u64,
-) -> Result<(), HubError> {
-    for number in 0..clients {
-        attach(alloc, hub, pass, number)?;
+    /// The clients below a number do something, one after another.
+    pub fn each(&mut self, clients: u64, deed: Deed) -> Result<(), HubError> {
+        for number in 0..clients {
+            self.act(number, deed)?;
+        }
+        Ok(())
     }
-    Ok(())
-}
 
-/// Connects a socket with the second ids of a client, in a namespace.
-fn attach_second<C: Ledger, T: Ledger>(
-    alloc: Global,
-    hub: &mut Hub<C, T>,
-    pass: &mut Pass<C, T>,
-    number: u64,
-    space: &str,
-) -> Result<(), HubError> {
-    let (client, id) = (
-        u128::from(number),
-        SECOND.saturating_add(u128::from(number)),
-    );
-    hub.attach(alloc, pass, client, space, Sid::new(id), Pid::new(id), NOW)
-}
-
-/// The clients below a number connect to the namespace of few too.
-pub fn attach_few<C: Ledger, T: Ledger>(
-    alloc: Global,
-    hub: &mut Hub<C, T>,
-    pass: &mut Pass<C, T>,
-    clients: u64,
-) -> Result<(), HubError> {
-    for number in 0..clients {
-        attach_second(alloc, hub, pass, number, FEW)?;
+    fn act(&mut self, number: u64, deed: Deed) -> Result<(), HubError> {
+        let id = u128::from(number);
+        match deed {
+            Deed::Open => self.hub.open(self.alloc, &mut self.pass, id, NOW),
+            Deed::Attach => self.attach(id, "/", id),
+            Deed::AttachToFew => self.attach(id, FEW, SECOND.saturating_add(id)),
+            Deed::AttachAnew => self.attach(id, "/", SECOND.saturating_add(id)),
+            Deed::Take => self.take(id),
+            Deed::Join => self.join(Sid::new(id)),
+            Deed::Leave => self.leave(Sid::new(id)),
+            Deed::Park => self.hub.park(self.alloc, &mut self.pass, id, NOW),
+            Deed::Recover => self.recover(id),
+        }
     }
-    Ok(())
-}
 
-/// The clients below a number connect to `/` with new ids.
-pub fn attach_anew<C: Ledger, T: Ledger>(
-    alloc: Global,
-    hub: &mut Hub<C, T>,
-    pass: &mut Pass<C, T>,
-    clients: u64,
-) -> Result<(), HubError> {
-    for number in 0..clients {
-        attach_second(alloc, hub, pass, number, "/")?;
+    fn attach(&mut self, client: u128, space: &str, id: u128) -> Result<(), HubError> {
+        let (sid, pid) = (Sid::new(id), Pid::new(id));
+        self.hub
+            .attach(self.alloc, &mut self.pass, client, space, sid, pid, NOW)
     }
-    Ok(())
-}
 
-/// Takes all that waits for a client.
-fn take<C: Ledger, T: Ledger>(
-    alloc: Global,
-    hub: &mut Hub<C, T>,
-    pass: &mut Pass<C, T>,
-    number: u64,
-) -> Result<(), HubError> {
-    let _entries = hub.take(alloc, pass, u128::from(number), CAPACITY, NOW)?;
-    Ok(())
-}
-
-/// Takes all that waits for the clients below a number.
-pub fn take_all<C: Ledger, T: Ledger>(
-    alloc: Global,
-    hub: &mut Hub<C, T>,
-    pass: &mut Pass<C, T>,
-    clients: u64,
-) -> Result<(), HubError> {
-    for number in 0..clients {
-        take(alloc, hub, pass, number)?;
+    fn take(&mut self, client: u128) -> Result<(), HubError> {
+        let _entries = self
+            .hub
+            .take(self.alloc, &mut self.pass, client, CAPACITY, NOW)?;
+        Ok(())
     }
-    Ok(())
-}
 
-fn join<C: Ledger, T: Ledger>(
-    alloc: Global,
-    hub: &mut Hub<C, T>,
-    pass: &mut Pass<C, T>,
-    number: u64,
-) -> Result<(), HubError> {
-    let sid = Sid::new(u128::from(number));
-    hub.join(alloc, pass, sid, room(ROOM), NOW)
-}
-
-/// The sockets below a number join the room.
-pub fn join_all<C: Ledger, T: Ledger>(
-    alloc: Global,
-    hub: &mut Hub<C, T>,
-    pass: &mut Pass<C, T>,
-    sockets: u64,
-) -> Result<(), HubError> {
-    for number in 0..sockets {
-        join(alloc, hub, pass, number)?;
+    fn join(&mut self, sid: Sid) -> Result<(), HubError> {
+        self.hub
+            .join(self.alloc, &mut self.pass, sid, room(ROOM), NOW)
     }
-    Ok(())
-}
 
-fn leave<C: Ledger, T: Ledger>(
-    alloc: Global,
-    hub: &mut Hub<C, T>,
-    pass: &mut Pass<C, T>,
-    number: u64,
-) -> Result<(), HubError> {
-    let sid = Sid::new(u128::from(number));
-    hub.leave(alloc, pass, sid, room(ROOM), NOW)
-}
-
-/// The sockets below a number leave the room.
-pub fn leave_all<C: Ledger, T: Ledger>(
-    alloc: Global,
-    hub: &mut Hub<C, T>,
-    pass: &mut Pass<C, T>,
-    sockets: u64,
-) -> Result<(), HubError> {
-    for number in 0..sockets {
-        leave(alloc, hub, pass, number)?;
+    fn leave(&mut self, sid: Sid) -> Result<(), HubError> {
+        self.hub
+            .leave(self.alloc, &mut self.pass, sid, room(ROOM), NOW)
     }
-    Ok(())
-}
 
-fn park<C: Ledger, T: Ledger>(
-    alloc: Global,
-    hub: &mut Hub<C, T>,
-    pass: &mut Pass<C, T>,
-    number: u64,
-) -> Result<(), HubError> {
-    hub.park(alloc, pass, u128::from(number), NOW)
-}
-
-/// The clients below a number are lost.
-pub fn park_all<C: Ledger, T: Ledger>(
-    alloc: Global,
-    hub: &mut Hub<C, T>,
-    pass: &mut Pass<C, T>,
-    clients: u64,
-) -> Result<(), HubError> {
-    for number in 0..clients {
-        park(alloc, hub, pass, number)?;
+    fn recover(&mut self, id: u128) -> Result<(), HubError> {
+        let pid = Pid::new(id);
+        let _sid = self
+            .hub
+            .recover(self.alloc, &mut self.pass, id, "/", pid, 1, NOW)?;
+        Ok(())
     }
-    Ok(())
-}
 
-/// The session of a client comes back, which had the log's first broadcast.
-fn recover<C: Ledger, T: Ledger>(
-    alloc: Global,
-    hub: &mut Hub<C, T>,
-    pass: &mut Pass<C, T>,
-    number: u64,
-) -> Result<(), HubError> {
-    let id = u128::from(number);
-    let _sid = hub.recover(alloc, pass, id, "/", Pid::new(id), 1, NOW)?;
-    Ok(())
-}
-
-/// The sessions below a number come back.
-pub fn recover_all<C: Ledger, T: Ledger>(
-    alloc: Global,
-    hub: &mut Hub<C, T>,
-    pass: &mut Pass<C, T>,
-    clients: u64,
-) -> Result<(), HubError> {
-    for number in 0..clients {
-        recover(alloc, hub, pass, number)?;
+    /// Drops all that the hub keeps of the past, and says how many sessions these were.
+    pub fn count_saved(&mut self) -> Result<u64, HubError> {
+        Ok(self.hub.sweep(self.alloc, &mut self.pass, LATE)?.saved as u64)
     }
-    Ok(())
-}
 
-/// Drops all that the hub keeps of the past, and says how many sessions these were.
-pub fn count_saved<C: Ledger, T: Ledger>(
-    alloc: Global,
-    hub: &mut Hub<C, T>,
-    pass: &mut Pass<C, T>,
-) -> Result<u64, HubError> {
-    Ok(hub.sweep(alloc, pass, LATE)?.saved as u64)
-}
-
-/// Makes the present state the base.
-pub fn seal<C: Ledger, T: Ledger>(alloc: Global, hub: &mut Hub<C, T>) -> Result<Epoch, HubError> {
-    hub.seal(alloc)
-}
-
-/// The hub's counts, which are all in the pass. No broadcast may have been dropped.
-pub fn settle<C: Ledger, T: Ledger>(
-    hub: &mut Hub<C, T>,
-    pass: &mut Pass<C, T>,
-) -> Result<Totals, Fault> {
-    match hub.settle(pass) {
-        Ok(totals) if totals.dropped == 0 => Ok(totals),
-        Ok(_) => Err(Fault::Dropped),
-        Err(_) => Err(Fault::Unsettled),
+    /// Makes the present state the base, and says how many steps are handed out.
+    pub fn seal(&mut self) -> Result<u64, HubError> {
+        Ok(self.hub.seal(self.alloc)?.steps.len() as u64)
     }
+
+    /// The hub's counts, which are all in the pass. No broadcast may have been dropped.
+    pub fn settle(&mut self) -> Result<Totals, Fault> {
+        match self.hub.settle(&mut self.pass) {
+            Ok(totals) if totals.dropped == 0 => Ok(totals),
+            Ok(_) => Err(Fault::Dropped),
+            Err(_) => Err(Fault::Unsettled),
+        }
+    }
+
+    fn cast(&mut self, space: &str, rooms: &[Room], logged: bool) -> Result<(), HubError> {
+        let event = news(self.alloc, space, rooms, logged)?;
+        let _done = self.hub.cast(self.alloc, &mut self.pass, event, NOW)?;
+        Ok(())
+    }
+
+    /// Casts so many times.
+    pub fn cast_to(&mut self, whom: Whom, times: u64) -> Result<(), HubError> {
+        let members = [room(ROOM)];
+        for _time in 0..times {
+            match whom {
+                Whom::Room => self.cast("/", &members, false)?,
+                Whom::RoomLogged => self.cast("/", &members, true)?,
+                Whom::Everybody => self.cast("/", &[], false)?,
+                Whom::Few => self.cast(FEW, &[], false)?,
+            }
+        }
+        Ok(())
+    }
+
+    /// Fills the log. Each sixteenth broadcast is for the room, the others for nobody.
+    pub fn fill_log(&mut self) -> Result<(), HubError> {
+        let (members, nobody) = ([room(ROOM)], [room(EMPTY_ROOM)]);
+        for offset in 1..=LOG {
+            let rooms = if offset % 16 == 0 { &members } else { &nobody };
+            self.cast("/", rooms, true)?;
+        }
+        Ok(())
+    }
+
+    /// All in the room join another, and leave it again.
+    fn move_once(&mut self) -> Result<(), HubError> {
+        let (alloc, guests) = (self.alloc, room(SECOND_ROOM));
+        let (rooms, none) = (Vec::from_slice(alloc, &[room(ROOM)])?, Vec::new(alloc));
+        let _joined = self
+            .hub
+            .sockets_join(alloc, &mut self.pass, "/", rooms, none, guests, NOW)?;
+        let (rooms, none) = (Vec::from_slice(alloc, &[room(ROOM)])?, Vec::new(alloc));
+        let _left = self
+            .hub
+            .sockets_leave(alloc, &mut self.pass, "/", rooms, none, guests, NOW)?;
+        Ok(())
+    }
+
+    /// All in the room join another, and leave it again, so many times.
+    pub fn move_room(&mut self, times: u64) -> Result<(), HubError> {
+        for _time in 0..times {
+            self.move_once()?;
+        }
+        Ok(())
+    }
+
+    /// All in the room end, of which their clients are told.
+    pub fn end_room(&mut self) -> Result<(), HubError> {
+        let alloc = self.alloc;
+        let (rooms, none) = (Vec::from_slice(alloc, &[room(ROOM)])?, Vec::new(alloc));
+        let _done = self
+            .hub
+            .disconnect_sockets(alloc, &mut self.pass, "/", rooms, none, NOW)?;
+        Ok(())
+    }
+}
+
+/// For whom a broadcast is.
+#[derive(Clone, Copy)]
+pub enum Whom {
+    /// The room.
+    Room,
+    /// The room, with an offset and a place in the log.
+    RoomLogged,
+    /// Everybody in `/`.
+    Everybody,
+    /// Everybody in the namespace of few.
+    Few,
 }
 
 /// The room of this name, which is short.
-pub fn room(name: &str) -> Room {
+fn room(name: &str) -> Room {
     match Room::read(name) {
         Some(room) => room,
         None => Room::own(Sid::new(0)),
@@ -322,81 +282,4 @@ fn news(alloc: Global, space: &str, rooms: &[Room], logged: bool) -> Result<Cast
         payload: Text::copy_of(alloc, PAYLOAD)?,
         attachments: Attachments::new(alloc),
     })
-}
-
-fn cast<C: Ledger, T: Ledger>(
-    alloc: Global,
-    hub: &mut Hub<C, T>,
-    pass: &mut Pass<C, T>,
-    rooms: &[Room],
-    logged: bool,
-) -> Result<(), HubError> {
-    let event = news(alloc, "/", rooms, logged)?;
-    let _done = hub.cast(alloc, pass, event, NOW)?;
-    Ok(())
-}
-
-/// Casts to the room so many times.
-pub fn cast_to_room<C: Ledger, T: Ledger>(
-    alloc: Global,
-    hub: &mut Hub<C, T>,
-    pass: &mut Pass<C, T>,
-    logged: bool,
-    times: u64,
-) -> Result<(), HubError> {
-    let rooms = [room(ROOM)];
-    for _time in 0..times {
-        cast(alloc, hub, pass, &rooms, logged)?;
-    }
-    Ok(())
-}
-
-/// Casts to everybody so many times.
-pub fn cast_to_all<C: Ledger, T: Ledger>(
-    alloc: Global,
-    hub: &mut Hub<C, T>,
-    pass: &mut Pass<C, T>,
-    times: u64,
-) -> Result<(), HubError> {
-    for _time in 0..times {
-        cast(alloc, hub, pass, &[], false)?;
-    }
-    Ok(())
-}
-
-fn cast_once_to_few<C: Ledger, T: Ledger>(
-    alloc: Global,
-    hub: &mut Hub<C, T>,
-    pass: &mut Pass<C, T>,
-) -> Result<(), HubError> {
-    let event = news(alloc, FEW, &[], false)?;
-    let _done = hub.cast(alloc, pass, event, NOW)?;
-    Ok(())
-}
-
-/// Casts to everybody in the namespace of few so many times.
-pub fn cast_to_few<C: Ledger, T: Ledger>(
-    alloc: Global,
-    hub: &mut Hub<C, T>,
-    pass: &mut Pass<C, T>,
-    times: u64,
-) -> Result<(), HubError> {
-    for _time in 0..times {
-        cast_once_to_few(alloc, hub, pass)?;
-    }
-    Ok(())
-}
-
-/// Fills the log. Each sixteenth broadcast is for the room, the others for nobody.
-pub fn fill_log<C: Ledger, T: Ledger>(
-    alloc: Global,
-    hub: &mut Hub<C, T>,
-    pass: &mut Pass<C, T>,
-) -> Result<(), HubError> {
-    let (members, nobody) = ([room(ROOM)], [room(EMPTY_ROOM)]);
-    for offset in 1..=LOG {
-        let rooms = if offset % 16 == 0 { &members } else { &nobody };
-        cast(alloc, hub, pass, rooms, true)?;
-    }
-    Ok(())
 }

@@ -4,7 +4,6 @@
 #![tactic(auto)]
 
 mod bands;
-mod crowd;
 mod events;
 mod fault;
 mod figures;

@@ -40,6 +40,11 @@ fn config(alloc: Global) -> Result<Config, AllocError> {
     })
 }
 
+/// The value in a box.
+pub fn boxed<V: Drop>(alloc: Global, value: V) -> Result<Box<V>, CoreError> {
+    Box::new(alloc, value).map_err(|_| CoreFault::Memory.at_once())
+}
+
 /// A core with no clients.
 pub fn new_server<C: Ledger, T: Ledger>(
     alloc: Global,
@@ -68,7 +73,7 @@ pub fn new_server<C: Ledger, T: Ledger>(
         pass,
         ids: Counter::new(),
     };
-    Box::new(alloc, server).map_err(|_| CoreFault::Memory.at_once())
+    boxed(alloc, server)
 }
 
 /// What the tests compare of an outcome.

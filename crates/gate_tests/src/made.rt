@@ -38,6 +38,11 @@ fn config(alloc: Global) -> Result<Config, AllocError> {
     })
 }
 
+/// The value in a box.
+fn boxed<V: Drop>(alloc: Global, value: V) -> Result<Box<V>, CoreError> {
+    Box::new(alloc, value).map_err(|_| CoreFault::Memory.at_once())
+}
+
 /// A core with no clients, under its lock.
 pub fn new_server<C: Ledger, T: Ledger>(
     alloc: Global,
@@ -65,7 +70,7 @@ pub fn new_server<C: Ledger, T: Ledger>(
         locked: Locked::new(core),
         pass,
     };
-    Box::new(alloc, server).map_err(|_| CoreFault::Memory.at_once())
+    boxed(alloc, server)
 }
 
 /// Ids that begin behind so many.

@@ -39,6 +39,11 @@ fn config(alloc: Global) -> Result<Config, AllocError> {
     })
 }
 
+/// The value in a box.
+fn boxed<V: Drop>(alloc: Global, value: V) -> Result<Box<V>, CoreError> {
+    Box::new(alloc, value).map_err(|_| CoreFault::Memory.at_once())
+}
+
 /// A core with no clients, which its owner borrows.
 pub fn new_server<C: Ledger, T: Ledger>(
     alloc: Global,
@@ -49,7 +54,7 @@ pub fn new_server<C: Ledger, T: Ledger>(
     requires taken { (taken.name ≡ T.name) × (taken.parts ≡ T.parts) × (taken.parts ≡ 65536) }
 {
     let server = new_parts(alloc, commands, taken)?;
-    Box::new(alloc, server).map_err(|_| CoreFault::Memory.at_once())
+    boxed(alloc, server)
 }
 
 /// A core with no clients, whose parts are given away.

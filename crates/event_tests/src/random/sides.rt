@@ -3,6 +3,7 @@
 ghost use Rattle.std.specs.Prelude.{◌≡◌};
 ghost use Rattle.relay.specs.Counter.{counted_from};
 
+use crate::made::boxed;
 use crate::random::apps::WildApp;
 use crate::random::known::MOST_CLIENTS;
 use dispatch::{Core, Event, Outcome};
@@ -101,7 +102,7 @@ fn side_for<C: Ledger, T: Ledger>(
         pass,
         ids: Ids { next: 1 },
     };
-    Box::new(alloc, side).map_err(|_| CoreFault::Memory.at_once())
+    boxed(alloc, side)
 }
 
 /// A core with no clients.
