@@ -169,19 +169,27 @@ module _ (decides : Who → Arrived → List Effect → Type 0) (allows : (space
   abbrev pub TakesWaiting : (name : List ℕ) → (c most : ℕ) → Server → (said : List ℕ) → Server → Type 0
   TakesWaiting name c most s said t = (on : Option Transport) × Speaks c on s.core × Asks name (take_of on c most) s said t
 
+  -- what a line does for the client that it names, and prints; a line that is of no client that was opened is bad
+  abbrev pub RepliesForClient : ScriptLine → Server → (said : List ℕ) → Server → Type 0
+  RepliesForClient (line.Text name rest) s said t = ForName name.now (λ c. Asks name.now (event.Post c rest.now) s said t) s said t
+  RepliesForClient (line.Frame name rest) s said t = ForName name.now (λ c. Hears name.now c (frame.Text rest.now) s said t) s said t
+  RepliesForClient (line.Bytes name hex) s said t = ForName name.now (λ c. HearsBytes name.now hex.now c s said t) s said t
+  RepliesForClient (line.Notice word name) s said t = ForName name.now (λ c. Asks name.now (event_of word c) s said t) s said t
+  RepliesForClient (line.Take name most) s said t = ForName name.now (λ c. TakesWaiting name.now c most s said t) s said t
+  RepliesForClient _ s said t = IsBadLine s said t
+
+  -- what a line does to the server and prints that always has an answer
+  abbrev pub Replies : ScriptLine → Server → (said : List ℕ) → Server → Type 0
+  Replies (line.Open name) s said t = Opens name.now false s said t
+  Replies (line.OpenSocket name) s said t = Opens name.now true s said t
+  Replies (line.Members space room) s said t = AsksMembers space.now room.now s said × (t ≡ s)
+  Replies line.Totals s said t = TellsTotals s said × (t ≡ s)
+  Replies line.Seal s said t = Seals s said t
+  Replies line.Sweep s said t = Asks [] event.Sweep s said t
+  Replies other s said t = RepliesForClient other s said t
+
   -- what a line does to the server and prints; its limits can't be set any more
   abbrev pub Plays : ScriptLine → Server → (said : Option (List ℕ)) → Server → Type 0
   Plays (line.At moment) s said t = (said ≡ None) × (t ≡ record s { now = moment })
-  Plays (line.Open name) s said t = Prints (λ text. Opens name.now false s text t) said
-  Plays (line.OpenSocket name) s said t = Prints (λ text. Opens name.now true s text t) said
-  Plays (line.Text name rest) s said t = Prints (λ text. ForName name.now (λ c. Asks name.now (event.Post c rest.now) s text t) s text t) said
-  Plays (line.Frame name rest) s said t = Prints (λ text. ForName name.now (λ c. Hears name.now c (frame.Text rest.now) s text t) s text t) said
-  Plays (line.Bytes name hex) s said t = Prints (λ text. ForName name.now (λ c. HearsBytes name.now hex.now c s text t) s text t) said
-  Plays (line.Notice word name) s said t = Prints (λ text. ForName name.now (λ c. Asks name.now (event_of word c) s text t) s text t) said
-  Plays (line.Take name most) s said t = Prints (λ text. ForName name.now (λ c. TakesWaiting name.now c most s text t) s text t) said
-  Plays (line.Members space room) s said t = Prints (λ text. AsksMembers space.now room.now s text) said × (t ≡ s)
-  Plays line.Totals s said t = Prints (λ text. TellsTotals s text) said × (t ≡ s)
-  Plays line.Seal s said t = Prints (λ text. Seals s text t) said
-  Plays line.Sweep s said t = Prints (λ text. Asks [] event.Sweep s text t) said
   Plays line.Nothing s said t = (said ≡ None) × (t ≡ s)
-  Plays _ s said t = Prints (λ text. IsBadLine s text t) said
+  Plays other s said t = Prints (λ text. Replies other s text t) said

@@ -7,7 +7,7 @@ ghost use Rattle.hex.specs.Hex.{encode_lower};
 ghost use Rattle.dispatch.specs.declared.event.Event.TheVariants as event;
 ghost use Rattle.dispatch.specs.declared.event.WsFrame.TheVariants as frame_of;
 ghost use Rattle.script.specs.declared.faults.RunError.TheVariants.{Memory};
-ghost use Rattle.script.specs.Playing.{new_server, server_of, Happens, Asks, ForName, Names, Opens, Hears, HearsBytes, TakesWaiting, AsksMembers, Seals, Plays};
+ghost use Rattle.script.specs.Playing.{new_server, server_of, Happens, Asks, ForName, Names, Opens, Hears, HearsBytes, TakesWaiting, AsksMembers, Seals, RepliesForClient, Replies, Plays};
 ghost use Rattle.script.specs.Events.{event_of};
 ghost use Rattle.script.specs.Printing.{answer_text, outcome_text, heard_text};
 
@@ -67,19 +67,52 @@ impl<C: Ledger, T: Ledger> Play<C, T> {
                 self.now = now;
                 Ok(None)
             }
-            ScriptLine::Open(name) => Ok(Some(self.open(alloc, app, name, false)?)),
-            ScriptLine::OpenSocket(name) => Ok(Some(self.open(alloc, app, name, true)?)),
-            ScriptLine::Text(name, rest) => Ok(Some(self.text(alloc, app, name, rest)?)),
-            ScriptLine::Frame(name, rest) => Ok(Some(self.text_frame(alloc, app, name, rest)?)),
-            ScriptLine::Bytes(name, hex) => Ok(Some(self.byte_frame(alloc, app, name, hex)?)),
-            ScriptLine::Notice(notice, name) => Ok(Some(self.notice(alloc, app, notice, name)?)),
-            ScriptLine::Take(name, most) => Ok(Some(self.take(alloc, app, name, most)?)),
-            ScriptLine::Members(space, room) => Ok(Some(self.members(alloc, space, room)?)),
-            ScriptLine::Totals => Ok(Some(Answer::Totals(self.core.hub().state().totals()))),
-            ScriptLine::Seal => Ok(Some(self.seal(alloc)?)),
-            ScriptLine::Sweep => Ok(Some(self.sweep(alloc, app)?)),
             ScriptLine::Nothing => Ok(None),
-            ScriptLine::Config(..) | ScriptLine::Bad => Ok(Some(Answer::BadLine)),
+            asking => Ok(Some(self.reply(alloc, app, asking)?)),
+        }
+    }
+
+    /// Does what a line asks for that always has an answer. Any other line is bad.
+    fn reply<'a, A: App>(
+        &mut self,
+        alloc: Global,
+        app: &A,
+        line: ScriptLine<'a>,
+    ) -> Result<Answer<'a>, RunError>
+        ensures bad { line.entry ≡ ScriptLine.Bad → result ≡ Ok Answer.BadLine }
+        ensures replies { IfOk result (λ answer. Replies (A.decides app.now) (A.allows app.now) line.entry (server_of self.old) (answer_text answer) (server_of self.new)) }
+        ensures err { IsOkUnless result Memory }
+    {
+        match line {
+            ScriptLine::Open(name) => self.open(alloc, app, name, false),
+            ScriptLine::OpenSocket(name) => self.open(alloc, app, name, true),
+            ScriptLine::Members(space, room) => self.members(alloc, space, room),
+            ScriptLine::Totals => Ok(Answer::Totals(self.core.hub().state().totals())),
+            ScriptLine::Seal => self.seal(alloc),
+            ScriptLine::Sweep => self.sweep(alloc, app),
+            other => self.reply_for_client(alloc, app, other),
+        }
+    }
+
+    /// Does what a line asks for the client that it names. Any other line is bad, and so is one whose
+    /// name stands for no client.
+    fn reply_for_client<'a, A: App>(
+        &mut self,
+        alloc: Global,
+        app: &A,
+        line: ScriptLine<'a>,
+    ) -> Result<Answer<'a>, RunError>
+        ensures bad { line.entry ≡ ScriptLine.Bad → result ≡ Ok Answer.BadLine }
+        ensures replies { IfOk result (λ answer. RepliesForClient (A.decides app.now) (A.allows app.now) line.entry (server_of self.old) (answer_text answer) (server_of self.new)) }
+        ensures err { IsOkUnless result Memory }
+    {
+        match line {
+            ScriptLine::Text(name, rest) => self.text(alloc, app, name, rest),
+            ScriptLine::Frame(name, rest) => self.text_frame(alloc, app, name, rest),
+            ScriptLine::Bytes(name, hex) => self.byte_frame(alloc, app, name, hex),
+            ScriptLine::Notice(notice, name) => self.notice(alloc, app, notice, name),
+            ScriptLine::Take(name, most) => self.take(alloc, app, name, most),
+            _ => Ok(Answer::BadLine),
         }
     }
 
