@@ -70,6 +70,7 @@ impl Limits {
         Ok(Limits { config, places })
     }
 
+    /// The config that the limits were made of.
     pub fn config(&self) -> &Config
         ensures { result.now ≡ self.now }
     {

@@ -11,7 +11,7 @@ pub struct Settings {
     /// The host's name or address, and the port.
     pub host: String,
     pub port: u16,
-    /// How many loops serve, 1 to 1,024.
+    /// How many loops serve, 1 to 1,023, since the keeper of time is a worker too.
     pub workers: usize,
     /// After how many connections the server ends; 0 says that it doesn't.
     pub connections: u64,
