@@ -1,5 +1,5 @@
 -- What each call makes of a line, for every history that leads to it.
-use Rattle.std.proofs.Common.{◌≡◌, ◌⊎◌, ℕ, ◌==◌, Bool, true, false, List, [], ◌∷◌, ◌++◌, refl, sym, ◌∙◌, ap, subst, Option, Some, Result, Ok, Err, inl, inr, filter, cond, nat_lt, IfOk, IfErr, IfSome, OnOk, OnErr, if◌then◌else◌}
+use Rattle.std.proofs.Common.{◌≡◌, ◌⊎◌, ℕ, ◌==◌, Bool, true, false, List, [], ◌∷◌, ◌++◌, refl, sym, ◌∙◌, ap, subst, Option, None, Some, Result, Ok, Err, inl, inr, filter, cond, nat_lt, IfOk, IfErr, IfSome, OnOk, OnErr, if◌then◌else◌}
 use Rattle.sio_wire.specs.declared.entry.SioPacket.{SioPacket}
 use Rattle.sio_wire.specs.declared.assembler.Progress.{Progress}
 use Rattle.sio_wire.specs.declared.assembler.Progress.TheVariants.{Ready, Waiting, Failed}
@@ -23,50 +23,50 @@ use Rattle.ack_book.specs.declared.error.AckError.{AckError}
 use Rattle.ack_book.specs.declared.book.Question.{Question}
 use Rattle.ack_book.specs.Book as book
 use Rattle.ack_book.specs.Contents as book_contents
-use Rattle.connection.specs.History.{Call, Framed, Ticked, Ponged, Probed, Upgraded, ProbeLost, GetBegan, GetEnded, PingCarried, Entered, Left, Asked, Answered, frames, clock_calls, book_calls, is_getting, is_ping_due}
-use Rattle.connection.specs.Line.{PlainLine, ping_after, fresh_book, book_in, HasTaken, LeadsTo, HasHistory, Advances}
+use Rattle.connection.specs.History.{Call, Framed, FrameRefused, Ticked, Ponged, Probed, Upgraded, ProbeLost, GetBegan, GetEnded, PingCarried, Entered, Left, Asked, Answered, frames, failure, IsLegal, clock_calls, book_calls, is_getting, is_ping_due}
+use Rattle.connection.specs.Line.{PlainLine, ping_after, fresh_book, book_in, failure_of, HasTaken, LeadsTo, HasHistory, Advances}
 
 -- calls that lead from each history to the next line lead from the one that there is
 pub advanced : (old new : PlainLine) (calls : List Call) → Advances old calls new → HasHistory old → HasHistory new
 advanced old new calls leads was = record { opening = was.opening; calls = calls ++ was.calls; leads = leads was.opening was.calls was.leads }
 
 pub get-began : (l : PlainLine) → Advances l (GetBegan ∷ []) (record l { getting = true })
-unfolding frames clock_calls book_calls is_getting is_ping_due
-get-began l o h leads = record { taken = leads.taken; clock = leads.clock; getting = refl; ping = leads.ping; books = leads.books }
+unfolding frames failure IsLegal clock_calls book_calls is_getting is_ping_due
+get-began l o h leads = record { legal = leads.legal; taken = leads.taken; failed = leads.failed; clock = leads.clock; getting = refl; ping = leads.ping; books = leads.books }
 
 pub get-ended : (l : PlainLine) → Advances l (GetEnded ∷ []) (record l { getting = false })
-unfolding frames clock_calls book_calls is_getting is_ping_due
-get-ended l o h leads = record { taken = leads.taken; clock = leads.clock; getting = refl; ping = leads.ping; books = leads.books }
+unfolding frames failure IsLegal clock_calls book_calls is_getting is_ping_due
+get-ended l o h leads = record { legal = leads.legal; taken = leads.taken; failed = leads.failed; clock = leads.clock; getting = refl; ping = leads.ping; books = leads.books }
 
 pub ping-carried : (l : PlainLine) → Advances l (PingCarried ∷ []) (record l { ping = false })
-unfolding frames clock_calls book_calls is_getting is_ping_due
-ping-carried l o h leads = record { taken = leads.taken; clock = leads.clock; getting = leads.getting; ping = refl; books = leads.books }
+unfolding frames failure IsLegal clock_calls book_calls is_getting is_ping_due
+ping-carried l o h leads = record { legal = leads.legal; taken = leads.taken; failed = leads.failed; clock = leads.clock; getting = leads.getting; ping = refl; books = leads.books }
 
 -- ---- the clock
 
 pub ponged : (l : PlainLine) (now : ℕ) (next : clock_contents.Contents) → clock.ForEachHistory l.clock (λ o h. clock.LeadsTo o (clock_history.Ponged now ∷ h) next)
     → Advances l (Ponged now ∷ []) (record l { clock = next })
-unfolding frames clock_calls book_calls is_getting is_ping_due
+unfolding frames failure IsLegal clock_calls book_calls is_getting is_ping_due
 ponged l now next step o h leads =
-    record { taken = leads.taken; clock = step o (clock_calls h) leads.clock; getting = leads.getting; ping = leads.ping; books = leads.books }
+    record { legal = leads.legal; taken = leads.taken; failed = leads.failed; clock = step o (clock_calls h) leads.clock; getting = leads.getting; ping = leads.ping; books = leads.books }
 
 pub probed : (l : PlainLine) (next : clock_contents.Contents) → clock.ForEachHistory l.clock (λ o h. clock.LeadsTo o (clock_history.Probed ∷ h) next)
     → Advances l (Probed ∷ []) (record l { clock = next })
-unfolding frames clock_calls book_calls is_getting is_ping_due
+unfolding frames failure IsLegal clock_calls book_calls is_getting is_ping_due
 probed l next step o h leads =
-    record { taken = leads.taken; clock = step o (clock_calls h) leads.clock; getting = leads.getting; ping = leads.ping; books = leads.books }
+    record { legal = leads.legal; taken = leads.taken; failed = leads.failed; clock = step o (clock_calls h) leads.clock; getting = leads.getting; ping = leads.ping; books = leads.books }
 
 pub upgraded : (l : PlainLine) (next : clock_contents.Contents) → clock.ForEachHistory l.clock (λ o h. clock.LeadsTo o (clock_history.Upgraded ∷ h) next)
     → Advances l (Upgraded ∷ []) (record l { clock = next })
-unfolding frames clock_calls book_calls is_getting is_ping_due
+unfolding frames failure IsLegal clock_calls book_calls is_getting is_ping_due
 upgraded l next step o h leads =
-    record { taken = leads.taken; clock = step o (clock_calls h) leads.clock; getting = leads.getting; ping = leads.ping; books = leads.books }
+    record { legal = leads.legal; taken = leads.taken; failed = leads.failed; clock = step o (clock_calls h) leads.clock; getting = leads.getting; ping = leads.ping; books = leads.books }
 
 pub probe-lost : (l : PlainLine) (next : clock_contents.Contents) → clock.ForEachHistory l.clock (λ o h. clock.LeadsTo o (clock_history.ProbeLost ∷ h) next)
     → Advances l (ProbeLost ∷ []) (record l { clock = next })
-unfolding frames clock_calls book_calls is_getting is_ping_due
+unfolding frames failure IsLegal clock_calls book_calls is_getting is_ping_due
 probe-lost l next step o h leads =
-    record { taken = leads.taken; clock = step o (clock_calls h) leads.clock; getting = leads.getting; ping = leads.ping; books = leads.books }
+    record { legal = leads.legal; taken = leads.taken; failed = leads.failed; clock = step o (clock_calls h) leads.clock; getting = leads.getting; ping = leads.ping; books = leads.books }
 
 -- what an accepted call says, and what a refused one does, of more
 pub on_ok : {X E : Type 0} {P Q : Type 0} (result : Result X E) → (P → Q) → OnOk result P → OnOk result Q
@@ -100,24 +100,33 @@ has-taken Ready taken packets all = (packets, all)
 has-taken (Waiting packet) taken packets all = (packets, all)
 has-taken (Failed error) taken packets all = tt
 
+-- nor has it after a frame that it took
+none-failed : (progress : Progress) (taken : List Frame) (packets : List SioPacket) → Accepted progress taken packets → failure_of progress ≡ None
+none-failed Ready taken packets all = refl
+none-failed (Waiting packet) taken packets all = refl
+none-failed (Failed error) taken packets all = absurd all.keeps
+
 pub framed : (l : PlainLine) (frame : Frame) (given : Option SioPacket) (next : Progress) → WorksOn l.assembler → Accepts l.assembler frame given next
     → Advances l (Framed frame ∷ []) (record l { assembler = next })
-unfolding frames clock_calls book_calls is_getting is_ping_due
+unfolding frames failure IsLegal clock_calls book_calls is_getting is_ping_due
 framed l frame given next works accepts o h leads =
     let before = packets-taken l.assembler (frames h) works leads.taken in
+    let after = accepts (frames h) before.0 before.1 in
+    let worked : failure h ≡ None = sym leads.failed ∙ none-failed l.assembler (frames h) before.0 before.1 in
     record {
-      taken = has-taken next (frames h ++ frame ∷ []) (before.0 ++ option_to_list given) (accepts (frames h) before.0 before.1);
+      legal = (worked, leads.legal);
+      taken = has-taken next (frames h ++ frame ∷ []) (before.0 ++ option_to_list given) after;
+      failed = none-failed next (frames h ++ frame ∷ []) (before.0 ++ option_to_list given) after ∙ sym worked;
       clock = leads.clock;
       getting = leads.getting;
       ping = leads.ping;
       books = leads.books;
     }
 
--- of a failed assembler nothing is said
-pub failed : (l : PlainLine) (error : SioError) → HasHistory l → HasHistory (record l { assembler = Failed error })
-failed l error was =
-    let leads = was.leads in
-    record { opening = was.opening; calls = was.calls; leads = record { taken = tt; clock = leads.clock; getting = leads.getting; ping = leads.ping; books = leads.books } }
+-- it has failed
+broken : (l : PlainLine) (error : SioError) → Advances l (FrameRefused error ∷ []) (record l { assembler = Failed error })
+unfolding frames failure IsLegal clock_calls book_calls is_getting is_ping_due
+broken l error o h leads = record { legal = leads.legal; taken = tt; failed = refl; clock = leads.clock; getting = leads.getting; ping = leads.ping; books = leads.books }
 
 -- what is accepted as a text, or as bytes, hasn't come to a failed assembler
 takes-text : (progress : Progress) (given : Option SioPacket) (X : SioError → Type 0) → IfSome (text_refusal progress) (λ error. (Ok given ≡ Err error) × X error) → WorksOn progress
@@ -136,7 +145,7 @@ module _ (l : PlainLine) (frame : Frame) (next : Progress) (R : SioError → Typ
       → IfErr result (λ e. ((e ≡ SioError.Memory) × (next ≡ l.assembler)) ⊎ (R e × (next ≡ Failed e))) → HasHistory l → HasHistory (record l { assembler = next })
   went-on (Ok given) works accepts fault was = advanced l (record l { assembler = next }) (Framed frame ∷ []) (framed l frame given next (works given refl) accepts) was
   went-on (Err e) works accepts (inl short) was = subst (λ p. HasHistory (record l { assembler = p })) (sym (short.1)) was
-  went-on (Err e) works accepts (inr bad) was = subst (λ p. HasHistory (record l { assembler = p })) (sym (bad.1)) (failed l e was)
+  went-on (Err e) works accepts (inr bad) was = subst (λ p. HasHistory (record l { assembler = p })) (sym (bad.1)) (advanced l (record l { assembler = Failed e }) (FrameRefused e ∷ []) (broken l e) was)
 
   advances-by : (result : Result (Option SioPacket) SioError) → ((given : Option SioPacket) → result ≡ Ok given → WorksOn l.assembler) → IfOk result (λ given. Accepts l.assembler frame given next)
       → OnOk result (Advances l (Framed frame ∷ []) (record l { assembler = next }))
@@ -179,10 +188,12 @@ is-fresh = record { legal = tt; next = refl; questions = refl }
 -- a line that was opened, with nothing taken and no books
 pub opened : (o : clock_history.Opening) (progress : Progress) (time : clock_contents.Contents) (books : List (ℕ × book_contents.Contents)) → progress ≡ Ready → clock.LeadsTo o [] time → books ≡ []
     → LeadsTo o [] (record { assembler = progress; clock = time; getting = false; ping = false; books = books })
-unfolding frames clock_calls book_calls is_getting is_ping_due Groups
+unfolding frames failure IsLegal clock_calls book_calls is_getting is_ping_due Groups
 opened o progress time books ready time-leads none =
     record {
+      legal = tt;
       taken = subst (λ p. HasTaken p []) (sym ready) ([], record { rest = []; groups = refl; keeps = refl });
+      failed = ap failure_of ready;
       clock = time-leads;
       getting = refl;
       ping = refl;
@@ -197,10 +208,12 @@ forgotten l h sid books s false = books s
 
 pub left : (l : PlainLine) (sid : ℕ) (next : List (ℕ × book_contents.Contents)) → ((s : ℕ) → book_in next s ≡ (if sid == s then fresh_book else book_in l.books s))
     → Advances l (Left sid ∷ []) (record l { books = next })
-unfolding frames clock_calls book_calls is_getting is_ping_due
+unfolding frames failure IsLegal clock_calls book_calls is_getting is_ping_due
 left l sid next forgets o h leads =
     record {
+      legal = leads.legal;
       taken = leads.taken;
+      failed = leads.failed;
       clock = leads.clock;
       getting = leads.getting;
       ping = leads.ping;
@@ -211,10 +224,12 @@ pub entered : (l : PlainLine) (sid : ℕ) (clock-after : clock_contents.Contents
     → clock.ForEachHistory l.clock (λ o h. clock.LeadsTo o (clock_history.Joined ∷ h) clock-after)
     → ((s : ℕ) → book_in next s ≡ (if sid == s then fresh_book else book_in l.books s))
     → Advances l (Entered sid ∷ []) (record l { clock = clock-after; books = next })
-unfolding frames clock_calls book_calls is_getting is_ping_due
+unfolding frames failure IsLegal clock_calls book_calls is_getting is_ping_due
 entered l sid clock-after next step forgets o h leads =
     record {
+      legal = leads.legal;
       taken = leads.taken;
+      failed = leads.failed;
       clock = step o (clock_calls h) leads.clock;
       getting = leads.getting;
       ping = leads.ping;
@@ -230,10 +245,12 @@ module _ (l : PlainLine) (sid : ℕ) (next : List (ℕ × book_contents.Contents
 
   pub asked : (tag until : ℕ) → book.ForEachHistory (book_in l.books sid) (λ first h. book.LeadsTo first (questions.Asked tag until ∷ h) (book_in next sid))
       → Advances l (Asked sid tag until ∷ []) (record l { books = next })
-  unfolding frames clock_calls book_calls is_getting is_ping_due
+  unfolding frames failure IsLegal clock_calls book_calls is_getting is_ping_due
   asked tag until own o h leads =
       record {
+        legal = leads.legal;
         taken = leads.taken;
+        failed = leads.failed;
         clock = leads.clock;
         getting = leads.getting;
         ping = leads.ping;
@@ -242,10 +259,12 @@ module _ (l : PlainLine) (sid : ℕ) (next : List (ℕ × book_contents.Contents
 
   pub answered : (id : ℕ) → book.ForEachHistory (book_in l.books sid) (λ first h. book.LeadsTo first (questions.Answered id ∷ h) (book_in next sid))
       → Advances l (Answered sid id ∷ []) (record l { books = next })
-  unfolding frames clock_calls book_calls is_getting is_ping_due
+  unfolding frames failure IsLegal clock_calls book_calls is_getting is_ping_due
   answered id own o h leads =
       record {
+        legal = leads.legal;
         taken = leads.taken;
+        failed = leads.failed;
         clock = leads.clock;
         getting = leads.getting;
         ping = leads.ping;
@@ -260,7 +279,9 @@ module _ (l : PlainLine) (sid : ℕ) (next : List (ℕ × book_contents.Contents
   pub refused : book_in next sid ≡ book_in l.books sid → Advances l [] (record l { books = next })
   refused own o h leads =
       record {
+        legal = leads.legal;
         taken = leads.taken;
+        failed = leads.failed;
         clock = leads.clock;
         getting = leads.getting;
         ping = leads.ping;
@@ -299,10 +320,12 @@ pub ticked : (l : PlainLine) (now : ℕ) (due : Due) (clock-after : clock_conten
     → clock.ForEachHistory l.clock (λ o h. clock.LeadsTo o (clock_history.Ticked now due ∷ h) clock-after)
     → ((s : ℕ) → book.ForEachHistory (book_in l.books s) (λ first h. book.LeadsTo first (questions.Expired now ∷ h) (book_in next s)))
     → Advances l (Ticked now due ∷ []) (record l { clock = clock-after; ping = ping_after due l.ping; books = next })
-unfolding frames clock_calls book_calls is_getting is_ping_due
+unfolding frames failure IsLegal clock_calls book_calls is_getting is_ping_due
 ticked l now due clock-after next step expires o h leads =
     record {
+      legal = leads.legal;
       taken = leads.taken;
+      failed = leads.failed;
       clock = step o (clock_calls h) leads.clock;
       getting = leads.getting;
       ping = pinged due;

@@ -1,16 +1,19 @@
 -- The calls on a client's line so far, and what is read from them. The newest call stands first.
-use Rattle.std.specs.Prelude.{ℕ, ◌==◌, Bool, true, false, if◌then◌else◌, List, [], ◌∷◌, ◌++◌}
+use Rattle.std.specs.Prelude.{◌≡◌, ℕ, ◌==◌, Bool, true, false, if◌then◌else◌, List, [], ◌∷◌, ◌++◌, Option, None, Some}
+use Rattle.sio_wire.specs.declared.error.SioError.{SioError}
 use Rattle.sio_wire.specs.Frames.{Frame}
 use Rattle.session_clock.specs.declared.timing.Due.{Due}
 use Rattle.session_clock.specs.declared.timing.Due.TheVariants.{SendPing}
 use Rattle.session_clock.specs.History as clock
 use Rattle.ack_book.specs.Questions as book
 
--- an accepted call: a frame that the assembler took; a tick at a moment, with what was due, and a pong; the steps of an
--- upgrade; a GET that begins to wait or waits no more; a ping that was carried to the client; a socket that joined its
--- namespace or left it; a question to it with a tag and the moment at which it runs out, and the answer to an id
+-- a call that changed the line: a frame that the assembler took, or one that it refused for an error; a tick at a moment,
+-- with what was due, and a pong; the steps of an upgrade; a GET that begins to wait or waits no more; a ping that was
+-- carried to the client; a socket that joined its namespace or left it; a question to it with a tag and the moment at
+-- which it runs out, and the answer to an id
 pub data Call : Type 0 where
   Framed : Frame → Call
+  FrameRefused : SioError → Call
   Ticked : ℕ → Due → Call
   Ponged : ℕ → Call
   Probed : Call
@@ -29,6 +32,18 @@ unfoldable pub frames : List Call → List Frame
 frames [] = []
 frames (Framed frame ∷ h) = frames h ++ frame ∷ []
 frames (_ ∷ h) = frames h
+
+-- the assembler has failed: it refused a frame for this error
+unfoldable pub failure : List Call → Option SioError
+failure [] = None
+failure (FrameRefused error ∷ h) = Some error
+failure (_ ∷ h) = failure h
+
+-- once it has failed it takes no frame
+unfoldable pub IsLegal : List Call → Type 0
+IsLegal [] = Unit {0}
+IsLegal (Framed frame ∷ h) = (failure h ≡ None) × IsLegal h
+IsLegal (_ ∷ h) = IsLegal h
 
 -- the calls on the clock: a socket that joins ends the connection timeout
 unfoldable pub clock_calls : List Call → List clock.Call

@@ -7,6 +7,7 @@ use Rattle.eio_wire.specs.Payload.{IsWhole}
 use Rattle.sio_wire.specs.declared.entry.SioPacket.{SioPacket}
 use Rattle.sio_wire.specs.declared.assembler.Progress.{Progress}
 use Rattle.sio_wire.specs.declared.assembler.Progress.TheVariants.{Failed}
+use Rattle.sio_wire.specs.declared.error.SioError.{SioError}
 use Rattle.sio_wire.specs.Frames.{Frame, Accepted}
 use Rattle.session_clock.specs.declared.timing.Due.{Due}
 use Rattle.session_clock.specs.declared.timing.Due.TheVariants.{SendPing}
@@ -15,7 +16,7 @@ use Rattle.session_clock.specs.Clock as clock
 use Rattle.session_clock.specs.Contents as clock_contents
 use Rattle.ack_book.specs.Book as book
 use Rattle.ack_book.specs.Contents as book_contents
-use Rattle.connection.specs.History.{Call, frames, clock_calls, book_calls, is_getting, is_ping_due}
+use Rattle.connection.specs.History.{Call, frames, failure, IsLegal, clock_calls, book_calls, is_getting, is_ping_due}
 
 -- the assembler and the clock, whether a GET waits and whether a ping is due, and the books of sockets by their ids
 pub record PlainLine : Type 0 where
@@ -38,14 +39,21 @@ fresh_book = record { next = 0; questions = [] }
 abbrev pub book_in : List (ℕ × book_contents.Contents) → ℕ → book_contents.Contents
 book_in books s = unwrap_or (lookup (is_at (nat_cmp s)) books) fresh_book
 
--- the assembler took these frames; of one that has failed nothing is said
+-- the error for which the assembler has failed
+abbrev pub failure_of : Progress → Option SioError
+failure_of (Failed error) = Some error
+failure_of _ = None
+
+-- the assembler took these frames; of one that has failed `failure` says all
 abbrev pub HasTaken : Progress → List Frame → Type 0
 HasTaken (Failed error) taken = Unit {0}
 HasTaken progress taken = (packets : List SioPacket) × Accepted progress taken packets
 
 -- a line that was opened so and then had these calls holds this
 pub record LeadsTo (o : Opening) (h : List Call) (l : PlainLine) : Type 0 where
+  pub legal : IsLegal h
   pub taken : HasTaken l.assembler (frames h)
+  pub failed : failure_of l.assembler ≡ failure h
   pub clock : clock.LeadsTo o (clock_calls h) l.clock
   pub getting : l.getting ≡ is_getting h
   pub ping : l.ping ≡ is_ping_due h

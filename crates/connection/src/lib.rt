@@ -3,6 +3,8 @@
 #![tactic(auto)]
 
 mod books;
+mod laws;
 mod line;
 
+pub use laws::frames_tell;
 pub use line::Line;

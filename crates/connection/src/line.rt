@@ -1,5 +1,5 @@
 //! What the server keeps of one client beside the hub.
-#![tactic(auto, unfolding(crate::specs::History::frames, crate::specs::History::clock_calls, crate::specs::History::book_calls, crate::specs::History::is_getting, crate::specs::History::is_ping_due))]
+#![tactic(auto, unfolding(crate::specs::History::frames, crate::specs::History::failure, crate::specs::History::IsLegal, crate::specs::History::clock_calls, crate::specs::History::book_calls, crate::specs::History::is_getting, crate::specs::History::is_ping_due))]
 
 ghost use Rattle.std.specs.Prelude.{◌≡◌, ◌⊎◌, List, [], ◌∷◌, length, Some, None, Err, IfOk, IfErr, IfSome, OnOk, OnErr, IsErrOf};
 ghost use Rattle.terms.specs.Refusal.{ok_unless};

@@ -11,6 +11,7 @@ use Rattle.sio_wire.specs.declared.kind.Kind.TheVariants as kind
 use Rattle.sio_wire.specs.declared.assembler.Progress.TheVariants.{Failed}
 use Rattle.sio_wire.specs.declared.error.SioError.{SioError}
 use Rattle.sio_wire.specs.declared.error.SioError.TheVariants as sio
+use Rattle.sio_wire.specs.declared.resume.Resume.{Resume}
 use Rattle.sio_wire.specs.ConnectAnswer.{refused_text}
 use Rattle.sio_wire.specs.Frames.{Frame, text, binary, Accepts, RefusesText, binary_refusal, exceeds}
 use Rattle.sio_wire.specs.JsonFields.{resume_at}
@@ -152,10 +153,16 @@ module _ (decides : Who → Arrived → List Effect → Type 0) where
 
 -- ---- connecting (Socket.IO protocol 5, "Connection to a namespace")
 
--- the payload names a session and an offset
+-- the digits of a session's private id and of an offset
+abbrev pub digits_of : (pid offset : ℕ) → Resume
+digits_of pid offset = record { pid = id_digits pid; offset = offset_digits offset }
+
+-- the payload names this session and this offset, and so no other
 abbrev pub Names : (payload : List ℕ) → Option (ℕ × ℕ) → Type 0
-Names payload (Some named) = resume_at payload ≡ Ok (Some (record { pid = id_digits named.0; offset = offset_digits named.1 }))
-Names payload None = (pid offset : ℕ) → offset < 2 ^ 64 → resume_at payload ≢ Ok (Some (record { pid = id_digits pid; offset = offset_digits offset }))
+Names payload (Some named) = (named.0 < 2 ^ 128) × (named.1 < 2 ^ 64)
+    × (resume_at payload ≡ Ok (Some (digits_of named.0 named.1)))
+Names payload None =
+    (pid offset : ℕ) → offset < 2 ^ 64 → resume_at payload ≢ Ok (Some (digits_of pid offset))
 
 -- the ids that are drawn for a socket are spent
 abbrev pub draws_two : Stage → Stage

@@ -2,16 +2,14 @@
 //! documentation, "Connection state recovery").
 
 ghost use Rattle.std.specs.Prelude.{◌≡◌, ◌≢◌, ◌<◌, ◌^◌, ℕ, true, None, OnOk, OnErr, IfOk, IfErr, IfSome, IfNone, is_none};
-ghost use Rattle.eio_wire.specs.Ids.{id_digits};
 ghost use Rattle.eio_wire.specs.Payload.{IsWhole};
-ghost use Rattle.sio_wire.specs.Offset.{offset_digits};
 ghost use Rattle.connection.specs.Line.{PlainLine};
 ghost use Rattle.journal.specs.Journal.{History};
 ghost use Rattle.journal.specs.Membership.{is_open, is_space, place_of, socket_of};
 ghost use Rattle.hub.specs.Pass.{PlainHub, PlainPass};
 ghost use Rattle.effects.specs.App.{AllClean};
 ghost use Rattle.effects.specs.Following.{WorksFor, Spares};
-ghost use Rattle.dispatch.specs.Packets.{stage, Refuses, Connects, AsksApp, Names, ComesBack, AsksToConnect};
+ghost use Rattle.dispatch.specs.Packets.{stage, Refuses, Connects, AsksApp, digits_of, Names, ComesBack, AsksToConnect};
 
 use crate::packets::close_for;
 use connection::Line;
@@ -163,8 +161,10 @@ fn named_in(alloc: Global, payload: &str) -> Result<Option<(Pid, u64)>, CoreFaul
 
 /// The session and the offset, where both texts are read.
 fn ids_in(resume: &Resume) -> Option<(Pid, u64)>
-    ensures some { IfSome result (λ named. resume.now ≡ record { pid = id_digits named.0; offset = offset_digits named.1 }) }
-    ensures none { IfNone result ((pid offset : ℕ) → offset < 2 ^ 64 → resume.now ≢ record { pid = id_digits pid; offset = offset_digits offset }) }
+    ensures some { IfSome result (λ named. resume.now ≡ digits_of named.0 named.1) }
+    ensures fits { IfSome result (λ named. (named.0 < 2 ^ 128) × (named.1 < 2 ^ 64)) }
+    ensures none { IfNone result ((pid offset : ℕ)
+        → offset < 2 ^ 64 → resume.now ≢ digits_of pid offset) }
 {
     let pid = read_id(resume.pid.as_str())?;
     let offset = read_offset(resume.offset.as_str())?;

@@ -5,6 +5,7 @@
 mod connect;
 mod event;
 mod frames;
+mod laws;
 mod outcome;
 mod packets;
 mod server;
@@ -14,5 +15,6 @@ mod upgrade;
 mod upkeep;
 
 pub use event::{Event, WsFrame};
+pub use laws::named_once;
 pub use outcome::{Frames, Opening, Outcome};
 pub use server::Core;
