@@ -141,7 +141,7 @@ fn play<C: Ledger + Send + Sync, T: Ledger + Send + Sync, R: Clock + Threads + W
         u64::MAX,
     );
     match served {
-        Ok(report) => Ok(report.totals),
+        Ok(settled) => Ok(settled.report.totals),
         Err(ServeError::Memory) => Err(Fault::Memory),
         Err(_) => Err(Fault::Pool),
     }

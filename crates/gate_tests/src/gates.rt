@@ -12,8 +12,8 @@ use std::thread;
 use std::thread::Threads;
 use std::time::{Clock, Duration};
 
-/// A gate at which the first two workers meet, before and after their first event. It pauses between
-/// looks, and gives up after 10,000.
+/// A gate at which the first two workers meet, before and after their first event, and which records
+/// that each came. It pauses between looks, and gives up after 10,000.
 #[derive(Drop)]
 struct Meeting<'a, R: Clock> {
     rt: &'a R,
@@ -36,6 +36,16 @@ impl<'a, R: Clock> Meeting<'a, R> {
         }
         self.missed.store(1, Ordering::SeqCst);
     }
+
+    /// Whether both came, before and after, and neither missed the other.
+    fn is_passed(&self) -> bool {
+        both_came(&self.before) && both_came(&self.after) && self.missed.load(Ordering::SeqCst) == 0
+    }
+}
+
+/// Whether both workers came here.
+fn both_came(seats: &[AtomicU64; 2]) -> bool {
+    seats[0].load(Ordering::SeqCst) == 1 && seats[1].load(Ordering::SeqCst) == 1
 }
 
 impl<'a, R: Clock> Turnstile for Meeting<'a, R> {
@@ -66,7 +76,7 @@ pub fn meet<C: Ledger + Send + Sync, T: Ledger + Send + Sync, R: Threads + Wait 
     };
     let Server { locked, pass } = server;
     match serve(rt, alloc, locked, pass, peers, 2, &gate, 1_000) {
-        Ok(seen) => seen.workers == 2 && gate.missed.load(Ordering::SeqCst) == 0,
+        Ok(seen) => seen.workers == 2 && gate.is_passed(),
         Err(_) => false,
     }
 }

@@ -166,10 +166,10 @@ pub fn serve<
     let Ok(ids) = sources(alloc, workers as u64) else {
         return Err(ServeError::Memory);
     };
-    let report = serve_peers(
+    let settled = serve_peers(
         rt, alloc, locked, pass, &RelayApp, peers, workers, gate, ids, turns,
     )?;
-    Ok(seen_of(&report))
+    Ok(seen_of(&settled.report))
 }
 
 /// A pass that has counted nothing.

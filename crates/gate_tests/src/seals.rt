@@ -29,7 +29,7 @@ fn steps_sealed<C: Ledger, T: Ledger, R: Wait>(
     least: usize,
     bytes: u64,
 ) -> Option<u64> {
-    match locked.seal(rt, alloc, least, bytes) {
+    match &locked.seal(rt, alloc, least, bytes).got {
         Ok(Some(epoch)) => Some(epoch.steps.len() as u64),
         Ok(None) => Some(0),
         Err(_) => None,

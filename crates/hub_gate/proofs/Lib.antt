@@ -1,3 +1,5 @@
+mod Dealing
 mod FactsLemmas
 mod Growth
+mod PoolLemmas
 mod Rounds

@@ -1,6 +1,10 @@
 -- What every core keeps, so that whoever takes its lock finds it.
-use Rattle.std.specs.Prelude.{◌≡◌, ◌⊎◌, ℕ, ◌≤◌, List, ◌∷◌, ◌++◌, length}
+use Rattle.std.specs.Prelude.{◌≡◌, ◌⊎◌, ℕ, ◌≤◌, List, ◌∷◌, ◌++◌, length, is_some}
+use Rattle.std.specs.Ordering.{nat_cmp}
+use Rattle.std.specs.BTreeMap.{get}
+use Rattle.room_maps.specs.Links.{is_linked}
 use Rattle.room_maps.specs.Mirror.{SocketMap, RoomMap, IsMirrored}
+use Rattle.room_maps.specs.Room.{room_cmp}
 use Rattle.journal.specs.declared.step.Step.{Step}
 use Rattle.journal.specs.declared.step.What.TheVariants.{Cast}
 use Rattle.journal.specs.Plain.{Limits, PlainBroadcast}
@@ -12,12 +16,21 @@ use Rattle.journal.specs.Seal.{PlainEpoch}
 use Rattle.journal.specs.Totals.{held}
 use Rattle.dispatch.specs.Place.{PlainCore, Agree, IsClean}
 
+-- a map of sockets to rooms and one of rooms to sockets hold what these hold: the same sockets, each with the same
+-- rooms, and the same sockets in each room
+pub record HoldSame (of_socket : SocketMap) (of_room : RoomMap) (these : SocketMap) (those : RoomMap) : Type 0 where
+  pub sockets : (sid : ℕ) → is_some (get nat_cmp of_socket sid) ≡ is_some (get nat_cmp these sid)
+  pub rooms_of : (sid : ℕ) (room : List ℕ) → is_linked nat_cmp room_cmp of_socket sid room ≡ is_linked nat_cmp room_cmp these sid room
+  pub sockets_in : (sid : ℕ) (room : List ℕ) → is_linked room_cmp nat_cmp of_room room sid ≡ is_linked room_cmp nat_cmp those room sid
+
 -- two maps, of sockets to rooms and of rooms to sockets, hold the history's rooms and mirror each other; each socket is
--- in its own room, and no room is empty (Socket.IO server documentation, "Rooms")
+-- in its own room, and no room is empty (Socket.IO server documentation, "Rooms"). They are those of the hub: `mirrors_of`
+-- lends the two maps of a core that is lent, and says of them that they hold the history's rooms, so they hold what these do
 pub record HasMirror (h : History) : Type 0 where
   pub of_socket : SocketMap
   pub of_room : RoomMap
   pub mirrored : IsMirrored (rooms h.base h.journal) of_socket of_room
+  pub lent : (a : SocketMap) (b : RoomMap) → IsMirrored (rooms h.base h.journal) a b → HoldSame a b of_socket of_room
 
 -- each broadcast of the journal stands once in the outbox history of every addressee, or is counted as dropped
 abbrev pub CastsOnce : History → Type 0

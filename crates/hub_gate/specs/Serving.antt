@@ -1,17 +1,27 @@
 -- What a pool of workers reports, and when it is refused.
-use Rattle.std.specs.Prelude.{◌≡◌, ℕ, ◌+◌, ◌<◌, ◌≤◌}
+use Rattle.std.specs.Prelude.{◌≡◌, ℕ, ◌+◌, ◌<◌, ◌≤◌, List, Option, Some, Result, length, map, min, slice_get}
+use Rattle.std.specs.List.{FoldsTo}
 use Rattle.journal.specs.declared.totals.Totals.{Totals}
 use Rattle.journal.specs.Totals.{totals}
 use Rattle.hub.specs.declared.pass.NotAll.{NotAll}
 use Rattle.hub.specs.Pass.{PlainPass, commands_of, taken_of}
+use Rattle.effects.specs.declared.app.Arrived.{Arrived}
+use Rattle.effects.specs.declared.app.Effect.{Effect}
+use Rattle.effects.specs.declared.app.Who.{Who}
+use Rattle.effects.specs.App.{PlainVerdict}
+use Rattle.dispatch.specs.declared.event.Event.{Event}
+use Rattle.dispatch.specs.Answers.{Answer}
 use Rattle.dispatch.specs.Place.{PlainCore}
+use Rattle.hub_gate.specs.declared.peer.PeerFault.{PeerFault}
+use Rattle.hub_gate.specs.declared.worker.WorkerCounts.{WorkerCounts}
+use Rattle.hub_gate.specs.Dealing.{dealt}
+use Rattle.hub_gate.specs.Turns.{Desk, Handled, ServesAll, desk, failures}
 use Rattle.hub_gate.specs.declared.serve.ServeError.{ServeError}
 use Rattle.hub_gate.specs.declared.serve.ServeError.TheVariants as refused
 use Rattle.hub_gate.specs.Facts.{IsSoundCore}
 
--- the totals of a core, of which the pass has counted all
-pub record AreCounted (pass : PlainPass) (counted : Totals) : Type 0 where
-  pub core : PlainCore
+-- the totals of this core, which is sound, and of which the pass has counted all
+pub record AreCounted (pass : PlainPass) (core : PlainCore) (counted : Totals) : Type 0 where
   pub sound : IsSoundCore core
   pub totals_are : counted ≡ totals core.hub.history.base core.hub.history.limits core.hub.history.journal
   pub commands : counted.commands ≡ pass.commands
@@ -49,3 +59,29 @@ IsFromStarting _ = ⊥
 abbrev pub IsLackingFor : PlainPass → ServeError → Type 0
 IsLackingFor pass (refused.NotAll lack) = IsLacking pass lack
 IsLackingFor pass _ = ⊥
+
+-- ---- the work of each worker
+
+-- a pass that has counted nothing
+abbrev pub new_pass : PlainPass
+new_pass = record { commands = 0; taken = 0; parts = 1 }
+
+module _ {P : Type 0} (gives : P → Result (Option (Event × ℕ)) PeerFault → P → Type 0) (hears : P → Answer → Result (Unit {0}) PeerFault → P → Type 0)
+    (decides : Who → Arrived → List Effect → Type 0) (allows : (space payload : List ℕ) → PlainVerdict → Type 0) where
+  -- a worker served these peers, and no others, in this order, with a pass of its own and its own ids; its counts are
+  -- what the pass has then, how many peers there were and how many failed
+  pub record WorksAs (turns : ℕ) (peers : List P) (ids : ℕ → ℕ) (counts : WorkerCounts) : Type 0 where
+    pub handled : List (Handled P)
+    pub end : Desk
+    pub given : map (λ h. h.given) handled ≡ peers
+    pub served : FoldsTo (λ (d : Desk) (h : Handled P) (e : Desk). ServesAll gives hears decides allows turns (h.given, d) h.failed (h.left, e)) (desk new_pass ids) handled end
+    pub commands : counts.commands ≡ end.pass.commands
+    pub taken : counts.taken ≡ end.pass.taken
+    pub peers_are : counts.peers ≡ min (length peers) 18446744073709551615
+    pub faults_are : counts.faults ≡ min (failures handled) 18446744073709551615
+
+  -- worker w of so many served the peers that were dealt to it, with the source of ids at its place, and its counts stand at
+  -- its place
+  abbrev pub AreServed : {I : Type 0} → (stream : I → ℕ → ℕ) → (turns workers : ℕ) → (peers : List P) → (ids : List I) → List WorkerCounts → Type 0
+  AreServed {I} stream turns workers peers ids all = (w : ℕ) (own : I) (counts : WorkerCounts) → slice_get ids w ≡ Some own → slice_get all w ≡ Some counts
+      → WorksAs turns (dealt workers peers w) (stream own) counts

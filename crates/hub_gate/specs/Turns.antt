@@ -7,7 +7,7 @@ use Rattle.effects.specs.declared.app.Effect.{Effect}
 use Rattle.effects.specs.declared.app.Who.{Who}
 use Rattle.effects.specs.App.{PlainVerdict}
 use Rattle.effects.specs.Following.{TurnsFor, Spares}
-use Rattle.hub.specs.Pass.{PlainPass}
+use Rattle.hub.specs.Pass.{PlainPass, AtLeast}
 use Rattle.dispatch.specs.declared.event.Event.{Event}
 use Rattle.dispatch.specs.declared.event.Event.TheVariants as event
 use Rattle.dispatch.specs.declared.outcome.Outcome.TheVariants as outcome
@@ -16,6 +16,7 @@ use Rattle.dispatch.specs.Handed.{Turn, Handed}
 use Rattle.dispatch.specs.Machine.{Does, IsOf, listed}
 use Rattle.dispatch.specs.Place.{PlainCore, place}
 use Rattle.hub_gate.specs.declared.peer.PeerFault.{PeerFault}
+use Rattle.hub_gate.specs.Facts.{IsSoundCore}
 
 -- what a worker works with: its pass, and the ids that its source will give
 pub record Desk : Type 0 where
@@ -34,13 +35,19 @@ pub record Grows (old new : PlainPass) : Type 0 where
   pub parts : new.parts ≡ old.parts
 
 module _ (decides : Who → Arrived → List Effect → Type 0) (allows : (space payload : List ℕ) → PlainVerdict → Type 0) where
-  -- the event was applied to a core at its moment, with the worker's ids, and counted in its pass
+  -- the event was applied to a core at its moment, with the worker's ids, and counted in its pass. The core was sound, and
+  -- is again; both times it had counted at least what the pass had, and by the turn its journal only grew, by the steps
+  -- that the pass counts
   pub record Applied (event : Event) (now : ℕ) (before : PlainCore) (old : Desk) (got : Answer) (after : PlainCore) (new : Desk) : Type 0 where
     pub does : Does decides allows now before.timing before.numbers event (place before.hub.history before.lines) old.ids got (place after.hub.history after.lines) new.ids
     pub settings : (after.timing ≡ before.timing) × (after.numbers ≡ before.numbers)
     pub handed : (c : ℕ) (turns : List Turn) → Handed c turns before.hub.history → Handed c ((event, got) ∷ turns) after.hub.history
     pub turns : (c : ℕ) → IsOf event old.ids c → TurnsFor c before.hub after.hub old.pass new.pass
     pub spares : IfOk got (λ o. (c : ℕ) → IsOf event old.ids c → Spares c before.hub.history after.hub.history (listed o))
+    pub sound_before : IsSoundCore before
+    pub sound_after : IsSoundCore after
+    pub at_least_before : AtLeast before.hub old.pass
+    pub at_least_after : AtLeast after.hub new.pass
 
 -- ---- a connection that is lost
 

@@ -6,7 +6,7 @@ mod peer;
 mod serve;
 mod worker;
 
-pub use locked::Locked;
+pub use locked::{Locked, Sealing, mirrors_of};
 pub use peer::{Peer, PeerFault, PeerSource, Queue, Turnstile};
-pub use serve::{Report, ServeError, serve_peers};
+pub use serve::{Report, ServeError, Settled, serve_peers};
 pub use worker::{WorkerCounts, run_worker};

@@ -1,20 +1,24 @@
 //! The one lock around a core.
 
-ghost use Rattle.std.specs.Prelude.{◌≡◌, ◌<◌, ◌&&◌, nat_lt, length, IfOk, IfErr, OnErr, IfSome, IfNone};
+ghost use Rattle.std.specs.Prelude.{◌≡◌, ◌&&◌, nat_lt, length, IfOk, IfErr, IfSome};
 ghost use Rattle.std.specs.Sync.Mutex.{mutex_guard_value};
-ghost use Rattle.journal.specs.Seal.{IsSealed, SaysTheSame};
+ghost use Rattle.room_maps.specs.Mirror.{IsMirrored};
+ghost use Rattle.journal.specs.Membership.{rooms};
 ghost use Rattle.journal.specs.Totals.{held};
 ghost use Rattle.hub.specs.Pass.{AtLeast};
 ghost use Rattle.effects.specs.declared.fault.CoreFault.{CoreFault};
 ghost use Rattle.dispatch.specs.Answers.{at_once};
 ghost use Rattle.hub_gate.specs.Facts.{IsSoundCore, IsOfCore};
+ghost use Rattle.hub_gate.specs.Sealing.{Seals};
 ghost use Rattle.hub_gate.specs.Turns.{Applied, Grows, desk};
 
 use dispatch::{Core, Event, Outcome};
 use effects::{App, CoreError, CoreFault, IdSource};
 use hub::Pass;
 use journal::{Epoch, HubError};
+use room_maps::{Room, Sid};
 use std::alloc::Global;
+use std::collections::{BTreeMap, BTreeSet};
 use std::snapshot::Snapshot;
 use std::sync::ledger::Ledger;
 use std::sync::{Mutex, MutexGuard, Wait};
@@ -33,6 +37,16 @@ pub(crate) struct Turn<C: Ledger, T: Ledger> {
     pub(crate) before: Snapshot<Core<C, T>>,
     pub(crate) got: Result<Outcome, CoreError>,
     pub(crate) after: Snapshot<Core<C, T>>,
+}
+
+/// What a seal did: the core as it was lent, the answer, and the core as it was given back. The cores
+/// are known to contracts alone, and take no bytes.
+#[derive(Drop)]
+pub struct Sealing<C: Ledger, T: Ledger> {
+    pub before: Snapshot<Core<C, T>>,
+    /// The epoch, or `None` where the journal is short.
+    pub got: Result<Option<Epoch>, CoreError>,
+    pub after: Snapshot<Core<C, T>>,
 }
 
 impl<C: Ledger, T: Ledger> Locked<C, T> {
@@ -66,18 +80,18 @@ impl<C: Ledger, T: Ledger> Locked<C, T> {
 
     /// Seals the core where its journal has at least so many steps, or entries of at least so many
     /// bytes in them. It may wait.
-    pub fn seal<R: Wait>(
-        &self,
-        rt: &R,
-        alloc: Global,
-        least: usize,
-        bytes: u64,
-    ) -> Result<Option<Epoch>, CoreError>
-        ensures epoch { IfOk result (λ sealed. IfSome sealed (λ epoch. IsOfCore least bytes epoch)) }
-        ensures memory { IfErr result (λ e. e ≡ at_once CoreFault.Memory) }
+    pub fn seal<R: Wait>(&self, rt: &R, alloc: Global, least: usize, bytes: u64) -> Sealing<C, T>
+        ensures seals { Seals least bytes result.before.value result.got result.after.value }
+        ensures sound { IsSoundCore result.before.value }
+        ensures epoch { IfOk result.got (λ got. IfSome got (λ epoch. IsOfCore least bytes epoch)) }
+        ensures memory { IfErr result.got (λ e. e ≡ at_once CoreFault.Memory) }
     {
         let mut guard = self.core.lock(rt);
-        seal_if_long(alloc, &mut *guard, least, bytes)
+        let before = Snapshot::of(&*guard);
+        let got = seal_if_long(alloc, &mut *guard, least, bytes);
+        let after = Snapshot::of(&*guard);
+        drop(guard);
+        Sealing { before, got, after }
     }
 
     /// A pass that has counted nothing. Refused as `Spent` alone. It may wait.
@@ -114,13 +128,27 @@ impl<C: Ledger, T: Ledger> Locked<C, T> {
     }
 }
 
+/// The two maps of rooms that a core's hub keeps, and no others: the rooms of each connected socket,
+/// and the sockets of each room. They mirror each other, and hold what the history says.
+pub fn mirrors_of<C: Ledger, T: Ledger>(
+    core: &Core<C, T>,
+) -> (
+    &BTreeMap<Sid, BTreeSet<Room>>,
+    &BTreeMap<Room, BTreeSet<Sid>>,
+)
+    ensures { let h = core.now.hub.history in
+        IsMirrored (rooms h.base h.journal) result.0.now result.1.now }
+{
+    core.hub().state().mirrors()
+}
+
 /// Changes nothing. It tells what every core keeps.
 fn note_facts<C: Ledger, T: Ledger>(core: &Core<C, T>)
     ensures { IsSoundCore core.now }
 {
     core.facts();
     core.hub().state().facts();
-    let _maps = core.hub().state().mirrors();
+    let _maps = mirrors_of(core);
 }
 
 /// Applies one event, and compares the pass with the core's counts.
@@ -133,12 +161,14 @@ fn apply_counted<C: Ledger, T: Ledger, A: App, I: IdSource>(
     now: u64,
     ids: &mut I,
 ) -> Result<Outcome, CoreError>
-    requires { AtLeast core.old.hub pass.old }
+    requires sound { IsSoundCore core.old }
+    requires counted { AtLeast core.old.hub pass.old }
     ensures applied { Applied (A.decides app.now) (A.allows app.now) event.now now core.old (desk pass.old (I.stream ids.old)) result core.new (desk pass.new (I.stream ids.new)) }
     ensures grows { Grows pass.old pass.new }
 {
     let got = core.apply(alloc, pass, app, event, now, ids);
     core.audit(pass);
+    note_facts(core);
     got
 }
 
@@ -158,17 +188,16 @@ fn seal_if_long<C: Ledger, T: Ledger>(
     least: usize,
     bytes: u64,
 ) -> Result<Option<Epoch>, CoreError>
-    ensures short { IfOk result (λ sealed. IfNone sealed ((length core.old.hub.history.journal < least) × (held core.old.hub.history.journal < bytes) × (core.new ≡ core.old))) }
-    ensures long { IfOk result (λ sealed. IfSome sealed (λ epoch. (epoch ≡ record { base = core.old.hub.history.base; journal = core.old.hub.history.journal }) × IsSealed core.old.hub.history core.new.hub.history × SaysTheSame core.old.hub.history core.new.hub.history)) }
+    ensures seals { Seals least bytes core.old result core.new }
+    ensures sound { IsSoundCore core.old }
     ensures epoch { IfOk result (λ sealed. IfSome sealed (λ epoch. IsOfCore least bytes epoch)) }
     ensures memory { IfErr result (λ e. e ≡ at_once CoreFault.Memory) }
-    ensures unchanged { OnErr result (core.new ≡ core.old) }
 {
+    note_facts(core);
     let short = is_short(core, least, bytes);
     if short {
         return Ok(None);
     }
-    note_facts(core);
     let Ok(epoch) = core.seal(alloc) else {
         return Err(CoreFault::Memory.at_once());
     };

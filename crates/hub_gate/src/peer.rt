@@ -79,10 +79,11 @@ impl<P> Queue<P> {
 }
 
 impl<P> PeerSource<P> for Queue<P> {
-    ghost use Rattle.std.specs.Prelude.{◌≡◌, ◌++◌, option_to_list};
+    ghost use Rattle.std.specs.Prelude.{◌≡◌, ◌++◌, [], IfNone, option_to_list};
     ghost use Rattle.std.specs.Vec.Iter.{into_iter_items};
 
-    ghost next_gives = { λ s r t. into_iter_items s.peers ≡ option_to_list r ++ into_iter_items t.peers };
+    ghost next_gives = { λ s r t. (into_iter_items s.peers ≡ option_to_list r ++ into_iter_items t.peers)
+        × IfNone r (into_iter_items s.peers ≡ []) };
 
     fn next_peer(&mut self) -> Option<P> {
         self.peers.next()

@@ -1,19 +1,25 @@
 //! A pool of workers, each in a thread of its own.
 
-ghost use Rattle.std.specs.Prelude.{◌≡◌, ◌+◌, ◌<◌, ◌≤◌, [], IfOk, IfErr, MatchResult, vec_len, vec_capacity, sum_by};
-ghost use Rattle.hub_gate.specs.Serving.{AreCounted, IsFromStarting, IsLackingFor, IsRefused};
+ghost use Rattle.std.specs.Prelude.{◌≡◌, ◌+◌, ◌<◌, ◌≤◌, [], IfOk, IfErr, OnOk, MatchResult, vec_len, vec_capacity, map, sum_by};
+ghost use Rattle.std.specs.List.{AllZip};
+ghost use Rattle.std.specs.Vec.Iter.{into_iter_items};
+ghost use Rattle.hub_gate.specs.Dealing.{AreDealt, Appends};
+ghost use Rattle.hub_gate.specs.Facts.{IsSoundCore};
+ghost use Rattle.hub_gate.specs.Serving.{AreCounted, AreServed, IsFromStarting, IsLackingFor, IsRefused, WorksAs};
 
 use crate::locked::Locked;
 use crate::peer::{Peer, Queue, Turnstile};
 use crate::worker::{WorkerCounts, run_worker};
+use dispatch::Core;
 use effects::{App, IdSource};
 use hub::{NotAll, Pass};
 use journal::Totals;
 use std::alloc::{AllocError, Global};
+use std::snapshot::Snapshot;
 use std::sync::Wait;
 use std::sync::ledger::Ledger;
 use std::thread;
-use std::thread::Threads;
+use std::thread::{Promise, Threads};
 use thiserror::Error;
 
 /// The most workers of a pool.
@@ -26,6 +32,14 @@ pub struct Report {
     pub totals: Totals,
     /// What each worker did, in their order.
     pub workers: Vec<WorkerCounts>,
+}
+
+/// A pool's report, and the core of which its totals are: as it was lent once all workers had ended. It
+/// is known to contracts alone, and takes no bytes.
+#[derive(Drop)]
+pub struct Settled<C: Ledger, T: Ledger> {
+    pub report: Report,
+    pub core: Snapshot<Core<C, T>>,
 }
 
 /// Why a pool of workers has no report.
@@ -57,7 +71,34 @@ struct Job<C: Ledger, T: Ledger, P, I> {
     pass: Pass<C, T>,
     queue: Queue<P>,
     ids: I,
-    ghost nothing: { (pass.commands ≡ 0) × (pass.taken ≡ 0) },
+    ghost nothing: { (pass.commands ≡ 0) × (pass.taken ≡ 0) × (pass.parts ≡ 1) },
+}
+
+/// What a worker began with, as whoever waits for its end knows it.
+struct Started<C: Ledger, T: Ledger, A, P, I> {
+    job: Snapshot<Job<C, T, P, I>>,
+    app: Snapshot<A>,
+    turns: u64,
+}
+
+impl<C: Ledger, T: Ledger, A, P, I> Drop for Started<C, T, A, P, I> {
+    fn drop(self) {
+        let Self {
+            job: _,
+            app: _,
+            turns: _,
+        } = self;
+    }
+}
+
+impl<C: Ledger, T: Ledger, A: App, P: Peer, I: IdSource> Promise<Finished<C, T>>
+    for Started<C, T, A, P, I> {
+    ghost use Rattle.std.specs.Vec.Iter.{into_iter_items};
+    ghost use Rattle.hub_gate.specs.Serving.{WorksAs};
+
+    ghost kept_by = { λ s finished. WorksAs P.gives P.hears (A.decides s.app.value)
+        (A.allows s.app.value) s.turns (into_iter_items s.job.value.queue.peers)
+        (I.stream s.job.value.ids) finished.counts };
 }
 
 /// What one worker hands back.
@@ -92,12 +133,16 @@ pub fn serve_peers<
     gate: &G,
     ids: Vec<I>,
     turns: u64,
-) -> Result<Report, ServeError>
+) -> Result<Settled<C, T>, ServeError>
     requires { vec_len ids ≡ workers }
-    ensures workers { IfOk result (λ r. vec_len r.workers ≡ workers) }
-    ensures commands { IfOk result (λ r. r.totals.commands ≡ pass.old.commands + sum_by (λ w. w.commands) r.workers.items) }
-    ensures taken { IfOk result (λ r. r.totals.taken ≡ pass.old.taken + sum_by (λ w. w.taken) r.workers.items) }
-    ensures counted { IfOk result (λ r. AreCounted pass.new r.totals) }
+    ensures workers { IfOk result (λ s. vec_len s.report.workers ≡ workers) }
+    ensures commands { IfOk result (λ s. s.report.totals.commands
+        ≡ pass.old.commands + sum_by (λ w. w.commands) s.report.workers.items) }
+    ensures taken { IfOk result (λ s. s.report.totals.taken
+        ≡ pass.old.taken + sum_by (λ w. w.taken) s.report.workers.items) }
+    ensures counted { IfOk result (λ s. AreCounted pass.new s.core.value s.report.totals) }
+    ensures works { IfOk result (λ s. AreServed P.gives P.hears (A.decides app.now)
+        (A.allows app.now) I.stream turns workers peers.items ids.items s.report.workers.items) }
     ensures refused { MatchResult result (λ r. (0 < workers) × (workers ≤ 1024)) (λ e. IsRefused workers pass.old pass.new e) }
 {
     if workers == 0 {
@@ -115,25 +160,41 @@ pub fn serve_peers<
     let jobs = make_jobs(rt, alloc, locked, queues, ids)?;
     let finished = run_all(rt, alloc, locked, app, gate, turns, jobs)?;
     let workers = gather(pass, finished, counts);
-    let totals = settle(rt, locked, pass)?;
-    Ok(Report { totals, workers })
+    let (totals, core) = settle(rt, locked, pass)?;
+    Ok(Settled {
+        report: Report { totals, workers },
+        core,
+    })
 }
 
 /// Deals peer i to queue i modulo their number.
 fn deal<P: Drop>(alloc: Global, peers: Vec<P>, workers: usize) -> Result<Vec<Vec<P>>, AllocError>
     requires { 0 < workers }
-    ensures { IfOk result (λ v. vec_len v ≡ workers) }
+    ensures len { IfOk result (λ v. vec_len v ≡ workers) }
+    ensures dealt { IfOk result (λ v. AreDealt workers peers.items (map (λ q. q.items) v.items)) }
 {
     let mut queues = Vec::new(alloc);
     for _worker in 0..workers {
         queues.push(Vec::new(alloc))?;
     }
-    let mut next = 0;
+    let mut number = 0;
     for peer in peers {
-        queues[next].push(peer)?;
-        next = if next + 1 == workers { 0 } else { next + 1 };
+        let worker = number % workers;
+        append(&mut queues, worker, peer)?;
+        number += 1;
     }
     Ok(queues)
+}
+
+/// Puts a peer at the end of a worker's queue.
+fn append<P: Drop>(queues: &mut Vec<Vec<P>>, worker: usize, peer: P) -> Result<(), AllocError>
+    requires { worker < vec_len queues.old }
+    ensures len { OnOk result (vec_len queues.new ≡ vec_len queues.old) }
+    ensures given { OnOk result (Appends worker peer (map (λ q. q.items) queues.old.items)
+        (map (λ q. q.items) queues.new.items)) }
+{
+    queues[worker].push(peer)?;
+    Ok(())
 }
 
 /// A pass, a queue and a source of ids for each worker.
@@ -146,6 +207,9 @@ fn make_jobs<R: Wait, C: Ledger, T: Ledger, P: Drop, I: Drop>(
 ) -> Result<Vec<Job<C, T, P, I>>, ServeError>
     requires { vec_len queues ≡ vec_len ids }
     ensures len { IfOk result (λ v. vec_len v ≡ vec_len queues) }
+    ensures queues { IfOk result (λ v. map (λ j. into_iter_items j.queue.peers) v.items
+        ≡ map (λ q. q.items) queues.items) }
+    ensures ids { IfOk result (λ v. map (λ j. j.ids) v.items ≡ ids.items) }
     ensures error { IfErr result IsFromStarting }
 {
     let mut jobs = Vec::new(alloc);
@@ -187,6 +251,9 @@ fn run_all<
     turns: u64,
     jobs: Vec<Job<C, T, P, I>>,
 ) -> Result<Vec<Finished<C, T>>, ServeError>
+    ensures work { IfOk result (λ v. AllZip (λ job f. WorksAs P.gives P.hears (A.decides app.now)
+        (A.allows app.now) turns (into_iter_items job.queue.peers) (I.stream job.ids) f.counts)
+        jobs.items v.items) }
     ensures len { IfOk result (λ v. vec_len v ≡ vec_len jobs) }
     ensures error { IfErr result IsFromStarting }
 {
@@ -194,6 +261,10 @@ fn run_all<
         thread::scope_env(),
         rt,
         |scope| -> Result<Vec<Finished<C, T>>, ServeError>
+            ensures work { IfOk result (λ v. AllZip (λ job f. WorksAs P.gives P.hears
+                (A.decides app.entry.now) (A.allows app.entry.now) turns
+                (into_iter_items job.queue.peers) (I.stream job.ids) f.counts)
+                jobs.items v.items) }
             ensures len { IfOk result (λ v. vec_len v ≡ vec_len jobs) }
             ensures error { IfErr result IsFromStarting }
         {
@@ -206,9 +277,15 @@ fn run_all<
             let mut worker = 0usize;
             for job in jobs {
                 let number = worker;
-                let started = scope.spawn(move || work(
-                    rt, alloc, locked, app, gate, turns, number, job,
-                ));
+                let begun = Started {
+                    job: Snapshot::of(&job),
+                    app: Snapshot::of(app),
+                    turns,
+                };
+                let started = scope.spawn_with(
+                    begun,
+                    move || work(rt, alloc, locked, app, gate, turns, number, job),
+                );
                 let Ok(handle) = started else {
                     return Err(ServeError::Spawn);
                 };
@@ -233,7 +310,10 @@ fn work<R: Wait, C: Ledger, T: Ledger, A: App, P: Peer + Drop, G: Turnstile, I: 
     turns: u64,
     worker: usize,
     job: Job<C, T, P, I>,
-) -> Finished<C, T> {
+) -> Finished<C, T>
+    ensures { WorksAs P.gives P.hears (A.decides app.now) (A.allows app.now) turns
+        (into_iter_items job.queue.peers) (I.stream job.ids) result.counts }
+{
     let Job {
         pass,
         mut queue,
@@ -254,6 +334,7 @@ fn gather<C: Ledger, T: Ledger>(
     requires none { (vec_len counts ≡ 0) × (counts.items ≡ []) }
     requires room { vec_len finished ≤ vec_capacity counts }
     ensures len { vec_len result ≡ vec_len finished }
+    ensures counts { result.items ≡ map (λ f. f.counts) finished.items }
     ensures commands { pass.new.commands ≡ pass.old.commands + sum_by (λ w. w.commands) result.items }
     ensures taken { pass.new.taken ≡ pass.old.taken + sum_by (λ w. w.taken) result.items }
 {
@@ -269,18 +350,33 @@ fn gather<C: Ledger, T: Ledger>(
     counts
 }
 
-/// The core's totals, where the pass has counted all of them.
+/// The core's totals, where the pass has counted all of them, with the core as it was lent.
 fn settle<R: Wait, C: Ledger, T: Ledger>(
     rt: &R,
     locked: &Locked<C, T>,
     pass: &mut Pass<C, T>,
-) -> Result<Totals, ServeError>
+) -> Result<(Totals, Snapshot<Core<C, T>>), ServeError>
     ensures same { pass.new ≡ pass.old }
-    ensures counted { IfOk result (λ totals. AreCounted pass.old totals) }
+    ensures counted { IfOk result (λ seen. AreCounted pass.old seen.1.value seen.0) }
     ensures lacks { IfErr result (IsLackingFor pass.old) }
 {
     let mut guard = locked.look(rt, pass);
-    let settled = guard.settle(pass);
+    let core = Snapshot::of(&*guard);
+    let totals = totals_of(&mut *guard, pass)?;
+    Ok((totals, core))
+}
+
+/// The core's totals, where the pass has counted all of them.
+fn totals_of<C: Ledger, T: Ledger>(
+    core: &mut Core<C, T>,
+    pass: &mut Pass<C, T>,
+) -> Result<Totals, ServeError>
+    requires { IsSoundCore core.old }
+    ensures same { pass.new ≡ pass.old }
+    ensures counted { IfOk result (λ totals. AreCounted pass.old core.old totals) }
+    ensures lacks { IfErr result (IsLackingFor pass.old) }
+{
+    let settled = core.settle(pass);
     match settled {
         Ok(totals) => return Ok(totals),
         Err(lack) => return Err(ServeError::NotAll(lack)),

@@ -19,7 +19,7 @@ use dispatch::Core;
 use effects::{App, CoreError, CoreFault};
 use eio_wire::Numbers;
 use hub::Pass;
-use hub_gate::{Locked, Report, serve_peers};
+use hub_gate::{Locked, Report, Settled, serve_peers};
 use journal::Config;
 use mio::net::TcpListener;
 use mio::{Poll, Waker};
@@ -217,7 +217,12 @@ fn serve_all<
     common.shared.stop_accepting(rt);
     accepting.join(rt);
     match served {
-        Ok(report) => Ok(report),
+        Ok(
+            Settled {
+                report,
+                core: _core,
+            },
+        ) => Ok(report),
         Err(error) => Err(ServerFault::of_pool(error)),
     }
 }

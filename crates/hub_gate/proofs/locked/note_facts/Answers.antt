@@ -5,9 +5,9 @@ use Rattle.hub_gate.proofs.locked.note_facts.Goals as goal
 
 pub returns : goal.returns
 returns g c = record {
-  kept = kept-shown c.args.core.now.hub.history c.state.result.now c.state-2.result.now c.mirrors-maps.result.0.now c.mirrors-maps.result.1.now
-      (c.state.ensures ∙ ap (λ (hub : PlainHub). hub.history) c.hub.ensures) (c.state-2.ensures ∙ ap (λ (hub : PlainHub). hub.history) c.hub-2.ensures)
-      c.facts-2.ensures.legal c.facts-2.ensures.casts c.facts-2.ensures.sound c.mirrors-maps.ensures;
+  kept = kept-shown c.args.core.now.hub.history c.state.result.now c.mirrors_of-maps.result.0.now c.mirrors_of-maps.result.1.now
+      (c.state.ensures ∙ ap (λ (hub : PlainHub). hub.history) c.hub.ensures)
+      c.facts-2.ensures.legal c.facts-2.ensures.casts c.facts-2.ensures.sound c.mirrors_of-maps.ensures;
   lines = c.facts.ensures.agree;
   clean = c.facts.ensures.clean;
 }

@@ -3,10 +3,9 @@ use Rattle.journal.specs.Totals.{held}
 use Rattle.hub_gate.proofs.FactsLemmas.{long, short}
 use Rattle.hub_gate.proofs.locked.seal_if_long.Goals as goal
 
-pub returns-then-short-clause-short : goal.returns-then-short-clause-short
-returns-then-short-clause-short g c =
-    let both = short (length c.args.core.now.hub.history.journal) c.args.least (held c.args.core.now.hub.history.journal) c.args.bytes (sym c.is_short-short.ensures ∙ c.if-short.true) in
-    (both.0, both.1, refl)
+pub returns-then-short-clause-seals : goal.returns-then-short-clause-seals
+returns-then-short-clause-seals g c =
+    (short (length c.args.core.now.hub.history.journal) c.args.least (held c.args.core.now.hub.history.journal) c.args.bytes (sym c.is_short-short.ensures ∙ c.if-short.true), refl)
 
 pub returns-clause-epoch : goal.returns-clause-epoch
 returns-clause-epoch g c = rw c.in-Ok.ensures.epoch (record {

@@ -1,0 +1,31 @@
+use Rattle.std.proofs.Common.{map, arith, refl, ◌∙◌}
+use Rattle.std.proofs.lemmas.Option.{slice_get_within}
+use Rattle.std.specs.Vec.Iter.{into_iter_items}
+use Rattle.hub_gate.proofs.Dealing.{due_ends, due_more, empty_more, nothing_left}
+use Rattle.hub_gate.proofs.serve.deal.Goals as goal
+
+pub loop-worker-preserved : goal.loop-worker-preserved
+loop-worker-preserved g c = record {
+  count = omega (arith, c.in_ok-push.ensures.len, c.loop-worker.invariant.count);
+  empty = rw c.in_ok-push.ensures.items (empty_more (λ q. q.items) c.loop-worker.queues.items c.new.result c.new.ensures.items c.loop-worker.invariant.empty);
+}
+
+pub loop-peer-preserved : goal.loop-peer-preserved
+loop-peer-preserved g c =
+    let at = c.loop-peer in
+    let steps = c.in-Some.ensures.steps in
+    let given = c.in_ok-append.ensures.given in
+    let queues = map (λ q. q.items) at.queues.items in
+    record {
+      count = c.in_ok-append.ensures.len ∙ at.invariant.count;
+      number = omega (arith, at.invariant.number, steps.1);
+      due = rw given.new_is (due_more c.args.workers at.number c.in-Some.peer (into_iter_items c.next.new.self) (into_iter_items c.into_iter-peer-iterator.result) queues _ given.queue refl
+          (slice_get_within queues _ given.queue given.was) given.was (rw steps.0 at at.invariant.due));
+    }
+
+pub returns-clause-dealt : goal.returns-clause-dealt
+returns-clause-dealt g c =
+    let at = c.loop-peer in
+    let none = nothing_left (into_iter_items at.peer-iterator) at.peer-iterator.rest.len at.peer-iterator.rest.ok.0 c.in-None.ensures.steps.0 in
+    let all = c.into_iter-peer-iterator.ensures.into_iter_gives.0 in
+    rw all at (due_ends c.args.workers at.number (into_iter_items c.into_iter-peer-iterator.result) (map (λ q. q.items) at.queues.items) (rw none at at.invariant.due))
