@@ -1,6 +1,5 @@
 -- What an event adds to what a client was handed.
 use Rattle.std.proofs.Common.{inl, inr, ◌≡◌, ℕ, zero, suc, ◌+◌, ◌≤◌, ◌<◌, ◌==◌, Bool, true, false, List, [], ◌∷◌, ◌++◌, length, take, drop, get_or, refl, sym, ◌∙◌, ap, subst, arith, append-nil, append_assoc, length-append, Option, None, Some, Result, Ok, Err, OnOk}
-use Rattle.std.specs.List.{AllByRecursion}
 use Rattle.std.proofs.lemmas.Bool.Decides.{nat_tests}
 use Rattle.std.proofs.lemmas.List.{drop-append-le, drop-drop, length-take-le, take_more, take_all}
 use Rattle.eio_wire.specs.declared.handshake.Numbers.{Numbers}
@@ -15,13 +14,15 @@ use Rattle.journal.specs.declared.step.What.{What}
 use Rattle.journal.specs.declared.step.What.TheVariants.{Opened, Took}
 use Rattle.journal.specs.Config.{empty_base}
 use Rattle.journal.specs.Plain.{Limits, PlainBase}
-use Rattle.journal.specs.Journal.{History, moment_at}
+use Rattle.journal.specs.Journal.{History, history, moment_at}
+use Rattle.journal.specs.Membership.{is_open}
 use Rattle.journal.specs.Seal.{IsSealed}
+use Rattle.journal.proofs.EpochsSocketsLemmas.{is_open-step}
 use Rattle.journal.specs.Outboxes.{put, entries_for, begins, taken_by, placements, taken, waiting}
 use Rattle.effects.specs.declared.fault.CoreFault.{CoreFault}
 use Rattle.effects.specs.declared.fault.CoreFault.TheVariants.{UnknownClient, WrongTransport}
 use Rattle.effects.specs.Commands.{Makes}
-use Rattle.effects.specs.Following.{is_work, Follows}
+use Rattle.effects.specs.Following.{is_work, AreMade, Follows}
 use Rattle.dispatch.specs.declared.event.Event.{Event}
 use Rattle.dispatch.specs.declared.event.Event.TheVariants as event
 use Rattle.dispatch.specs.declared.outcome.Outcome.TheVariants as outcome
@@ -31,8 +32,7 @@ use Rattle.dispatch.specs.Machine.{Opens, Takes, TakesFrames}
 use Rattle.dispatch.specs.Place.{Place, HasLine}
 use Rattle.dispatch.specs.Takes.{Take, handed, carried, Counts, IsShort, TellsNoop, Carries, FindsNothing, TakesWaiting, TakesOn, TakesFor}
 use Rattle.dispatch.specs.Handed.{Turn, turns_after, opens, takes, Holds, HandsOut, HandedOut, AreHanded, Handed}
-
--- ---- a step
+use Rattle.dispatch.proofs.TurnLemmas.{Leads, leads-none, leads-on, as-before}
 
 -- entries that are handed out are no more than were put
 within : (es p : List Entry) (t : ℕ) → es ++ drop t p ≡ p → t ≡ length es → t ≤ length p
@@ -61,24 +61,25 @@ module _ (base : PlainBase) (limits : Limits) (before : List Step) (step : Step)
 
 -- ---- an event's work
 
-opens-none : (c d : ℕ) (what : What) → is_work c what ≡ true → begins d what ≡ false
-opens-none c d (Opened e) work = absurd (cc work)
-opens-none c d _ work = refl
+opens-none : (c d : ℕ) (h : History) (what : What) → is_work c h what ≡ true → begins d what ≡ false
+opens-none c d h (Opened e) work = absurd (cc work)
+opens-none c d h _ work = refl
 
-takes-none : (c d : ℕ) (what : What) → is_work c what ≡ true → taken_by d what ≡ 0
-takes-none c d (Took e most n) work = absurd (cc work)
-takes-none c d _ work = refl
+takes-none : (c d : ℕ) (h : History) (what : What) → is_work c h what ≡ true → taken_by d what ≡ 0
+takes-none c d h (Took e most n) work = absurd (cc work)
+takes-none c d h _ work = refl
 
 abbrev Out : PlainBase → Limits → List Step → ℕ → List Entry → Type 0
 Out base limits journal c es = (es ++ waiting base limits journal c ≡ placements base limits journal c) × (taken base journal c ≡ length es)
 
-work-on : (base : PlainBase) (limits : Limits) (d c : ℕ) (es : List Entry) (steps before : List Step) → AllByRecursion (λ (step : Step). is_work d step.what ≡ true) steps
+work-on : (base : PlainBase) (limits : Limits) (d c : ℕ) (es : List Entry) (steps before : List Step) → AreMade (is_work d) (history base limits before) steps
     → Out base limits before c es → Out base limits (steps ++ before) c es
 work-on base limits d c es [] before work out = out
 work-on base limits d c es (step ∷ steps) before work out =
     let was = work-on base limits d c es steps before work.1 out in
-    let old = opens-none d c step.what work.0 in
-    let none = takes-none d c step.what work.0 in
+    let at = history base limits (steps ++ before) in
+    let old = opens-none d c at step.what work.0 in
+    let none = takes-none d c at step.what work.0 in
     (quiet-whole base limits (steps ++ before) step c es was.0 was.1 old none, quiet-count base limits (steps ++ before) step c es was.0 was.1 old none)
 
 pub work-hands-nothing : (d : ℕ) (h g : History) → Follows (is_work d) h g → (c : ℕ) (es : List Entry) → AreHanded c h es → AreHanded c g es
@@ -143,13 +144,17 @@ took-count base before at c most n es more count long = rw (itself c) (omega (ar
 took-none : (c d most n : ℕ) → (c == d) ≡ false → taken_by d (Took c most n) ≡ 0
 took-none c d most n other = rw other refl
 
--- these entries more are handed out to a client, and none to others
-record Gives (c : ℕ) (h g : History) (more : List Entry) : Type 0 where
+-- these entries more are handed out to a client, and none to others, by steps of an event of the client
+pub record Gives (c : ℕ) (h g : History) (more : List Entry) : Type 0 where
+  pub leads : Leads c h g
+  pub stays : (d : ℕ) → is_open g.base g.journal d ≡ is_open h.base h.journal d
   own : (es : List Entry) → AreHanded c h es → AreHanded c g (es ++ more)
   others : (d : ℕ) → (c == d) ≡ false → (es : List Entry) → AreHanded d h es → AreHanded d g es
 
 gives-none : (c : ℕ) (h g : History) → g ≡ h → Gives c h g []
 gives-none c h g same = record {
+  leads = leads-none c h g same;
+  stays = λ d. ap (λ (k : History). is_open k.base k.journal d) same;
   own = λ es handed. subst (λ (xs : List Entry). AreHanded c g xs) (sym (append-nil es)) (same-handed h g same c es handed);
   others = λ d other es handed. same-handed h g same d es handed;
 }
@@ -158,6 +163,8 @@ took-gives : (h g : History) (now c most n : ℕ) → Makes h now (Took c most n
 took-gives h g now c most n made long =
     let step : Step = record { at = moment_at h now; what = Took c most n } in
     record {
+      leads = leads-on c h h g now (Took c most n) made.1 (itself c) refl tt (leads-none c h h refl);
+      stays = λ d. rw made.1 (is_open-step h.base step h.journal d ∙ as-before (is_open h.base h.journal d));
       own = λ es was. rw made.1 (record {
         whole = took-whole h.base h.limits h.journal (moment_at h now) c most n es was.whole long;
         count = took-count h.base h.journal (moment_at h now) c most n es (handed h c most) was.count long;
@@ -257,7 +264,7 @@ frames-hands c most now r h g old new row = by row.0 row.1 row.4
 
 -- ---- a turn
 
-abbrev Given : ℕ → Answer → (h g : History) → Type 0
+abbrev pub Given : ℕ → Answer → (h g : History) → Type 0
 Given c answer h g = (more : List Entry) × HandsOut answer more × Gives c h g more
 
 abbrev RowOf : (row : PlainLine → Type 0) (s : Place) (answer : Answer) (t : Place) → Option PlainLine → Type 0
@@ -294,58 +301,52 @@ frames-given now c most line s (Err e) t does =
     by-line c (λ after. SendsFor c most now (Err e.fault) s.history t.history line after) (Given c (Err e) s.history t.history) s t (λ after row. frames-hands c most now (Err e.fault) s.history t.history line after row) does.1
 
 -- an event that neither opens a client nor takes anything
-pub handed-work : (it named : Event) (c : ℕ) (answer : Answer) (h g : History) → it ≡ named → ((d : ℕ) → opens d named answer ≡ false) → ((d : ℕ) → takes d named ≡ false) → Follows (is_work c) h g
-    → (d : ℕ) (turns : List Turn) → Handed d turns h → Handed d ((it, answer) ∷ turns) g
+pub handed-work : (named : Event) (c : ℕ) (answer : Answer) (h g : History) → ((d : ℕ) → opens d named answer ≡ false) → ((d : ℕ) → takes d named ≡ false) → Follows (is_work c) h g
+    → (d : ℕ) (turns : List Turn) → Handed d turns h → Handed d ((named, answer) ∷ turns) g
 unfolding HandedOut
-handed-work it named c answer h g is opened none follows d turns was =
+handed-work named c answer h g opened none follows d turns was =
     record {
       entries = was.entries;
-      out = subst (λ (x : Event). HandedOut d ((x, answer) ∷ turns) was.entries) (sym is) (rw (opened d, none d, HandedOut) was.out);
+      out = rw (opened d, none d, HandedOut) was.out;
       are = work-hands-nothing c h g follows d was.entries was.are;
     }
 
-given-turn : (it named : Event) (c : ℕ) (answer : Answer) (h g : History) → it ≡ named → ((d : ℕ) → opens d named answer ≡ false) → ((d : ℕ) → takes d named ≡ (c == d)) → Given c answer h g
-    → (d : ℕ) (turns : List Turn) → Handed d turns h → Handed d ((it, answer) ∷ turns) g
+pub given-turn : (named : Event) (c : ℕ) (answer : Answer) (h g : History) → ((d : ℕ) → opens d named answer ≡ false) → ((d : ℕ) → takes d named ≡ (c == d)) → Given c answer h g
+    → (d : ℕ) (turns : List Turn) → Handed d turns h → Handed d ((named, answer) ∷ turns) g
 unfolding HandedOut
-given-turn it named c answer h g is opened none given d turns was = by (c == d) refl
+given-turn named c answer h g opened none given d turns was = by (c == d) refl
   where
-    by : (b : Bool) → (c == d) ≡ b → Handed d ((it, answer) ∷ turns) g
+    by : (b : Bool) → (c == d) ≡ b → Handed d ((named, answer) ∷ turns) g
     by true same =
         let one : c ≡ d = grind (arith, nat_tests, same) in
         record {
           entries = was.entries ++ given.0;
-          out = subst (λ (x : Event). HandedOut d ((x, answer) ∷ turns) (was.entries ++ given.0)) (sym is) (rw (opened d, none d, same, HandedOut) (was.entries, given.0, was.out, given.1, refl));
+          out = rw (opened d, none d, same, HandedOut) (was.entries, given.0, was.out, given.1, refl);
           are = subst (λ (e : ℕ). AreHanded e h was.entries → AreHanded e g (was.entries ++ given.0)) one (given.2.own was.entries) was.are;
         }
     by false other = record {
       entries = was.entries;
-      out = subst (λ (x : Event). HandedOut d ((x, answer) ∷ turns) was.entries) (sym is) (rw (opened d, none d, other, HandedOut) was.out);
+      out = rw (opened d, none d, other, HandedOut) was.out;
       are = given.2.others d other was.entries was.are;
     }
 
-pub handed-take : (it : Event) (now c most : ℕ) (s : Place) (answer : Answer) (t : Place) → it ≡ event.PollTake c most → ForClient c (λ line. Takes now c most line s answer t) UnknownClient s answer t
-    → (d : ℕ) (turns : List Turn) → Handed d turns s.history → Handed d ((it, answer) ∷ turns) t.history
-handed-take it now c most s answer t is does =
-    given-turn it (event.PollTake c most) c answer s.history t.history is (λ d. refl) (λ d. refl)
-    (by-client c (λ line. Takes now c most line s answer t) s answer t (λ line row. take-given now c most line s answer t row) does)
+pub taken-given : (now c most : ℕ) (s : Place) (answer : Answer) (t : Place) → ForClient c (λ line. Takes now c most line s answer t) UnknownClient s answer t → Given c answer s.history t.history
+taken-given now c most s answer t does = by-client c (λ line. Takes now c most line s answer t) s answer t (λ line row. take-given now c most line s answer t row) does
 
-pub handed-frames : (it : Event) (now c most : ℕ) (s : Place) (answer : Answer) (t : Place) → it ≡ event.FrameTake c most → ForClient c (λ line. TakesFrames now c most line s answer t) UnknownClient s answer t
-    → (d : ℕ) (turns : List Turn) → Handed d turns s.history → Handed d ((it, answer) ∷ turns) t.history
-handed-frames it now c most s answer t is does =
-    given-turn it (event.FrameTake c most) c answer s.history t.history is (λ d. refl) (λ d. refl)
-    (by-client c (λ line. TakesFrames now c most line s answer t) s answer t (λ line row. frames-given now c most line s answer t row) does)
+pub sent-given : (now c most : ℕ) (s : Place) (answer : Answer) (t : Place) → ForClient c (λ line. TakesFrames now c most line s answer t) UnknownClient s answer t → Given c answer s.history t.history
+sent-given now c most s answer t does = by-client c (λ line. TakesFrames now c most line s answer t) s answer t (λ line row. frames-given now c most line s answer t row) does
 
-pub handed-open : (it : Event) (timing : Timing) (numbers : Numbers) (now : ℕ) (socket : Bool) (c : ℕ) (s : Place) (answer : Answer) (t : Place) → it ≡ event.Opened socket
-    → Opens timing numbers now socket c s answer t → (d : ℕ) (turns : List Turn) → Handed d turns s.history → Handed d ((it, answer) ∷ turns) t.history
+pub handed-open : (timing : Timing) (numbers : Numbers) (now : ℕ) (socket : Bool) (c : ℕ) (s : Place) (answer : Answer) (t : Place)
+    → Opens timing numbers now socket c s answer t → (d : ℕ) (turns : List Turn) → Handed d turns s.history → Handed d ((event.Opened socket, answer) ∷ turns) t.history
 unfolding HandedOut
-handed-open it timing numbers now socket c s (Ok (outcome.Opened o)) t is does d turns was = by (c == d) refl
+handed-open timing numbers now socket c s (Ok (outcome.Opened o)) t does d turns was = by (c == d) refl
   where
-    by : (b : Bool) → (c == d) ≡ b → Handed d ((it, Ok (outcome.Opened o)) ∷ turns) t.history
-    by true same = record { entries = []; out = subst (λ (x : Event). HandedOut d ((x, Ok (outcome.Opened o)) ∷ turns) []) (sym is) (rw (does.0, same, HandedOut) refl); are = opened-fresh s.history t.history now c does.2 d same }
-    by false other = record { entries = was.entries; out = subst (λ (x : Event). HandedOut d ((x, Ok (outcome.Opened o)) ∷ turns) was.entries) (sym is) (rw (does.0, other, HandedOut) was.out); are = opened-others s.history t.history now c does.2 d other was.entries was.are }
-handed-open it timing numbers now socket c s (Ok _) t is does d turns was = absurd does
-handed-open it timing numbers now socket c s (Err e) t is does d turns was =
-    record { entries = was.entries; out = subst (λ (x : Event). HandedOut d ((x, Err e) ∷ turns) was.entries) (sym is) was.out; are = same-handed s.history t.history does.1.1 d was.entries was.are }
+    by : (b : Bool) → (c == d) ≡ b → Handed d ((event.Opened socket, Ok (outcome.Opened o)) ∷ turns) t.history
+    by true same = record { entries = []; out = rw (does.0, same, HandedOut) refl; are = opened-fresh s.history t.history now c does.2 d same }
+    by false other = record { entries = was.entries; out = rw (does.0, other, HandedOut) was.out; are = opened-others s.history t.history now c does.2 d other was.entries was.are }
+handed-open timing numbers now socket c s (Ok _) t does d turns was = absurd does
+handed-open timing numbers now socket c s (Err e) t does d turns was =
+    record { entries = was.entries; out = was.out; are = same-handed s.history t.history does.1.1 d was.entries was.are }
 
 -- ---- the events of a list
 

@@ -1,8 +1,10 @@
 mod ConnectLemmas
-mod CountLemmas
+mod EventLaws
 mod FrameLemmas
 mod HandedLemmas
+mod PacketLaws
 mod PacketLemmas
+mod RunLemmas
 mod ServerLemmas
 mod TakeLemmas
 mod TurnLemmas

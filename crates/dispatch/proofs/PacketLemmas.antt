@@ -1,6 +1,6 @@
 -- What a packet does, put together from what its parts do.
-use Rattle.std.proofs.Common.{◌≡◌, ◌≢◌, ◌⊎◌, ℕ, ◌==◌, Bool, true, false, List, [], ◌∷◌, filter, refl, sym, ◌∙◌, ap, subst, arith, is_some, if◌then◌else◌, Option, None, Some, Result, Ok, Err, IfOk, IfErr, OnOk, inl, inr}
-use Rattle.std.specs.List.{AllByRecursion, find}
+use Rattle.std.proofs.Common.{◌≡◌, ◌≢◌, ◌⊎◌, ℕ, ◌==◌, Bool, true, false, ◌&&◌, ◌||◌, List, [], ◌∷◌, filter, refl, sym, ◌∙◌, ap, subst, arith, is_some, if◌then◌else◌, Option, None, Some, Result, Ok, Err, IfOk, IfErr, OnOk, inl, inr}
+use Rattle.std.specs.List.{AllByRecursion, list_any, find}
 use Rattle.std.specs.Map.{lookup}
 use Rattle.std.specs.Option.{option_map}
 use Rattle.std.proofs.lemmas.Bool.Decides.{nat_tests}
@@ -16,23 +16,17 @@ use Rattle.ack_book.specs.Questions.{question_at}
 use Rattle.ack_book.specs.declared.book.Question.{Question}
 use Rattle.connection.specs.History.{Framed, book_calls}
 use Rattle.connection.specs.Line.{PlainLine, ForEachHistory, Advances, book_in}
-use Rattle.journal.specs.declared.error.HubError.TheVariants as hub
 use Rattle.journal.specs.declared.socket.Socket.{Socket}
-use Rattle.journal.specs.declared.step.What.TheVariants as what
 use Rattle.journal.specs.Journal.{History}
 use Rattle.journal.specs.Membership.{place_of, is_open, is_space, sid_of, has_id, socket_with, sockets, sockets_of, socket_of}
 use Rattle.effects.specs.declared.app.Arrived.{Arrived}
 use Rattle.effects.specs.declared.app.Effect.{Effect}
 use Rattle.effects.specs.declared.app.Who.{Who}
-use Rattle.effects.specs.declared.cause.Cause.TheVariants as cause
 use Rattle.effects.specs.App.{PlainVerdict}
-use Rattle.effects.specs.Commands.{IsRefused, IsSeated}
-use Rattle.dispatch.specs.Packets.{Stage, Upshot, AsksToConnect, ClosesFor, ParksFor, ServesJoined, Works, GoesOn, TakesText, ReadsBinary}
-
--- a client whose sessions have no place is closed
-pub parks : (c now : ℕ) (s : Stage) (result : Upshot) (t : Stage) → IsRefused s.history now (what.Parked c) hub.SavedFull → ClosesFor c now cause.ClientClosed s result t → ParksFor c now s result t
-parks c now s (Ok done) t refused closed = inr (refused, closed)
-parks c now s (Err e) t refused closed = inr (refused, closed)
+use Rattle.effects.specs.Commands.{IsSeated}
+use Rattle.effects.specs.declared.cause.Cause.TheVariants as cause
+use Rattle.effects.specs.Effects.{Scene}
+use Rattle.dispatch.specs.Packets.{Stage, Upshot, ClosesFor, Serves, DrawsNone, AsksToConnect, ServesJoined, Works, GoesOn, with_line, RefusesFrame, TakesText, ReadsBinary}
 
 -- ---- questions
 
@@ -84,6 +78,32 @@ found-in P c place (l ∷ ks) k all found = on (l.client == c) refl found (found
     on true is found rest = at (l.space == place) refl found rest
     on false is found rest = let r = rest found in (r.0, r.1, still (l.sid == k.sid) r.2)
 
+-- and is the client's
+own-found : (c place : ℕ) (ks : List Socket) (k : Socket) → find (λ (l : Socket). l.space == place) (filter (λ (l : Socket). l.client == c) ks) ≡ Some k
+    → list_any (λ (l : Socket). l.sid == k.sid && l.client == c) ks ≡ true
+own-found c place [] k found = absurd (cc found)
+own-found c place (l ∷ ks) k found = on (l.client == c) refl found (own-found c place ks k)
+  where
+    later : (b : Bool) → list_any (λ (l : Socket). l.sid == k.sid && l.client == c) ks ≡ true → (b || list_any (λ (l : Socket). l.sid == k.sid && l.client == c) ks) ≡ true
+    later true e = refl
+    later false e = e
+
+    at : (b : Bool) → (l.client == c) ≡ true → (if b then Some l else find (λ (l : Socket). l.space == place) (filter (λ (l : Socket). l.client == c) ks)) ≡ Some k
+        → (find (λ (l : Socket). l.space == place) (filter (λ (l : Socket). l.client == c) ks) ≡ Some k → list_any (λ (l : Socket). l.sid == k.sid && l.client == c) ks ≡ true)
+        → list_any (λ (l : Socket). l.sid == k.sid && l.client == c) (l ∷ ks) ≡ true
+    at true is here rest =
+        let same : l ≡ k = cc in
+        let client : (k.client == c) ≡ true = subst (λ (x : Socket). (x.client == c) ≡ true) same is in
+        let own : (k.sid == k.sid) ≡ true = grind (arith, nat_tests) in
+        rw (same, own, client) refl
+    at false is there rest = later (l.sid == k.sid && l.client == c) (rest there)
+
+    on : (b : Bool) → (l.client == c) ≡ b → find (λ (l : Socket). l.space == place) (if b then l ∷ filter (λ (l : Socket). l.client == c) ks else filter (λ (l : Socket). l.client == c) ks) ≡ Some k
+        → (find (λ (l : Socket). l.space == place) (filter (λ (l : Socket). l.client == c) ks) ≡ Some k → list_any (λ (l : Socket). l.sid == k.sid && l.client == c) ks ≡ true)
+        → list_any (λ (l : Socket). l.sid == k.sid && l.client == c) (l ∷ ks) ≡ true
+    on true is found rest = at (l.space == place) is found rest
+    on false is found rest = later (l.sid == k.sid && l.client == c) (rest found)
+
 seated-found : (h : History) (who : Who) (k : Socket) → AllByRecursion (λ (l : Socket). is_space h.limits l.space ≡ true) (sockets h.base h.journal) → is_open h.base h.journal who.client ≡ true
     → socket_of h.base h.journal who.client (place_of h.limits who.space) ≡ Some k → who.sid ≡ k.sid → IsSeated who h
 unfolding socket_of sockets_of socket_with
@@ -92,6 +112,7 @@ seated-found h who k in_spaces is_open found sid =
     record {
       open_client = is_open;
       connected = rw sid r.2;
+      own = rw sid (own-found who.client (place_of h.limits who.space) (sockets h.base h.journal) k found);
       in_space = subst (λ (place : ℕ). is_space h.limits place ≡ true) r.1 r.0;
     }
 
@@ -104,34 +125,60 @@ seated-at h who in_spaces is_open known = on (socket_of h.base h.journal who.cli
     on None found e = absurd (cc e)
     on (Some k) found e = seated-found h who k in_spaces is_open found cc
 
+-- a packet of a socket that is connected
+pub joined : (decides : Who → Arrived → List Effect → Type 0) (c : ℕ) (p : SioPacket) (now : ℕ) (s : Scene) (result : Upshot) (t : Scene) (sid : ℕ)
+    → Some sid ≡ option_map sid_of (socket_of s.history.base s.history.journal c (place_of s.history.limits p.header.space))
+    → IsSeated (record { client = c; space = p.header.space; sid = sid }) s.history
+    → Serves decides p.header.kind (record { client = c; space = p.header.space; sid = sid }) p.header.id p.header.payload p.attachments now s result t
+    → ServesJoined decides c p now s result t
+joined decides c p now s result t sid known seated serves = on (socket_of s.history.base s.history.journal c (place_of s.history.limits p.header.space)) known
+  where
+    on : (o : Option Socket) → Some sid ≡ option_map sid_of o → elim o as (λ (o : Option Socket). Type 0) [
+      | None ↦ ClosesFor c now cause.NotJoined s result t
+      | Some k ↦ IsSeated (record { client = c; space = p.header.space; sid = k.sid }) s.history
+          × Serves decides p.header.kind (record { client = c; space = p.header.space; sid = k.sid }) p.header.id p.header.payload p.attachments now s result t
+    ]
+    on None none = absurd (cc none)
+    on (Some k) is = let same : sid ≡ k.sid = cc in (rw same at seated, rw same at serves)
+
 -- ---- frames
 
 module _ (decides : Who → Arrived → List Effect → Type 0) (allows : (space payload : List ℕ) → PlainVerdict → Type 0) where
-  pub works-joined : (c : ℕ) (p : SioPacket) (now : ℕ) (s : Stage) (result : Upshot) (t : Stage) → p.header.kind ≢ kind.Connect → ServesJoined decides c p now s result t → Works decides allows c p now s result t
+  pub works-joined : (c : ℕ) (p : SioPacket) (now : ℕ) (s : Stage) (result : Upshot) (t : Stage) → p.header.kind ≢ kind.Connect → DrawsNone (ServesJoined decides c p now) s result t → Works decides allows c p now s result t
   works-joined c p now s result t other serves = on p.header.kind other
     where
-      on : (k : Kind) → k ≢ kind.Connect → elim k as (λ (k : Kind). Type 0) [ kind.Connect ↦ AsksToConnect allows c p.header.space p.header.payload now s result t | _ ↦ ServesJoined decides c p now s result t ]
+      on : (k : Kind) → k ≢ kind.Connect → elim k as (λ (k : Kind). Type 0) [ kind.Connect ↦ AsksToConnect allows c p.header.space p.header.payload now s result t | _ ↦ DrawsNone (ServesJoined decides c p now) s result t ]
       on kind.Connect other = absurd (other refl)
       on _ other = serves
 
+  abbrev Fault : Stage → PlainLine → (SioError → Type 0) → Result (Option SioPacket) SioError → Type 0
+  Fault s line Refuses given = IfErr given (λ e. ((e ≡ sio.Memory) × (line ≡ s.scene.line)) ⊎ (Refuses e × (line ≡ record s.scene.line { assembler = Failed e })))
+
+  -- a frame for which there was no memory
+  short-of : (c now : ℕ) (s : Stage) (line : PlainLine) (e : SioError) (result : Upshot) (t : Stage) → e ≡ sio.Memory → line ≡ s.scene.line
+      → GoesOn decides allows c (Err e) now (with_line decides allows s line) result t → GoesOn decides allows c (Err sio.Memory) now s result t
+  short-of c now s line e result t is same on =
+      subst (λ (l : PlainLine). GoesOn decides allows c (Err sio.Memory) now (with_line decides allows s l) result t) same
+      (subst (λ (e : SioError). GoesOn decides allows c (Err e) now (with_line decides allows s line) result t) is on)
+
+  refused-as : (c now : ℕ) (s : Stage) (line : PlainLine) (e : SioError) (result : Upshot) (t : Stage) → line ≡ record s.scene.line { assembler = Failed e }
+      → GoesOn decides allows c (Err e) now (with_line decides allows s line) result t → RefusesFrame decides allows c e now s result t
+  refused-as c now s line e result t is on = subst (λ (l : PlainLine). GoesOn decides allows c (Err e) now (with_line decides allows s l) result t) is on
+
   pub takes-text : (c : ℕ) (content : List ℕ) (now : ℕ) (s : Stage) (line : PlainLine) (given : Result (Option SioPacket) SioError) (result : Upshot) (t : Stage)
-      → IfOk given (λ g. Accepts s.line.assembler (text content) g line.assembler)
-      → OnOk given (Advances s.line (Framed (text content) ∷ []) line)
-      → IfErr given (λ e. ((e ≡ sio.Memory) × (line ≡ s.line)) ⊎ (RefusesText s.line.assembler content e × (line ≡ record s.line { assembler = Failed e })))
-      → GoesOn decides allows c given now (record s { line = line }) result t → TakesText decides allows c content now s result t
+      → IfOk given (λ g. Accepts s.scene.line.assembler (text content) g line.assembler)
+      → OnOk given (Advances s.scene.line (Framed (text content) ∷ []) line)
+      → Fault s line (RefusesText s.scene.line.assembler content) given
+      → GoesOn decides allows c given now (with_line decides allows s line) result t → TakesText decides allows c content now s result t
   takes-text c content now s line (Ok given) result t accepts advances fault on = inr (inl (given, line, accepts, advances, on))
-  takes-text c content now s line (Err e) result t accepts advances (inl (is, same)) on =
-      inl (subst (λ (l : PlainLine). GoesOn decides allows c (Err sio.Memory) now (record s { line = l }) result t) same (subst (λ (e : SioError). GoesOn decides allows c (Err e) now (record s { line = line }) result t) is on))
-  takes-text c content now s line (Err e) result t accepts advances (inr (refuses, is)) on =
-      inr (inr (e, refuses, subst (λ (l : PlainLine). GoesOn decides allows c (Err e) now (record s { line = l }) result t) is on))
+  takes-text c content now s line (Err e) result t accepts advances (inl (is, same)) on = inl (short-of c now s line e result t is same on)
+  takes-text c content now s line (Err e) result t accepts advances (inr (refuses, is)) on = inr (inr (e, refuses, refused-as c now s line e result t is on))
 
   pub reads-binary : (c : ℕ) (content : List ℕ) (now : ℕ) (s : Stage) (line : PlainLine) (given : Result (Option SioPacket) SioError) (result : Upshot) (t : Stage)
-      → IfOk given (λ g. Accepts s.line.assembler (binary content) g line.assembler)
-      → OnOk given (Advances s.line (Framed (binary content) ∷ []) line)
-      → IfErr given (λ e. ((e ≡ sio.Memory) × (line ≡ s.line)) ⊎ ((binary_refusal s.line.assembler ≡ Some e) × (line ≡ record s.line { assembler = Failed e })))
-      → GoesOn decides allows c given now (record s { line = line }) result t → ReadsBinary decides allows c content now s result t
+      → IfOk given (λ g. Accepts s.scene.line.assembler (binary content) g line.assembler)
+      → OnOk given (Advances s.scene.line (Framed (binary content) ∷ []) line)
+      → Fault s line (λ e. binary_refusal s.scene.line.assembler ≡ Some e) given
+      → GoesOn decides allows c given now (with_line decides allows s line) result t → ReadsBinary decides allows c content now s result t
   reads-binary c content now s line (Ok given) result t accepts advances fault on = inr (inl (given, line, accepts, advances, on))
-  reads-binary c content now s line (Err e) result t accepts advances (inl (is, same)) on =
-      inl (subst (λ (l : PlainLine). GoesOn decides allows c (Err sio.Memory) now (record s { line = l }) result t) same (subst (λ (e : SioError). GoesOn decides allows c (Err e) now (record s { line = line }) result t) is on))
-  reads-binary c content now s line (Err e) result t accepts advances (inr (refuses, is)) on =
-      inr (inr (e, refuses, subst (λ (l : PlainLine). GoesOn decides allows c (Err e) now (record s { line = l }) result t) is on))
+  reads-binary c content now s line (Err e) result t accepts advances (inl (is, same)) on = inl (short-of c now s line e result t is same on)
+  reads-binary c content now s line (Err e) result t accepts advances (inr (refuses, is)) on = inr (inr (e, refuses, refused-as c now s line e result t is on))

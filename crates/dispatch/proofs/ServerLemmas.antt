@@ -1,5 +1,5 @@
 -- What a core keeps from event to event.
-use Rattle.std.proofs.Common.{◌≡◌, ℕ, ◌+◌, ◌-◌, ◌<◌, ◌≤◌, false, List, [], ◌∷◌, ◌++◌, length, take, get_or, map, refl, sym, ◌∙◌, ap, subst, Result, Ok, Err, IfOk, OnOk, OnErr}
+use Rattle.std.proofs.Common.{◌≡◌, ℕ, ◌+◌, ◌-◌, ◌<◌, ◌≤◌, false, List, [], ◌∷◌, ◌++◌, length, take, get_or, map, arith, refl, sym, ◌∙◌, ap, subst, Result, Ok, Err, OnOk, OnErr}
 use Rattle.std.specs.List.{AllByRecursion}
 use Rattle.std.proofs.lemmas.List.{take_more, take_all}
 use Rattle.eio_wire.specs.declared.handshake.Numbers.{Numbers}
@@ -14,18 +14,19 @@ use Rattle.journal.specs.Membership.{open_clients, is_open}
 use Rattle.journal.specs.Seal.{base_client, client_of, IsSealed, SaysTheSame}
 use Rattle.journal.proofs.EntriesLemmas.{what-waits}
 use Rattle.journal.proofs.SealListsLemmas.{all-append}
-use Rattle.hub.specs.Pass.{PlainHub, PlainPass}
+use Rattle.journal.specs.Totals.{commands, handed_out}
+use Rattle.hub.specs.Pass.{PlainHub, PlainBooks, PlainPass}
+use Rattle.hub.proofs.CountingLemmas.{commands-grow, handed_out-grows}
 use Rattle.effects.specs.declared.app.Arrived.{Arrived}
 use Rattle.effects.specs.declared.app.Effect.{Effect}
 use Rattle.effects.specs.declared.app.Who.{Who}
 use Rattle.effects.specs.App.{PlainVerdict}
-use Rattle.effects.specs.Following.{is_clean, is_own, Follows, TurnsFor, WorksFor, Spares}
+use Rattle.effects.specs.Following.{is_clean, is_turn, Follows, TurnsFor}
 use Rattle.dispatch.specs.declared.event.Event.{Event}
 use Rattle.dispatch.specs.declared.event.Event.TheVariants as event
 use Rattle.dispatch.specs.Answers.{Answer}
-use Rattle.dispatch.specs.Machine.{Does, Machine, IsOf, listed}
+use Rattle.dispatch.specs.Machine.{Does, Machine, IsOf}
 use Rattle.dispatch.specs.Place.{Place, PlainCore, Agree, IsClean}
-use Rattle.dispatch.proofs.TurnLemmas.{works-none, turns-none, turns-of}
 
 -- ---- a new core
 
@@ -45,45 +46,33 @@ clean-fresh limits h is = rw is (record { base_clients = tt; base_log = tt; step
 -- ---- an event
 
 -- the steps of an event bring in only entries without U+001E
-pub clean-after : (c : ℕ) (h g : History) → IsClean h → Follows (is_own c) h g → IsClean g
+pub clean-after : (c : ℕ) (h g : History) → IsClean h → Follows (is_turn c) h g → IsClean g
 clean-after c h g clean follows = rw (follows.base, follows.limits, follows.journal) (record {
   base_clients = clean.base_clients;
   base_log = clean.base_log;
   steps = all-append (λ (step : Step). AllPass is_clean (own_entries h.limits step.what)) follows.steps h.journal follows.clean clean.steps;
 })
 
--- nothing was done
-spares-none : (c : ℕ) (h : History) (lists : List (List ℕ)) → Spares c h h lists
-spares-none c h lists = λ d other out. refl
+-- the totals that the steps of an event leave
+pub grown : (c : ℕ) (h g : History) → Follows (is_turn c) h g → (m n : ℕ) → m ≡ commands h.base h.journal → n ≡ handed_out h.base h.journal
+    → (m ≤ commands g.base g.journal) × (n ≤ handed_out g.base g.journal)
+grown c h g f m n is taken = rw (f.base, f.journal, is, taken) (commands-grow h.base f.steps h.journal, handed_out-grows h.base f.steps h.journal)
 
--- where fewer may be listed, more may be
-spares-more : (c : ℕ) (h g : History) (lists : List (List ℕ)) → Spares c h g [] → Spares c h g lists
-spares-more c h g lists spares = λ d other out. spares d other refl
-
--- the event is this one, and of this client alone; its turn goes on from each hub that worked for the client
-module _ (event named : Event) (ids : ℕ → ℕ) (c : ℕ) (is : event ≡ named) (own : (d : ℕ) → IsOf named ids d → d ≡ c) where
-  its-own : (d : ℕ) → IsOf event ids d → c ≡ d
-  its-own d of = sym (own d (subst (λ (e : Event). IsOf e ids d) is of))
-
-  pub turns-as : (old new : PlainHub) (p q : PlainPass) → ((h : PlainHub) (r : PlainPass) → TurnsFor c h old r p → TurnsFor c h new r q)
-      → (d : ℕ) → IsOf event ids d → TurnsFor d old new p q
-  turns-as old new p q on d of = subst (λ (e : ℕ). TurnsFor e old new p q) (its-own d of) (on old p (turns-none c old p))
-
-  pub works-as : (old new : PlainHub) (p q : PlainPass) → ((h : PlainHub) (r : PlainPass) → WorksFor c h old r p → WorksFor c h new r q)
-      → (d : ℕ) → IsOf event ids d → TurnsFor d old new p q
-  works-as old new p q on d of = subst (λ (e : ℕ). TurnsFor e old new p q) (its-own d of) (turns-of c old new p q (on old p (works-none c old p)))
-
-  -- its turn lists those that it reached
-  pub spares-listed : (h g : History) (answer : Answer) → IfOk answer (λ o. (f : History) → Spares c f h [] → Spares c f g (listed o))
-      → IfOk answer (λ o. (d : ℕ) → IsOf event ids d → Spares d h g (listed o))
-  spares-listed h g (Ok o) on = λ d of. subst (λ (e : ℕ). Spares e h g (listed o)) (its-own d of) (on h (spares-none c h []))
-  spares-listed h g (Err e) on = tt
-
-  -- or no other client
-  pub spares-as : (h g : History) (answer : Answer) → ((f : History) → Spares c f h [] → Spares c f g [])
-      → IfOk answer (λ o. (d : ℕ) → IsOf event ids d → Spares d h g (listed o))
-  spares-as h g (Ok o) on = λ d of. subst (λ (e : ℕ). Spares e h g (listed o)) (its-own d of) (spares-more c h g (listed o) (on h (spares-none c h [])))
-  spares-as h g (Err e) on = tt
+-- a pass that was counted up to what the steps of an event left
+pub turned : (c : ℕ) (before : PlainHub) (h g : History) (old new : PlainBooks) (p q : PlainPass) → before ≡ record { history = h; rest = old.rest } → Follows (is_turn c) h g
+    → old.commands ≡ commands h.base h.journal → old.taken ≡ handed_out h.base h.journal
+    → new ≡ record old { commands = commands g.base g.journal; taken = handed_out g.base g.journal }
+    → (q.commands + old.commands ≡ p.commands + new.commands) × (q.taken + old.taken ≡ p.taken + new.taken) × (q.parts ≡ p.parts)
+    → TurnsFor c before (record { history = g; rest = new.rest }) p q
+turned c before h g old new p q is follows commands-are taken-are books pass = rw is (record {
+  follows = follows;
+  rises = record {
+    commands = omega (arith, pass.0, commands-are, ap (λ (b : PlainBooks). b.commands) books);
+    taken = omega (arith, pass.1, taken-are, ap (λ (b : PlainBooks). b.taken) books);
+    parts = pass.2;
+  };
+  rest = ap (λ (b : PlainBooks). b.rest) books;
+})
 
 -- each event is of some client
 pub of-some : (event : Event) (ids : ℕ → ℕ) → (c : ℕ) × IsOf event ids c
@@ -100,16 +89,6 @@ of-some (event.ProbeLost c) ids = (c, refl)
 of-some (event.TransportLost c) ids = (c, refl)
 of-some (event.Tick c) ids = (c, refl)
 of-some event.Sweep ids = (0, tt)
-
--- the event is a sweep, which is of each client
-pub works-each : (event : Event) (ids : ℕ → ℕ) (old new : PlainHub) (p q : PlainPass) → ((c : ℕ) (h : PlainHub) (r : PlainPass) → WorksFor c h old r p → WorksFor c h new r q)
-    → (c : ℕ) → IsOf event ids c → TurnsFor c old new p q
-works-each event ids old new p q on c of = turns-of c old new p q (on c old p (works-none c old p))
-
-pub spares-each : (event : Event) (ids : ℕ → ℕ) (h g : History) (answer : Answer) → ((c : ℕ) (f : History) → Spares c f h [] → Spares c f g [])
-    → IfOk answer (λ o. (c : ℕ) → IsOf event ids c → Spares c h g (listed o))
-spares-each event ids h g (Ok o) on = λ c of. spares-more c h g (listed o) (on c h (spares-none c h []))
-spares-each event ids h g (Err e) on = tt
 
 -- ---- a seal
 

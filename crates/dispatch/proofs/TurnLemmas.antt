@@ -1,6 +1,5 @@
 -- A line stands for each open client after an event, too.
 use Rattle.std.proofs.Common.{◌≡◌, ℕ, ◌+◌, ◌==◌, Bool, true, false, ◌&&◌, ◌||◌, List, [], ◌∷◌, ◌++◌, refl, sym, ◌∙◌, ap, subst, arith, nat_eq, Option, None, Some, is_some, Err, inr}
-use Rattle.std.specs.List.{AllByRecursion}
 use Rattle.std.specs.Set.{is_member}
 use Rattle.std.proofs.lemmas.Bool.Decides.{nat_tests}
 use Rattle.eio_wire.specs.declared.packet.Packet.{Packet}
@@ -10,10 +9,10 @@ use Rattle.journal.specs.declared.step.Step.{Step}
 use Rattle.journal.specs.declared.step.What.{What}
 use Rattle.journal.specs.declared.step.What.TheVariants.{Opened, Attached, Recovered, Joined, Left, AllJoined, AllLeft, Cast, Told, Took, Parked, Ended, AllEnded, Closed, Swept}
 use Rattle.journal.specs.Plain.{PlainBase}
-use Rattle.journal.specs.Journal.{History}
+use Rattle.journal.specs.Journal.{History, history, with_step}
 use Rattle.journal.specs.Membership.{opens, closes, is_open}
 use Rattle.journal.proofs.EpochsSocketsLemmas.{is_open-step}
-use Rattle.hub.specs.Pass.{PlainHub, PlainPass}
+use Rattle.journal.specs.Entries.{AllPass, own_entries}
 use Rattle.effects.specs.declared.app.Arrived.{Arrived}
 use Rattle.effects.specs.declared.app.Effect.{Effect}
 use Rattle.effects.specs.declared.app.Who.{Who}
@@ -21,56 +20,54 @@ use Rattle.effects.specs.declared.fault.CoreError.{CoreError}
 use Rattle.effects.specs.declared.fault.CoreFault.TheVariants.{IdTaken}
 use Rattle.effects.specs.App.{PlainVerdict}
 use Rattle.effects.specs.Commands.{StopsAt}
-use Rattle.effects.specs.Following.{is_own, is_work, Follows, GoesOn, TurnsFor, WorksFor}
-use Rattle.dispatch.specs.Answers.{nothing_done}
-use Rattle.dispatch.specs.Machine.{WorksOn}
+use Rattle.effects.specs.Following.{is_clean, is_cast, is_turn, is_work, AreMade, Follows, Spares, WorksFor}
+use Rattle.effects.proofs.StepLemmas.{follows-on, spares-on}
+use Rattle.dispatch.specs.Machine.{opening, WorksOn}
 use Rattle.dispatch.specs.Packets.{Stage, stage, BreaksAfter}
 use Rattle.dispatch.specs.Place.{Place, line_of, place, KeepsOthers, Agree}
 
--- nothing was done yet
-pub goes-none : (kind : What → Bool) (h : PlainHub) (p : PlainPass) → GoesOn kind h h p p
-goes-none kind h p = record {
-  follows = record { steps = []; base = refl; limits = refl; journal = refl; own = tt; clean = tt };
-  rises = record { commands = refl; taken = refl; parts = refl };
-  rest = refl;
-}
+-- the steps of an event that puts nothing for other clients
+pub record Leads (c : ℕ) (h g : History) : Type 0 where
+  pub follows : Follows (is_turn c) h g
+  pub spares : Spares c h g []
 
-pub works-none : (c : ℕ) (h : PlainHub) (p : PlainPass) → WorksFor c h h p p
-works-none c h p = goes-none (is_work c) h p
+pub follows-none : (kind : History → What → Bool) (h : History) → Follows kind h h
+follows-none kind h = record { steps = []; base = refl; limits = refl; journal = refl; own = tt; clean = tt }
 
-pub turns-none : (c : ℕ) (h : PlainHub) (p : PlainPass) → TurnsFor c h h p p
-turns-none c h p = goes-none (is_own c) h p
+pub leads-none : (c : ℕ) (h g : History) → g ≡ h → Leads c h g
+leads-none c h g same = subst (Leads c h) (sym same) (record { follows = follows-none (is_turn c) h; spares = λ d other out. refl })
+
+pub leads-on : (c : ℕ) (f h g : History) (now : ℕ) (w : What) → g ≡ with_step h now w → is_turn c h w ≡ true → is_cast w ≡ false → AllPass is_clean (own_entries h.limits w) → Leads c f h → Leads c f g
+leads-on c f h g now w made turn isnt clean was =
+    record { follows = follows-on (is_turn c) now w f h g was.follows made turn clean; spares = spares-on c now w h g made turn isnt f [] was.spares }
+
+pub works-none : (c : ℕ) (h : History) (lists : List (List ℕ)) → WorksFor c h h lists
+works-none c h lists = record { follows = follows-none (is_work c) h; spares = λ d other out. refl }
 
 -- work for a client is of its event
-work-own : (c : ℕ) (what : What) → is_work c what ≡ true → is_own c what ≡ true
-work-own c (Opened d) work = absurd (cc work)
-work-own c (Took d most n) work = absurd (cc work)
-work-own c (Attached k) work = work
-work-own c (Recovered r) work = work
-work-own c (Joined s room) work = work
-work-own c (Left s room) work = work
-work-own c (AllJoined m) work = work
-work-own c (AllLeft m) work = work
-work-own c (Cast b) work = work
-work-own c (Told m) work = work
-work-own c (Parked d) work = work
-work-own c (Ended s) work = work
-work-own c (AllEnded d) work = work
-work-own c (Closed d) work = work
-work-own c Swept work = work
+work-turn : (c : ℕ) (h : History) (what : What) → is_work c h what ≡ true → is_turn c h what ≡ true
+work-turn c h (Opened d) work = absurd (cc work)
+work-turn c h (Took d most n) work = absurd (cc work)
+work-turn c h (Attached k) work = work
+work-turn c h (Recovered r) work = work
+work-turn c h (Joined s room) work = work
+work-turn c h (Left s room) work = work
+work-turn c h (AllJoined m) work = work
+work-turn c h (AllLeft m) work = work
+work-turn c h (Cast b) work = work
+work-turn c h (Told m) work = work
+work-turn c h (Parked d) work = work
+work-turn c h (Ended s) work = work
+work-turn c h (AllEnded d) work = work
+work-turn c h (Closed d) work = work
+work-turn c h Swept work = work
 
-all-own : (c : ℕ) (steps : List Step) → AllByRecursion (λ (step : Step). is_work c step.what ≡ true) steps → AllByRecursion (λ (step : Step). is_own c step.what ≡ true) steps
-all-own c [] work = tt
-all-own c (step ∷ steps) work = (work-own c step.what work.0, all-own c steps work.1)
+all-turns : (c : ℕ) (h : History) (steps : List Step) → AreMade (is_work c) h steps → AreMade (is_turn c) h steps
+all-turns c h [] work = tt
+all-turns c h (step ∷ steps) work = (work-turn c (history h.base h.limits (steps ++ h.journal)) step.what work.0, all-turns c h steps work.1)
 
-pub turns-of : (c : ℕ) (h g : PlainHub) (p q : PlainPass) → WorksFor c h g p q → TurnsFor c h g p q
-turns-of c h g p q works =
-    let f = works.follows in
-    record {
-      follows = record { steps = f.steps; base = f.base; limits = f.limits; journal = f.journal; own = all-own c f.steps f.own; clean = f.clean };
-      rises = works.rises;
-      rest = works.rest;
-    }
+pub turns-of : (c : ℕ) (h g : History) → Follows (is_work c) h g → Follows (is_turn c) h g
+turns-of c h g f = record { steps = f.steps; base = f.base; limits = f.limits; journal = f.journal; own = all-turns c h f.steps f.own; clean = f.clean }
 
 -- ---- the other clients
 
@@ -80,38 +77,39 @@ apart c d e own other = grind (arith, nat_tests, own, other)
 swapped : (c d e : ℕ) → (e == c) ≡ true → (c == d) ≡ false → nat_eq d e ≡ false
 swapped c d e own other = grind (arith, nat_tests, own, other)
 
-closes-none : (c d : ℕ) (what : What) → is_own c what ≡ true → (c == d) ≡ false → closes what d ≡ false
-closes-none c d (Parked e) own other = apart c d e own other
-closes-none c d (Closed e) own other = apart c d e own other
-closes-none c d _ own other = refl
+closes-none : (c d : ℕ) (h : History) (what : What) → is_turn c h what ≡ true → (c == d) ≡ false → closes what d ≡ false
+closes-none c d h (Parked e) own other = apart c d e own other
+closes-none c d h (Closed e) own other = apart c d e own other
+closes-none c d h _ own other = refl
 
-opens-none : (c d : ℕ) (what : What) → is_own c what ≡ true → (c == d) ≡ false → is_member nat_eq (opens what) d ≡ false
-opens-none c d (Opened e) own other = rw (swapped c d e own other) refl
-opens-none c d _ own other = refl
+opens-none : (c d : ℕ) (h : History) (what : What) → is_turn c h what ≡ true → (c == d) ≡ false → is_member nat_eq (opens what) d ≡ false
+opens-none c d h (Opened e) own other = rw (swapped c d e own other) refl
+opens-none c d h _ own other = refl
 
-as-before : (b : Bool) → ((b && true) || false) ≡ b
+pub as-before : (b : Bool) → ((b && true) || false) ≡ b
 as-before true = refl
 as-before false = refl
 
-others-after : (c d : ℕ) (base : PlainBase) (steps before : List Step) → AllByRecursion (λ (step : Step). is_own c step.what ≡ true) steps → (c == d) ≡ false
-    → is_open base (steps ++ before) d ≡ is_open base before d
-others-after c d base [] before own other = refl
-others-after c d base (step ∷ steps) before own other =
-    is_open-step base step (steps ++ before) d
-    ∙ rw (closes-none c d step.what own.0 other, opens-none c d step.what own.0 other) (as-before (is_open base (steps ++ before) d))
-    ∙ others-after c d base steps before own.1 other
+others-after : (c d : ℕ) (h : History) (steps : List Step) → AreMade (is_turn c) h steps → (c == d) ≡ false
+    → is_open h.base (steps ++ h.journal) d ≡ is_open h.base h.journal d
+others-after c d h [] own other = refl
+others-after c d h (step ∷ steps) own other =
+    let at = history h.base h.limits (steps ++ h.journal) in
+    is_open-step h.base step (steps ++ h.journal) d
+    ∙ rw (closes-none c d at step.what own.0 other, opens-none c d at step.what own.0 other) (as-before (is_open h.base (steps ++ h.journal) d))
+    ∙ others-after c d h steps own.1 other
 
 -- another client is open as it was before an event of this one
-pub open-others : (c : ℕ) (h g : History) → Follows (is_own c) h g → (d : ℕ) → (c == d) ≡ false → is_open g.base g.journal d ≡ is_open h.base h.journal d
+pub open-others : (c : ℕ) (h g : History) → Follows (is_turn c) h g → (d : ℕ) → (c == d) ≡ false → is_open g.base g.journal d ≡ is_open h.base h.journal d
 open-others c h g follows d other =
     ap (λ (base : PlainBase). is_open base g.journal d) follows.base
     ∙ ap (λ (journal : List Step). is_open h.base journal d) follows.journal
-    ∙ others-after c d h.base follows.steps h.journal follows.own other
+    ∙ others-after c d h follows.steps follows.own other
 
 -- ---- the lines
 
 -- where the client of the event has a line just where it is open, all clients have
-pub agree-after : (c : ℕ) (h g : History) (old new : List (ℕ × PlainLine)) → Agree h old → Follows (is_own c) h g → KeepsOthers c (place h old) (place g new)
+pub agree-after : (c : ℕ) (h g : History) (old new : List (ℕ × PlainLine)) → Agree h old → Follows (is_turn c) h g → KeepsOthers c (place h old) (place g new)
     → is_some (line_of new c) ≡ is_open g.base g.journal c → Agree g new
 agree-after c h g old new agree follows others own d = on (c == d) refl
   where
@@ -123,18 +121,18 @@ agree-after c h g old new agree follows others own d = on (c == d) refl
     on false is = ap (λ (o : Option PlainLine). is_some o) (others d is) ∙ agree d ∙ sym (open-others c h g follows d is)
 
 -- where the client isn't open any more and has no line
-pub agree-gone : (c : ℕ) (h g : History) (old new : List (ℕ × PlainLine)) → Agree h old → Follows (is_own c) h g → KeepsOthers c (place h old) (place g new)
+pub agree-gone : (c : ℕ) (h g : History) (old new : List (ℕ × PlainLine)) → Agree h old → Follows (is_turn c) h g → KeepsOthers c (place h old) (place g new)
     → line_of new c ≡ None → is_open g.base g.journal c ≡ false → Agree g new
 agree-gone c h g old new agree follows others gone closed =
     agree-after c h g old new agree follows others (ap (λ (o : Option PlainLine). is_some o) gone ∙ sym closed)
 
 -- where it is open still and has one
-pub agree-still : (c : ℕ) (h g : History) (old new : List (ℕ × PlainLine)) → Agree h old → Follows (is_own c) h g → KeepsOthers c (place h old) (place g new)
+pub agree-still : (c : ℕ) (h g : History) (old new : List (ℕ × PlainLine)) → Agree h old → Follows (is_turn c) h g → KeepsOthers c (place h old) (place g new)
     → is_some (line_of new c) ≡ true → is_open g.base g.journal c ≡ true → Agree g new
 agree-still c h g old new agree follows others has open_still = agree-after c h g old new agree follows others (has ∙ sym open_still)
 
 -- after steps that are of each client
-pub agree-each : (h g : History) → ((c : ℕ) → Follows (is_own c) h g) → (lines : List (ℕ × PlainLine)) → Agree h lines → Agree g lines
+pub agree-each : (h g : History) → ((c : ℕ) → Follows (is_turn c) h g) → (lines : List (ℕ × PlainLine)) → Agree h lines → Agree g lines
 agree-each h g follows lines agree d = agree d ∙ sym (open-others (d + 1) h g (follows (d + 1)) d (next d))
   where
     next : (d : ℕ) → (d + 1 == d) ≡ false
@@ -147,7 +145,7 @@ not-again h now c is = inr (hub.IdTaken, rw is refl, tt, refl)
 -- an event that ends with an error between two of its packets
 pub ends-with : (decides : Who → Arrived → List Effect → Type 0) (allows : (space payload : List ℕ) → PlainVerdict → Type 0) (now c : ℕ) (packets : List Packet) (line : PlainLine)
     (s t : Place) (ids left : ℕ → ℕ) (e : CoreError) (m : Stage)
-    → BreaksAfter decides allows c now packets (stage s.history line ids nothing_done) e.fault e.packets e.effects m
-    → t.history ≡ m.history → t.lines c ≡ Some m.line → KeepsOthers c s t → left ≡ m.ids
+    → BreaksAfter decides allows c now packets (stage (opening s.history line) ids) e m
+    → t.history ≡ m.scene.history → t.lines c ≡ Some m.scene.line → KeepsOthers c s t → left ≡ m.ids
     → WorksOn decides allows now c packets line s ids (Err e) t left
 ends-with decides allows now c packets line s t ids left e m breaks history has others drawn = (m, breaks, history, (rw has refl, others), drawn)

@@ -13,7 +13,8 @@ use Rattle.connection.specs.Line.{PlainLine, ForEachHistory, HasHistory, Advance
 use Rattle.journal.specs.Journal.{History}
 use Rattle.effects.specs.declared.fault.CoreFault.TheVariants.{UnknownClient}
 use Rattle.dispatch.specs.declared.outcome.Outcome.TheVariants as outcome
-use Rattle.dispatch.specs.Answers.{Answer, at_once, nothing_done, Refused, ForClient}
+use Rattle.dispatch.specs.Answers.{Answer, at_once, Refused, ForClient}
+use Rattle.effects.specs.Plain.{nothing_done}
 use Rattle.dispatch.specs.Place.{Place, line_of, place, KeepsOthers, KeepsLines}
 use Rattle.dispatch.specs.Takes.{IsOn}
 use Rattle.dispatch.specs.Upgrade.{fault_of_clock, ProbesOn, Probes, EndsProbeOn, EndsProbe}

@@ -1,24 +1,19 @@
 -- What a tick does, from what its parts do.
-use Rattle.std.proofs.Common.{◌≡◌, ℕ, Bool, true, false, List, [], ◌∷◌, inl, inr, refl, Some, Result, Ok, Err, OnOk, IfOk}
+use Rattle.std.proofs.Common.{◌≡◌, ℕ, Bool, true, false, List, [], ◌∷◌, inl, inr, Some, Ok}
 use Rattle.session_clock.specs.declared.timing.Due.{Due}
 use Rattle.connection.specs.History.{Ticked}
 use Rattle.connection.specs.Line.{PlainLine, Advances}
-use Rattle.journal.specs.declared.error.HubError.TheVariants as hub
-use Rattle.journal.specs.declared.step.What.TheVariants as what
 use Rattle.journal.specs.Journal.{History}
-use Rattle.effects.specs.declared.fault.CoreFault.{CoreFault}
 use Rattle.effects.specs.declared.fault.CoreFault.TheVariants.{UnknownClient}
-use Rattle.effects.specs.Commands.{Makes, IsRefused}
 use Rattle.dispatch.specs.Answers.{Answer, ForClient, AdvancesLine}
 use Rattle.dispatch.specs.Place.{Place, line_of, place, KeepsOthers}
-use Rattle.dispatch.specs.Upkeep.{ParksOrCloses, IsDue, TicksOn, Ticks}
+use Rattle.dispatch.specs.Parking.{Parks, ParksOrCloses}
+use Rattle.dispatch.specs.Upkeep.{IsDue, TicksOn, Ticks}
 
 -- the sessions were saved or the client was closed
-pub parked-or-closed : (r : Result Bool CoreFault) (h g : History) (now c : ℕ) → IfOk r (λ saved. saved ≡ true → Makes h now (what.Parked c) g)
-    → IfOk r (λ saved. saved ≡ false → IsRefused h now (what.Parked c) hub.SavedFull × Makes h now (what.Closed c) g) → OnOk r (ParksOrCloses h now c g)
-parked-or-closed (Ok true) h g now c saved closed = inl (saved refl)
-parked-or-closed (Ok false) h g now c saved closed = inr (closed refl)
-parked-or-closed (Err e) h g now c saved closed = tt
+pub parked-or-closed : (saved : Bool) (h g : History) (now c : ℕ) → Parks h now c (Ok saved) g → ParksOrCloses h now c g
+parked-or-closed true h g now c made = inl made
+parked-or-closed false h g now c closed = inr closed
 
 -- what is due to a client that is known is done
 pub ticks : (now c : ℕ) (line : PlainLine) (h : History) (old : List (ℕ × PlainLine)) (answer : Answer) (t : Place) (told due : Due) → line_of old c ≡ Some line → told ≡ due → IsDue told now line

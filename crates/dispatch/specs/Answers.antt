@@ -1,5 +1,5 @@
 -- How an event is answered, and what it leaves of the lines.
-use Rattle.std.specs.Prelude.{◌≡◌, ℕ, false, List, [], Option, None, Some, Result, Ok, Err}
+use Rattle.std.specs.Prelude.{◌≡◌, ℕ, List, Option, None, Some, Result, Ok, Err}
 use Rattle.connection.specs.History.{Call}
 use Rattle.connection.specs.Line.{PlainLine, Advances}
 use Rattle.journal.specs.declared.error.HubError.{HubError}
@@ -9,7 +9,7 @@ use Rattle.effects.specs.declared.fault.CoreError.{CoreError}
 use Rattle.effects.specs.declared.fault.CoreFault.{CoreFault}
 use Rattle.effects.specs.declared.fault.CoreFault.TheVariants.{Memory, BadConfig}
 use Rattle.effects.specs.Commands.{Makes, StopsAt}
-use Rattle.effects.specs.Plain.{PlainDone}
+use Rattle.effects.specs.Plain.{PlainDone, nothing_done}
 use Rattle.dispatch.specs.declared.outcome.Outcome.{Outcome}
 use Rattle.dispatch.specs.declared.outcome.Outcome.TheVariants as outcome
 use Rattle.dispatch.specs.Place.{Place, HasLine, LosesLine, KeepsLines}
@@ -21,9 +21,6 @@ Answer = Result Outcome CoreError
 -- nothing of the event was done
 abbrev pub at_once : CoreFault → CoreError
 at_once fault = record { fault = fault; packets = 0; effects = 0 }
-
-abbrev pub nothing_done : PlainDone
-nothing_done = record { packets = 0; effects = 0; skipped = None; ignored = false; closed = None; clients = [] }
 
 -- why there is no core: the limits allow no hub, or there is no memory
 abbrev pub fault_of_config : Option HubError → CoreFault

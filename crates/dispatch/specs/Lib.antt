@@ -3,6 +3,7 @@ pub mod Frames
 pub mod Handed
 pub mod Machine
 pub mod Packets
+pub mod Parking
 pub mod Place
 pub mod Takes
 pub mod Upgrade

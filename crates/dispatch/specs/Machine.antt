@@ -25,13 +25,17 @@ use Rattle.dispatch.specs.declared.event.Event.TheVariants as event
 use Rattle.dispatch.specs.declared.event.WsFrame.{WsFrame}
 use Rattle.dispatch.specs.declared.outcome.Outcome.{Outcome}
 use Rattle.dispatch.specs.declared.outcome.Outcome.TheVariants as outcome
-use Rattle.dispatch.specs.Answers.{Answer, at_once, nothing_done, Refused, ChangesNone, KeepsWhileOpen, AdvancesLine, ClosesUnread, ForClient}
+use Rattle.dispatch.specs.Answers.{Answer, at_once, Refused, ChangesNone, KeepsWhileOpen, AdvancesLine, ClosesUnread, ForClient}
 use Rattle.dispatch.specs.Frames.{is_too_long, IsFrameOf, IsNoFrame, SendsFor}
 use Rattle.dispatch.specs.Packets.{Stage, stage, HandlesInTurn, BreaksAfter}
+use Rattle.effects.specs.Effects.{Scene}
+use Rattle.effects.specs.Plain.{nothing_done}
+use Rattle.journal.specs.Journal.{History}
 use Rattle.dispatch.specs.Place.{Place, HasLine, LosesLine}
 use Rattle.dispatch.specs.Takes.{IsOn, Polls, IsGetting, TakesFor}
 use Rattle.dispatch.specs.Upgrade.{Probes, Upgrades, LosesProbe}
-use Rattle.dispatch.specs.Upkeep.{FailsToPark, Ticks, Sweeps}
+use Rattle.dispatch.specs.Upkeep.{Ticks, Sweeps}
+use Rattle.dispatch.specs.Parking.{FailsToPark}
 
 -- the event is of this client; the one that is opened has the next id, and a sweep is of each client
 abbrev pub IsOf : Event → (ids : ℕ → ℕ) → ℕ → Type 0
@@ -103,16 +107,20 @@ Loses now c s (Err e) t = ChangesNone e s t × FailsToPark s.history now c e.fau
 
 -- ---- an event whose packets are worked on
 
+-- the scene before the first packet
+abbrev pub opening : History → PlainLine → Scene
+opening history line = record { history = history; line = line; done = nothing_done; asked = None; ended = false }
+
 module _ (decides : Who → Arrived → List Effect → Type 0) (allows : (space payload : List ℕ) → PlainVerdict → Type 0) (now : ℕ) where
   -- the packets of a payload in order, until one closes the client or the event ends
   abbrev pub WorksOn : ℕ → List Packet → PlainLine → Place → (ids : ℕ → ℕ) → Answer → Place → (ids' : ℕ → ℕ) → Type 0
   WorksOn c packets line s ids (Ok (outcome.Done done)) t ids' = (m : Stage)
-      × Runs (HandlesInTurn decides allows c now) packets (stage s.history line ids nothing_done) m
-      × (done ≡ m.done) × (t.history ≡ m.history) × KeepsWhileOpen c m.done m.line s t × (ids' ≡ m.ids)
+      × Runs (HandlesInTurn decides allows c now) packets (stage (opening s.history line) ids) m
+      × (done ≡ m.scene.done) × (t.history ≡ m.scene.history) × KeepsWhileOpen c m.scene.done m.scene.line s t × (ids' ≡ m.ids)
   WorksOn c packets line s ids (Ok _) t ids' = ⊥
   WorksOn c packets line s ids (Err e) t ids' = (m : Stage)
-      × BreaksAfter decides allows c now packets (stage s.history line ids nothing_done) e.fault e.packets e.effects m
-      × (t.history ≡ m.history) × HasLine c (λ after. after ≡ m.line) s t × (ids' ≡ m.ids)
+      × BreaksAfter decides allows c now packets (stage (opening s.history line) ids) e m
+      × (t.history ≡ m.scene.history) × HasLine c (λ after. after ≡ m.scene.line) s t × (ids' ≡ m.ids)
 
   -- the whole payload is read first; a fault closes the client
   abbrev pub Posts : ℕ → (body : List ℕ) → PlainLine → Place → (ids : ℕ → ℕ) → Answer → Place → (ids' : ℕ → ℕ) → Type 0

@@ -1,6 +1,7 @@
 -- What the packets of a client do (Engine.IO protocol 4, "Packet types"; Socket.IO protocol 5, "Exchange protocol";
 -- Socket.IO server documentation, "Connection state recovery").
-use Rattle.std.specs.Prelude.{◌≡◌, ◌≢◌, ◌⊎◌, ◌<◌, ◌^◌, ℕ, ◌+◌, true, false, List, [], ◌∷◌, length, is_some, Option, None, Some, Result, Ok, Err, codes, slice_get, take}
+use Rattle.std.specs.Prelude.{◌≡◌, ◌≢◌, ◌⊎◌, ◌<◌, ◌^◌, ℕ, ◌+◌, min, Bool, true, false, List, [], ◌∷◌, length, is_some, is_none, Option, None, Some, Result, Ok, Err, codes, slice_get, take}
+use Rattle.eio_wire.specs.Payload.{IsWhole}
 use Rattle.eio_wire.specs.declared.packet.Packet.{Packet}
 use Rattle.eio_wire.specs.declared.packet.Packet.TheVariants as eio
 use Rattle.eio_wire.specs.Ids.{id_digits}
@@ -19,11 +20,11 @@ use Rattle.sio_wire.specs.Offset.{offset_digits}
 use Rattle.ack_book.specs.Questions.{question_at}
 use Rattle.ack_book.specs.declared.book.Question.{Question}
 use Rattle.connection.specs.History.{Framed, Ponged, Entered, Left, Answered, book_calls}
-use Rattle.connection.specs.Line.{PlainLine, ForEachHistory, Advances}
+use Rattle.connection.specs.Line.{PlainLine, ForEachHistory, Advances, IsWholeIfGiven}
 use Rattle.journal.specs.declared.error.HubError.TheVariants as hub
+use Rattle.journal.specs.declared.step.What.{What}
 use Rattle.journal.specs.declared.step.What.TheVariants as what
-use Rattle.journal.specs.Journal.{History}
-use Rattle.journal.specs.Membership.{place_of, is_space, socket_of}
+use Rattle.journal.specs.Membership.{place_of, is_space, is_open, socket_of}
 use Rattle.effects.specs.declared.app.Arrived.{Arrived}
 use Rattle.effects.specs.declared.app.Arrived.TheVariants as arrived
 use Rattle.effects.specs.declared.app.Effect.{Effect}
@@ -32,111 +33,110 @@ use Rattle.effects.specs.declared.cause.Cause.{Cause}
 use Rattle.effects.specs.declared.cause.Cause.TheVariants as cause
 use Rattle.effects.specs.declared.fault.CoreFault.{CoreFault}
 use Rattle.effects.specs.declared.fault.CoreFault.TheVariants.{Memory}
-use Rattle.effects.specs.App.{PlainVerdict, Accepted, Refused}
+use Rattle.effects.specs.App.{PlainVerdict, Accepted, Refused, IsCleanArrival, AllClean}
 use Rattle.effects.specs.Cause.{cause_of_sio}
-use Rattle.effects.specs.Commands.{Makes, IsRefused, StopsAt, CannotReturn, seat, return_of}
-use Rattle.effects.specs.Effects.{Scene, Closes, ActsAll, StopsAfter, one_more}
-use Rattle.effects.specs.Plain.{PlainDone}
+use Rattle.effects.specs.Commands.{Makes, IsRefused, StopsAt, CannotReturn, IsSeated, seat, return_of}
+use Rattle.effects.specs.Effects.{Scene, told_to, counted, Closes, ActsInTurn, StopsAfter}
+use Rattle.effects.specs.declared.fault.CoreError.{CoreError}
+use Rattle.effects.specs.declared.fault.Stopped.{Stopped}
 use Rattle.effects.specs.Runs.{Runs}
+use Rattle.dispatch.specs.Parking.{ParksOrCloses, FailsToPark}
 
--- where an event stands between two packets: the hub's history, the client's line, the ids to come, and what was done
+-- where an event stands between two packets: a scene, and the ids to come
 pub record Stage : Type 0 where
-  pub history : History
-  pub line : PlainLine
+  pub scene : Scene
   pub ids : ℕ → ℕ
-  pub done : PlainDone
 
-abbrev pub stage : History → PlainLine → (ℕ → ℕ) → PlainDone → Stage
-stage history line ids done = record { history = history; line = line; ids = ids; done = done }
+abbrev pub stage : Scene → (ℕ → ℕ) → Stage
+stage scene ids = record { scene = scene; ids = ids }
 
 -- how a packet is answered: done, or the event ends with a fault after so many effects of it
 abbrev pub Upshot : Type 0
-Upshot = Result (Unit {0}) (CoreFault × ℕ)
+Upshot = Result (Unit {0}) Stopped
 
--- the line and the ids are as they were
-abbrev pub KeepsLine : Stage → Stage → Type 0
-KeepsLine s t = (t.line ≡ s.line) × (t.ids ≡ s.ids)
+-- the event ends with this fault, and nothing was done
+abbrev pub StopsFor : CoreFault → Scene → Stopped → Scene → Type 0
+StopsFor fault s e t = (e ≡ record { fault = fault; effects = 0 }) × (t ≡ s)
 
--- nothing was done, but for what has been said of the line and the ids
-abbrev pub StopsFor : CoreFault → Stage → (CoreFault × ℕ) → Stage → Type 0
-StopsFor fault s e t = (e ≡ (fault, 0)) × (t.history ≡ s.history) × KeepsLine s t
+-- there is no memory for what was to be done
+abbrev pub IsShort : Scene → Upshot → Scene → Type 0
+IsShort s (Ok done) t = ⊥
+IsShort s (Err e) t = StopsFor Memory s e t
+
+-- it is done so, and no id is drawn
+abbrev pub DrawsNone : (Scene → Upshot → Scene → Type 0) → Stage → Upshot → Stage → Type 0
+DrawsNone Does s result t = Does s.scene result t.scene × (t.ids ≡ s.ids)
+
+-- after a packet the client is open unless it was closed, and after a fault in any case
+abbrev pub StaysOpen : ℕ → Upshot → Scene → Type 0
+StaysOpen c (Ok done) t = is_open t.history.base t.history.journal c ≡ is_none t.done.closed
+StaysOpen c (Err e) t = is_open t.history.base t.history.journal c ≡ true
 
 -- ---- closing and telling
 
 -- the client is closed for this cause
-abbrev pub ClosesFor : ℕ → ℕ → Cause → Stage → Upshot → Stage → Type 0
-ClosesFor c now why s (Ok done) t = Closes c now why s.history t.history s.done t.done × KeepsLine s t
-ClosesFor c now why s (Err e) t = (fault : CoreFault) × StopsAt s.history now (what.Closed c) fault × StopsFor fault s e t
+abbrev pub ClosesFor : ℕ → ℕ → Cause → Scene → Upshot → Scene → Type 0
+ClosesFor c now why s (Ok done) t = Closes c now why s t
+ClosesFor c now why s (Err e) t = StopsAt s.history now (what.Closed c) e.fault × StopsFor e.fault s e t
 
 -- its sessions are saved, or where they have no place it is closed; it closed itself
-abbrev pub ParksFor : ℕ → ℕ → Stage → Upshot → Stage → Type 0
+abbrev pub ParksFor : ℕ → ℕ → Scene → Upshot → Scene → Type 0
 ParksFor c now s (Ok done) t =
-    (Makes s.history now (what.Parked c) t.history × (t.done ≡ record s.done { closed = Some cause.ClientClosed }) × KeepsLine s t)
-    ⊎ (IsRefused s.history now (what.Parked c) hub.SavedFull × ClosesFor c now cause.ClientClosed s (Ok done) t)
-ParksFor c now s (Err e) t =
-    ((fault : CoreFault) × StopsAt s.history now (what.Parked c) fault × StopsFor fault s e t)
-    ⊎ (IsRefused s.history now (what.Parked c) hub.SavedFull × ClosesFor c now cause.ClientClosed s (Err e) t)
+    ParksOrCloses s.history now c t.history × (t ≡ record s { history = t.history; done = record s.done { closed = Some cause.ClientClosed } })
+ParksFor c now s (Err e) t = FailsToPark s.history now c e.fault × StopsFor e.fault s e t
 
 -- the client is told that it isn't connected, or closed where its outbox has no place for that
 abbrev pub refusal_entry : (space message : List ℕ) → Entry
 refusal_entry space message = record { text = refused_text space message; attachments = [] }
 
-abbrev pub Refuses : ℕ → ℕ → (space message : List ℕ) → Stage → Upshot → Stage → Type 0
-Refuses c now space message s (Ok done) t =
-    (Makes s.history now (what.Told (record { client = c; entry = refusal_entry space message })) t.history × (t.done ≡ s.done) × KeepsLine s t)
-    ⊎ (IsRefused s.history now (what.Told (record { client = c; entry = refusal_entry space message })) hub.OutboxFull × ClosesFor c now cause.OutboxFull s (Ok done) t)
-Refuses c now space message s (Err e) t =
-    ((fault : CoreFault) × StopsAt s.history now (what.Told (record { client = c; entry = refusal_entry space message })) fault × StopsFor fault s e t)
-    ⊎ (IsRefused s.history now (what.Told (record { client = c; entry = refusal_entry space message })) hub.OutboxFull × ClosesFor c now cause.OutboxFull s (Err e) t)
-
--- ---- the app's effects
-
--- the scene before a packet's effects, of which so many are done
-abbrev pub scene_at : Stage → (before : ℕ) → Scene
-scene_at s before = record { history = s.history; line = s.line; done = s.done; turn = record { count = before; replied = false; ended = false } }
-
-abbrev pub DoesAll : Who → (asked : Option ℕ) → ℕ → List Effect → (before : ℕ) → Stage → Upshot → Stage → Type 0
-DoesAll who asked now effects before s (Ok done) t = ActsAll who asked now effects (scene_at s before) t.history t.line t.done × (t.ids ≡ s.ids)
-DoesAll who asked now effects before s (Err e) t = StopsAfter who asked now effects (scene_at s before) e.0 e.1 t.history t.line × (t.ids ≡ s.ids)
-
--- there is no memory for what was to be done
-abbrev pub IsShort : Stage → Upshot → Stage → Type 0
-IsShort s (Ok done) t = ⊥
-IsShort s (Err e) t = StopsFor Memory s e t
+abbrev pub Refuses : ℕ → ℕ → (space message : List ℕ) → Scene → Upshot → Scene → Type 0
+Refuses c now space message s (Ok done) t = let told = told_to c (refusal_entry space message) in
+    (Makes s.history now told t.history × (t ≡ record s { history = t.history }))
+    ⊎ (IsRefused s.history now told hub.OutboxFull × Closes c now cause.OutboxFull s t)
+Refuses c now space message s (Err e) t = let told = told_to c (refusal_entry space message) in
+    (StopsAt s.history now told e.fault
+    ⊎ (IsRefused s.history now told hub.OutboxFull × StopsAt s.history now (what.Closed c) e.fault)) × StopsFor e.fault s e t
 
 -- ---- packets of a socket
 
+-- the app's effects, of which so many were done before
+abbrev pub DoesAll : Who → ℕ → (before : ℕ) → List Effect → Scene → Upshot → Scene → Type 0
+DoesAll who now before effects s (Ok done) t = Runs (ActsInTurn who now) effects s t
+DoesAll who now before effects s (Err e) t = StopsAfter who now before effects s e t
+
 -- the socket leaves its namespace (Socket.IO protocol 5, "Disconnection from a namespace")
-abbrev pub Leaves : Who → ℕ → Stage → Upshot → Stage → Type 0
-Leaves who now s (Ok done) t = Makes s.history now (what.Ended who.sid) t.history × Advances s.line (Left who.sid ∷ []) t.line × (t.ids ≡ s.ids) × (t.done ≡ s.done)
-Leaves who now s (Err e) t = (fault : CoreFault) × StopsAt s.history now (what.Ended who.sid) fault × StopsFor fault s e t
+abbrev pub Leaves : Who → ℕ → Scene → Upshot → Scene → Type 0
+Leaves who now s (Ok done) t = Makes s.history now (what.Ended who.sid) t.history × Advances s.line (Left who.sid ∷ []) t.line
+    × (t ≡ record s { history = t.history; line = t.line })
+Leaves who now s (Err e) t = StopsAt s.history now (what.Ended who.sid) e.fault × StopsFor e.fault s e t
 
 module _ (decides : Who → Arrived → List Effect → Type 0) where
-  -- the app decides what is done where something arrived
-  abbrev pub Decides : Who → Arrived → (asked : Option ℕ) → ℕ → Stage → Upshot → Stage → Type 0
-  Decides who arrived asked now s result t =
-      IsShort s result t ⊎ ((effects : List Effect) × decides who arrived effects × DoesAll who asked now effects 0 s result t)
+  -- the app decides what is done where something arrived; U+001E comes into no effect where none arrived
+  abbrev pub Decides : Who → Arrived → ℕ → Scene → Upshot → Scene → Type 0
+  Decides who arrived now s result t = IsShort s result t
+      ⊎ ((effects : List Effect) × decides who arrived effects × (IsCleanArrival arrived → AllClean effects) × DoesAll who now 0 effects s result t)
 
   -- the answer to a question that isn't open is ignored; else the question is forgotten, and the app decides
-  abbrev pub TakesAnswer : Who → (id : ℕ) → (payload : List ℕ) → (attachments : List (List ℕ)) → ℕ → Stage → Upshot → Stage → Type 0
+  abbrev pub TakesAnswer : Who → (id : ℕ) → (payload : List ℕ) → (attachments : List (List ℕ)) → ℕ → Scene → Upshot → Scene → Type 0
   TakesAnswer who id payload attachments now s result t =
       (ForEachHistory s.line (λ o h. question_at 0 (book_calls who.sid h) id ≡ None)
-      × (result ≡ Ok tt) × (t.history ≡ s.history) × Advances s.line [] t.line × (t.ids ≡ s.ids) × (t.done ≡ record s.done { ignored = true }))
+      × (result ≡ Ok tt) × Advances s.line [] t.line × (t ≡ record s { line = t.line; done = record s.done { ignored = true } }))
       ⊎ ((question : Question) × (line : PlainLine)
       × ForEachHistory s.line (λ o h. question_at 0 (book_calls who.sid h) id ≡ Some question)
       × Advances s.line (Answered who.sid id ∷ []) line
-      × Decides who (arrived.Answer (record { tag = question.tag; payload = payload; attachments = attachments })) None now (record s { line = line }) result t)
+      × Decides who (arrived.Answer (record { tag = question.tag; payload = payload; attachments = attachments })) now (record s { line = line }) result t)
 
-  abbrev pub TakesAck : Who → Option ℕ → (payload : List ℕ) → (attachments : List (List ℕ)) → ℕ → Stage → Upshot → Stage → Type 0
+  abbrev pub TakesAck : Who → Option ℕ → (payload : List ℕ) → (attachments : List (List ℕ)) → ℕ → Scene → Upshot → Scene → Type 0
   TakesAck who None payload attachments now s result t = (result ≡ Ok tt) × (t ≡ record s { done = record s.done { ignored = true } })
   TakesAck who (Some id) payload attachments now s result t = TakesAnswer who id payload attachments now s result t
 
-  abbrev pub HearsEvent : Who → Option ℕ → (payload : List ℕ) → (attachments : List (List ℕ)) → ℕ → Stage → Upshot → Stage → Type 0
+  -- an event with an id asks to be acknowledged
+  abbrev pub HearsEvent : Who → Option ℕ → (payload : List ℕ) → (attachments : List (List ℕ)) → ℕ → Scene → Upshot → Scene → Type 0
   HearsEvent who id payload attachments now s result t =
-      Decides who (arrived.Event (record { payload = payload; attachments = attachments; asked = is_some id })) id now s result t
+      Decides who (arrived.Event (record { payload = payload; attachments = attachments; asked = is_some id })) now (record s { asked = id }) result t
 
   -- what a packet of a connected socket does; a CONNECT_ERROR is ignored
-  abbrev pub Serves : Kind → Who → Option ℕ → (payload : List ℕ) → (attachments : List (List ℕ)) → ℕ → Stage → Upshot → Stage → Type 0
+  abbrev pub Serves : Kind → Who → Option ℕ → (payload : List ℕ) → (attachments : List (List ℕ)) → ℕ → Scene → Upshot → Scene → Type 0
   Serves kind.Disconnect who id payload attachments now s result t = Leaves who now s result t
   Serves kind.Event who id payload attachments now s result t = HearsEvent who id payload attachments now s result t
   Serves kind.BinaryEvent who id payload attachments now s result t = HearsEvent who id payload attachments now s result t
@@ -145,10 +145,11 @@ module _ (decides : Who → Arrived → List Effect → Type 0) where
   Serves _ who id payload attachments now s result t = (result ≡ Ok tt) × (t ≡ s)
 
   -- a packet for a namespace that the client hasn't joined closes it
-  abbrev pub ServesJoined : ℕ → SioPacket → ℕ → Stage → Upshot → Stage → Type 0
+  abbrev pub ServesJoined : ℕ → SioPacket → ℕ → Scene → Upshot → Scene → Type 0
   ServesJoined c p now s result t = elim (socket_of s.history.base s.history.journal c (place_of s.history.limits p.header.space)) [
     | None ↦ ClosesFor c now cause.NotJoined s result t
-    | Some k ↦ Serves p.header.kind (record { client = c; space = p.header.space; sid = k.sid }) p.header.id p.header.payload p.attachments now s result t
+    | Some k ↦ IsSeated (record { client = c; space = p.header.space; sid = k.sid }) s.history
+        × Serves p.header.kind (record { client = c; space = p.header.space; sid = k.sid }) p.header.id p.header.payload p.attachments now s result t
   ]
 
 -- ---- connecting (Socket.IO protocol 5, "Connection to a namespace")
@@ -164,56 +165,56 @@ Names payload (Some named) = (named.0 < 2 ^ 128) × (named.1 < 2 ^ 64)
 Names payload None =
     (pid offset : ℕ) → offset < 2 ^ 64 → resume_at payload ≢ Ok (Some (digits_of pid offset))
 
--- the ids that are drawn for a socket are spent
-abbrev pub draws_two : Stage → Stage
-draws_two s = record s { ids = λ k. s.ids (k + 2) }
-
--- the socket with the next two ids
-abbrev pub newcomer : ℕ → (space : List ℕ) → Stage → Who
-newcomer c space s = record { client = c; space = space; sid = s.ids 0 }
-
 -- the socket is connected, and the app's effects follow; or its client has no place for the answer and is closed
+abbrev pub ConnectsAs : Who → (pid : ℕ) → List Effect → ℕ → Scene → Upshot → Scene → Type 0
+ConnectsAs who pid effects now s result t = let attached = what.Attached (seat who pid s.history) in
+    ((between : Scene) × Makes s.history now attached between.history × Advances s.line (Entered who.sid ∷ []) between.line
+    × (between ≡ record (counted s) { history = between.history; line = between.line }) × DoesAll who now 1 effects between result t)
+    ⊎ (IsRefused s.history now attached hub.OutboxFull × ClosesFor who.client now cause.OutboxFull s result t)
+    ⊎ ((e : Stopped) × (result ≡ Err e) × StopsAt s.history now attached e.fault × StopsFor e.fault s e t)
+
+-- it has the next two ids
 abbrev pub Connects : ℕ → (space : List ℕ) → List Effect → ℕ → Stage → Upshot → Stage → Type 0
-Connects c space effects now s result t =
-    ((history : History) × (line : PlainLine)
-    × Makes s.history now (what.Attached (seat (newcomer c space s) (s.ids 1) s.history)) history
-    × Advances s.line (Entered (s.ids 0) ∷ []) line
-    × DoesAll (newcomer c space s) None now effects 1 (record (draws_two s) { history = history; line = line; done = one_more s.done }) result t)
-    ⊎ (IsRefused s.history now (what.Attached (seat (newcomer c space s) (s.ids 1) s.history)) hub.OutboxFull × ClosesFor c now cause.OutboxFull (draws_two s) result t)
-    ⊎ FailsToConnect result t
-  where
-    FailsToConnect : Upshot → Stage → Type 0
-    FailsToConnect (Ok done) t = ⊥
-    FailsToConnect (Err e) t = (fault : CoreFault) × StopsAt s.history now (what.Attached (seat (newcomer c space s) (s.ids 1) s.history)) fault × StopsFor fault (draws_two s) e t
+Connects c space effects now s result t = (t.ids ≡ (λ k. s.ids (k + 2)))
+    × ConnectsAs (record { client = c; space = space; sid = s.ids 0 }) (s.ids 1) effects now s.scene result t.scene
+
+-- the session comes back, and the app isn't asked
+abbrev pub Returns : What → (sid : ℕ) → ℕ → Scene → Upshot → Scene → Type 0
+Returns back sid now s result t = (result ≡ Ok tt) × Makes s.history now back t.history × Advances s.line (Entered sid ∷ []) t.line
+    × (t ≡ record (counted s) { history = t.history; line = t.line })
+
+-- the session that is named comes back, or can't, or the event ends
+abbrev pub Returning : ℕ → (space : List ℕ) → (pid offset : ℕ) → ℕ → Scene → Result Bool Stopped → Scene → Type 0
+Returning c space pid offset now s (Ok true) t = let r = return_of c space pid offset s.history in Returns (what.Recovered r) r.socket.sid now s (Ok tt) t
+Returning c space pid offset now s (Ok false) t = CannotReturn s.history now (what.Recovered (return_of c space pid offset s.history)) × (t ≡ s)
+Returning c space pid offset now s (Err e) t = StopsAt s.history now (what.Recovered (return_of c space pid offset s.history)) e.fault × StopsFor e.fault s e t
 
 module _ (allows : (space payload : List ℕ) → PlainVerdict → Type 0) where
-  -- the app says whether the socket is connected
+  -- the app says whether the socket is connected; U+001E comes into no effect where none stands in the payload
   abbrev pub AsksApp : ℕ → (space payload : List ℕ) → ℕ → Stage → Upshot → Stage → Type 0
-  AsksApp c space payload now s result t = IsShort s result t
-      ⊎ ((effects : List Effect) × allows space payload (Accepted effects) × Connects c space effects now s result t)
-      ⊎ ((message : List ℕ) × allows space payload (Refused message) × Refuses c now space message s result t)
+  AsksApp c space payload now s result t = DrawsNone IsShort s result t
+      ⊎ ((effects : List Effect) × allows space payload (Accepted effects) × (IsWhole payload → AllClean effects) × Connects c space effects now s result t)
+      ⊎ ((message : List ℕ) × allows space payload (Refused message) × DrawsNone (Refuses c now space message) s result t)
 
-  -- the session that the payload names comes back, and the app isn't asked; where it can't come back, the app is asked
+  -- the session that the payload names comes back; where it can't come back, the app is asked
   abbrev pub ComesBack : ℕ → (space payload : List ℕ) → (pid offset : ℕ) → ℕ → Stage → Upshot → Stage → Type 0
-  ComesBack c space payload pid offset now s result t =
-      let r = return_of c space pid offset s.history in
-      (Makes s.history now (what.Recovered r) t.history × Advances s.line (Entered r.socket.sid ∷ []) t.line
-      × (t.ids ≡ s.ids) × (t.done ≡ one_more s.done) × (result ≡ Ok tt))
-      ⊎ (CannotReturn s.history now (what.Recovered r) × AsksApp c space payload now s result t)
-      ⊎ ((fault : CoreFault) × (result ≡ Err (fault, 0)) × StopsAt s.history now (what.Recovered r) fault × (t.history ≡ s.history) × KeepsLine s t)
+  ComesBack c space payload pid offset now s result t = let r = return_of c space pid offset s.scene.history in
+      DrawsNone (Returns (what.Recovered r) r.socket.sid now) s result t
+      ⊎ (CannotReturn s.scene.history now (what.Recovered r) × AsksApp c space payload now s result t)
+      ⊎ ((e : Stopped) × (result ≡ Err e) × StopsAt s.scene.history now (what.Recovered r) e.fault × StopsFor e.fault s.scene e t.scene × (t.ids ≡ s.ids))
 
   abbrev pub MayComeBack : ℕ → (space payload : List ℕ) → ℕ → Stage → Upshot → Stage → Type 0
-  MayComeBack c space payload now s result t = IsShort s result t
+  MayComeBack c space payload now s result t = DrawsNone IsShort s result t
       ⊎ (Names payload None × AsksApp c space payload now s result t)
       ⊎ ((named : ℕ × ℕ) × Names payload (Some named) × ComesBack c space payload named.0 named.1 now s result t)
 
   -- a CONNECT to a namespace that isn't there is refused; one to a namespace that the client has joined closes it
   abbrev pub AsksToConnect : ℕ → (space payload : List ℕ) → ℕ → Stage → Upshot → Stage → Type 0
-  AsksToConnect c space payload now s result t =
-      elim (is_space s.history.limits (place_of s.history.limits space)) [
-        | false ↦ Refuses c now space (codes "Invalid namespace") s result t
-        | true ↦ elim (socket_of s.history.base s.history.journal c (place_of s.history.limits space)) [
-          | Some k ↦ ClosesFor c now cause.AlreadyConnected s result t
+  AsksToConnect c space payload now s result t = let h = s.scene.history in
+      elim (is_space h.limits (place_of h.limits space)) [
+        | false ↦ DrawsNone (Refuses c now space (codes "Invalid namespace")) s result t
+        | true ↦ elim (socket_of h.base h.journal c (place_of h.limits space)) [
+          | Some k ↦ DrawsNone (ClosesFor c now cause.AlreadyConnected) s result t
           | None ↦ MayComeBack c space payload now s result t
         ]
       ]
@@ -225,61 +226,64 @@ module _ (decides : Who → Arrived → List Effect → Type 0) (allows : (space
   abbrev pub Works : ℕ → SioPacket → ℕ → Stage → Upshot → Stage → Type 0
   Works c p now s result t = elim p.header.kind [
     | kind.Connect ↦ AsksToConnect allows c p.header.space p.header.payload now s result t
-    | _ ↦ ServesJoined decides c p now s result t
+    | _ ↦ DrawsNone (ServesJoined decides c p now) s result t
   ]
 
-  -- what comes of what the assembler answered
+  -- what comes of what the assembler answered; U+001E stands neither in the packet's namespace nor in its payload
   abbrev pub GoesOn : ℕ → Result (Option SioPacket) SioError → ℕ → Stage → Upshot → Stage → Type 0
   GoesOn c (Ok None) now s result t = (result ≡ Ok tt) × (t ≡ s)
-  GoesOn c (Ok (Some p)) now s result t = Works c p now s result t
-  GoesOn c (Err sio.Memory) now s result t = IsShort s result t
-  GoesOn c (Err error) now s result t = ClosesFor c now (cause_of_sio error) s result t
+  GoesOn c (Ok (Some p)) now s result t = IsWholeIfGiven (Some p) × Works c p now s result t
+  GoesOn c (Err sio.Memory) now s result t = DrawsNone IsShort s result t
+  GoesOn c (Err error) now s result t = DrawsNone (ClosesFor c now (cause_of_sio error)) s result t
+
+  -- the same stage with this line
+  abbrev pub with_line : Stage → PlainLine → Stage
+  with_line s line = record s { scene = record s.scene { line = line } }
 
   -- a frame that the assembler took is kept, or the packet that it makes whole is worked on
   abbrev pub TakesFrame : ℕ → Frame → ℕ → Stage → Upshot → Stage → Type 0
   TakesFrame c frame now s result t = (given : Option SioPacket) × (line : PlainLine)
-      × Accepts s.line.assembler frame given line.assembler × Advances s.line (Framed frame ∷ []) line
-      × GoesOn c (Ok given) now (record s { line = line }) result t
+      × Accepts s.scene.line.assembler frame given line.assembler × Advances s.scene.line (Framed frame ∷ []) line
+      × GoesOn c (Ok given) now (with_line s line) result t
 
   -- one that it refuses closes the client
   abbrev pub RefusesFrame : ℕ → SioError → ℕ → Stage → Upshot → Stage → Type 0
-  RefusesFrame c error now s result t = GoesOn c (Err error) now (record s { line = record s.line { assembler = Failed error } }) result t
+  RefusesFrame c error now s result t = GoesOn c (Err error) now (with_line s (record s.scene.line { assembler = Failed error })) result t
 
   -- for want of memory nothing is done
   abbrev pub TakesText : ℕ → List ℕ → ℕ → Stage → Upshot → Stage → Type 0
-  TakesText c content now s result t = IsShort s result t
+  TakesText c content now s result t = DrawsNone IsShort s result t
       ⊎ TakesFrame c (text content) now s result t
-      ⊎ ((error : SioError) × RefusesText s.line.assembler content error × RefusesFrame c error now s result t)
+      ⊎ ((error : SioError) × RefusesText s.scene.line.assembler content error × RefusesFrame c error now s result t)
 
   abbrev pub ReadsBinary : ℕ → List ℕ → ℕ → Stage → Upshot → Stage → Type 0
-  ReadsBinary c content now s result t = IsShort s result t
+  ReadsBinary c content now s result t = DrawsNone IsShort s result t
       ⊎ TakesFrame c (binary content) now s result t
-      ⊎ ((error : SioError) × (binary_refusal s.line.assembler ≡ Some error) × RefusesFrame c error now s result t)
+      ⊎ ((error : SioError) × (binary_refusal s.scene.line.assembler ≡ Some error) × RefusesFrame c error now s result t)
 
   -- bytes that, with the attachments that came so far, are more than may wait for the client close it, and aren't kept (own)
   abbrev pub TakesBinary : ℕ → List ℕ → ℕ → Stage → Upshot → Stage → Type 0
-  TakesBinary c content now s result t = elim (exceeds s.line.assembler s.history.limits.bytes (length content)) [
-    | true ↦ ClosesFor c now cause.TooLong s result t
+  TakesBinary c content now s result t = elim (exceeds s.scene.line.assembler s.scene.history.limits.bytes (length content)) [
+    | true ↦ DrawsNone (ClosesFor c now cause.TooLong) s result t
     | false ↦ ReadsBinary c content now s result t
   ]
 
   -- what a packet does; those that only a server sends, and an upgrade outside of one, are ignored
   abbrev pub Handles : ℕ → Packet → ℕ → Stage → Upshot → Stage → Type 0
-  Handles c (eio.Close content) now s result t = ParksFor c now s result t
-  Handles c (eio.Ping content) now s result t = ClosesFor c now cause.PingFromClient s result t
-  Handles c (eio.Pong content) now s result t =
-      (result ≡ Ok tt) × (t.history ≡ s.history) × Advances s.line (Ponged now ∷ []) t.line × (t.ids ≡ s.ids) × (t.done ≡ s.done)
+  Handles c (eio.Close content) now s result t = DrawsNone (ParksFor c now) s result t
+  Handles c (eio.Ping content) now s result t = DrawsNone (ClosesFor c now cause.PingFromClient) s result t
+  Handles c (eio.Pong content) now s result t = (result ≡ Ok tt) × Advances s.scene.line (Ponged now ∷ []) t.scene.line × (t ≡ with_line s t.scene.line)
   Handles c (eio.Message content) now s result t = TakesText c content now s result t
   Handles c (eio.Binary content) now s result t = TakesBinary c content now s result t
   Handles c _ now s result t = (result ≡ Ok tt) × (t ≡ s)
 
-  -- one packet more is worked on
+  -- one packet more is worked on, which asks for no acknowledgement yet
   abbrev pub begun : Stage → Stage
-  begun s = record s { done = record s.done { packets = s.done.packets + 1 } }
+  begun s = record s { scene = record s.scene { done = record s.scene.done { packets = min (s.scene.done.packets + 1) 18446744073709551615 }; asked = None; ended = false } }
 
   -- a packet in its turn: after the client was closed nothing more is done
   abbrev pub HandlesOrBreaks : ℕ → Packet → ℕ → Stage → Upshot → Stage → Type 0
-  HandlesOrBreaks c packet now s result t = elim s.done.closed [
+  HandlesOrBreaks c packet now s result t = elim s.scene.done.closed [
     | Some why ↦ (result ≡ Ok tt) × (t ≡ s)
     | None ↦ Handles c packet now (begun s) result t
   ]
@@ -287,8 +291,8 @@ module _ (decides : Who → Arrived → List Effect → Type 0) (allows : (space
   abbrev pub HandlesInTurn : ℕ → ℕ → Stage → Packet → Stage → Type 0
   HandlesInTurn c now s packet t = HandlesOrBreaks c packet now s (Ok tt) t
 
-  -- so many of the packets were done, and the next one ends the event
-  abbrev pub BreaksAfter : ℕ → ℕ → List Packet → Stage → CoreFault → (packets effects : ℕ) → Stage → Type 0
-  BreaksAfter c now list s fault packets effects t =
-      (at : Stage) × Runs (HandlesInTurn c now) (take packets list) s at
-      × (packet : Packet) × (slice_get list packets ≡ Some packet) × HandlesOrBreaks c packet now at (Err (fault, effects)) t
+  -- so many of the packets were done, and the next one ends the event after so many of its effects
+  abbrev pub BreaksAfter : ℕ → ℕ → List Packet → Stage → CoreError → Stage → Type 0
+  BreaksAfter c now list s e t = (at : Stage) × Runs (HandlesInTurn c now) (take e.packets list) s at
+      × (packet : Packet) × (slice_get list e.packets ≡ Some packet)
+      × HandlesOrBreaks c packet now at (Err (record { fault = e.fault; effects = e.effects })) t

@@ -9,7 +9,8 @@ use Rattle.connection.specs.Line.{PlainLine}
 use Rattle.effects.specs.declared.fault.CoreFault.{CoreFault}
 use Rattle.effects.specs.declared.fault.CoreFault.TheVariants.{Memory, AlreadyProbing, AlreadyUpgraded, NotProbing}
 use Rattle.dispatch.specs.declared.outcome.Outcome.TheVariants as outcome
-use Rattle.dispatch.specs.Answers.{Answer, nothing_done, Refused, AdvancesLine}
+use Rattle.effects.specs.Plain.{nothing_done}
+use Rattle.dispatch.specs.Answers.{Answer, Refused, AdvancesLine}
 use Rattle.dispatch.specs.Place.{Place}
 use Rattle.dispatch.specs.Takes.{IsOn}
 

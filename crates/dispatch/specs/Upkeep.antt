@@ -1,30 +1,18 @@
 -- What the passing of time brings: a client's heartbeat and its end (Engine.IO protocol 4, "Heartbeat"; Socket.IO server
 -- documentation, "connectTimeout"), and the sweep of what is kept no longer (the same, "Connection state recovery").
-use Rattle.std.specs.Prelude.{◌≡◌, ◌⊎◌, ℕ, true, false, [], ◌∷◌, None, Some, Ok, Err}
+use Rattle.std.specs.Prelude.{◌≡◌, ℕ, true, false, [], ◌∷◌, None, Some, Ok, Err}
 use Rattle.session_clock.specs.declared.timing.Due.{Due}
 use Rattle.session_clock.specs.declared.timing.Due.TheVariants.{Nothing, SendPing, PingTimeout, ConnectTimeout}
 use Rattle.session_clock.specs.Heartbeat.{due}
 use Rattle.connection.specs.History.{Ticked, clock_calls}
 use Rattle.connection.specs.Line.{PlainLine, ForEachHistory}
-use Rattle.journal.specs.declared.error.HubError.TheVariants as hub
 use Rattle.journal.specs.declared.step.What.TheVariants as what
-use Rattle.journal.specs.Journal.{History}
 use Rattle.effects.specs.declared.cause.Cause.TheVariants as cause
-use Rattle.effects.specs.declared.fault.CoreFault.{CoreFault}
-use Rattle.effects.specs.Commands.{Makes, IsRefused, StopsAt, Drops}
+use Rattle.effects.specs.Commands.{Makes, StopsAt, Drops}
 use Rattle.dispatch.specs.declared.outcome.Outcome.TheVariants as outcome
 use Rattle.dispatch.specs.Answers.{Answer, at_once, ChangesNone, AdvancesLine}
+use Rattle.dispatch.specs.Parking.{ParksOrCloses, FailsToPark}
 use Rattle.dispatch.specs.Place.{Place, LosesLine, KeepsLines}
-
--- ---- a client that is gone
-
--- its sessions are saved, or where they have no place it is closed
-abbrev pub ParksOrCloses : History → ℕ → ℕ → History → Type 0
-ParksOrCloses h now c g = Makes h now (what.Parked c) g ⊎ (IsRefused h now (what.Parked c) hub.SavedFull × Makes h now (what.Closed c) g)
-
--- neither is done
-abbrev pub FailsToPark : History → ℕ → ℕ → CoreFault → Type 0
-FailsToPark h now c fault = StopsAt h now (what.Parked c) fault ⊎ (IsRefused h now (what.Parked c) hub.SavedFull × StopsAt h now (what.Closed c) fault)
 
 -- ---- a tick
 

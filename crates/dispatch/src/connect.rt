@@ -1,148 +1,114 @@
 //! What a CONNECT does (Socket.IO protocol 5, "Connection to a namespace"; Socket.IO server
 //! documentation, "Connection state recovery").
 
-ghost use Rattle.std.specs.Prelude.{◌≡◌, ◌≢◌, ◌<◌, ◌^◌, ℕ, true, None, OnOk, OnErr, IfOk, IfErr, IfSome, IfNone, is_none};
-ghost use Rattle.eio_wire.specs.Payload.{IsWhole};
+ghost use Rattle.std.specs.Prelude.{◌≡◌, ◌≢◌, ◌<◌, ◌^◌, ℕ, true, false, None, IfOk, IfErr, IfSome, IfNone};
 ghost use Rattle.connection.specs.Line.{PlainLine};
-ghost use Rattle.journal.specs.Journal.{History};
 ghost use Rattle.journal.specs.Membership.{is_open, is_space, place_of, socket_of};
-ghost use Rattle.hub.specs.Pass.{PlainHub, PlainPass};
-ghost use Rattle.effects.specs.App.{AllClean};
-ghost use Rattle.effects.specs.Following.{WorksFor, Spares};
-ghost use Rattle.dispatch.specs.Packets.{stage, Refuses, Connects, AsksApp, digits_of, Names, ComesBack, AsksToConnect};
+ghost use Rattle.effects.specs.Effects.{scene};
+ghost use Rattle.dispatch.specs.Packets.{stage, Refuses, Connects, ConnectsAs, AsksApp, digits_of, Names, Returning, AsksToConnect};
 
 use crate::packets::close_for;
 use connection::Line;
-use effects::{App, Cause, CoreFault, Done, Effect, IdSource, Verdict, Who, act_all, commands};
+use effects::{
+    App, Cause, CoreFault, Effect, IdSource, Stopped, Tally, Verdict, Visit, Who, act_all, commands,
+};
 use eio_wire::read_id;
-use hub::{Hub, Pass};
+use hub_state::State;
 use recovery::Pid;
 use room_maps::Sid;
 use sio_wire::{
     Attachments, Entry, Header, Resume, SioError, read_offset, refused_text, resume_of,
 };
 use std::alloc::Global;
-use std::sync::ledger::Ledger;
 use terms::Text;
 
 /// Tells the client that it isn't connected, or closes it where its outbox has no place for that.
-fn refuse<C: Ledger, T: Ledger>(
-    alloc: Global,
-    hub: &mut Hub<C, T>,
-    pass: &mut Pass<C, T>,
-    client: u128,
+fn refuse(
+    visit: Visit,
+    state: &mut State,
     space: &str,
     message: &str,
-    now: u64,
-    done: &mut Done,
-) -> Result<(), (CoreFault, usize)>
-    requires open_client { is_open hub.old.history.base hub.old.history.journal client ≡ true }
-    requires fresh { done.old.closed ≡ None }
-    requires whole { IsWhole space.now }
-    ensures does { (l : PlainLine) (ids : ℕ → ℕ) → Refuses client now space.now message.now (stage hub.old.history l ids done.old) result (stage hub.new.history l ids done.new) }
-    ensures open_still { OnOk result (is_open hub.new.history.base hub.new.history.journal client ≡ is_none done.new.closed) }
-    ensures open_after { OnErr result (is_open hub.new.history.base hub.new.history.journal client ≡ true) }
-    ensures works { (h : PlainHub) (p : PlainPass) → WorksFor client h hub.old p pass.old → WorksFor client h hub.new p pass.new }
-    ensures spares { OnOk result ((h : History) → Spares client h hub.old.history done.old.clients → Spares client h hub.new.history done.new.clients) }
+    tally: &mut Tally,
+) -> Result<(), Stopped>
+    requires { is_open state.old.base state.old.journal visit.client ≡ true }
+    ensures { (l : PlainLine) → Refuses visit.client visit.moment space.now message.now
+        (scene state.old l tally.old) result (scene state.new l tally.new) }
 {
-    let Ok(text) = refused_text(alloc, space, message) else {
-        return Err((CoreFault::Memory, 0));
+    let Ok(text) = refused_text(visit.alloc, space, message) else {
+        return Err(CoreFault::Memory.into());
     };
     let entry = Entry {
         text: Text::from_string(text),
-        attachments: Attachments::new(alloc),
+        attachments: Attachments::new(visit.alloc),
     };
-    match commands::tell(alloc, hub, pass, client, entry, now) {
-        Ok(true) => Ok(()),
-        Ok(false) => close_for(alloc, hub, pass, client, Cause::OutboxFull, now, done),
-        Err(fault) => Err((fault, 0)),
+    if commands::tell(visit, state, entry)? {
+        return Ok(());
     }
+    close_for(visit, state, Cause::OutboxFull, tally)
 }
 
 /// Connects the client with a new socket, and does what the app wants then.
-fn accept<C: Ledger, T: Ledger, I: IdSource>(
-    alloc: Global,
-    hub: &mut Hub<C, T>,
-    pass: &mut Pass<C, T>,
+fn accept(
+    visit: Visit,
+    state: &mut State,
     line: &mut Line,
-    ids: &mut I,
-    client: u128,
-    space: Text,
+    who: &Who,
+    pid: Pid,
     wanted: Vec<Effect>,
-    now: u64,
-    done: &mut Done,
-) -> Result<(), (CoreFault, usize)>
-    requires open_client { is_open hub.old.history.base hub.old.history.journal client ≡ true }
-    requires fresh { done.old.closed ≡ None }
-    requires whole { IsWhole space }
-    requires in_space { is_space hub.old.history.limits (place_of hub.old.history.limits space) ≡ true }
-    requires free { socket_of hub.old.history.base hub.old.history.journal client (place_of hub.old.history.limits space) ≡ None }
-    requires clean { AllClean wanted.items }
-    ensures does { Connects client space wanted.items now (stage hub.old.history line.old (I.stream ids.old) done.old) result (stage hub.new.history line.new (I.stream ids.new) done.new) }
-    ensures open_still { OnOk result (is_open hub.new.history.base hub.new.history.journal client ≡ is_none done.new.closed) }
-    ensures open_after { OnErr result (is_open hub.new.history.base hub.new.history.journal client ≡ true) }
-    ensures works { (h : PlainHub) (p : PlainPass) → WorksFor client h hub.old p pass.old → WorksFor client h hub.new p pass.new }
-    ensures spares { OnOk result ((h : History) → Spares client h hub.old.history done.old.clients → Spares client h hub.new.history done.new.clients) }
+    tally: &mut Tally,
+) -> Result<(), Stopped>
+    requires own { who.now.client ≡ visit.client }
+    requires open_client { is_open state.old.base state.old.journal visit.client ≡ true }
+    requires fresh { (tally.old.done.closed ≡ None) × (tally.old.ended ≡ false) }
+    requires in_space { is_space state.old.limits (place_of state.old.limits who.now.space) ≡ true }
+    requires free { let place = place_of state.old.limits who.now.space in
+        socket_of state.old.base state.old.journal visit.client place ≡ None }
+    ensures { ConnectsAs who.now pid wanted.items visit.moment
+        (scene state.old line.old tally.old) result (scene state.new line.new tally.new) }
 {
-    let sid = Sid::new(ids.draw());
-    let pid = Pid::new(ids.draw());
-    let who = Who { client, space, sid };
-    match commands::attach(alloc, hub, pass, &who, pid, now) {
-        Ok(true) => {
-            line.enter(sid);
-            done.effects = done.effects.saturating_add(1);
-            act_all(alloc, hub, pass, line, &who, None, now, wanted, 1, done)
-        }
-        Ok(false) => close_for(alloc, hub, pass, client, Cause::OutboxFull, now, done),
-        Err(fault) => Err((fault, 0)),
+    if commands::attach(visit, state, who, pid)? {
+        line.enter(who.sid);
+        tally.count();
+        return act_all(visit, state, line, who, wanted, 1, tally);
     }
+    close_for(visit, state, Cause::OutboxFull, tally)
 }
 
 /// Asks the app whether the client may connect.
-fn ask_app<C: Ledger, T: Ledger, A: App, I: IdSource>(
-    alloc: Global,
-    hub: &mut Hub<C, T>,
-    pass: &mut Pass<C, T>,
+fn ask_app<A: App, I: IdSource>(
+    visit: Visit,
+    state: &mut State,
     line: &mut Line,
     app: &A,
     ids: &mut I,
-    client: u128,
-    space: Text,
-    payload: &str,
-    now: u64,
-    done: &mut Done,
-) -> Result<(), (CoreFault, usize)>
-    requires open_client { is_open hub.old.history.base hub.old.history.journal client ≡ true }
-    requires fresh { done.old.closed ≡ None }
-    requires whole { IsWhole space }
-    requires in_space { is_space hub.old.history.limits (place_of hub.old.history.limits space) ≡ true }
-    requires free { socket_of hub.old.history.base hub.old.history.journal client (place_of hub.old.history.limits space) ≡ None }
-    requires clean { IsWhole payload.now }
-    ensures does { AsksApp (A.allows app.now) client space payload.now now (stage hub.old.history line.old (I.stream ids.old) done.old) result (stage hub.new.history line.new (I.stream ids.new) done.new) }
-    ensures open_still { OnOk result (is_open hub.new.history.base hub.new.history.journal client ≡ is_none done.new.closed) }
-    ensures open_after { OnErr result (is_open hub.new.history.base hub.new.history.journal client ≡ true) }
-    ensures works { (h : PlainHub) (p : PlainPass) → WorksFor client h hub.old p pass.old → WorksFor client h hub.new p pass.new }
-    ensures spares { OnOk result ((h : History) → Spares client h hub.old.history done.old.clients → Spares client h hub.new.history done.new.clients) }
+    asked: (Text, Text),
+    tally: &mut Tally,
+) -> Result<(), Stopped>
+    requires open_client { is_open state.old.base state.old.journal visit.client ≡ true }
+    requires fresh { (tally.old.done.closed ≡ None) × (tally.old.ended ≡ false) }
+    requires in_space { is_space state.old.limits (place_of state.old.limits asked.0) ≡ true }
+    requires free { let place = place_of state.old.limits asked.0 in
+        socket_of state.old.base state.old.journal visit.client place ≡ None }
+    ensures { AsksApp (A.allows app.now) visit.client asked.0 asked.1 visit.moment
+        (stage (scene state.old line.old tally.old) (I.stream ids.old)) result
+        (stage (scene state.new line.new tally.new) (I.stream ids.new)) }
 {
-    match app.connects(alloc, space.as_str(), payload) {
+    let (space, payload) = asked;
+    match app.connects(visit.alloc, space.as_str(), payload.as_str()) {
         Ok(Verdict::Accept(wanted)) => {
-            accept(
-                alloc, hub, pass, line, ids, client, space, wanted, now, done,
-            )
+            let sid = Sid::new(ids.draw());
+            let pid = Pid::new(ids.draw());
+            let who = Who {
+                client: visit.client,
+                space,
+                sid,
+            };
+            accept(visit, state, line, &who, pid, wanted, tally)
         }
         Ok(Verdict::Refuse(message)) => {
-            refuse(
-                alloc,
-                hub,
-                pass,
-                client,
-                space.as_str(),
-                message.as_str(),
-                now,
-                done,
-            )
+            refuse(visit, state, space.as_str(), message.as_str(), tally)
         }
-        Err(_) => Err((CoreFault::Memory, 0)),
+        Err(_) => Err(CoreFault::Memory.into()),
     }
 }
 
@@ -171,106 +137,60 @@ fn ids_in(resume: &Resume) -> Option<(Pid, u64)>
     Some((Pid::new(pid), offset))
 }
 
-/// Brings the session back that the client names, and asks the app where it can't come back.
-fn come_back<C: Ledger, T: Ledger, A: App, I: IdSource>(
-    alloc: Global,
-    hub: &mut Hub<C, T>,
-    pass: &mut Pass<C, T>,
+/// Brings the session back that the client names. Answers whether it came back.
+fn come_back(
+    visit: Visit,
+    state: &mut State,
     line: &mut Line,
-    app: &A,
-    ids: &mut I,
-    client: u128,
-    space: Text,
-    payload: &str,
-    pid: Pid,
-    offset: u64,
-    now: u64,
-    done: &mut Done,
-) -> Result<(), (CoreFault, usize)>
-    requires open_client { is_open hub.old.history.base hub.old.history.journal client ≡ true }
-    requires fresh { done.old.closed ≡ None }
-    requires whole { IsWhole space }
-    requires in_space { is_space hub.old.history.limits (place_of hub.old.history.limits space) ≡ true }
-    requires free { socket_of hub.old.history.base hub.old.history.journal client (place_of hub.old.history.limits space) ≡ None }
-    requires clean { IsWhole payload.now }
-    ensures does { ComesBack (A.allows app.now) client space payload.now pid offset now (stage hub.old.history line.old (I.stream ids.old) done.old) result (stage hub.new.history line.new (I.stream ids.new) done.new) }
-    ensures open_still { OnOk result (is_open hub.new.history.base hub.new.history.journal client ≡ is_none done.new.closed) }
-    ensures open_after { OnErr result (is_open hub.new.history.base hub.new.history.journal client ≡ true) }
-    ensures works { (h : PlainHub) (p : PlainPass) → WorksFor client h hub.old p pass.old → WorksFor client h hub.new p pass.new }
-    ensures spares { OnOk result ((h : History) → Spares client h hub.old.history done.old.clients → Spares client h hub.new.history done.new.clients) }
+    space: &str,
+    named: (Pid, u64),
+    tally: &mut Tally,
+) -> Result<bool, Stopped>
+    requires open_client { is_open state.old.base state.old.journal visit.client ≡ true }
+    requires in_space { is_space state.old.limits (place_of state.old.limits space.now) ≡ true }
+    requires free { let place = place_of state.old.limits space.now in
+        socket_of state.old.base state.old.journal visit.client place ≡ None }
+    ensures { Returning visit.client space.now named.0 named.1 visit.moment
+        (scene state.old line.old tally.old) result (scene state.new line.new tally.new) }
 {
-    match commands::recover(alloc, hub, pass, client, space.as_str(), pid, offset, now) {
-        Ok(Some(sid)) => {
-            line.enter(sid);
-            done.effects = done.effects.saturating_add(1);
-            Ok(())
-        }
-        Ok(None) => ask_app(
-            alloc, hub, pass, line, app, ids, client, space, payload, now, done,
-        ),
-        Err(fault) => Err((fault, 0)),
-    }
+    let (pid, offset) = named;
+    let Some(sid) = commands::recover(visit, state, space, pid, offset)? else {
+        return Ok(false);
+    };
+    line.enter(sid);
+    tally.count();
+    Ok(true)
 }
 
 /// What a CONNECT does.
-pub(crate) fn connect<C: Ledger, T: Ledger, A: App, I: IdSource>(
-    alloc: Global,
-    hub: &mut Hub<C, T>,
-    pass: &mut Pass<C, T>,
+pub(crate) fn connect<A: App, I: IdSource>(
+    visit: Visit,
+    state: &mut State,
     line: &mut Line,
     app: &A,
     ids: &mut I,
-    client: u128,
     header: Header,
-    now: u64,
-    done: &mut Done,
-) -> Result<(), (CoreFault, usize)>
-    requires open_client { is_open hub.old.history.base hub.old.history.journal client ≡ true }
-    requires fresh { done.old.closed ≡ None }
-    requires whole { IsWhole header.space × IsWhole header.payload }
-    ensures does { AsksToConnect (A.allows app.now) client header.space header.payload now (stage hub.old.history line.old (I.stream ids.old) done.old) result (stage hub.new.history line.new (I.stream ids.new) done.new) }
-    ensures open_still { OnOk result (is_open hub.new.history.base hub.new.history.journal client ≡ is_none done.new.closed) }
-    ensures open_after { OnErr result (is_open hub.new.history.base hub.new.history.journal client ≡ true) }
-    ensures works { (h : PlainHub) (p : PlainPass) → WorksFor client h hub.old p pass.old → WorksFor client h hub.new p pass.new }
-    ensures spares { OnOk result ((h : History) → Spares client h hub.old.history done.old.clients → Spares client h hub.new.history done.new.clients) }
+    tally: &mut Tally,
+) -> Result<(), Stopped>
+    requires open_client { is_open state.old.base state.old.journal visit.client ≡ true }
+    requires fresh { (tally.old.done.closed ≡ None) × (tally.old.ended ≡ false) }
+    ensures { AsksToConnect (A.allows app.now) visit.client header.space header.payload visit.moment
+        (stage (scene state.old line.old tally.old) (I.stream ids.old)) result
+        (stage (scene state.new line.new tally.new) (I.stream ids.new)) }
 {
     let Header { space, payload, .. } = header;
-    if !hub.state().has_space(space.as_str()) {
-        let message = "Invalid namespace";
-        return refuse(alloc, hub, pass, client, space.as_str(), message, now, done);
+    if !state.has_space(space.as_str()) {
+        return refuse(visit, state, space.as_str(), "Invalid namespace", tally);
     }
-    if let Some(_) = hub.state().socket_of(client, space.as_str()) {
-        return close_for(alloc, hub, pass, client, Cause::AlreadyConnected, now, done);
+    if let Some(_) = state.socket_of(visit.client, space.as_str()) {
+        return close_for(visit, state, Cause::AlreadyConnected, tally);
     }
-    match named_in(alloc, payload.as_str()) {
-        Ok(Some((pid, offset))) => come_back(
-            alloc,
-            hub,
-            pass,
-            line,
-            app,
-            ids,
-            client,
-            space,
-            payload.as_str(),
-            pid,
-            offset,
-            now,
-            done,
-        ),
-        Ok(None) => ask_app(
-            alloc,
-            hub,
-            pass,
-            line,
-            app,
-            ids,
-            client,
-            space,
-            payload.as_str(),
-            now,
-            done,
-        ),
-        Err(fault) => Err((fault, 0)),
+    let Some(named) = named_in(visit.alloc, payload.as_str())? else {
+        return ask_app(visit, state, line, app, ids, (space, payload), tally);
+    };
+    match come_back(visit, state, line, space.as_str(), named, tally) {
+        Ok(true) => Ok(()),
+        Ok(false) => ask_app(visit, state, line, app, ids, (space, payload), tally),
+        Err(stopped) => Err(stopped),
     }
 }

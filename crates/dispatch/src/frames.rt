@@ -2,31 +2,27 @@
 
 ghost use Rattle.std.specs.Prelude.{◌≡◌, ◌≢◌, ◌⊎◌, ◌++◌, ◌∷◌, ℕ, [], true, codes, IfOk, IfErr, OnOk, if◌then◌else◌};
 ghost use Rattle.std.specs.List.{AllZip};
-ghost use Rattle.journal.specs.Journal.{History};
 ghost use Rattle.journal.specs.Membership.{is_open};
-ghost use Rattle.hub.specs.Pass.{PlainHub, PlainPass};
-ghost use Rattle.connection.specs.Line.{Advances};
-ghost use Rattle.effects.specs.Following.{TurnsFor, WorksFor, Spares};
 ghost use Rattle.dispatch.specs.declared.event.WsFrame.TheVariants as frame_of;
 ghost use Rattle.dispatch.specs.Answers.{ForClient};
-ghost use Rattle.dispatch.specs.Frames.{is_too_long, IsFrameOf, IsNoFrame, IsSentAs, frames_of, Sends, SendsWaiting, SendsFor};
-ghost use Rattle.dispatch.specs.Machine.{HearsFor, TakesFrames, listed};
+ghost use Rattle.dispatch.specs.Frames.{is_too_long, IsFrameOf, IsNoFrame, IsSentAs, frames_of, SendsWaiting, SendsFor};
+ghost use Rattle.dispatch.specs.Machine.{HearsFor, TakesFrames};
 ghost use Rattle.dispatch.specs.Place.{place, Agree};
-ghost use Rattle.dispatch.specs.Takes.{handed, carried, ping_calls};
+ghost use Rattle.dispatch.specs.Takes.{handed, carried};
 
 use crate::event::WsFrame;
+use crate::lines::transport_of;
 use crate::outcome::{Frames, Outcome};
-use crate::takes::count;
-use crate::turns::{close_unread, transport_of, work_on};
+use crate::takes::{carry_ping, count};
+use crate::turns::{close_unread, work_on};
 use connection::Line;
-use effects::{App, Cause, CoreError, CoreFault, IdSource};
+use effects::{App, Cause, CoreError, CoreFault, IdSource, Visit};
 use eio_wire::{Packet, WireError, read_packet};
-use hub::{Hub, Pass};
+use hub_state::State;
 use session_clock::Transport;
 use sio_wire::Entry;
 use std::alloc::{AllocError, Global};
 use std::collections::BTreeMap;
-use std::sync::ledger::Ledger;
 use terms::Text;
 
 /// A frame of more bytes isn't read.
@@ -56,38 +52,31 @@ fn read_frame(alloc: Global, frame: &WsFrame) -> Result<Packet, WireError>
 }
 
 /// Works on a frame that the client sends.
-pub(crate) fn hear<C: Ledger, T: Ledger, A: App, I: IdSource>(
-    alloc: Global,
-    hub: &mut Hub<C, T>,
-    pass: &mut Pass<C, T>,
+pub(crate) fn hear<A: App, I: IdSource>(
+    visit: Visit,
+    state: &mut State,
     lines: &mut BTreeMap<u128, Line>,
     app: &A,
-    client: u128,
-    frame: &WsFrame,
-    now: u64,
     ids: &mut I,
+    frame: &WsFrame,
 ) -> Result<Outcome, CoreError>
-    requires agree { Agree hub.old.history lines.old.entries }
-    ensures does { HearsFor (A.decides app.now) (A.allows app.now) now client frame.now (place hub.old.history lines.old.entries) (I.stream ids.old) result (place hub.new.history lines.new.entries) (I.stream ids.new) }
-    ensures agree { Agree hub.new.history lines.new.entries }
-    ensures works { (h : PlainHub) (p : PlainPass) → WorksFor client h hub.old p pass.old → WorksFor client h hub.new p pass.new }
-    ensures spares { IfOk result (λ o. (h : History) → Spares client h hub.old.history [] → Spares client h hub.new.history (listed o)) }
+    requires { Agree state.old lines.old.entries }
+    ensures { HearsFor (A.decides app.now) (A.allows app.now) visit.moment visit.client frame.now
+        (place state.old lines.old.entries) (I.stream ids.old) result
+        (place state.new lines.new.entries) (I.stream ids.new) }
 {
-    match transport_of(lines, client) {
+    match transport_of(lines, visit.client) {
         None => return Err(CoreFault::UnknownClient.at_once()),
         Some(Transport::Socket) => {}
         Some(_) => return Err(CoreFault::WrongTransport.at_once()),
     }
     if is_too_long(frame) {
-        return close_unread(alloc, hub, pass, lines, client, Cause::TooLong, now);
+        return close_unread(visit, state, lines, Cause::TooLong);
     }
-    match read_frame(alloc, frame) {
-        Ok(packet) => work_on(alloc, hub, pass, lines, app, client, &[packet], now, ids),
+    match read_frame(visit.alloc, frame) {
+        Ok(packet) => work_on(visit, state, lines, app, ids, &[packet]),
         Err(WireError::Memory) => Err(CoreFault::Memory.at_once()),
-        Err(fault) => {
-            let cause = Cause::of_wire(fault);
-            close_unread(alloc, hub, pass, lines, client, cause, now)
-        }
+        Err(fault) => close_unread(visit, state, lines, Cause::of_wire(fault)),
     }
 }
 
@@ -125,127 +114,84 @@ fn first_frames(alloc: Global, ping: bool) -> Result<Vec<WsFrame>, AllocError>
 }
 
 /// The frames that a take of at most so many entries carries. Each text is copied once.
-fn frames_for<C: Ledger, T: Ledger>(
-    alloc: Global,
-    hub: &Hub<C, T>,
-    client: u128,
+fn frames_for(
+    visit: Visit,
+    state: &State,
     ping: bool,
     most: usize,
 ) -> Result<Vec<WsFrame>, AllocError>
-    requires open_client { is_open hub.now.history.base hub.now.history.journal client ≡ true }
-    ensures { IfOk result (λ frames. AllZip IsSentAs (carried ping (handed hub.now.history client most)) frames.items) }
+    requires { is_open state.now.base state.now.journal visit.client ≡ true }
+    ensures { IfOk result (λ frames.
+        AllZip IsSentAs (carried ping (handed state.now visit.client most)) frames.items) }
 {
-    let mut frames = first_frames(alloc, ping)?;
+    let mut frames = first_frames(visit.alloc, ping)?;
     for index in 0..most {
-        let Some(entry) = hub.state().front(client, index) else {
+        let Some(entry) = state.front(visit.client, index) else {
             return Ok(frames);
         };
-        push_entry(alloc, &mut frames, entry)?;
+        push_entry(visit.alloc, &mut frames, entry)?;
     }
     Ok(frames)
 }
 
-/// A ping that was due is carried.
-fn carry_ping(line: &mut Line, ping: bool)
-    ensures { Advances line.old (ping_calls ping) line.new }
-{
-    if ping {
-        line.carry_ping();
-    }
-}
-
-/// Hands out frames that are written. They are written before the entries are taken.
-fn send<C: Ledger, T: Ledger>(
-    alloc: Global,
-    hub: &mut Hub<C, T>,
-    pass: &mut Pass<C, T>,
+/// Hands out the frames of a client that speaks over a WebSocket, or says that there is nothing.
+/// They are written before the entries are taken.
+fn send_waiting(
+    visit: Visit,
+    state: &mut State,
     line: &mut Line,
-    client: u128,
     most: usize,
     ping: bool,
-    frames: Vec<WsFrame>,
-    now: u64,
 ) -> Result<Outcome, CoreFault>
-    requires open_client { is_open hub.old.history.base hub.old.history.journal client ≡ true }
-    requires sent { AllZip IsSentAs (carried ping (handed hub.old.history client most)) frames.items }
-    ensures does { Sends client most now ping result hub.old.history hub.new.history line.old line.new }
-    ensures open_still { is_open hub.new.history.base hub.new.history.journal client ≡ true }
-    ensures turns { (h : PlainHub) (p : PlainPass) → TurnsFor client h hub.old p pass.old → TurnsFor client h hub.new p pass.new }
-    ensures spares { (h : History) → Spares client h hub.old.history [] → Spares client h hub.new.history [] }
+    requires { is_open state.old.base state.old.journal visit.client ≡ true }
+    ensures { SendsWaiting ping visit.client most visit.moment result
+        state.old state.new line.old line.new }
 {
-    count(alloc, hub, pass, client, most, now)?;
+    let frames = frames_for(visit, state, ping, most)?;
+    if frames.is_empty() {
+        return Ok(Outcome::Nothing);
+    }
+    count(visit, state, most)?;
     carry_ping(line, ping);
     Ok(Outcome::Frames(Frames::from_vec(frames)))
 }
 
-/// Hands out the frames of a client that speaks over a WebSocket, or says that there is nothing.
-fn send_waiting<C: Ledger, T: Ledger>(
-    alloc: Global,
-    hub: &mut Hub<C, T>,
-    pass: &mut Pass<C, T>,
-    line: &mut Line,
-    client: u128,
-    most: usize,
-    ping: bool,
-    now: u64,
-) -> Result<Outcome, CoreFault>
-    requires open_client { is_open hub.old.history.base hub.old.history.journal client ≡ true }
-    ensures does { SendsWaiting ping client most now result hub.old.history hub.new.history line.old line.new }
-    ensures open_still { is_open hub.new.history.base hub.new.history.journal client ≡ true }
-    ensures turns { (h : PlainHub) (p : PlainPass) → TurnsFor client h hub.old p pass.old → TurnsFor client h hub.new p pass.new }
-    ensures spares { (h : History) → Spares client h hub.old.history [] → Spares client h hub.new.history [] }
-{
-    let frames = frames_for(alloc, hub, client, ping, most)?;
-    if frames.is_empty() {
-        return Ok(Outcome::Nothing);
-    }
-    send(alloc, hub, pass, line, client, most, ping, frames, now)
-}
-
 /// Takes the frames for a client's WebSocket.
-fn frame_take<C: Ledger, T: Ledger>(
-    alloc: Global,
-    hub: &mut Hub<C, T>,
-    pass: &mut Pass<C, T>,
+fn frame_take(
+    visit: Visit,
+    state: &mut State,
     line: &mut Line,
-    client: u128,
     most: usize,
-    now: u64,
 ) -> Result<Outcome, CoreFault>
-    requires open_client { is_open hub.old.history.base hub.old.history.journal client ≡ true }
-    ensures does { SendsFor client most now result hub.old.history hub.new.history line.old line.new }
-    ensures open_still { is_open hub.new.history.base hub.new.history.journal client ≡ true }
-    ensures turns { (h : PlainHub) (p : PlainPass) → TurnsFor client h hub.old p pass.old → TurnsFor client h hub.new p pass.new }
-    ensures spares { (h : History) → Spares client h hub.old.history [] → Spares client h hub.new.history [] }
+    requires { is_open state.old.base state.old.journal visit.client ≡ true }
+    ensures { SendsFor visit.client most visit.moment result
+        state.old state.new line.old line.new }
 {
     let transport = line.transport();
     let ping = line.is_ping_due();
     match transport {
-        Transport::Socket => send_waiting(alloc, hub, pass, line, client, most, ping, now),
+        Transport::Socket => send_waiting(visit, state, line, most, ping),
         Transport::Polling | Transport::Probing => Err(CoreFault::WrongTransport),
     }
 }
 
 /// Takes the frames for the client's WebSocket.
-pub(crate) fn take<C: Ledger, T: Ledger>(
-    alloc: Global,
-    hub: &mut Hub<C, T>,
-    pass: &mut Pass<C, T>,
+pub(crate) fn take(
+    visit: Visit,
+    state: &mut State,
     lines: &mut BTreeMap<u128, Line>,
-    client: u128,
     most: usize,
-    now: u64,
 ) -> Result<Outcome, CoreError>
-    requires agree { Agree hub.old.history lines.old.entries }
-    ensures does { ForClient client (λ line. TakesFrames now client most line (place hub.old.history lines.old.entries) result (place hub.new.history lines.new.entries)) CoreFault.UnknownClient (place hub.old.history lines.old.entries) result (place hub.new.history lines.new.entries) }
-    ensures agree { Agree hub.new.history lines.new.entries }
-    ensures turns { (h : PlainHub) (p : PlainPass) → TurnsFor client h hub.old p pass.old → TurnsFor client h hub.new p pass.new }
-    ensures spares { (h : History) → Spares client h hub.old.history [] → Spares client h hub.new.history [] }
+    requires { Agree state.old lines.old.entries }
+    ensures { ForClient visit.client (λ line. TakesFrames visit.moment visit.client most line
+        (place state.old lines.old.entries) result (place state.new lines.new.entries))
+        CoreFault.UnknownClient
+        (place state.old lines.old.entries) result (place state.new lines.new.entries) }
 {
-    let Some(line) = lines.get_mut(&client) else {
+    let Some(line) = lines.get_mut(&visit.client) else {
         return Err(CoreFault::UnknownClient.at_once());
     };
-    match frame_take(alloc, hub, pass, line, client, most, now) {
+    match frame_take(visit, state, line, most) {
         Ok(outcome) => Ok(outcome),
         Err(fault) => Err(fault.at_once()),
     }

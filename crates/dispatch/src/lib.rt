@@ -5,9 +5,13 @@
 mod connect;
 mod event;
 mod frames;
+mod greeting;
 mod laws;
+mod lines;
 mod outcome;
 mod packets;
+mod parking;
+mod serve;
 mod server;
 mod takes;
 mod turns;

@@ -18,12 +18,15 @@ ghost use Rattle.dispatch.specs.Handed.{Turn, turns_after, Handed};
 ghost use Rattle.dispatch.specs.Machine.{Does, Machine, IsOf, listed};
 
 use crate::event::Event;
+use crate::greeting::Greeting;
+use crate::lines::transport_of;
 use crate::outcome::Outcome;
 use crate::{frames, turns, upgrade, upkeep};
 use connection::Line;
-use effects::{App, CoreError, CoreFault, IdSource};
+use effects::{App, Call, CoreError, CoreFault, IdSource};
 use eio_wire::Numbers;
 use hub::{Hub, NotAll, Pass};
+use hub_state::State;
 use journal::{Config, Epoch, HubError, Totals};
 use session_clock::{Timing, Transport};
 use std::alloc::{AllocError, Global};
@@ -38,8 +41,7 @@ use std::sync::ledger::{Blank, Ledger};
 pub struct Core<C: Ledger, T: Ledger> {
     hub: Hub<C, T>,
     lines: BTreeMap<u128, Line>,
-    timing: Timing,
-    numbers: Numbers,
+    greeting: Greeting,
 }
 
 impl<C: Ledger, T: Ledger> Model for Core<C, T> {
@@ -47,7 +49,7 @@ impl<C: Ledger, T: Ledger> Model for Core<C, T> {
 
     ghost Value = { PlainCore };
 
-    ghost view = { λ c. record { hub = c.hub; lines = c.lines.entries; timing = c.timing; numbers = c.numbers } };
+    ghost view = { λ c. record { hub = c.hub; lines = c.lines.entries; timing = c.greeting.timing; numbers = c.greeting.numbers } };
 
     ghost invariant = { λ c. Agree c.hub.history c.lines.entries × IsClean c.hub.history };
 }
@@ -65,7 +67,15 @@ impl<C: Ledger, T: Ledger> Core<C, T> {
         requires commands { (commands.name ≡ C.name) × (commands.parts ≡ C.parts) × (commands.parts ≡ 65536) }
         requires taken { (taken.name ≡ T.name) × (taken.parts ≡ T.parts) × (taken.parts ≡ 65536) }
         ensures config { OnOk result (config_refusal config ≡ None) }
-        ensures core { IfOk result (λ made. made.0 ≡ record { hub = record { history = record { base = empty_base config.first_offset; limits = config; journal = [] }; rest = 65535 }; lines = []; timing = timing; numbers = numbers }) }
+        ensures core { IfOk result (λ made. made.0 ≡ record {
+          hub = record {
+            history = record { base = empty_base config.first_offset; limits = config; journal = [] };
+            rest = 65535;
+          };
+          lines = [];
+          timing = timing;
+          numbers = numbers;
+        }) }
         ensures handed { IfOk result (λ made. (c : ℕ) → Handed c [] made.0.hub.history) }
         ensures pass { IfOk result (λ made. made.1 ≡ record { commands = 0; taken = 0; parts = 1 }) }
         ensures err { IfErr result (λ e. e ≡ at_once (fault_of_config (config_refusal config))) }
@@ -75,8 +85,7 @@ impl<C: Ledger, T: Ledger> Core<C, T> {
                 Core {
                     hub,
                     lines: BTreeMap::new(alloc),
-                    timing,
-                    numbers,
+                    greeting: Greeting { timing, numbers },
                 },
                 pass,
             )),
@@ -95,24 +104,28 @@ impl<C: Ledger, T: Ledger> Core<C, T> {
         now: u64,
         ids: &mut I,
     ) -> Result<Outcome, CoreError>
-        ensures does { Does (A.decides app.now) (A.allows app.now) now self.old.timing self.old.numbers event.now (place self.old.hub.history self.old.lines) (I.stream ids.old) result (place self.new.hub.history self.new.lines) (I.stream ids.new) }
+        ensures does { Does (A.decides app.now) (A.allows app.now) now
+            self.old.timing self.old.numbers event.now
+            (place self.old.hub.history self.old.lines) (I.stream ids.old) result
+            (place self.new.hub.history self.new.lines) (I.stream ids.new) }
         ensures settings { (self.new.timing ≡ self.old.timing) × (self.new.numbers ≡ self.old.numbers) }
-        ensures handed { (c : ℕ) (turns : List Turn) → Handed c turns self.old.hub.history → Handed c ((event.now, result) ∷ turns) self.new.hub.history }
-        ensures turns { (c : ℕ) → IsOf event.now (I.stream ids.old) c → TurnsFor c self.old.hub self.new.hub pass.old pass.new }
-        ensures spares { IfOk result (λ o. (c : ℕ) → IsOf event.now (I.stream ids.old) c → Spares c self.old.hub.history self.new.hub.history (listed o)) }
+        ensures handed { (c : ℕ) (turns : List Turn) → Handed c turns self.old.hub.history
+            → Handed c ((event.now, result) ∷ turns) self.new.hub.history }
+        ensures turns { (c : ℕ) → IsOf event.now (I.stream ids.old) c
+            → TurnsFor c self.old.hub self.new.hub pass.old pass.new }
+        ensures spares { IfOk result (λ o. (c : ℕ) → IsOf event.now (I.stream ids.old) c
+            → Spares c self.old.hub.history self.new.hub.history (listed o)) }
     {
-        apply_to(
-            alloc,
-            &mut self.hub,
-            pass,
-            &mut self.lines,
-            self.timing,
-            &self.numbers,
-            app,
-            event,
-            now,
-            ids,
-        )
+        let before = self.hub.state.totals();
+        let call = Call { alloc, moment: now };
+        let Core {
+            hub,
+            lines,
+            greeting,
+        } = self;
+        let answer = apply_to(call, &mut hub.state, lines, greeting, app, event, ids);
+        hub.books.catch_up(pass, &before, &hub.state);
+        answer
     }
 
     /// What each of these events in turn is answered with. Where there is no memory for so many answers
@@ -125,8 +138,13 @@ impl<C: Ledger, T: Ledger> Core<C, T> {
         events: &[(Event, u64)],
         ids: &mut I,
     ) -> Result<Vec<Result<Outcome, CoreError>>, AllocError>
-        ensures does { IfOk result (λ answers. Machine (A.decides app.now) (A.allows app.now) self.old.timing self.old.numbers events.now answers.items (place self.old.hub.history self.old.lines) (I.stream ids.old) (place self.new.hub.history self.new.lines) (I.stream ids.new)) }
-        ensures handed { IfOk result (λ answers. (c : ℕ) (turns : List Turn) → Handed c turns self.old.hub.history → Handed c (turns_after turns events.now answers.items) self.new.hub.history) }
+        ensures does { IfOk result (λ answers. Machine (A.decides app.now) (A.allows app.now)
+            self.old.timing self.old.numbers events.now answers.items
+            (place self.old.hub.history self.old.lines) (I.stream ids.old)
+            (place self.new.hub.history self.new.lines) (I.stream ids.new)) }
+        ensures handed { IfOk result (λ answers. (c : ℕ) (turns : List Turn)
+            → Handed c turns self.old.hub.history
+            → Handed c (turns_after turns events.now answers.items) self.new.hub.history) }
         ensures unchanged { OnErr result ((self.new ≡ self.old) × (pass.new ≡ pass.old) × (ids.new ≡ ids.old)) }
     {
         let mut answers = Vec::with_capacity(alloc, events.len())?;
@@ -158,7 +176,7 @@ impl<C: Ledger, T: Ledger> Core<C, T> {
         ensures known { is_some result ≡ is_open self.now.hub.history.base self.now.hub.history.journal client }
         ensures on { IfSome result (λ on. (line : PlainLine) × (line_of self.now.lines client ≡ Some line) × IsOn on line) }
     {
-        turns::transport_of(&self.lines, client)
+        transport_of(&self.lines, client)
     }
 
     /// The open clients, rising.
@@ -220,58 +238,43 @@ impl<C: Ledger, T: Ledger> Core<C, T> {
     }
 }
 
-/// Does what an event does to the hub and to the clients' lines.
-fn apply_to<C: Ledger, T: Ledger, A: App, I: IdSource>(
-    alloc: Global,
-    hub: &mut Hub<C, T>,
-    pass: &mut Pass<C, T>,
+/// Does what an event does to the hub's state and to the clients' lines.
+fn apply_to<A: App, I: IdSource>(
+    call: Call,
+    state: &mut State,
     lines: &mut BTreeMap<u128, Line>,
-    timing: Timing,
-    numbers: &Numbers,
+    greeting: &Greeting,
     app: &A,
     event: &Event,
-    now: u64,
     ids: &mut I,
 ) -> Result<Outcome, CoreError>
-    requires agree { Agree hub.old.history lines.old.entries }
-    requires clean { IsClean hub.old.history }
-    ensures does { Does (A.decides app.now) (A.allows app.now) now timing numbers.now event.now (place hub.old.history lines.old.entries) (I.stream ids.old) result (place hub.new.history lines.new.entries) (I.stream ids.new) }
-    ensures agree { Agree hub.new.history lines.new.entries }
-    ensures handed { (c : ℕ) (turns : List Turn) → Handed c turns hub.old.history → Handed c ((event.now, result) ∷ turns) hub.new.history }
-    ensures turns { (c : ℕ) → IsOf event.now (I.stream ids.old) c → TurnsFor c hub.old hub.new pass.old pass.new }
-    ensures spares { IfOk result (λ o. (c : ℕ) → IsOf event.now (I.stream ids.old) c → Spares c hub.old.history hub.new.history (listed o)) }
+    requires agree { Agree state.old lines.old.entries }
+    requires clean { IsClean state.old }
+    ensures { Does (A.decides app.now) (A.allows app.now) call.moment
+        greeting.now.timing greeting.now.numbers event.now
+        (place state.old lines.old.entries) (I.stream ids.old) result
+        (place state.new lines.new.entries) (I.stream ids.new) }
 {
     match event {
-        Event::Opened { socket } => turns::open(
-            alloc, hub, pass, lines, timing, numbers, *socket, now, ids,
-        ),
-        Event::Post { client, body } => turns::post(
-            alloc,
-            hub,
-            pass,
-            lines,
-            app,
-            *client,
-            body.as_str(),
-            now,
-            ids,
-        ),
+        Event::Opened { socket } => {
+            let visit = call.of(ids.draw());
+            turns::open(visit, state, lines, greeting, *socket)
+        }
+        Event::Post { client, body } => {
+            turns::post(call.of(*client), state, lines, app, ids, body.as_str())
+        }
         Event::Frame { client, frame } => {
-            frames::hear(alloc, hub, pass, lines, app, *client, frame, now, ids)
+            frames::hear(call.of(*client), state, lines, app, ids, frame)
         }
-        Event::PollBegin { client } => turns::begin(alloc, hub, pass, lines, *client, now),
-        Event::PollEnd { client } => turns::end(alloc, lines, *client),
-        Event::PollTake { client, most } => {
-            turns::take(alloc, hub, pass, lines, *client, *most, now)
-        }
-        Event::FrameTake { client, most } => {
-            frames::take(alloc, hub, pass, lines, *client, *most, now)
-        }
-        Event::Probe { client } => upgrade::probe(alloc, lines, *client),
-        Event::Upgraded { client } => upgrade::upgrade(alloc, lines, *client),
-        Event::ProbeLost { client } => upgrade::probe_lost(alloc, lines, *client),
-        Event::TransportLost { client } => turns::lose(alloc, hub, pass, lines, *client, now),
-        Event::Tick { client } => upkeep::tick(alloc, hub, pass, lines, *client, now),
-        Event::Sweep => upkeep::sweep(alloc, hub, pass, now),
+        Event::PollBegin { client } => turns::begin(call.of(*client), state, lines),
+        Event::PollEnd { client } => turns::end(call.alloc, lines, *client),
+        Event::PollTake { client, most } => { turns::take(call.of(*client), state, lines, *most) }
+        Event::FrameTake { client, most } => { frames::take(call.of(*client), state, lines, *most) }
+        Event::Probe { client } => upgrade::probe(call.alloc, lines, *client),
+        Event::Upgraded { client } => upgrade::upgrade(call.alloc, lines, *client),
+        Event::ProbeLost { client } => upgrade::probe_lost(call.alloc, lines, *client),
+        Event::TransportLost { client } => turns::lose(call.of(*client), state, lines),
+        Event::Tick { client } => upkeep::tick(call.of(*client), state, lines),
+        Event::Sweep => upkeep::sweep(call.of(0), state),
     }
 }

@@ -5,22 +5,19 @@ ghost use Rattle.eio_wire.specs.declared.packet.Packet.TheVariants.{Ping, Noop};
 ghost use Rattle.eio_wire.specs.Payload.{Payload, HasWholeData};
 ghost use Rattle.journal.specs.Journal.{History};
 ghost use Rattle.journal.specs.Membership.{is_open};
-ghost use Rattle.hub.specs.Pass.{PlainHub, PlainPass};
 ghost use Rattle.connection.specs.History.{GetEnded};
 ghost use Rattle.connection.specs.Line.{Advances};
-ghost use Rattle.effects.specs.Following.{TurnsFor, Spares};
 ghost use Rattle.dispatch.specs.Place.{IsClean};
-ghost use Rattle.dispatch.specs.Takes.{packets_of, handed, carried, Counts, FailsToCount, TellsNoop, calls_of, Carries, TakesWaiting, TakesFor, AllWhole};
+ghost use Rattle.dispatch.specs.Takes.{packets_of, handed, carried, Counts, FailsToCount, TellsNoop, ping_calls, calls_of, Carries, TakesWaiting, TakesFor, AllWhole};
 
 use crate::outcome::Outcome;
 use connection::Line;
-use effects::{CoreFault, commands};
+use effects::{CoreFault, Visit, commands};
 use eio_wire::{Packet, WireError, write_payload};
-use hub::{Hub, Pass};
+use hub_state::State;
 use session_clock::Transport;
 use sio_wire::Entry;
 use std::alloc::{AllocError, Global};
-use std::sync::ledger::Ledger;
 use terms::Text;
 
 /// Adds the packets of an entry: its text, and then its attachments.
@@ -46,19 +43,19 @@ fn first_packets(alloc: Global, ping: bool) -> Result<Vec<Packet>, AllocError>
 }
 
 /// The packets that a take of at most so many entries carries.
-fn packets_for<C: Ledger, T: Ledger>(
-    alloc: Global,
-    hub: &Hub<C, T>,
-    client: u128,
+fn packets_for(
+    visit: Visit,
+    state: &State,
     ping: bool,
     most: usize,
 ) -> Result<Vec<Packet>, AllocError>
-    requires open_client { is_open hub.now.history.base hub.now.history.journal client ≡ true }
-    ensures { IfOk result (λ packets. packets.items ≡ carried ping (handed hub.now.history client most)) }
+    requires { is_open state.now.base state.now.journal visit.client ≡ true }
+    ensures { IfOk result (λ packets.
+        packets.items ≡ carried ping (handed state.now visit.client most)) }
 {
-    let mut packets = first_packets(alloc, ping)?;
+    let mut packets = first_packets(visit.alloc, ping)?;
     for index in 0..most {
-        let Some(entry) = hub.state().front(client, index) else {
+        let Some(entry) = state.front(visit.client, index) else {
             return Ok(packets);
         };
         push_entry(&mut packets, entry)?;
@@ -91,128 +88,101 @@ fn noop(alloc: Global, line: &mut Line) -> Result<Outcome, CoreFault>
 }
 
 /// Counts the entries that are handed out, where there are some.
-pub(crate) fn count<C: Ledger, T: Ledger>(
-    alloc: Global,
-    hub: &mut Hub<C, T>,
-    pass: &mut Pass<C, T>,
-    client: u128,
-    most: usize,
-    now: u64,
-) -> Result<(), CoreFault>
-    requires open_client { is_open hub.old.history.base hub.old.history.journal client ≡ true }
-    ensures ok { OnOk result (Counts client most now hub.old.history hub.new.history) }
-    ensures err { IfErr result (λ f. FailsToCount client most now hub.old.history f × (hub.new ≡ hub.old)) }
-    ensures open_still { is_open hub.new.history.base hub.new.history.journal client ≡ true }
-    ensures turns { (h : PlainHub) (p : PlainPass) → TurnsFor client h hub.old p pass.old → TurnsFor client h hub.new p pass.new }
-    ensures spares { (h : History) → Spares client h hub.old.history [] → Spares client h hub.new.history [] }
+pub(crate) fn count(visit: Visit, state: &mut State, most: usize) -> Result<(), CoreFault>
+    requires { is_open state.old.base state.old.journal visit.client ≡ true }
+    ensures ok { OnOk result (Counts visit.client most visit.moment state.old state.new) }
+    ensures err { IfErr result (λ f.
+        FailsToCount visit.client most visit.moment state.old f × (state.new ≡ state.old)) }
 {
-    if most == 0 || hub.state().front(client, 0).is_none() {
+    if most == 0 || state.front(visit.client, 0).is_none() {
         return Ok(());
     }
-    commands::take(alloc, hub, pass, client, most, now)
+    commands::take(visit, state, most)
+}
+
+/// A ping that was due is carried.
+pub(crate) fn carry_ping(line: &mut Line, ping: bool)
+    ensures { Advances line.old (ping_calls ping) line.new }
+{
+    if ping {
+        line.carry_ping();
+    }
 }
 
 /// The GET is answered, and a ping that was due is carried.
 fn answer_get(line: &mut Line, ping: bool)
     ensures { Advances line.old (calls_of ping) line.new }
 {
-    if ping {
-        line.carry_ping();
-    }
+    carry_ping(line, ping);
     line.end_get();
 }
 
 /// Hands out a payload of these packets. It is written before the entries are taken.
-fn carry<C: Ledger, T: Ledger>(
-    alloc: Global,
-    hub: &mut Hub<C, T>,
-    pass: &mut Pass<C, T>,
+fn carry(
+    visit: Visit,
+    state: &mut State,
     line: &mut Line,
-    client: u128,
     most: usize,
     ping: bool,
     packets: &[Packet],
-    now: u64,
 ) -> Result<Outcome, CoreFault>
-    requires open_client { is_open hub.old.history.base hub.old.history.journal client ≡ true }
-    requires carried { packets.now ≡ carried ping (handed hub.old.history client most) }
+    requires open_client { is_open state.old.base state.old.journal visit.client ≡ true }
+    requires carried { packets.now ≡ carried ping (handed state.old visit.client most) }
     requires some { 0 < length packets.now }
     requires whole { AllWhole packets.now }
-    ensures does { Carries client most now ping result hub.old.history hub.new.history line.old line.new }
-    ensures open_still { is_open hub.new.history.base hub.new.history.journal client ≡ true }
-    ensures turns { (h : PlainHub) (p : PlainPass) → TurnsFor client h hub.old p pass.old → TurnsFor client h hub.new p pass.new }
-    ensures spares { (h : History) → Spares client h hub.old.history [] → Spares client h hub.new.history [] }
+    ensures { Carries visit.client most visit.moment ping result
+        state.old state.new line.old line.new }
 {
-    let text = payload_of(alloc, packets)?;
-    count(alloc, hub, pass, client, most, now)?;
+    let text = payload_of(visit.alloc, packets)?;
+    count(visit, state, most)?;
     answer_get(line, ping);
     Ok(Outcome::Payload(text))
 }
 
 /// Takes the payload for a GET of a client that polls, or says that there is nothing to take.
-fn take_waiting<C: Ledger, T: Ledger>(
-    alloc: Global,
-    hub: &mut Hub<C, T>,
-    pass: &mut Pass<C, T>,
+fn take_waiting(
+    visit: Visit,
+    state: &mut State,
     line: &mut Line,
     transport: Transport,
-    client: u128,
     most: usize,
     ping: bool,
-    now: u64,
 ) -> Result<Outcome, CoreFault>
-    requires open_client { is_open hub.old.history.base hub.old.history.journal client ≡ true }
-    requires clean { IsClean hub.old.history }
-    ensures does { TakesWaiting transport ping client most now result hub.old.history hub.new.history line.old line.new }
-    ensures open_still { is_open hub.new.history.base hub.new.history.journal client ≡ true }
-    ensures turns { (h : PlainHub) (p : PlainPass) → TurnsFor client h hub.old p pass.old → TurnsFor client h hub.new p pass.new }
-    ensures spares { (h : History) → Spares client h hub.old.history [] → Spares client h hub.new.history [] }
+    requires open_client { is_open state.old.base state.old.journal visit.client ≡ true }
+    requires clean { IsClean state.old }
+    ensures { TakesWaiting transport ping visit.client most visit.moment result
+        state.old state.new line.old line.new }
 {
-    let packets = packets_for(alloc, hub, client, ping, most)?;
+    let packets = packets_for(visit, state, ping, most)?;
     if packets.is_empty() {
         return match transport {
-            Transport::Probing => noop(alloc, line),
+            Transport::Probing => noop(visit.alloc, line),
             _ => Ok(Outcome::Nothing),
         };
     }
-    carry(
-        alloc,
-        hub,
-        pass,
-        line,
-        client,
-        most,
-        ping,
-        packets.as_slice(),
-        now,
-    )
+    carry(visit, state, line, most, ping, packets.as_slice())
 }
 
 /// Takes the payload for a client's GET.
-pub(crate) fn poll_take<C: Ledger, T: Ledger>(
-    alloc: Global,
-    hub: &mut Hub<C, T>,
-    pass: &mut Pass<C, T>,
+pub(crate) fn poll_take(
+    visit: Visit,
+    state: &mut State,
     line: &mut Line,
-    client: u128,
     most: usize,
-    now: u64,
 ) -> Result<Outcome, CoreFault>
-    requires open_client { is_open hub.old.history.base hub.old.history.journal client ≡ true }
-    requires clean { IsClean hub.old.history }
-    ensures does { TakesFor client most now result hub.old.history hub.new.history line.old line.new }
-    ensures open_still { is_open hub.new.history.base hub.new.history.journal client ≡ true }
-    ensures turns { (h : PlainHub) (p : PlainPass) → TurnsFor client h hub.old p pass.old → TurnsFor client h hub.new p pass.new }
-    ensures spares { (h : History) → Spares client h hub.old.history [] → Spares client h hub.new.history [] }
+    requires open_client { is_open state.old.base state.old.journal visit.client ≡ true }
+    requires clean { IsClean state.old }
+    ensures { TakesFor visit.client most visit.moment result
+        state.old state.new line.old line.new }
 {
     let transport = line.transport();
     let getting = line.is_getting();
     let ping = line.is_ping_due();
     match transport {
-        Transport::Socket if getting => noop(alloc, line),
+        Transport::Socket if getting => noop(visit.alloc, line),
         Transport::Socket => Err(CoreFault::WrongTransport),
         Transport::Polling | Transport::Probing => {
-            take_waiting(alloc, hub, pass, line, transport, client, most, ping, now)
+            take_waiting(visit, state, line, transport, most, ping)
         }
     }
 }

@@ -2,8 +2,9 @@
 
 ghost use Rattle.std.specs.Prelude.{◌≡◌, Ok, Err, IfErr, OnOk};
 ghost use Rattle.journal.specs.Journal.{History};
-ghost use Rattle.dispatch.specs.Answers.{at_once, nothing_done, ForClient};
-ghost use Rattle.dispatch.specs.Place.{place, Agree};
+ghost use Rattle.dispatch.specs.Answers.{at_once, ForClient};
+ghost use Rattle.dispatch.specs.Place.{place};
+ghost use Rattle.effects.specs.Plain.{nothing_done};
 ghost use Rattle.dispatch.specs.Upgrade.{fault_of_clock, Probes, Upgrades, LosesProbe};
 
 use crate::outcome::Outcome;
@@ -32,8 +33,9 @@ pub(crate) fn probe(
     lines: &mut BTreeMap<u128, Line>,
     client: u128,
 ) -> Result<Outcome, CoreError>
-    ensures does { (h : History) → ForClient client (λ line. Probes client line (place h lines.old.entries) result (place h lines.new.entries)) CoreFault.UnknownClient (place h lines.old.entries) result (place h lines.new.entries) }
-    ensures agree { (h : History) → Agree h lines.old.entries → Agree h lines.new.entries }
+    ensures { (h : History) → ForClient client (λ line. Probes client line
+        (place h lines.old.entries) result (place h lines.new.entries))
+        CoreFault.UnknownClient (place h lines.old.entries) result (place h lines.new.entries) }
 {
     let Some(line) = lines.get_mut(&client) else {
         return Err(CoreFault::UnknownClient.at_once());
@@ -72,8 +74,9 @@ pub(crate) fn upgrade(
     lines: &mut BTreeMap<u128, Line>,
     client: u128,
 ) -> Result<Outcome, CoreError>
-    ensures does { (h : History) → ForClient client (λ line. Upgrades client line (place h lines.old.entries) result (place h lines.new.entries)) CoreFault.UnknownClient (place h lines.old.entries) result (place h lines.new.entries) }
-    ensures agree { (h : History) → Agree h lines.old.entries → Agree h lines.new.entries }
+    ensures { (h : History) → ForClient client (λ line. Upgrades client line
+        (place h lines.old.entries) result (place h lines.new.entries))
+        CoreFault.UnknownClient (place h lines.old.entries) result (place h lines.new.entries) }
 {
     let Some(line) = lines.get_mut(&client) else {
         return Err(CoreFault::UnknownClient.at_once());
@@ -87,8 +90,9 @@ pub(crate) fn probe_lost(
     lines: &mut BTreeMap<u128, Line>,
     client: u128,
 ) -> Result<Outcome, CoreError>
-    ensures does { (h : History) → ForClient client (λ line. LosesProbe client line (place h lines.old.entries) result (place h lines.new.entries)) CoreFault.UnknownClient (place h lines.old.entries) result (place h lines.new.entries) }
-    ensures agree { (h : History) → Agree h lines.old.entries → Agree h lines.new.entries }
+    ensures { (h : History) → ForClient client (λ line. LosesProbe client line
+        (place h lines.old.entries) result (place h lines.new.entries))
+        CoreFault.UnknownClient (place h lines.old.entries) result (place h lines.new.entries) }
 {
     let Some(line) = lines.get_mut(&client) else {
         return Err(CoreFault::UnknownClient.at_once());

@@ -1,44 +1,37 @@
 //! What the passing of time brings: a client's heartbeat and its end (Engine.IO protocol 4,
 //! "Heartbeat"), and the sweep of what the hub keeps no longer.
 
-ghost use Rattle.std.specs.Prelude.{◌≡◌, ℕ, ◌==◌, false, List, [], None, Some};
+ghost use Rattle.std.specs.Prelude.{◌≡◌, ℕ, ◌==◌, false, List, None, Some};
 ghost use Rattle.connection.specs.Line.{PlainLine};
-ghost use Rattle.journal.specs.Journal.{History};
-ghost use Rattle.hub.specs.Pass.{PlainHub, PlainPass};
-ghost use Rattle.effects.specs.Following.{WorksFor, Spares};
 ghost use Rattle.dispatch.specs.Answers.{ForClient};
 ghost use Rattle.dispatch.specs.Place.{line_of, place, Agree};
 ghost use Rattle.dispatch.specs.Upkeep.{Ticks, Sweeps};
 
+use crate::lines::forget;
 use crate::outcome::Outcome;
-use crate::turns::{forget, park_or_close};
+use crate::parking::park_or_close;
 use connection::Line;
-use effects::{Cause, CoreError, CoreFault, commands};
-use hub::{Hub, Pass};
+use effects::{Cause, CoreError, CoreFault, Visit, commands};
+use hub_state::State;
 use session_clock::Due;
-use std::alloc::Global;
 use std::collections::BTreeMap;
-use std::sync::ledger::Ledger;
 
 /// Does what is due to the client now. Questions of its sockets that ran out are forgotten first.
-pub(crate) fn tick<C: Ledger, T: Ledger>(
-    alloc: Global,
-    hub: &mut Hub<C, T>,
-    pass: &mut Pass<C, T>,
+pub(crate) fn tick(
+    visit: Visit,
+    state: &mut State,
     lines: &mut BTreeMap<u128, Line>,
-    client: u128,
-    now: u64,
 ) -> Result<Outcome, CoreError>
-    requires agree { Agree hub.old.history lines.old.entries }
-    ensures does { ForClient client (λ line. Ticks now client line (place hub.old.history lines.old.entries) result (place hub.new.history lines.new.entries)) CoreFault.UnknownClient (place hub.old.history lines.old.entries) result (place hub.new.history lines.new.entries) }
-    ensures agree { Agree hub.new.history lines.new.entries }
-    ensures works { (h : PlainHub) (p : PlainPass) → WorksFor client h hub.old p pass.old → WorksFor client h hub.new p pass.new }
-    ensures spares { (h : History) → Spares client h hub.old.history [] → Spares client h hub.new.history [] }
+    requires { Agree state.old lines.old.entries }
+    ensures { ForClient visit.client (λ line. Ticks visit.moment visit.client line
+        (place state.old lines.old.entries) result (place state.new lines.new.entries))
+        CoreFault.UnknownClient
+        (place state.old lines.old.entries) result (place state.new lines.new.entries) }
 {
-    let Some(line) = lines.get_mut(&client) else {
+    let Some(line) = lines.get_mut(&visit.client) else {
         return Err(CoreFault::UnknownClient.at_once());
     };
-    match line.tick(now) {
+    match line.tick(visit.moment) {
         Due::Nothing => Ok(Outcome::Ticked {
             ping: false,
             closed: None,
@@ -47,12 +40,12 @@ pub(crate) fn tick<C: Ledger, T: Ledger>(
             ping: true,
             closed: None,
         }),
-        Due::PingTimeout => match park_or_close(alloc, hub, pass, client, now) {
-            Ok(_) => Ok(give_up(lines, client, Cause::PingTimeout)),
+        Due::PingTimeout => match park_or_close(visit, state) {
+            Ok(_) => Ok(give_up(lines, visit.client, Cause::PingTimeout)),
             Err(fault) => Err(fault.at_once()),
         },
-        Due::ConnectTimeout => match commands::close(alloc, hub, pass, client, now) {
-            Ok(()) => Ok(give_up(lines, client, Cause::ConnectTimeout)),
+        Due::ConnectTimeout => match commands::close(visit, state) {
+            Ok(()) => Ok(give_up(lines, visit.client, Cause::ConnectTimeout)),
             Err(fault) => Err(fault.at_once()),
         },
     }
@@ -62,7 +55,8 @@ pub(crate) fn tick<C: Ledger, T: Ledger>(
 fn give_up(lines: &mut BTreeMap<u128, Line>, client: u128, cause: Cause) -> Outcome
     ensures answer { result ≡ Outcome.Ticked false (Some cause) }
     ensures gone { line_of lines.new.entries client ≡ None }
-    ensures others { (d : ℕ) → client == d ≡ false → line_of lines.new.entries d ≡ line_of lines.old.entries d }
+    ensures others { (d : ℕ) → client == d ≡ false
+        → line_of lines.new.entries d ≡ line_of lines.old.entries d }
 {
     forget(lines, client);
     Outcome::Ticked {
@@ -72,18 +66,11 @@ fn give_up(lines: &mut BTreeMap<u128, Line>, client: u128, cause: Cause) -> Outc
 }
 
 /// Drops what the hub keeps no longer. No client opens or ends by it, so no line changes.
-pub(crate) fn sweep<C: Ledger, T: Ledger>(
-    alloc: Global,
-    hub: &mut Hub<C, T>,
-    pass: &mut Pass<C, T>,
-    now: u64,
-) -> Result<Outcome, CoreError>
-    ensures does { (lines : List (ℕ × PlainLine)) → Sweeps now (place hub.old.history lines) result (place hub.new.history lines) }
-    ensures agree { (lines : List (ℕ × PlainLine)) → Agree hub.old.history lines → Agree hub.new.history lines }
-    ensures works { (client : ℕ) (h : PlainHub) (p : PlainPass) → WorksFor client h hub.old p pass.old → WorksFor client h hub.new p pass.new }
-    ensures spares { (client : ℕ) (h : History) → Spares client h hub.old.history [] → Spares client h hub.new.history [] }
+pub(crate) fn sweep(visit: Visit, state: &mut State) -> Result<Outcome, CoreError>
+    ensures { (lines : List (ℕ × PlainLine)) → Sweeps visit.moment
+        (place state.old lines) result (place state.new lines) }
 {
-    match commands::sweep(alloc, hub, pass, now) {
+    match commands::sweep(visit, state) {
         Ok(swept) => Ok(Outcome::Swept(swept)),
         Err(fault) => Err(fault.at_once()),
     }

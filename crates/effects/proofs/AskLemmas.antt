@@ -1,5 +1,5 @@
 -- The question that was asked last is open; why a book has no id.
-use Rattle.std.proofs.Common.{◌≡◌, ◌⊎◌, inl, inr, ℕ, ◌==◌, Bool, true, false, cond, List, [], ◌∷◌, ◌++◌, refl, sym, subst, is_some, Option, None, Some, Result, Ok, Err, OnOk, OnErr, IfErr, IfSome}
+use Rattle.std.proofs.Common.{◌≡◌, ◌⊎◌, inl, inr, ℕ, ◌==◌, Bool, true, false, cond, List, [], ◌∷◌, ◌++◌, refl, is_some, Option, None, Some, Result, Ok, Err, OnOk, OnErr, IfErr, IfSome}
 use Rattle.std.specs.Map.{lookup}
 use Rattle.ack_book.specs.declared.book.Question.{Question}
 use Rattle.ack_book.specs.declared.error.AckError.{AckError}
@@ -11,15 +11,13 @@ use Rattle.connection.specs.Line.{PlainLine, LeadsTo, ForEachHistory, Advances}
 use Rattle.sio_wire.specs.declared.entry.Entry.{Entry}
 use Rattle.journal.specs.declared.error.HubError.TheVariants as hub
 use Rattle.journal.specs.declared.step.What.TheVariants as what
-use Rattle.journal.specs.Journal.{History}
 use Rattle.effects.specs.declared.app.Inquiry as inquiry
 use Rattle.effects.specs.declared.app.Who.{Who}
 use Rattle.effects.specs.declared.cause.Cause.TheVariants.{OutboxFull}
 use Rattle.effects.specs.declared.fault.CoreFault.{CoreFault}
 use Rattle.effects.specs.declared.fault.CoreFault.TheVariants.{Memory}
 use Rattle.effects.specs.Commands.{IsRefused, StopsAt}
-use Rattle.effects.specs.Effects.{Scene, Closes, IsInquiry, IsNextId, asked_in_vain, Asks, FailsToTell, FailsToAsk}
-use Rattle.effects.specs.Plain.{PlainDone}
+use Rattle.effects.specs.Effects.{Scene, Closes, IsInquiry, IsNextId, told_to, asked_in_vain, Asks, FailsToAsk}
 use Rattle.effects.proofs.StepLemmas.{itself}
 
 found-last : (id : ℕ) (q : Question) (es : List (ℕ × Question)) → is_some (lookup (λ key. id == key) (es ++ (id, q) ∷ [])) ≡ true
@@ -62,25 +60,23 @@ spent-book l sid r is refused short o h leads = on (ask_refusal 0 (book_calls si
 
 -- ---- nobody is told
 
-module _ (who : Who) (q : inquiry.Inquiry) (now id : ℕ) (s : Scene) (g : History) (l : PlainLine) (next : IsNextId s.line who.sid id) (vain : Advances s.line (asked_in_vain who now q id) l) where
+module _ (who : Who) (q : inquiry.Inquiry) (now id : ℕ) (s t : Scene) (next : IsNextId s.line who.sid id) (vain : Advances s.line (asked_in_vain who now q id) t.line) where
   -- the outbox has no place for the question, and the client is closed
-  pub asks-full : {X : Type 0} (r : Result X CoreFault) (done : PlainDone) (entry : Entry) → IsInquiry who.space id q entry
-      → IsRefused s.history now (what.Told (record { client = who.client; entry = entry })) hub.OutboxFull
-      → OnOk r (Closes who.client now OutboxFull s.history g s.done done) → OnOk r (Asks who q now s (record { history = g; line = l; done = done; turn = s.turn }))
-  asks-full (Ok x) done entry is refused closes = (id, next, entry, is, inr (refused, closes, refl, vain))
-  asks-full (Err f) done entry is refused closes = tt
+  pub asks-full : {X : Type 0} (r : Result X CoreFault) (entry : Entry) → IsInquiry who.space id q entry
+      → IsRefused s.history now (told_to who.client entry) hub.OutboxFull
+      → OnOk r (Closes who.client now OutboxFull (record s { line = t.line }) t) → OnOk r (Asks who q now s t)
+  asks-full (Ok x) entry is refused closes = (id, next, entry, is, inr (refused, vain, closes))
+  asks-full (Err f) entry is refused closes = tt
 
   -- or it isn't
   pub asks-open : {X : Type 0} (r : Result X CoreFault) (entry : Entry) → IsInquiry who.space id q entry
-      → IsRefused s.history now (what.Told (record { client = who.client; entry = entry })) hub.OutboxFull
-      → IfErr r (λ f. StopsAt s.history now (what.Closed who.client) f) → OnErr r (g ≡ s.history) → IfErr r (λ f. FailsToAsk who q now s f g l)
+      → IsRefused s.history now (told_to who.client entry) hub.OutboxFull
+      → IfErr r (λ f. StopsAt s.history now (what.Closed who.client) f) → OnErr r (t ≡ record s { line = t.line }) → IfErr r (λ f. FailsToAsk who q now s f t)
   asks-open (Ok x) entry is refused stops same = tt
-  asks-open (Err f) entry is refused stops same =
-      (same, inr (id, next, vain, inr (entry, is, subst (λ (h : History). FailsToTell who now h entry f) (sym same) (inr (refused, stops)))))
+  asks-open (Err f) entry is refused stops same = (same, inr (id, next, vain, inr (entry, is, inr (refused, stops))))
 
   -- there is no memory for the entry, or the command that tells it isn't done
-  pub asks-untold : (f : CoreFault) → (f ≡ Memory) ⊎ ((entry : Entry) × IsInquiry who.space id q entry × StopsAt s.history now (what.Told (record { client = who.client; entry = entry })) f)
-      → g ≡ s.history → FailsToAsk who q now s f g l
+  pub asks-untold : (f : CoreFault) → (f ≡ Memory) ⊎ ((entry : Entry) × IsInquiry who.space id q entry × StopsAt s.history now (told_to who.client entry) f)
+      → t ≡ record s { line = t.line } → FailsToAsk who q now s f t
   asks-untold f (inl short) same = (same, inr (id, next, vain, inl short))
-  asks-untold f (inr (entry, is, stops)) same =
-      (same, inr (id, next, vain, inr (entry, is, subst (λ (h : History). FailsToTell who now h entry f) (sym same) (inl stops))))
+  asks-untold f (inr (entry, is, stops)) same = (same, inr (id, next, vain, inr (entry, is, inl stops)))

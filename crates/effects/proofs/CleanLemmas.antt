@@ -196,24 +196,24 @@ clean-cast h c b asked allowed space payload =
 
 -- ---- acknowledgements
 
-pub clean-reply : (space : List ℕ) (id : ℕ) (r : reply.Reply) (entry : Entry) → id < 2 ^ 64 → is_unsendable r.payload r.attachments ≡ false → IsReply space id r entry → IsWhole space → IsWhole r.payload → is_clean entry ≡ true
-clean-reply space id r entry small fine is named whole =
+pub clean-reply : (space : List ℕ) (id : ℕ) (r : reply.Reply) (entry : Entry) → is_unsendable r.payload r.attachments ≡ false → IsReply space id r entry → IsWhole space → IsWhole r.payload → is_clean entry ≡ true
+clean-reply space id r entry fine is named whole =
     let few = (neither (not (list_any is_bracket r.payload)) (nat_lt 32 (length r.attachments)) fine).1 in
     ap not
     (lacks-plain (reply_header space id r) entry.text is.text
     (few-digits (reply_header space id r).kind (length r.attachments) (grind (arith, nat_tests, few)))
     (lacks space named)
-    (lacks-decimal id small)
+    (lacks-decimal id is.fits)
     (lacks r.payload whole))
 
 -- ---- questions
 
-pub clean-inquiry : (space : List ℕ) (id : ℕ) (q : inquiry.Inquiry) (entry : Entry) → id < 2 ^ 64 → is_unsendable q.payload q.attachments ≡ false → IsInquiry space id q entry → IsWhole space → IsWhole q.payload → is_clean entry ≡ true
-clean-inquiry space id q entry small fine is named whole =
+pub clean-inquiry : (space : List ℕ) (id : ℕ) (q : inquiry.Inquiry) (entry : Entry) → is_unsendable q.payload q.attachments ≡ false → IsInquiry space id q entry → IsWhole space → IsWhole q.payload → is_clean entry ≡ true
+clean-inquiry space id q entry fine is named whole =
     let few = (neither (not (list_any is_bracket q.payload)) (nat_lt 32 (length q.attachments)) fine).1 in
     ap not
     (lacks-plain (inquiry_header space id q) entry.text is.text
     (few-digits (inquiry_header space id q).kind (length q.attachments) (grind (arith, nat_tests, few)))
     (lacks space named)
-    (lacks-decimal id small)
+    (lacks-decimal id is.fits)
     (lacks q.payload whole))

@@ -1,6 +1,7 @@
-mod ActLemmas
+pub mod ActLemmas
 mod AskLemmas
-mod CleanLemmas
+pub mod CleanLemmas
 mod RefusalLemmas
-mod RunsLemmas
-mod StepLemmas
+pub mod RunsLemmas
+pub mod StepLemmas
+pub mod WorkLemmas

@@ -1,6 +1,6 @@
 -- What one more step of an event leaves as it was.
 use Rattle.std.proofs.Common.{◌≡◌, ◌≢◌, ℕ, ◌==◌, Bool, true, false, not, ◌&&◌, ◌||◌, List, [], ◌∷◌, ◌++◌, refl, sym, ◌∙◌, ap, subst, arith, map, filter, is_some, append-nil, if◌then◌else◌, Option, None, Some}
-use Rattle.std.specs.List.{AllByRecursion, list_any, find}
+use Rattle.std.specs.List.{list_any, find}
 use Rattle.std.specs.Option.{option_or}
 use Rattle.std.proofs.lemmas.Bool.Decides.{nat_tests}
 use Rattle.std.proofs.lemmas.List.Folds.{find-append, list_any-append}
@@ -10,20 +10,19 @@ use Rattle.journal.specs.declared.step.Step.{Step}
 use Rattle.journal.specs.declared.step.What.{What}
 use Rattle.journal.specs.declared.step.What.TheVariants.{Opened, Attached, Recovered, Cast, Told, AllEnded}
 use Rattle.journal.specs.Plain.{PlainBase, PlainCast, PlainCastDone, PlainDismissal, Limits}
-use Rattle.journal.specs.Journal.{History, moment_at, with_step}
+use Rattle.journal.specs.Journal.{History, history, moment_at, with_step}
 use Rattle.journal.specs.Casting.{IsCast}
 use Rattle.journal.specs.Log.{log}
 use Rattle.journal.specs.Membership.{opens, closes, is_open, connects, ends, sockets, sid_of, has_id, socket_with, is_connected}
 use Rattle.journal.specs.Outboxes.{answer, farewell, begins, put, entries_for, entries_of, placements}
 use Rattle.journal.specs.Entries.{AllPass, own_entries}
 use Rattle.journal.proofs.EpochsSocketsLemmas.{is_open-step}
-use Rattle.journal.proofs.MembershipLemmas.{is_open-opened, socket_with-quiet}
+use Rattle.journal.proofs.MembershipLemmas.{is_open-opened, sockets-quiet, socket_with-quiet}
 use Rattle.journal.proofs.SocketsLemmas.{neither}
-use Rattle.hub.specs.Pass.{PlainHub, PlainPass, Rises}
 use Rattle.effects.specs.declared.app.Who.{Who}
-use Rattle.effects.specs.Commands.{IsSeated}
+use Rattle.effects.specs.Commands.{is_of, IsSeated}
 use Rattle.effects.specs.Effects.{is_among}
-use Rattle.effects.specs.Following.{is_clean, is_own, is_work, is_cast, CastsNothing, Follows, GoesOn, TurnsFor, WorksFor, is_listed, Spares}
+use Rattle.effects.specs.Following.{is_clean, is_turn, is_work, AreMade, is_cast, CastsNothing, Follows, is_listed, Spares, WorksFor}
 
 pub itself : (c : ℕ) → (c == c) ≡ true
 itself c = grind (arith, nat_tests)
@@ -31,46 +30,27 @@ itself c = grind (arith, nat_tests)
 abbrev step_at : History → ℕ → What → Step
 step_at h now what = record { at = moment_at h now; what = what }
 
--- ---- the hub went on
+-- ---- the history went on
 
-rises-on : (f g h : PlainHub) (p q r : PlainPass) → Rises f g p q → Rises g h q r → Rises f h p r
-rises-on f g h p q r first next =
-    record { commands = omega (arith, first.commands, next.commands); taken = omega (arith, first.taken, next.taken); parts = next.parts ∙ first.parts }
+-- a history that has gone on by these steps
+gone-on : (f g : History) (steps : List Step) → g.base ≡ f.base → g.limits ≡ f.limits → g.journal ≡ steps ++ f.journal → g ≡ history f.base f.limits (steps ++ f.journal)
+gone-on f g steps base limits journal =
+    ap (λ (b : PlainBase). history b g.limits g.journal) base
+    ∙ ap (λ (l : Limits). history f.base l g.journal) limits
+    ∙ ap (λ (j : List Step). history f.base f.limits j) journal
 
 -- what a step may be
-module _ (kind : What → Bool) where
-  follows-on : (now : ℕ) (what : What) (f g h : History) → Follows kind f g → h ≡ with_step g now what → kind what ≡ true → AllPass is_clean (own_entries g.limits what) → Follows kind f h
+module _ (kind : History → What → Bool) where
+  pub follows-on : (now : ℕ) (what : What) (f g h : History) → Follows kind f g → h ≡ with_step g now what → kind g what ≡ true → AllPass is_clean (own_entries g.limits what) → Follows kind f h
   follows-on now what f g h before step own clean =
       record {
         steps = step_at g now what ∷ before.steps;
         base = ap (λ (k : History). k.base) step ∙ before.base;
         limits = ap (λ (k : History). k.limits) step ∙ before.limits;
         journal = ap (λ (k : History). k.journal) step ∙ ap (λ (j : List Step). step_at g now what ∷ j) before.journal;
-        own = (own, before.own);
+        own = (subst (λ (k : History). kind k what ≡ true) (gone-on f g before.steps before.base before.limits before.journal) own, before.own);
         clean = (subst (λ (limits : Limits). AllPass is_clean (own_entries limits what)) before.limits clean, before.clean);
       }
-
-  goes-on : (now : ℕ) (what : What) (g h : PlainHub) (q r : PlainPass) → h.history ≡ with_step g.history now what → h.rest ≡ g.rest → Rises g h q r
-      → kind what ≡ true → AllPass is_clean (own_entries g.history.limits what)
-      → (f : PlainHub) (p : PlainPass) → GoesOn kind f g p q → GoesOn kind f h p r
-  goes-on now what g h q r step rest rises own clean f p before =
-      record {
-        follows = follows-on now what f.history g.history h.history before.follows step own clean;
-        rises = rises-on f g h p q r before.rises rises;
-        rest = rest ∙ before.rest;
-      }
-
--- a command of an event's work
-pub works-on : (c now : ℕ) (what : What) (g h : PlainHub) (q r : PlainPass) → h.history ≡ with_step g.history now what → h.rest ≡ g.rest → Rises g h q r
-    → is_work c what ≡ true → AllPass is_clean (own_entries g.history.limits what)
-    → (f : PlainHub) (p : PlainPass) → WorksFor c f g p q → WorksFor c f h p r
-works-on c now what g h q r step rest rises own clean f p before = goes-on (is_work c) now what g h q r step rest rises own clean f p before
-
--- a command that opens the client or takes its entries
-pub turns-on : (c now : ℕ) (what : What) (g h : PlainHub) (q r : PlainPass) → h.history ≡ with_step g.history now what → h.rest ≡ g.rest → Rises g h q r
-    → is_own c what ≡ true → AllPass is_clean (own_entries g.history.limits what)
-    → (f : PlainHub) (p : PlainPass) → TurnsFor c f g p q → TurnsFor c f h p r
-turns-on c now what g h q r step rest rises own clean f p before = goes-on (is_own c) now what g h q r step rest rises own clean f p before
 
 -- ---- clients and sockets
 
@@ -103,6 +83,19 @@ connected-now base step before k is =
     last None true is = refl
     last None false is = absurd (cc is)
 
+-- the socket has the id and the client
+abbrev is_his : Who → Socket → Bool
+is_his who k = k.sid == who.sid && k.client == who.client
+
+-- it is one of the client's that the step connects
+own-now : (base : PlainBase) (step : Step) (before : List Step) (k : Socket) (who : Who) → connects step.what ≡ k ∷ [] → is_his who k ≡ true → list_any (is_his who) (sockets base (step ∷ before)) ≡ true
+unfolding sockets
+own-now base step before k who is his =
+    ap (λ (ks : List Socket). list_any (is_his who) (filter (λ l. not (ends step.what l)) (sockets base before) ++ ks)) is
+    ∙ list_any-append (is_his who) (filter (λ l. not (ends step.what l)) (sockets base before)) (k ∷ [])
+    ∙ ap (λ (b : Bool). list_any (is_his who) (filter (λ l. not (ends step.what l)) (sockets base before)) || (b || false)) his
+    ∙ either (list_any (is_his who) (filter (λ l. not (ends step.what l)) (sockets base before)))
+
 -- a step of a hub's history
 module _ (h k : History) (now : ℕ) (what : What) (made : k ≡ with_step h now what) where
   pub open-still : (c : ℕ) → is_open h.base h.journal c ≡ true → closes what c ≡ false → is_open k.base k.journal c ≡ true
@@ -117,12 +110,16 @@ module _ (h k : History) (now : ℕ) (what : What) (made : k ≡ with_step h now
       record {
         open_client = open-still who.client seated.open_client stays;
         connected = rw made (ap (λ (o : Option Socket). is_some o) (socket_with-quiet h.base (step_at h now what) h.journal sid_of nobody none who.sid) ∙ seated.connected);
+        own = rw made (ap (λ (ks : List Socket). list_any (is_his who) ks) (sockets-quiet h.base (step_at h now what) h.journal nobody none) ∙ seated.own);
         in_space = rw made seated.in_space;
       }
 
   -- the socket that the step connects
   pub connected-then : (s : Socket) → connects what ≡ s ∷ [] → is_connected sid_of k.base k.journal s.sid ≡ true
   connected-then s is = rw made (connected-now h.base (step_at h now what) h.journal s is)
+
+  pub own-then : (s : Socket) (who : Who) → connects what ≡ s ∷ [] → is_his who s ≡ true → is_of k who.client who.sid ≡ true
+  own-then s who is his = rw made (own-now h.base (step_at h now what) h.journal s who is his)
 
 -- a socket that isn't among those that end is found as before
 found-still : (s : ℕ) (ended : List ℕ) → is_among s ended ≡ false → (ks : List Socket) → is_some (find (has_id sid_of s) ks) ≡ true
@@ -144,6 +141,30 @@ found-still s ended stays (k ∷ ks) is = on (k.sid == s) (is_among k.sid ended)
     on false true same gone is rest = rest is
     on false false same gone is rest = rw same (rest is)
 
+-- and is its client's as before
+his-still : (who : Who) (ended : List ℕ) → is_among who.sid ended ≡ false → (ks : List Socket) → list_any (is_his who) ks ≡ true
+    → list_any (is_his who) (filter (λ k. not (is_among k.sid ended)) ks) ≡ true
+his-still who ended stays [] is = is
+his-still who ended stays (k ∷ ks) is = on (is_his who k) (is_among k.sid ended) refl refl is (his-still who ended stays ks)
+  where
+    kept : List Socket
+    kept = filter (λ l. not (is_among l.sid ended)) ks
+
+    same-id : is_his who k ≡ true → k.sid ≡ who.sid
+    same-id his = on (k.sid == who.sid) (k.client == who.client) refl his
+      where
+        on : (a b : Bool) → (k.sid == who.sid) ≡ a → (a && b) ≡ true → k.sid ≡ who.sid
+        on true b same his = grind (arith, nat_tests, same)
+        on false b same his = absurd (cc his)
+
+    on : (a b : Bool) → is_his who k ≡ a → is_among k.sid ended ≡ b → (a || list_any (is_his who) ks) ≡ true
+        → (list_any (is_his who) ks ≡ true → list_any (is_his who) kept ≡ true)
+        → list_any (is_his who) (if not b then k ∷ kept else kept) ≡ true
+    on true true his gone is rest = absurd (cc (sym gone ∙ ap (λ x. is_among x ended) (same-id his) ∙ stays))
+    on true false his gone is rest = rw his refl
+    on false true his gone is rest = rest is
+    on false false his gone is rest = rw his (rest is)
+
 -- and stays seated
 pub seated-among : (h k : History) (now : ℕ) (e : PlainDismissal) (made : k ≡ with_step h now (AllEnded e)) (who : Who) → IsSeated who h → is_among who.sid e.ended ≡ false → IsSeated who k
 unfolding socket_with sockets
@@ -151,6 +172,7 @@ seated-among h k now e made who seated stays =
     record {
       open_client = open-still h k now (AllEnded e) made who.client seated.open_client refl;
       connected = rw (made, append-nil (filter (λ k. not (is_among k.sid e.ended)) (sockets h.base h.journal))) (found-still who.sid e.ended stays (sockets h.base h.journal) seated.connected);
+      own = rw (made, append-nil (filter (λ k. not (is_among k.sid e.ended)) (sockets h.base h.journal))) (his-still who e.ended stays (sockets h.base h.journal) seated.own);
       in_space = rw made seated.in_space;
     }
 
@@ -168,12 +190,12 @@ none-for e d [] other = refl
 none-for e d (x ∷ es) other = rw other (none-for e d es other)
 
 -- a step of a client that is no broadcast doesn't open another one
-begins-none : (c d : ℕ) (what : What) → is_own c what ≡ true → d ≢ c → begins d what ≡ false
-begins-none c d (Opened e) own other = apart e c d own other
-begins-none c d _ own other = refl
+begins-none : (c d : ℕ) (h : History) (what : What) → is_turn c h what ≡ true → d ≢ c → begins d what ≡ false
+begins-none c d h (Opened e) own other = apart e c d own other
+begins-none c d h _ own other = refl
 
 -- and puts nothing for it
-puts-none : (c d : ℕ) (base : PlainBase) (limits : Limits) (before : List Step) (what : What) → is_own c what ≡ true → is_cast what ≡ false → d ≢ c → entries_for d (put base limits before what) ≡ []
+puts-none : (c d : ℕ) (base : PlainBase) (limits : Limits) (before : List Step) (what : What) → is_turn c (history base limits before) what ≡ true → is_cast what ≡ false → d ≢ c → entries_for d (put base limits before what) ≡ []
 unfolding put
 puts-none c d base limits before (Attached k) own isnt other = none-for k.client d (answer limits k ∷ []) (apart k.client c d own other)
 puts-none c d base limits before (Recovered r) own isnt other =
@@ -183,26 +205,26 @@ puts-none c d base limits before (Cast b) own isnt other = absurd (cc isnt)
 puts-none c d base limits before (AllEnded e) own isnt other = absurd (cc isnt)
 puts-none c d base limits before _ own isnt other = refl
 
-same-placements : (c d : ℕ) (base : PlainBase) (limits : Limits) (step : Step) (before : List Step) → is_own c step.what ≡ true → is_cast step.what ≡ false → d ≢ c
+same-placements : (c d : ℕ) (base : PlainBase) (limits : Limits) (step : Step) (before : List Step) → is_turn c (history base limits before) step.what ≡ true → is_cast step.what ≡ false → d ≢ c
     → placements base limits (step ∷ before) d ≡ placements base limits before d
 unfolding placements
 same-placements c d base limits step before own isnt other =
-    ap (λ (b : Bool). if b then [] else placements base limits before d ++ entries_for d (put base limits before step.what)) (begins-none c d step.what own other)
+    ap (λ (b : Bool). if b then [] else placements base limits before d ++ entries_for d (put base limits before step.what)) (begins-none c d (history base limits before) step.what own other)
     ∙ ap (λ (es : List Entry). placements base limits before d ++ es) (puts-none c d base limits before step.what own isnt other)
     ∙ append-nil (placements base limits before d)
 
-pub spares-on : (c now : ℕ) (what : What) (h k : History) → k ≡ with_step h now what → is_own c what ≡ true → is_cast what ≡ false → (g : History) (lists : List (List ℕ)) → Spares c g h lists → Spares c g k lists
+pub spares-on : (c now : ℕ) (what : What) (h k : History) → k ≡ with_step h now what → is_turn c h what ≡ true → is_cast what ≡ false → (g : History) (lists : List (List ℕ)) → Spares c g h lists → Spares c g k lists
 spares-on c now what h k made own isnt g lists before d other unlisted =
     rw made (same-placements c d h.base h.limits (step_at h now what) h.journal own isnt other ∙ before d other unlisted)
 
-same-after : (c d : ℕ) (base : PlainBase) (limits : Limits) (steps before : List Step) → AllByRecursion (λ (step : Step). is_own c step.what ≡ true) steps → CastsNothing steps → d ≢ c
+same-after : (c d : ℕ) (base : PlainBase) (limits : Limits) (steps before : List Step) → AreMade (is_turn c) (history base limits before) steps → CastsNothing steps → d ≢ c
     → placements base limits (steps ++ before) d ≡ placements base limits before d
 same-after c d base limits [] before own nothing other = refl
 same-after c d base limits (step ∷ steps) before own nothing other =
     same-placements c d base limits step (steps ++ before) own.0 nothing.0 other ∙ same-after c d base limits steps before own.1 nothing.1 other
 
 -- an event without a broadcast puts nothing for another client
-pub spared : (c : ℕ) (h g : History) (follows : Follows (is_own c) h g) → CastsNothing follows.steps → Spares c h g []
+pub spared : (c : ℕ) (h g : History) (follows : Follows (is_turn c) h g) → CastsNothing follows.steps → Spares c h g []
 spared c h g follows nothing d other unlisted =
     rw (follows.base, follows.limits, follows.journal) (same-after c d h.base h.limits follows.steps h.journal follows.own nothing other)
 
@@ -250,3 +272,30 @@ listed-others c d other ids lists =
 
 pub spares-others : (c : ℕ) (g k : History) (ids : List ℕ) (lists : List (List ℕ)) → Spares c g k (lists ++ ids ∷ []) → Spares c g k (lists ++ filter (λ e. not (e == c)) ids ∷ [])
 spares-others c g k ids lists before d other unlisted = before d other (sym (listed-others c d other ids lists) ∙ unlisted)
+
+-- ---- an event's work
+
+module _ (c : ℕ) (f : History) where
+  -- one step more that puts nothing for another client
+  pub work-on : (now : ℕ) (what : What) (h k : History) → k ≡ with_step h now what → is_work c h what ≡ true → is_turn c h what ≡ true → is_cast what ≡ false
+      → AllPass is_clean (own_entries h.limits what) → (lists : List (List ℕ)) → WorksFor c f h lists → WorksFor c f k lists
+  work-on now what h k made work turn isnt clean lists was =
+      record { follows = follows-on (is_work c) now what f h k was.follows made work clean; spares = spares-on c now what h k made turn isnt f lists was.spares }
+
+  -- a broadcast more
+  pub work-cast : (now : ℕ) (cast : PlainCast) (done : PlainCastDone) (h k : History) (is : IsCast h k now cast done) → is_clean is.b.entry ≡ true
+      → (lists : List (List ℕ)) → WorksFor c f h lists → WorksFor c f k (lists ++ filter (λ e. not (e == c)) done.clients ∷ [])
+  work-cast now cast done h k is clean lists was =
+      record {
+        follows = follows-on (is_work c) now (Cast is.b) f h k was.follows is.step refl (clean, tt);
+        spares = spares-others c f k done.clients lists (spares-cast c now cast done h k is f lists was.spares);
+      }
+
+  -- many sockets end
+  pub work-dismissed : (now : ℕ) (e : PlainDismissal) (h k : History) → k ≡ with_step h now (AllEnded e) → is_clean (farewell h.limits e.space) ≡ true
+      → (lists : List (List ℕ)) → WorksFor c f h lists → WorksFor c f k (lists ++ filter (λ e. not (e == c)) e.told ∷ [])
+  work-dismissed now e h k made clean lists was =
+      record {
+        follows = follows-on (is_work c) now (AllEnded e) f h k was.follows made refl (clean, tt);
+        spares = spares-others c f k e.told lists (spares-dismissed c now e h k made f lists was.spares);
+      }

@@ -1,5 +1,6 @@
 -- How an event uses the commands of the hub, and which of their refusals end it.
-use Rattle.std.specs.Prelude.{◌≡◌, ◌⊎◌, ℕ, ◌+◌, true, List, length, None, Some}
+use Rattle.std.specs.Prelude.{◌≡◌, ◌⊎◌, ℕ, ◌+◌, ◌==◌, ◌&&◌, Bool, true, false, List, length, None, Some, Result, Ok, Err}
+use Rattle.std.specs.List.{list_any}
 use Rattle.journal.specs.declared.answers.Swept.{Swept}
 use Rattle.journal.specs.declared.error.HubError.{HubError}
 use Rattle.journal.specs.declared.error.HubError.TheVariants as hub
@@ -12,7 +13,7 @@ use Rattle.journal.specs.Journal.{History, moment_at, with_step}
 use Rattle.journal.specs.Command.{refusal}
 use Rattle.journal.specs.Log.{log}
 use Rattle.journal.specs.Sessions.{sessions}
-use Rattle.journal.specs.Membership.{place_of, is_space, is_open, is_connected, sid_of}
+use Rattle.journal.specs.Membership.{place_of, is_space, is_open, sockets, is_connected, sid_of}
 use Rattle.effects.specs.declared.app.Who.{Who}
 use Rattle.effects.specs.declared.fault.CoreFault.{CoreFault}
 use Rattle.effects.specs.declared.fault.CoreFault.TheVariants.{Memory, IdTaken, TooManyClients, Spent, UnknownClient}
@@ -33,6 +34,11 @@ IsFault hub.TooManyClients = Unit {0}
 IsFault hub.Spent = Unit {0}
 IsFault _ = ⊥
 
+-- an answer to a change of rooms: the rooms don't allow it, which ends no event, or it ends the event
+abbrev pub IsRoomChange : HubError → Type 0
+IsRoomChange (hub.RoomRefused e) = Unit {0}
+IsRoomChange e = IsFault e
+
 -- the fault by its name; no other refusal ends an event
 abbrev pub fault_of : HubError → CoreFault
 fault_of hub.Memory = Memory
@@ -45,10 +51,26 @@ fault_of _ = UnknownClient
 abbrev pub StopsAt : History → ℕ → What → CoreFault → Type 0
 StopsAt h now what fault = (fault ≡ Memory) ⊎ ((e : HubError) × IsRefused h now what e × IsFault e × (fault ≡ fault_of e))
 
--- the socket is connected, its client is open, and its namespace is one of the hub's
+-- the command that makes this step is done, or it ends the event and nothing has changed
+abbrev pub DoesOrStops : {X : Type 0} → History → ℕ → What → Result X CoreFault → History → Type 0
+DoesOrStops h now what (Ok x) g = Makes h now what g
+DoesOrStops h now what (Err fault) g = StopsAt h now what fault × (g ≡ h)
+
+-- it is done, or refused for this reason, which ends no event, or ends the event; then nothing has changed
+abbrev pub DoesOr : HubError → History → ℕ → What → Result Bool CoreFault → History → Type 0
+DoesOr e h now what (Ok true) g = Makes h now what g
+DoesOr e h now what (Ok false) g = IsRefused h now what e × (g ≡ h)
+DoesOr e h now what (Err fault) g = StopsAt h now what fault × (g ≡ h)
+
+-- the connected socket with this id is one of this client's
+abbrev pub is_of : History → (c s : ℕ) → Bool
+is_of h c s = list_any (λ (k : Socket). k.sid == s && k.client == c) (sockets h.base h.journal)
+
+-- the socket is connected and this client's, which is open, and its namespace is one of the hub's
 pub record IsSeated (who : Who) (h : History) : Type 0 where
   pub open_client : is_open h.base h.journal who.client ≡ true
   pub connected : is_connected sid_of h.base h.journal who.sid ≡ true
+  pub own : is_of h who.client who.sid ≡ true
   pub in_space : is_space h.limits (place_of h.limits who.space) ≡ true
 
 -- the socket at the place of its namespace

@@ -1,8 +1,7 @@
 -- What the app's effects do (Socket.IO protocol 5, "Sending and receiving data", "Acknowledgement" and "Disconnection from
 -- a namespace"; Socket.IO server documentation, "Rooms" and "Utility methods").
-use Rattle.std.specs.Prelude.{◌≡◌, ◌⊎◌, ℕ, ◌+◌, ◌==◌, min, Bool, true, false, not, ◌||◌, List, [], ◌∷◌, ◌++◌, length, filter, nat_lt, is_none, Option, None, Some, slice_get, take, if◌then◌else◌}
+use Rattle.std.specs.Prelude.{◌≡◌, ◌⊎◌, ℕ, ◌+◌, ◌<◌, ◌^◌, ◌==◌, min, Bool, true, false, not, ◌||◌, List, [], ◌∷◌, length, nat_lt, is_none, Option, None, Some, Result, Ok, Err, slice_get, take, if◌then◌else◌}
 use Rattle.std.specs.List.{list_any}
-use Rattle.std.specs.Option.{option_or}
 use Rattle.room_maps.specs.declared.error.RoomError.{RoomError}
 use Rattle.sio_wire.specs.declared.entry.Entry.{Entry}
 use Rattle.sio_wire.specs.declared.header.Header.{Header}
@@ -29,48 +28,37 @@ use Rattle.effects.specs.declared.app.Reply as reply
 use Rattle.effects.specs.declared.app.Who.{Who}
 use Rattle.effects.specs.declared.cause.Cause.{Cause}
 use Rattle.effects.specs.declared.cause.Cause.TheVariants.{OutboxFull}
-use Rattle.effects.specs.declared.act.Turn.{Turn}
 use Rattle.effects.specs.declared.fault.CoreFault.{CoreFault}
 use Rattle.effects.specs.declared.fault.CoreFault.TheVariants.{Memory, Spent, BadEffect}
 use Rattle.effects.specs.Emission.{PlainEmission}
 use Rattle.effects.specs.Selection.{PlainSelection}
 use Rattle.journal.specs.Membership.{is_open, place_of}
-use Rattle.effects.specs.Commands.{Makes, IsRefused, StopsAt, IsSeated}
-use Rattle.hub.specs.Pass.{PlainHub}
-use Rattle.effects.specs.Plain.{PlainDone}
+use Rattle.effects.specs.Commands.{Makes, IsRefused, StopsAt, DoesOr, IsSeated}
+use Rattle.effects.specs.declared.fault.Stopped.{Stopped}
+use Rattle.effects.specs.declared.tally.Tally.{Tally}
+use Rattle.effects.specs.Plain.{PlainDone, one_more, noted, told}
 use Rattle.effects.specs.Runs.{Runs}
 
 -- where an event stands between two effects of a packet: the hub's history, the client's line, what was done of the event,
--- and of the packet
+-- under which id the packet still asks to be acknowledged, and whether its socket was disconnected
 pub record Scene : Type 0 where
   pub history : History
   pub line : PlainLine
   pub done : PlainDone
-  pub turn : Turn
+  pub asked : Option ℕ
+  pub ended : Bool
 
-abbrev pub scene : PlainHub → PlainLine → PlainDone → Turn → Scene
-scene hub line done turn = record { history = hub.history; line = line; done = done; turn = turn }
-
--- ---- what is done
+abbrev pub scene : History → PlainLine → Tally → Scene
+scene history line tally = record { history = history; line = line; done = tally.done; asked = tally.asked; ended = tally.ended }
 
 -- one effect more was done
-abbrev pub one_more : PlainDone → PlainDone
-one_more done = record done { effects = min (done.effects + 1) 18446744073709551615 }
-
 abbrev pub counted : Scene → Scene
-counted s = record s { done = one_more s.done; turn = record s.turn { count = s.turn.count + 1 } }
-
--- an effect was skipped for this reason, or not: the first reason is kept
-abbrev pub noted : Option RoomError → PlainDone → PlainDone
-noted refused done = record done { skipped = option_or done.skipped refused }
-
--- these clients got something; the event's own is left out
-abbrev pub told : ℕ → List ℕ → PlainDone → PlainDone
-told c ids done = record done { clients = done.clients ++ filter (λ d. not (d == c)) ids ∷ [] }
+counted s = record s { done = one_more s.done }
 
 -- the client is closed for this cause
-abbrev pub Closes : ℕ → ℕ → Cause → (h g : History) → (old new : PlainDone) → Type 0
-Closes c now cause h g old new = Makes h now (what.Closed c) g × (new ≡ record old { closed = Some cause })
+abbrev pub Closes : ℕ → ℕ → Cause → Scene → Scene → Type 0
+Closes c now cause s t = Makes s.history now (what.Closed c) t.history
+    × (t ≡ record s { history = t.history; done = record s.done { closed = Some cause } })
 
 -- ---- which effects the app may not have
 
@@ -78,16 +66,16 @@ Closes c now cause h g old new = Makes h now (what.Closed c) g × (new ≡ recor
 abbrev pub is_unsendable : List ℕ → List (List ℕ) → Bool
 is_unsendable payload attachments = not (list_any is_bracket payload) || nat_lt 32 (length attachments)
 
--- the effect can't be done by itself: what it sends can't be sent, or no reply is asked for, or one was given
-abbrev pub is_wrong : (asked : Option ℕ) → Turn → Effect → Bool
-is_wrong asked turn (Emit e) = is_unsendable e.payload e.attachments
-is_wrong asked turn (EmitAsk q) = is_unsendable q.payload q.attachments
-is_wrong asked turn (Reply r) = (turn.replied || is_none asked) || is_unsendable r.payload r.attachments
-is_wrong asked turn _ = false
+-- the effect can't be done by itself: what it sends can't be sent, or no reply is asked for any more
+abbrev pub is_wrong : (asked : Option ℕ) → Effect → Bool
+is_wrong asked (Emit e) = is_unsendable e.payload e.attachments
+is_wrong asked (EmitAsk q) = is_unsendable q.payload q.attachments
+is_wrong asked (Reply r) = is_none asked || is_unsendable r.payload r.attachments
+is_wrong asked _ = false
 
 -- it can't be done, or comes after the socket was disconnected
-abbrev pub is_bad : (asked : Option ℕ) → Turn → Effect → Bool
-is_bad asked turn effect = turn.ended || is_wrong asked turn effect
+abbrev pub is_bad : Scene → Effect → Bool
+is_bad s effect = s.ended || is_wrong s.asked effect
 
 -- ---- each effect
 
@@ -95,7 +83,7 @@ is_bad asked turn effect = turn.ended || is_wrong asked turn effect
 abbrev pub ChangesRooms : What → ℕ → Scene → Scene → Type 0
 ChangesRooms what now s t =
     (Makes s.history now what t.history × (t ≡ record (counted s) { history = t.history }))
-    ⊎ ((e : RoomError) × IsRefused s.history now what (hub.RoomRefused e) × (t ≡ record (counted s) { done = noted (Some e) (one_more s.done) }))
+    ⊎ ((e : RoomError) × IsRefused s.history now what (hub.RoomRefused e) × (t ≡ record s { done = noted (Some e) (one_more s.done) }))
 
 -- the broadcast that is asked for
 abbrev pub cast_of : Who → PlainEmission → PlainCast
@@ -106,7 +94,11 @@ abbrev pub Emits : Who → PlainEmission → ℕ → Scene → Scene → Type 0
 Emits who e now s t = (refusal_of s.history (cast_of who e) ≡ None)
     × (done : PlainCastDone)
     × IsCast s.history t.history now (cast_of who e) done
-    × (t ≡ record (counted s) { history = t.history; done = told who.client done.clients (one_more s.done) })
+    × (t ≡ record s { history = t.history; done = told who.client done.clients (one_more s.done) })
+
+-- the client is told this
+abbrev pub told_to : ℕ → Entry → What
+told_to c entry = what.Told (record { client = c; entry = entry })
 
 -- the acknowledgement of the event with this id
 abbrev pub reply_header : List ℕ → (id : ℕ) → reply.Reply → Header
@@ -114,16 +106,15 @@ reply_header space id r =
     record { kind = if length r.attachments == 0 then Ack else BinaryAck; space = space; id = Some id; payload = r.payload; count = length r.attachments }
 
 pub record IsReply (space : List ℕ) (id : ℕ) (r : reply.Reply) (entry : Entry) : Type 0 where
+  pub fits : id < 2 ^ 64
   pub text : Plain (reply_header space id r) entry.text
   pub attachments : entry.attachments ≡ r.attachments
 
 -- the client is told, or closed where its outbox has no place for it
 abbrev pub Replies : Who → (id : ℕ) → reply.Reply → ℕ → Scene → Scene → Type 0
 Replies who id r now s t = (entry : Entry) × IsReply who.space id r entry
-    × ((Makes s.history now (what.Told (record { client = who.client; entry = entry })) t.history
-    × (t ≡ record (counted s) { history = t.history; turn = record (counted s).turn { replied = true } }))
-    ⊎ (IsRefused s.history now (what.Told (record { client = who.client; entry = entry })) hub.OutboxFull
-    × Closes who.client now OutboxFull s.history t.history s.done t.done × (t.turn ≡ s.turn) × (t.line ≡ s.line)))
+    × ((Makes s.history now (told_to who.client entry) t.history × (t ≡ record (counted s) { history = t.history; asked = None }))
+    ⊎ (IsRefused s.history now (told_to who.client entry) hub.OutboxFull × Closes who.client now OutboxFull s t))
 
 -- the question with this id
 abbrev pub inquiry_header : List ℕ → (id : ℕ) → inquiry.Inquiry → Header
@@ -131,8 +122,15 @@ inquiry_header space id q =
     record { kind = if length q.attachments == 0 then Event else BinaryEvent; space = space; id = Some id; payload = q.payload; count = length q.attachments }
 
 pub record IsInquiry (space : List ℕ) (id : ℕ) (q : inquiry.Inquiry) (entry : Entry) : Type 0 where
+  pub fits : id < 2 ^ 64
   pub text : Plain (inquiry_header space id q) entry.text
   pub attachments : entry.attachments ≡ q.attachments
+
+-- the client is told the question with this id, or its outbox has no place for it, or it ends the event
+abbrev pub TellsInquiry : Who → (id : ℕ) → inquiry.Inquiry → ℕ → History → Result Bool CoreFault → History → Type 0
+TellsInquiry who id q now h (Ok told) g = (entry : Entry) × IsInquiry who.space id q entry × DoesOr hub.OutboxFull h now (told_to who.client entry) (Ok told) g
+TellsInquiry who id q now h (Err fault) g = (g ≡ h)
+    × ((fault ≡ Memory) ⊎ ((entry : Entry) × IsInquiry who.space id q entry × StopsAt h now (told_to who.client entry) fault))
 
 -- the socket's next question has this id
 abbrev pub IsNextId : PlainLine → (sid id : ℕ) → Type 0
@@ -149,22 +147,21 @@ asked_in_vain who now q id = Answered who.sid id ∷ asked_of who now q ∷ []
 -- the client is asked, or closed where its outbox has no place for the question
 abbrev pub Asks : Who → inquiry.Inquiry → ℕ → Scene → Scene → Type 0
 Asks who q now s t = (id : ℕ) × IsNextId s.line who.sid id × (entry : Entry) × IsInquiry who.space id q entry
-    × ((Makes s.history now (what.Told (record { client = who.client; entry = entry })) t.history
-    × Advances s.line (asked_of who now q ∷ []) t.line × (t ≡ record (counted s) { history = t.history; line = t.line }))
-    ⊎ (IsRefused s.history now (what.Told (record { client = who.client; entry = entry })) hub.OutboxFull
-    × Closes who.client now OutboxFull s.history t.history s.done t.done × (t.turn ≡ s.turn) × Advances s.line (asked_in_vain who now q id) t.line))
+    × ((Makes s.history now (told_to who.client entry) t.history × Advances s.line (asked_of who now q ∷ []) t.line
+    × (t ≡ record (counted s) { history = t.history; line = t.line }))
+    ⊎ (IsRefused s.history now (told_to who.client entry) hub.OutboxFull × Advances s.line (asked_in_vain who now q id) t.line
+    × Closes who.client now OutboxFull (record s { line = t.line }) t))
 
 -- the client is told that the socket ends, where its outbox has a place for that
 abbrev pub goodbye : Who → What
-goodbye who = what.Told (record { client = who.client; entry = record { text = disconnect_text who.space; attachments = [] } })
+goodbye who = told_to who.client (record { text = disconnect_text who.space; attachments = [] })
 
 abbrev pub SaysGoodbye : Who → ℕ → History → History → Type 0
 SaysGoodbye who now h g = Makes h now (goodbye who) g ⊎ (IsRefused h now (goodbye who) hub.OutboxFull × (g ≡ h))
 
 abbrev pub Disconnects : Who → ℕ → Scene → Scene → Type 0
 Disconnects who now s t = (between : History) × SaysGoodbye who now s.history between × Makes between now (what.Ended who.sid) t.history
-    × Advances s.line (Left who.sid ∷ []) t.line
-    × (t ≡ record (counted s) { history = t.history; line = t.line; turn = record (counted s).turn { ended = true } })
+    × Advances s.line (Left who.sid ∷ []) t.line × (t ≡ record (counted s) { history = t.history; line = t.line; ended = true })
 
 -- ---- effects on all sockets of the namespace that match
 
@@ -185,87 +182,92 @@ is_among sid ended = list_any (λ s. sid == s) ended
 abbrev pub EndsAll : Who → PlainSelection → ℕ → Scene → Scene → Type 0
 EndsAll who m now s t = let d = dismissed who m s.history in
     Makes s.history now (what.AllEnded d) t.history
-    × (t.turn ≡ record (counted s).turn { ended = is_among who.sid d.ended })
-    × (t.done ≡ told who.client d.told (one_more s.done))
+    × (t ≡ record s { history = t.history; line = t.line; done = told who.client d.told (one_more s.done); ended = is_among who.sid d.ended })
     × elim (is_among who.sid d.ended) [ true ↦ Advances s.line (Left who.sid ∷ []) t.line | false ↦ t.line ≡ s.line ]
 
 -- what the effect does where it is allowed
-abbrev pub Acts : Who → (asked : Option ℕ) → ℕ → Scene → Effect → Scene → Type 0
-Acts who asked now s (Join room) t = ChangesRooms (what.Joined who.sid room) now s t
-Acts who asked now s (Leave room) t = ChangesRooms (what.Left who.sid room) now s t
-Acts who asked now s (Emit e) t = Emits who e now s t
-Acts who asked now s (Reply r) t = (id : ℕ) × (asked ≡ Some id) × Replies who id r now s t
-Acts who asked now s (EmitAsk q) t = Asks who q now s t
-Acts who asked now s Disconnect t = Disconnects who now s t
-Acts who asked now s (AllJoin m room) t = ChangesRooms (all_joined who m room s.history) now s t
-Acts who asked now s (AllLeave m room) t = ChangesRooms (all_left who m room s.history) now s t
-Acts who asked now s (AllEnd m) t = EndsAll who m now s t
+abbrev pub Acts : Who → ℕ → Scene → Effect → Scene → Type 0
+Acts who now s (Join room) t = ChangesRooms (what.Joined who.sid room) now s t
+Acts who now s (Leave room) t = ChangesRooms (what.Left who.sid room) now s t
+Acts who now s (Emit e) t = Emits who e now s t
+Acts who now s (Reply r) t = (id : ℕ) × (s.asked ≡ Some id) × Replies who id r now s t
+Acts who now s (EmitAsk q) t = Asks who q now s t
+Acts who now s Disconnect t = Disconnects who now s t
+Acts who now s (AllJoin m room) t = ChangesRooms (all_joined who m room s.history) now s t
+Acts who now s (AllLeave m room) t = ChangesRooms (all_left who m room s.history) now s t
+Acts who now s (AllEnd m) t = EndsAll who m now s t
 
 -- an effect in its turn: after the client was closed nothing more is done
-abbrev pub ActsInTurn : Who → (asked : Option ℕ) → ℕ → Scene → Effect → Scene → Type 0
-ActsInTurn who asked now s effect t = elim s.done.closed [
+abbrev pub ActsInTurn : Who → ℕ → Scene → Effect → Scene → Type 0
+ActsInTurn who now s effect t = elim s.done.closed [
   | Some cause ↦ t ≡ s
-  | None ↦ (is_bad asked s.turn effect ≡ false) × Acts who asked now s effect t
+  | None ↦ (is_bad s effect ≡ false) × Acts who now s effect t
 ]
 
 -- ---- where the effects stop
 
 -- the client isn't told, or isn't closed where its outbox has no place
 abbrev pub FailsToTell : Who → ℕ → History → Entry → CoreFault → Type 0
-FailsToTell who now h entry fault =
-    StopsAt h now (what.Told (record { client = who.client; entry = entry })) fault
-    ⊎ (IsRefused h now (what.Told (record { client = who.client; entry = entry })) hub.OutboxFull × StopsAt h now (what.Closed who.client) fault)
+FailsToTell who now h entry fault = StopsAt h now (told_to who.client entry) fault
+    ⊎ (IsRefused h now (told_to who.client entry) hub.OutboxFull × StopsAt h now (what.Closed who.client) fault)
 
--- an effect that is allowed isn't done: for want of memory, or since a count or the offset would pass the greatest u64
-abbrev pub Fails : Who → (asked : Option ℕ) → ℕ → History → Effect → CoreFault → Type 0
-Fails who asked now h (Join room) fault = StopsAt h now (what.Joined who.sid room) fault
-Fails who asked now h (Leave room) fault = StopsAt h now (what.Left who.sid room) fault
-Fails who asked now h (Emit e) fault = (fault ≡ Memory) ⊎ ((fault ≡ Spent) × IsSpentBy h (cast_of who e))
-Fails who asked now h (Reply r) fault = (fault ≡ Memory) ⊎ ((id : ℕ) × (asked ≡ Some id) × (entry : Entry) × IsReply who.space id r entry × FailsToTell who now h entry fault)
-Fails who asked now h Disconnect fault = (fault ≡ Memory) ⊎ StopsAt h now (goodbye who) fault ⊎ StopsAt h now (what.Ended who.sid) fault
-Fails who asked now h (AllJoin m room) fault = StopsAt h now (all_joined who m room h) fault
-Fails who asked now h (AllLeave m room) fault = StopsAt h now (all_left who m room h) fault
-Fails who asked now h (AllEnd m) fault = (fault ≡ Memory) ⊎ StopsAt h now (what.AllEnded (dismissed who m h)) fault
-Fails who asked now h (EmitAsk q) fault = ⊥
+-- the command that makes this step isn't done, and nothing has changed
+abbrev pub FailsAt : What → ℕ → Scene → CoreFault → Scene → Type 0
+FailsAt what now s fault t = StopsAt s.history now what fault × (t ≡ s)
+
+-- the broadcast isn't sent
+abbrev pub FailsToEmit : Who → PlainEmission → Scene → CoreFault → Scene → Type 0
+FailsToEmit who e s fault t = ((fault ≡ Memory) ⊎ ((fault ≡ Spent) × IsSpentBy s.history (cast_of who e))) × (t ≡ s)
+
+-- the event isn't acknowledged
+abbrev pub FailsToReply : Who → (id : ℕ) → reply.Reply → ℕ → Scene → CoreFault → Scene → Type 0
+FailsToReply who id r now s fault t = (t ≡ s)
+    × ((fault ≡ Memory) ⊎ ((entry : Entry) × IsReply who.space id r entry × FailsToTell who now s.history entry fault))
+
+-- the socket isn't disconnected; its client may have been told already
+abbrev pub FailsToDisconnect : Who → ℕ → Scene → CoreFault → Scene → Type 0
+FailsToDisconnect who now s fault t = ((fault ≡ Memory) × (t ≡ s)) ⊎ FailsAt (goodbye who) now s fault t
+    ⊎ ((between : History) × SaysGoodbye who now s.history between × FailsAt (what.Ended who.sid) now (record s { history = between }) fault t)
+
+-- the sockets don't end
+abbrev pub FailsToEndAll : Who → PlainSelection → ℕ → Scene → CoreFault → Scene → Type 0
+FailsToEndAll who m now s fault t = ((fault ≡ Memory) × (t ≡ s)) ⊎ FailsAt (what.AllEnded (dismissed who m s.history)) now s fault t
 
 -- the socket's book has no id left, or no memory
 abbrev pub HasNoId : PlainLine → (sid : ℕ) → CoreFault → Type 0
 HasNoId line sid fault = (fault ≡ Memory) ⊎ ((fault ≡ Spent) × ForEachHistory line (λ o h. ask_refusal 0 (book_calls sid h) ≡ Some ack.Spent))
 
--- a question that is allowed isn't asked, or is asked and forgotten, since nobody can be told
-abbrev pub FailsToAsk : Who → inquiry.Inquiry → ℕ → Scene → CoreFault → History → PlainLine → Type 0
-FailsToAsk who q now s fault g l = (g ≡ s.history)
-    × ((HasNoId s.line who.sid fault × Advances s.line [] l)
-    ⊎ ((id : ℕ) × IsNextId s.line who.sid id × Advances s.line (asked_in_vain who now q id) l
-    × ((fault ≡ Memory) ⊎ ((entry : Entry) × IsInquiry who.space id q entry × FailsToTell who now g entry fault))))
+-- the question isn't asked, or is asked and forgotten, since nobody can be told
+abbrev pub FailsToAsk : Who → inquiry.Inquiry → ℕ → Scene → CoreFault → Scene → Type 0
+FailsToAsk who q now s fault t = (t ≡ record s { line = t.line })
+    × ((HasNoId s.line who.sid fault × Advances s.line [] t.line)
+    ⊎ ((id : ℕ) × IsNextId s.line who.sid id × Advances s.line (asked_in_vain who now q id) t.line
+    × ((fault ≡ Memory) ⊎ ((entry : Entry) × IsInquiry who.space id q entry × FailsToTell who now s.history entry fault))))
 
--- the hub's history then: of a disconnection the client may have been told already
-abbrev pub IsLeft : Who → ℕ → Effect → History → History → Type 0
-IsLeft who now Disconnect h g = (g ≡ h) ⊎ SaysGoodbye who now h g
-IsLeft who now _ h g = g ≡ h
-
--- an effect that is allowed isn't done, and leaves the hub and the client's line so
-abbrev pub FailsLeaving : Who → (asked : Option ℕ) → ℕ → Scene → Effect → CoreFault → History → PlainLine → Type 0
-FailsLeaving who asked now s (EmitAsk q) fault g l = FailsToAsk who q now s fault g l
-FailsLeaving who asked now s effect fault g l = Fails who asked now g effect fault × IsLeft who now effect s.history g × (l ≡ s.line)
+-- an effect that is allowed isn't done: for want of memory, or since a count or the offset would pass the greatest u64
+abbrev pub Fails : Who → ℕ → Scene → Effect → CoreFault → Scene → Type 0
+Fails who now s (Join room) fault t = FailsAt (what.Joined who.sid room) now s fault t
+Fails who now s (Leave room) fault t = FailsAt (what.Left who.sid room) now s fault t
+Fails who now s (Emit e) fault t = FailsToEmit who e s fault t
+Fails who now s (Reply r) fault t = (id : ℕ) × (s.asked ≡ Some id) × FailsToReply who id r now s fault t
+Fails who now s (EmitAsk q) fault t = FailsToAsk who q now s fault t
+Fails who now s Disconnect fault t = FailsToDisconnect who now s fault t
+Fails who now s (AllJoin m room) fault t = FailsAt (all_joined who m room s.history) now s fault t
+Fails who now s (AllLeave m room) fault t = FailsAt (all_left who m room s.history) now s fault t
+Fails who now s (AllEnd m) fault t = FailsToEndAll who m now s fault t
 
 -- the effect ends the event with this fault
-abbrev pub Stops : Who → (asked : Option ℕ) → ℕ → Scene → Effect → CoreFault → History → PlainLine → Type 0
-Stops who asked now s effect fault g l = (s.done.closed ≡ None)
-    × (((fault ≡ BadEffect) × (is_bad asked s.turn effect ≡ true) × (g ≡ s.history) × (l ≡ s.line))
-    ⊎ ((is_bad asked s.turn effect ≡ false) × FailsLeaving who asked now s effect fault g l))
+abbrev pub Stops : Who → ℕ → Scene → Effect → CoreFault → Scene → Type 0
+Stops who now s effect fault t = (s.done.closed ≡ None)
+    × (((is_bad s effect ≡ true) × (fault ≡ BadEffect) × (t ≡ s)) ⊎ ((is_bad s effect ≡ false) × Fails who now s effect fault t))
 
--- so many of the effects were done, and the next one ends the event
-abbrev pub StopsAfter : Who → (asked : Option ℕ) → ℕ → List Effect → Scene → CoreFault → (count : ℕ) → History → PlainLine → Type 0
-StopsAfter who asked now effects s fault count g l =
-    (done : ℕ) × (at : Scene) × Runs (ActsInTurn who asked now) (take done effects) s at × (at.turn.count ≡ count)
-    × (effect : Effect) × (slice_get effects done ≡ Some effect) × Stops who asked now at effect fault g l
-
--- all effects of a packet, in order
-abbrev pub ActsAll : Who → (asked : Option ℕ) → ℕ → List Effect → Scene → History → PlainLine → PlainDone → Type 0
-ActsAll who asked now effects s g l done = (t : Scene) × Runs (ActsInTurn who asked now) effects s t × (t.history ≡ g) × (t.line ≡ l) × (t.done ≡ done)
+-- of a packet of which so many effects were done before, these were done in order until one ended the event
+abbrev pub StopsAfter : Who → ℕ → (before : ℕ) → List Effect → Scene → Stopped → Scene → Type 0
+StopsAfter who now before effects s stopped t =
+    (done : ℕ) × (stopped.effects ≡ before + done) × (at : Scene) × Runs (ActsInTurn who now) (take done effects) s at
+    × (effect : Effect) × (slice_get effects done ≡ Some effect) × Stops who now at effect stopped.fault t
 
 -- the client is open unless it was closed, and its socket is connected unless it was disconnected
 pub record StandsWith (who : Who) (s : Scene) : Type 0 where
   pub open_client : is_open s.history.base s.history.journal who.client ≡ is_none s.done.closed
-  pub seated : s.done.closed ≡ None → s.turn.ended ≡ false → IsSeated who s.history
+  pub seated : s.done.closed ≡ None → s.ended ≡ false → IsSeated who s.history

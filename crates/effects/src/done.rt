@@ -1,6 +1,7 @@
 //! What was done of an event.
 
-ghost use Rattle.std.specs.Prelude.{◌≡◌, [], None, false};
+ghost use Rattle.std.specs.Prelude.{◌≡◌};
+ghost use Rattle.effects.specs.Plain.{nothing_done};
 
 use crate::cause::Cause;
 use crate::receivers::Receivers;
@@ -12,7 +13,7 @@ use std::marker::Model;
 #[derive(Drop)]
 pub struct Done {
     /// The packets that were worked on, those that are ignored and one that closed the client among
-    /// them.
+    /// them. It stays at the greatest usize.
     pub packets: usize,
     /// The effects that were done of all packets together. It stays at the greatest usize.
     pub effects: usize,
@@ -37,7 +38,7 @@ impl Model for Done {
 impl Done {
     /// Nothing was done yet.
     pub fn nothing(alloc: Global) -> Done
-        ensures { result ≡ record { packets = 0; effects = 0; skipped = None; ignored = false; closed = None; clients = [] } }
+        ensures { result ≡ nothing_done }
     {
         Done {
             packets: 0,

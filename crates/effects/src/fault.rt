@@ -34,6 +34,13 @@ pub enum CoreFault {
     BadConfig,
 }
 
+/// Why a packet was not done to its end, and how many of its effects were done.
+#[derive(Clone, Copy, Debug, PartialEq, Eq)]
+pub struct Stopped {
+    pub fault: CoreFault,
+    pub effects: usize,
+}
+
 /// Why an event was not done to its end, and how far it came: so many of its packets are done, and of
 /// the next one so many effects.
 #[derive(Clone, Copy, Debug, PartialEq, Eq)]
@@ -68,6 +75,14 @@ impl CoreFault {
             packets: 0,
             effects: 0,
         }
+    }
+}
+
+impl From<CoreFault> for Stopped {
+    ghost from_gives = { λ fault stopped. stopped ≡ record { fault = fault; effects = 0 } };
+
+    fn from(fault: CoreFault) -> Stopped {
+        Stopped { fault, effects: 0 }
     }
 }
 

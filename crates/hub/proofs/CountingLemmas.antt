@@ -1,22 +1,16 @@
--- How a command that the state accepted is counted: the totals after its step, and what books and pass have then.
-use Rattle.std.proofs.Common.{◌≡◌, ℕ, ◌+◌, ◌∷◌, List, refl, arith, sym}
+-- What steps make of the totals, and how the pass of a command rises with them.
+use Rattle.std.proofs.Common.{◌≡◌, ℕ, ◌+◌, ◌≤◌, [], ◌∷◌, ◌++◌, List, refl, ap, arith, rules, Result, Ok, Err}
+use Rattle.journal.specs.declared.error.HubError.{HubError}
 use Rattle.journal.specs.declared.step.Step.{Step}
-use Rattle.journal.specs.Plain.{PlainBase}
+use Rattle.journal.specs.declared.step.What.{What}
+use Rattle.journal.specs.Plain.{PlainBase, PlainCast, PlainCastDone}
 use Rattle.journal.specs.Journal.{History, total}
 use Rattle.journal.specs.Totals.{commands, handed_out, handed_out_by}
-use Rattle.hub.specs.Pass.{PlainBooks, PlainHub, PlainPass, Rises, with_command}
+use Rattle.hub.specs.Pass.{PlainHub, PlainPass, DoesCounted, CastDoesCounted, Rises, with_command}
 
 -- the history with this step
 abbrev pub and_step : History → Step → History
 and_step h step = record { base = h.base; limits = h.limits; journal = step ∷ h.journal }
-
--- the books have the totals of the history
-abbrev pub AreBooksOf : History → PlainBooks → Type 0
-AreBooksOf h books = (books.commands ≡ commands h.base h.journal) × (books.taken ≡ handed_out h.base h.journal)
-
--- the books with this step
-abbrev pub and_counted : PlainBooks → Step → PlainBooks
-and_counted books step = record { commands = books.commands + 1; taken = books.taken + handed_out_by step.what; rest = books.rest }
 
 commands-step : (base : PlainBase) (step : Step) (before : List Step) → commands base (step ∷ before) ≡ commands base before + 1
 unfolding commands
@@ -26,17 +20,14 @@ handed_out-step : (base : PlainBase) (step : Step) (before : List Step) → hand
 unfolding handed_out total
 handed_out-step base step before = refl
 
-pub totals-step : (before after : History) (step : Step) (books : PlainBooks) → after ≡ and_step before step → AreBooksOf before books → (commands after.base after.journal ≡ books.commands + 1) × (handed_out after.base after.journal ≡ books.taken + handed_out_by step.what)
-totals-step before after step books made kept =
-    rw (made, kept.0, kept.1) (commands-step before.base step before.journal, handed_out-step before.base step before.journal)
+-- more steps make no total less
+pub commands-grow : (base : PlainBase) (steps before : List Step) → commands base before ≤ commands base (steps ++ before)
+commands-grow base [] before = omega arith
+commands-grow base (step ∷ steps) before = let one = commands-step base step (steps ++ before) in let more = commands-grow base steps before in omega (arith, one, more)
 
-pub books-step : (before after : History) (step : Step) (old new : PlainBooks) → after ≡ and_step before step → AreBooksOf before old → new ≡ and_counted old step → AreBooksOf after new
-books-step before after step old new made kept counted =
-    let totals = totals-step before after step old made kept in
-    rw counted (sym totals.0, sym totals.1)
-
-pub hub-step : (after made : History) (new : PlainBooks) (commands taken rest : ℕ) → after ≡ made → new ≡ record { commands = commands; taken = taken; rest = rest } → ◌≡◌ {A = PlainHub} (record { history = after; rest = new.rest }) (record { history = made; rest = rest })
-hub-step after made new commands taken rest is counted = rw (is, counted) refl
+pub handed_out-grows : (base : PlainBase) (steps before : List Step) → handed_out base before ≤ handed_out base (steps ++ before)
+handed_out-grows base [] before = omega arith
+handed_out-grows base (step ∷ steps) before = let one = handed_out-step base step (steps ++ before) in let more = handed_out-grows base steps before in omega (arith, one, more)
 
 -- the pass of a command that was counted rises as the totals do
 pub rises-step : (before after : PlainHub) (old new : PlainPass) (step : Step) → after.history ≡ and_step before.history step → new ≡ with_command step.what old → Rises before after old new
@@ -44,3 +35,12 @@ rises-step before after old new step made counted =
     let c = commands-step before.history.base step before.history.journal in
     let t = handed_out-step before.history.base step before.history.journal in
     record { commands = rw (made, counted) (omega arith); taken = rw (made, counted) (omega arith); parts = rw counted refl }
+
+-- and so does the pass of any command, since a refusal changes neither
+pub counted-rises : {X : Type 0} → (before after : PlainHub) (old new : PlainPass) (now : ℕ) (what : What) (result : Result X HubError) → DoesCounted before after old new now what result → Rises before after old new
+counted-rises before after old new now what (Ok x) (fine, made, counted) = rises-step before after old new _ (ap (λ (h : PlainHub). h.history) made) counted
+counted-rises before after old new now what (Err e) (is, same, equal) = rw (same, equal) (record { commands = refl; taken = refl; parts = refl })
+
+pub cast-counted-rises : (before after : PlainHub) (old new : PlainPass) (now : ℕ) (cast : PlainCast) (result : Result PlainCastDone HubError) → CastDoesCounted before after old new now cast result → Rises before after old new
+cast-counted-rises before after old new now cast (Ok done) (fine, is, rest, counted) = rises-step before after old new _ is.step (search (rules, counted))
+cast-counted-rises before after old new now cast (Err e) (is, same, equal) = rw (same, equal) (record { commands = refl; taken = refl; parts = refl })

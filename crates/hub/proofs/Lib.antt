@@ -1,1 +1,1 @@
-mod CountingLemmas
+pub mod CountingLemmas

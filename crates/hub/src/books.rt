@@ -13,8 +13,10 @@ use std::marker::Model;
 use std::sync::ledger::{Blank, Ledger};
 
 /// The books of both ledgers, with the parts that no pass was given.
+///
+/// In a contract it is both totals and the number of parts of each ledger that no pass was given.
 #[derive(Drop)]
-pub(crate) struct Books<C: Ledger, T: Ledger> {
+pub struct Books<C: Ledger, T: Ledger> {
     commands: Counter<C>,
     taken: Counter<T>,
 }
@@ -25,7 +27,11 @@ impl<C: Ledger, T: Ledger> Model for Books<C, T> {
 
     ghost Value = { PlainBooks };
 
-    ghost view = { λ b. record { commands = b.commands.total; taken = b.taken.total; rest = b.commands.rest } };
+    ghost view = { λ b. record {
+      commands = b.commands.total;
+      taken = b.taken.total;
+      rest = b.commands.rest;
+    } };
 
     ghost invariant = { λ b. b.taken.rest ≡ b.commands.rest };
 }
@@ -33,7 +39,8 @@ impl<C: Ledger, T: Ledger> Model for Books<C, T> {
 impl<C: Ledger, T: Ledger> Books<C, T> {
     /// Both totals 0, and the first pass.
     pub(crate) fn open(commands: Blank, taken: Blank) -> (Books<C, T>, Pass<C, T>)
-        requires commands { (commands.name ≡ C.name) × (commands.parts ≡ C.parts) × (commands.parts ≡ 65536) }
+        requires commands { (commands.name ≡ C.name)
+            × (commands.parts ≡ C.parts) × (commands.parts ≡ 65536) }
         requires taken { (taken.name ≡ T.name) × (taken.parts ≡ T.parts) × (taken.parts ≡ 65536) }
         ensures books { result.0 ≡ record { commands = 0; taken = 0; rest = 65535 } }
         ensures pass { result.1 ≡ record { commands = 0; taken = 0; parts = 1 } }
@@ -51,20 +58,50 @@ impl<C: Ledger, T: Ledger> Books<C, T> {
     /// entries that it handed out. The totals are u64s and the pass is within them, so its numbers
     /// stay exact.
     pub(crate) fn count(&mut self, pass: &mut Pass<C, T>, state: &State, entries: u64)
-        requires commands { totals.commands state.now.base state.now.journal ≡ self.old.commands + 1 }
-        requires taken { handed_out state.now.base state.now.journal ≡ self.old.taken + entries }
-        ensures books { self.new ≡ record { commands = self.old.commands + 1; taken = self.old.taken + entries; rest = self.old.rest } }
-        ensures pass { pass.new ≡ record { commands = pass.old.commands + 1; taken = pass.old.taken + entries; parts = pass.old.parts } }
+        requires { (totals.commands state.now.base state.now.journal ≡ self.old.commands + 1)
+            × (handed_out state.now.base state.now.journal ≡ self.old.taken + entries) }
+        ensures books { self.new ≡ record self.old {
+          commands = totals.commands state.now.base state.now.journal;
+          taken = handed_out state.now.base state.now.journal;
+        } }
+        ensures pass { pass.new ≡ record pass.old {
+          commands = pass.old.commands + 1;
+          taken = pass.old.taken + entries;
+        } }
     {
         let _fits = state.totals();
         self.commands.raise(&mut pass.commands, 1);
         self.taken.raise(&mut pass.taken, entries);
     }
 
+    /// Raises the books to the totals of a state, and the pass by as much. `before` are the totals
+    /// up to which the books count: what the state told before it was changed. A hub whose state
+    /// was changed is whole again after it.
+    pub fn catch_up(&mut self, pass: &mut Pass<C, T>, before: &Totals, state: &State)
+        requires before { (before.now.commands ≡ self.old.commands)
+            × (before.now.taken ≡ self.old.taken) }
+        requires grown { (self.old.commands ≤ totals.commands state.now.base state.now.journal)
+            × (self.old.taken ≤ handed_out state.now.base state.now.journal) }
+        ensures books { self.new ≡ record self.old {
+          commands = totals.commands state.now.base state.now.journal;
+          taken = handed_out state.now.base state.now.journal;
+        } }
+        ensures pass { (pass.new.commands + self.old.commands
+            ≡ pass.old.commands + self.new.commands)
+            × (pass.new.taken + self.old.taken ≡ pass.old.taken + self.new.taken)
+            × (pass.new.parts ≡ pass.old.parts) }
+    {
+        let now = state.totals();
+        self.commands
+            .raise(&mut pass.commands, now.commands - before.commands);
+        self.taken.raise(&mut pass.taken, now.taken - before.taken);
+    }
+
     /// A new pass, which has nothing. Refused as `Spent` where the rest has its last part alone.
     pub(crate) fn new_pass(&mut self) -> Result<Pass<C, T>, HubError>
         ensures pass { IfOk result (λ pass. pass ≡ record { commands = 0; taken = 0; parts = 1 }) }
-        ensures ok { OnOk result ((1 < self.old.rest) × (self.new ≡ record self.old { rest = self.old.rest - 1 })) }
+        ensures ok { OnOk result
+            ((1 < self.old.rest) × (self.new ≡ record self.old { rest = self.old.rest - 1 })) }
         ensures err { OnErr result ((self.old.rest ≡ 1) × (self.new ≡ self.old)) }
         ensures spent { IfErr result (λ e. e ≡ HubError.Spent) }
     {

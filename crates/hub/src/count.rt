@@ -28,8 +28,8 @@ impl<L: Ledger> Model for Counter<L> {
     ghost invariant = { λ c. (c.rest.amount ≡ 0) × (c.rest.parts ≡ c.parts) × (0 < c.parts) };
 }
 
-/// What one holder added to a total. The number would stay at the greatest u64, but no amount passes
-/// a total that is a u64.
+/// What one holder added to a total. The number would stay at the greatest u64, but no amount
+/// passes a total that is a u64.
 #[derive(Drop)]
 pub(crate) struct Part<L: Ledger> {
     number: u64,
@@ -44,7 +44,8 @@ impl<L: Ledger> Model for Part<L> {
 
     ghost view = { λ p. record { amount = p.share.amount; parts = p.share.parts } };
 
-    ghost invariant = { λ p. (p.number ≡ min p.share.amount 18446744073709551615) × (0 < p.share.parts) };
+    ghost invariant = { λ p. (p.number ≡ min p.share.amount 18446744073709551615)
+        × (0 < p.share.parts) };
 }
 
 impl<L: Ledger> Counter<L> {
@@ -142,7 +143,10 @@ impl<L: Ledger> Part<L> {
 
     /// Takes over what another holder added.
     pub(crate) fn absorb(&mut self, other: Part<L>)
-        ensures { self.new ≡ record { amount = self.old.amount + other.amount; parts = self.old.parts + other.parts } }
+        ensures { self.new ≡ record {
+          amount = self.old.amount + other.amount;
+          parts = self.old.parts + other.parts;
+        } }
     {
         let Part { number, share } = other;
         self.share.merge(share);

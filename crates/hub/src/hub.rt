@@ -2,6 +2,7 @@
 
 ghost use Rattle.std.specs.Prelude.{◌≡◌, ℕ, ◌+◌, ◌-◌, ◌≤◌, ◌<◌, [], IsOk, IfOk, IfErr, OnOk, OnErr, unwrap_or};
 ghost use Rattle.journal.specs.Config.{config_refusal, empty_base};
+ghost use Rattle.journal.specs.Journal.{history};
 ghost use Rattle.journal.specs.Totals as counted;
 ghost use Rattle.hub.specs.Pass.{commands_of, taken_of, AtLeast};
 
@@ -22,13 +23,18 @@ use std::sync::ledger::{Blank, Ledger};
 /// that it hands out; both are this hub's alone, so a pass at these types is a pass of this hub.
 ///
 /// In a contract it is its history and the number of parts of each ledger that no pass was given.
-/// Each command is `State`'s, with the pass that counts it: where it is accepted, the history is one
-/// step longer and the pass has one command more, and a `take` also the entries that it handed out.
-/// Where it is refused, both are as before. A command takes no more time or memory than `State`'s.
+/// Each command is `State`'s, with the pass that counts it: where it is accepted, the history is
+/// one step longer and the pass has one command more, and a `take` also the entries that it handed
+/// out. Where it is refused, both are as before. So the pass rises as the hub's totals do
+/// (`counted_commands_rise`). A command takes no more time or memory than `State`'s.
 #[derive(Drop)]
 pub struct Hub<C: Ledger, T: Ledger> {
-    state: State,
-    books: Books<C, T>,
+    /// The clients, sockets, rooms, sessions and the log. Who changes it by its own commands, and
+    /// not by the hub's, counts them with `Books::catch_up` before the hub is used again.
+    pub state: State,
+    /// The totals of the commands and of the entries that were handed out, of which each pass has
+    /// its share. They are the state's: that is the type's invariant.
+    pub books: Books<C, T>,
 }
 
 impl<C: Ledger, T: Ledger> Model for Hub<C, T> {
@@ -41,7 +47,8 @@ impl<C: Ledger, T: Ledger> Model for Hub<C, T> {
 
     ghost view = { λ h. record { history = h.state; rest = h.books.rest } };
 
-    ghost invariant = { λ h. (h.books.commands ≡ totals.commands h.state.base h.state.journal) × (h.books.taken ≡ handed_out h.state.base h.state.journal) };
+    ghost invariant = { λ h. (h.books.commands ≡ totals.commands h.state.base h.state.journal)
+        × (h.books.taken ≡ handed_out h.state.base h.state.journal) };
 }
 
 impl<C: Ledger, T: Ledger> Hub<C, T> {
@@ -62,11 +69,14 @@ impl<C: Ledger, T: Ledger> Hub<C, T> {
         commands: Blank,
         taken: Blank,
     ) -> Result<(Hub<C, T>, Pass<C, T>), HubError>
-        requires commands { (commands.name ≡ C.name) × (commands.parts ≡ C.parts) × (commands.parts ≡ 65536) }
+        requires commands { (commands.name ≡ C.name)
+            × (commands.parts ≡ C.parts) × (commands.parts ≡ 65536) }
         requires taken { (taken.name ≡ T.name) × (taken.parts ≡ T.parts) × (taken.parts ≡ 65536) }
         ensures config { OnOk result (config_refusal config ≡ None) }
-        ensures hub { IfOk result (λ made. made.0 ≡ record { history = record { base = empty_base config.first_offset; limits = config; journal = [] }; rest = 65535 }) }
-        ensures pass { IfOk result (λ made. made.1 ≡ record { commands = 0; taken = 0; parts = 1 }) }
+        ensures hub { let base = empty_base config.first_offset in IfOk result
+            (λ made. made.0 ≡ record { history = history base config []; rest = 65535 }) }
+        ensures pass { IfOk result
+            (λ made. made.1 ≡ record { commands = 0; taken = 0; parts = 1 }) }
         ensures err { IfErr result (λ e. e ≡ unwrap_or (config_refusal config) HubError.Memory) }
     {
         let state = State::new(alloc, config)?;
@@ -78,7 +88,8 @@ impl<C: Ledger, T: Ledger> Hub<C, T> {
     /// of them.
     pub fn new_pass(&mut self) -> Result<Pass<C, T>, HubError>
         ensures pass { IfOk result (λ pass. pass ≡ record { commands = 0; taken = 0; parts = 1 }) }
-        ensures ok { OnOk result ((1 < self.old.rest) × (self.new ≡ record self.old { rest = self.old.rest - 1 })) }
+        ensures ok { OnOk result
+            ((1 < self.old.rest) × (self.new ≡ record self.old { rest = self.old.rest - 1 })) }
         ensures err { OnErr result ((self.old.rest ≡ 1) × (self.new ≡ self.old)) }
         ensures spent { IfErr result (λ e. e ≡ HubError.Spent) }
     {
@@ -95,14 +106,21 @@ impl<C: Ledger, T: Ledger> Hub<C, T> {
         self.books.audit(pass);
     }
 
-    /// The hub's counts, where the pass has all of its commands and all that it handed out, and else
-    /// what the pass lacks. It lacks nothing where every other pass was absorbed. Changes nothing.
+    /// The hub's counts, where the pass has all of its commands and all that it handed out, and
+    /// else what the pass lacks. It lacks nothing where every other pass was absorbed. Changes
+    /// nothing.
     pub fn settle(&mut self, pass: &mut Pass<C, T>) -> Result<Totals, NotAll>
         ensures same { (self.new ≡ self.old) × (pass.new ≡ pass.old) }
-        ensures totals { IfOk result (λ totals. totals ≡ counted.totals self.old.history.base self.old.history.limits self.old.history.journal) }
-        ensures all { OnOk result ((pass.old.commands ≡ commands_of self.old) × (pass.old.taken ≡ taken_of self.old)) }
-        ensures lacks { IfErr result (λ lack. (pass.old.commands + lack.commands ≡ commands_of self.old) × (pass.old.taken + lack.taken ≡ taken_of self.old) × (0 < lack.commands + lack.taken)) }
-        ensures whole { self.old.rest + pass.old.parts ≡ C.parts → self.old.rest + pass.old.parts ≡ T.parts → IsOk result }
+        ensures totals { let h = self.old.history in
+            IfOk result (λ totals. totals ≡ counted.totals h.base h.limits h.journal) }
+        ensures all { OnOk result
+            ((pass.old.commands ≡ commands_of self.old) × (pass.old.taken ≡ taken_of self.old)) }
+        ensures lacks { IfErr result (λ lack.
+            (pass.old.commands + lack.commands ≡ commands_of self.old)
+            × (pass.old.taken + lack.taken ≡ taken_of self.old)
+            × (0 < lack.commands + lack.taken)) }
+        ensures whole { self.old.rest + pass.old.parts ≡ C.parts
+            → self.old.rest + pass.old.parts ≡ T.parts → IsOk result }
     {
         let totals = self.state.totals();
         let lack = self.books.lacks(pass, &totals);

@@ -25,7 +25,11 @@ impl<C: Ledger, T: Ledger> Model for Pass<C, T> {
 
     ghost Value = { PlainPass };
 
-    ghost view = { λ p. record { commands = p.commands.amount; taken = p.taken.amount; parts = p.commands.parts } };
+    ghost view = { λ p. record {
+      commands = p.commands.amount;
+      taken = p.taken.amount;
+      parts = p.commands.parts;
+    } };
 
     ghost invariant = { λ p. p.taken.parts ≡ p.commands.parts };
 }
@@ -57,7 +61,11 @@ impl<C: Ledger, T: Ledger> Pass<C, T> {
 
     /// Takes over what another pass of the same hub counted, with its parts.
     pub fn absorb(&mut self, other: Pass<C, T>)
-        ensures { self.new ≡ record { commands = self.old.commands + other.commands; taken = self.old.taken + other.taken; parts = self.old.parts + other.parts } }
+        ensures { self.new ≡ record {
+          commands = self.old.commands + other.commands;
+          taken = self.old.taken + other.taken;
+          parts = self.old.parts + other.parts;
+        } }
     {
         let Pass { commands, taken } = other;
         self.commands.absorb(commands);

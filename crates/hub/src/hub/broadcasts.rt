@@ -3,7 +3,7 @@
 
 ghost use Rattle.std.specs.Prelude.{ℕ};
 ghost use Rattle.continuity.specs.Truly.{HearsWhatIsDue};
-ghost use Rattle.hub.specs.Pass.{CastDoesCounted, Rises};
+ghost use Rattle.hub.specs.Pass.{CastDoesCounted};
 
 use crate::hub::Hub;
 use crate::pass::Pass;
@@ -22,9 +22,9 @@ impl<C: Ledger, T: Ledger> Hub<C, T> {
     /// namespace alone, each with the logarithm and the excepted rooms.
     ///
     /// After it, accepted or refused, each connected session has heard just the journal's logged
-    /// broadcasts that are due to it, none missing, none twice and in order, where its client always
-    /// named truly what it got last, its rooms stayed the same from that broadcast to the loss, and
-    /// no full outbox dropped one for it.
+    /// broadcasts that are due to it, none missing, none twice and in order, where its client
+    /// always named truly what it got last, its rooms stayed the same from that broadcast to the
+    /// loss, and no full outbox dropped one for it.
     pub fn cast(
         &mut self,
         alloc: Global,
@@ -33,8 +33,8 @@ impl<C: Ledger, T: Ledger> Hub<C, T> {
         now: u64,
     ) -> Result<CastDone, HubError>
         ensures does { CastDoesCounted self.old self.new pass.old pass.new now cast result }
-        ensures rises { Rises self.old self.new pass.old pass.new }
-        ensures continuity { let g = self.new.history in (p : ℕ) → HearsWhatIsDue g.base g.limits g.journal p }
+        ensures continuity { let g = self.new.history in
+            (p : ℕ) → HearsWhatIsDue g.base g.limits g.journal p }
     {
         let done = self.state.cast(alloc, cast, now)?;
         self.books.count(pass, &self.state, 0);

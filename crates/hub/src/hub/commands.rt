@@ -4,7 +4,7 @@
 ghost use Rattle.std.specs.Prelude.{◌≡◌, None, Some, IfOk, length, min, take};
 ghost use Rattle.journal.specs.Membership.{sid_of, place_of};
 ghost use Rattle.journal.specs.Outboxes.{waiting};
-ghost use Rattle.hub.specs.Pass.{DoesCounted, Rises};
+ghost use Rattle.hub.specs.Pass.{DoesCounted};
 ghost use Rattle.journal.specs.declared.socket.Socket.{Socket};
 ghost use Rattle.journal.specs.declared.step.What.{What};
 
@@ -28,8 +28,8 @@ impl<C: Ledger, T: Ledger> Hub<C, T> {
         client: u128,
         now: u64,
     ) -> Result<(), HubError>
-        ensures does { let h = self.old.history in DoesCounted self.old self.new pass.old pass.new now (What.Opened client) result }
-        ensures rises { Rises self.old self.new pass.old pass.new }
+        ensures does { DoesCounted self.old self.new pass.old pass.new now
+            (What.Opened client) result }
     {
         self.state.open(alloc, client, now)?;
         self.books.count(pass, &self.state, 0);
@@ -50,8 +50,9 @@ impl<C: Ledger, T: Ledger> Hub<C, T> {
         pid: Pid,
         now: u64,
     ) -> Result<(), HubError>
-        ensures does { let h = self.old.history in let socket : Socket = record { client = client; space = place_of h.limits space.now; sid = sid; pid = pid } in DoesCounted self.old self.new pass.old pass.new now (What.Attached socket) result }
-        ensures rises { Rises self.old self.new pass.old pass.new }
+        ensures does { let place = place_of self.old.history.limits space.now in
+            let socket : Socket = record { client = client; space = place; sid = sid; pid = pid } in
+            DoesCounted self.old self.new pass.old pass.new now (What.Attached socket) result }
     {
         self.state.attach(alloc, client, space, sid, pid, now)?;
         self.books.count(pass, &self.state, 0);
@@ -68,8 +69,8 @@ impl<C: Ledger, T: Ledger> Hub<C, T> {
         room: Room,
         now: u64,
     ) -> Result<(), HubError>
-        ensures does { let h = self.old.history in DoesCounted self.old self.new pass.old pass.new now (What.Joined sid room) result }
-        ensures rises { Rises self.old self.new pass.old pass.new }
+        ensures does { DoesCounted self.old self.new pass.old pass.new now
+            (What.Joined sid room) result }
     {
         self.state.join(alloc, sid, room, now)?;
         self.books.count(pass, &self.state, 0);
@@ -86,8 +87,8 @@ impl<C: Ledger, T: Ledger> Hub<C, T> {
         room: Room,
         now: u64,
     ) -> Result<(), HubError>
-        ensures does { let h = self.old.history in DoesCounted self.old self.new pass.old pass.new now (What.Left sid room) result }
-        ensures rises { Rises self.old self.new pass.old pass.new }
+        ensures does { DoesCounted self.old self.new pass.old pass.new now
+            (What.Left sid room) result }
     {
         self.state.leave(alloc, sid, room, now)?;
         self.books.count(pass, &self.state, 0);
@@ -104,8 +105,8 @@ impl<C: Ledger, T: Ledger> Hub<C, T> {
         sid: Sid,
         now: u64,
     ) -> Result<(), HubError>
-        ensures does { let h = self.old.history in DoesCounted self.old self.new pass.old pass.new now (What.Ended sid) result }
-        ensures rises { Rises self.old self.new pass.old pass.new }
+        ensures does { DoesCounted self.old self.new pass.old pass.new now
+            (What.Ended sid) result }
     {
         self.state.end(alloc, sid, now)?;
         self.books.count(pass, &self.state, 0);
@@ -122,8 +123,8 @@ impl<C: Ledger, T: Ledger> Hub<C, T> {
         client: u128,
         now: u64,
     ) -> Result<(), HubError>
-        ensures does { let h = self.old.history in DoesCounted self.old self.new pass.old pass.new now (What.Closed client) result }
-        ensures rises { Rises self.old self.new pass.old pass.new }
+        ensures does { DoesCounted self.old self.new pass.old pass.new now
+            (What.Closed client) result }
     {
         self.state.close(alloc, client, now)?;
         self.books.count(pass, &self.state, 0);
@@ -140,8 +141,8 @@ impl<C: Ledger, T: Ledger> Hub<C, T> {
         entry: Entry,
         now: u64,
     ) -> Result<(), HubError>
-        ensures does { let h = self.old.history in let what = What.Told (record { client = client; entry = entry }) in DoesCounted self.old self.new pass.old pass.new now what result }
-        ensures rises { Rises self.old self.new pass.old pass.new }
+        ensures does { let what = What.Told (record { client = client; entry = entry }) in
+            DoesCounted self.old self.new pass.old pass.new now what result }
     {
         self.state.tell(alloc, client, entry, now)?;
         self.books.count(pass, &self.state, 0);
@@ -159,9 +160,13 @@ impl<C: Ledger, T: Ledger> Hub<C, T> {
         most: usize,
         now: u64,
     ) -> Result<Vec<Entry>, HubError>
-        ensures entries { let h = self.old.history in IfOk result (λ entries. entries.items ≡ take most (waiting h.base h.limits h.journal client)) }
-        ensures does { let h = self.old.history in let number = min most (length (waiting h.base h.limits h.journal client)) in DoesCounted self.old self.new pass.old pass.new now (What.Took client most number) result }
-        ensures rises { Rises self.old self.new pass.old pass.new }
+        ensures entries { let h = self.old.history in
+            let all = waiting h.base h.limits h.journal client in
+            IfOk result (λ entries. entries.items ≡ take most all) }
+        ensures does { let h = self.old.history in
+            let number = min most (length (waiting h.base h.limits h.journal client)) in
+            let what = What.Took client most number in
+            DoesCounted self.old self.new pass.old pass.new now what result }
     {
         let entries = self.state.take(alloc, client, most, now)?;
         self.books.count(pass, &self.state, entries.len() as u64);
@@ -169,9 +174,9 @@ impl<C: Ledger, T: Ledger> Hub<C, T> {
     }
 
     /// The first `most` entries that wait for a client, or all where fewer wait, are taken as by
-    /// `take`, but not handed out: who wants them has read them by `front` of the state. Tells how many
-    /// they are. Refused as `UnknownClient`, `Spent`, then for `Memory`. It takes the logarithm of the
-    /// clients, and copies nothing.
+    /// `take`, but not handed out: who wants them has read them by `front` of the state. Tells how
+    /// many they are. Refused as `UnknownClient`, `Spent`, then for `Memory`. It takes the
+    /// logarithm of the clients, and copies nothing.
     pub fn take_away(
         &mut self,
         alloc: Global,
@@ -180,9 +185,13 @@ impl<C: Ledger, T: Ledger> Hub<C, T> {
         most: usize,
         now: u64,
     ) -> Result<usize, HubError>
-        ensures number { let h = self.old.history in IfOk result (λ number. number ≡ min most (length (waiting h.base h.limits h.journal client))) }
-        ensures does { let h = self.old.history in let number = min most (length (waiting h.base h.limits h.journal client)) in DoesCounted self.old self.new pass.old pass.new now (What.Took client most number) result }
-        ensures rises { Rises self.old self.new pass.old pass.new }
+        ensures number { let h = self.old.history in
+            let all = length (waiting h.base h.limits h.journal client) in
+            IfOk result (λ number. number ≡ min most all) }
+        ensures does { let h = self.old.history in
+            let number = min most (length (waiting h.base h.limits h.journal client)) in
+            let what = What.Took client most number in
+            DoesCounted self.old self.new pass.old pass.new now what result }
     {
         let number = self.state.take_away(alloc, client, most, now)?;
         self.books.count(pass, &self.state, number as u64);

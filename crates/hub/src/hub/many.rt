@@ -4,7 +4,7 @@
 ghost use Rattle.std.specs.Prelude.{◌≡◌, IfOk};
 ghost use Rattle.journal.specs.Membership.{place_of};
 ghost use Rattle.journal.specs.ManySockets.{joining, leaving, dismissal};
-ghost use Rattle.hub.specs.Pass.{DoesCounted, Rises};
+ghost use Rattle.hub.specs.Pass.{DoesCounted};
 ghost use Rattle.journal.specs.declared.step.What.{What};
 
 use crate::hub::Hub;
@@ -27,9 +27,12 @@ impl<C: Ledger, T: Ledger> Hub<C, T> {
         room: Room,
         now: u64,
     ) -> Result<Vec<Sid>, HubError>
-        ensures changed { let h = self.old.history in let change = joining h (place_of h.limits space.now) rooms.items excepted.items room in IfOk result (λ sids. sids.items ≡ change.changed) }
-        ensures does { let h = self.old.history in let change = joining h (place_of h.limits space.now) rooms.items excepted.items room in DoesCounted self.old self.new pass.old pass.new now (What.AllJoined change) result }
-        ensures rises { Rises self.old self.new pass.old pass.new }
+        ensures changed { let place = place_of self.old.history.limits space.now in
+            let change = joining self.old.history place rooms.items excepted.items room in
+            IfOk result (λ sids. sids.items ≡ change.changed) }
+        ensures does { let place = place_of self.old.history.limits space.now in
+            let change = joining self.old.history place rooms.items excepted.items room in
+            DoesCounted self.old self.new pass.old pass.new now (What.AllJoined change) result }
     {
         let joined = self
             .state
@@ -38,8 +41,8 @@ impl<C: Ledger, T: Ledger> Hub<C, T> {
         Ok(joined)
     }
 
-    /// All sockets of a namespace that match leave a room, or none does. It gives those that were in
-    /// it, rising. As `State::sockets_leave`.
+    /// All sockets of a namespace that match leave a room, or none does. It gives those that were
+    /// in it, rising. As `State::sockets_leave`.
     pub fn sockets_leave(
         &mut self,
         alloc: Global,
@@ -50,9 +53,12 @@ impl<C: Ledger, T: Ledger> Hub<C, T> {
         room: Room,
         now: u64,
     ) -> Result<Vec<Sid>, HubError>
-        ensures changed { let h = self.old.history in let change = leaving h (place_of h.limits space.now) rooms.items excepted.items room in IfOk result (λ sids. sids.items ≡ change.changed) }
-        ensures does { let h = self.old.history in let change = leaving h (place_of h.limits space.now) rooms.items excepted.items room in DoesCounted self.old self.new pass.old pass.new now (What.AllLeft change) result }
-        ensures rises { Rises self.old self.new pass.old pass.new }
+        ensures changed { let place = place_of self.old.history.limits space.now in
+            let change = leaving self.old.history place rooms.items excepted.items room in
+            IfOk result (λ sids. sids.items ≡ change.changed) }
+        ensures does { let place = place_of self.old.history.limits space.now in
+            let change = leaving self.old.history place rooms.items excepted.items room in
+            DoesCounted self.old self.new pass.old pass.new now (What.AllLeft change) result }
     {
         let left = self
             .state
@@ -72,9 +78,12 @@ impl<C: Ledger, T: Ledger> Hub<C, T> {
         excepted: Vec<Room>,
         now: u64,
     ) -> Result<Dismissed, HubError>
-        ensures done { let h = self.old.history in IfOk result (λ done. let d = dismissal h (place_of h.limits space.now) rooms.items excepted.items in (done.ended.items ≡ d.ended) × (done.told.items ≡ d.told)) }
-        ensures does { let h = self.old.history in DoesCounted self.old self.new pass.old pass.new now (What.AllEnded (dismissal h (place_of h.limits space.now) rooms.items excepted.items)) result }
-        ensures rises { Rises self.old self.new pass.old pass.new }
+        ensures done { let place = place_of self.old.history.limits space.now in
+            let all = dismissal self.old.history place rooms.items excepted.items in
+            IfOk result (λ done. (done.ended.items ≡ all.ended) × (done.told.items ≡ all.told)) }
+        ensures does { let place = place_of self.old.history.limits space.now in
+            let all = dismissal self.old.history place rooms.items excepted.items in
+            DoesCounted self.old self.new pass.old pass.new now (What.AllEnded all) result }
     {
         let done = self
             .state

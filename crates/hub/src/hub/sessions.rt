@@ -7,11 +7,11 @@ ghost use Rattle.journal.specs.Totals.{is_spent};
 ghost use Rattle.journal.specs.Sessions.{sessions};
 ghost use Rattle.journal.specs.Log.{log};
 ghost use Rattle.journal.specs.Legal.{IsLegal};
-ghost use Rattle.journal.specs.Journal.{moment_at};
+ghost use Rattle.journal.specs.Journal.{History};
 ghost use Rattle.journal.specs.Membership.{place_of};
 ghost use Rattle.journal.specs.Recovery.{recovery_of};
 ghost use Rattle.journal.specs.Refusals.{or_spent, park_refusal, recover_refusal};
-ghost use Rattle.hub.specs.Pass.{DoesCounted, Rises};
+ghost use Rattle.hub.specs.Pass.{DoesCounted};
 ghost use Rattle.journal.specs.Seal.{IsSealed, SaysTheSame};
 ghost use Rattle.journal.specs.declared.step.What.{What};
 ghost use Rattle.continuity.specs.Truly.{HearsWhatIsDue};
@@ -38,16 +38,17 @@ impl<C: Ledger, T: Ledger> Hub<C, T> {
         client: u128,
         now: u64,
     ) -> Result<(), HubError>
-        ensures does { let h = self.old.history in DoesCounted self.old self.new pass.old pass.new now (What.Parked client) result }
-        ensures rises { Rises self.old self.new pass.old pass.new }
+        ensures does { DoesCounted self.old self.new pass.old pass.new now
+            (What.Parked client) result }
     {
         self.state.park(alloc, client, now)?;
         self.books.count(pass, &self.state, 0);
         Ok(())
     }
 
-    /// Brings a saved session back at a client, with its rooms: it is saved no more, and the answer to
-    /// the CONNECT and then the log's entries that it missed past the offset that it names are put.
+    /// Brings a saved session back at a client, with its rooms: it is saved no more, and the answer
+    /// to the CONNECT and then the log's entries that it missed past the offset that it names are
+    /// put.
     /// Refused as `UnknownClient`, `UnknownNamespace`, `AlreadyConnected`, `NotRecoverable`,
     /// `OutboxFull` where not all of them have a place, `Spent`, then for `Memory`. It takes the
     /// logarithm of the clients, sockets, namespaces and saved sessions, and walks the session's
@@ -67,10 +68,14 @@ impl<C: Ledger, T: Ledger> Hub<C, T> {
         offset: u64,
         now: u64,
     ) -> Result<Sid, HubError>
-        ensures sid { let h = self.old.history in IfOk result (λ sid. sid ≡ (recovery_of h.base h.limits h.journal client (place_of h.limits space.now) pid offset).socket.sid) }
-        ensures does { let h = self.old.history in let recovery = recovery_of h.base h.limits h.journal client (place_of h.limits space.now) pid offset in DoesCounted self.old self.new pass.old pass.new now (What.Recovered recovery) result }
-        ensures rises { Rises self.old self.new pass.old pass.new }
-        ensures continuity { let g = self.new.history in (p : ℕ) → HearsWhatIsDue g.base g.limits g.journal p }
+        ensures sid { let h = self.old.history in let place = place_of h.limits space.now in
+            let recovery = recovery_of h.base h.limits h.journal client place pid offset in
+            IfOk result (λ sid. sid ≡ recovery.socket.sid) }
+        ensures does { let h = self.old.history in let place = place_of h.limits space.now in
+            let recovery = recovery_of h.base h.limits h.journal client place pid offset in
+            DoesCounted self.old self.new pass.old pass.new now (What.Recovered recovery) result }
+        ensures continuity { let g = self.new.history in
+            (p : ℕ) → HearsWhatIsDue g.base g.limits g.journal p }
     {
         let sid = self.state.recover(alloc, client, space, pid, offset, now)?;
         self.books.count(pass, &self.state, 0);
@@ -86,9 +91,11 @@ impl<C: Ledger, T: Ledger> Hub<C, T> {
         pass: &mut Pass<C, T>,
         now: u64,
     ) -> Result<Swept, HubError>
-        ensures does { let h = self.old.history in DoesCounted self.old self.new pass.old pass.new now What.Swept result }
-        ensures counts { let h = self.old.history in let g = self.new.history in IfOk result (λ dropped. (length (log h.base h.limits h.journal) ≡ length (log g.base g.limits g.journal) + dropped.log) × (length (sessions h.base h.limits h.journal) ≡ length (sessions g.base g.limits g.journal) + dropped.saved)) }
-        ensures rises { Rises self.old self.new pass.old pass.new }
+        ensures does { DoesCounted self.old self.new pass.old pass.new now What.Swept result }
+        ensures counts { let logged = λ (h : History). length (log h.base h.limits h.journal) in
+            let saved = λ (h : History). length (sessions h.base h.limits h.journal) in
+            let h = self.old.history in let g = self.new.history in
+            IfOk result (λ d. (logged h ≡ logged g + d.log) × (saved h ≡ saved g + d.saved)) }
     {
         let swept = self.state.sweep(alloc, now)?;
         self.books.count(pass, &self.state, 0);
@@ -99,8 +106,10 @@ impl<C: Ledger, T: Ledger> Hub<C, T> {
     /// is no command, and says nothing of any pass. Refused for `Memory` alone. It takes time and
     /// memory for the present state, whose entries are shared, and none for the journal.
     pub fn seal(&mut self, alloc: Global) -> Result<Epoch, HubError>
-        ensures epoch { IfOk result (λ epoch. epoch ≡ record { base = self.old.history.base; journal = self.old.history.journal }) }
-        ensures legal { IfOk result (λ epoch. IsLegal epoch.base self.old.history.limits epoch.journal) }
+        ensures epoch { let h = self.old.history in
+            IfOk result (λ epoch. epoch ≡ record { base = h.base; journal = h.journal }) }
+        ensures legal { IfOk result
+            (λ epoch. IsLegal epoch.base self.old.history.limits epoch.journal) }
         ensures sealed { OnOk result (IsSealed self.old.history self.new.history) }
         ensures same { OnOk result (SaysTheSame self.old.history self.new.history) }
         ensures parts { self.new.rest ≡ self.old.rest }

@@ -5,8 +5,8 @@ use Rattle.dispatch.proofs.FrameLemmas.{sent-more}
 use Rattle.dispatch.proofs.frames.frames_for.Goals as goal
 
 pub loop-index-preserved : goal.loop-index-preserved
-loop-index-preserved g c =
-    let w = waiting c.args.hub.now.history.base c.args.hub.now.history.limits c.args.hub.now.history.journal c.args.client in
+loop-index-preserved c =
+    let w = waiting c.args.state.now.base c.args.state.now.limits c.args.state.now.journal c.args.visit.client in
     let found : slice_get w c.loop-index.index ≡ Some c.in-Some.entry.now = search rules in
     let within = slice_get_within w c.loop-index.index c.in-Some.entry.now found in
     record {

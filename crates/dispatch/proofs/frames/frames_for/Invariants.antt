@@ -6,7 +6,7 @@ use Rattle.dispatch.specs.Takes.{carried}
 use Rattle.dispatch.proofs.frames.frames_for.Given as goal
 
 abbrev pub invariant-loop-index : goal.invariant-loop-index
-invariant-loop-index g l = record {
-  sent : AllZip IsSentAs (carried l.ping (take l.index (waiting l.hub.history.base l.hub.history.limits l.hub.history.journal l.client))) l.frames.items;
-  few : l.index ≤ length (waiting l.hub.history.base l.hub.history.limits l.hub.history.journal l.client);
+invariant-loop-index l = record {
+  sent : AllZip IsSentAs (carried l.ping (take l.index (waiting l.state.base l.state.limits l.state.journal l.visit.client))) l.frames.items;
+  few : l.index ≤ length (waiting l.state.base l.state.limits l.state.journal l.visit.client);
 }

@@ -3,8 +3,8 @@ use Rattle.dispatch.specs.Place.{line_of, place, KeepsOthers}
 use Rattle.dispatch.proofs.UpgradeLemmas.{probes-for}
 use Rattle.dispatch.proofs.upgrade.probe.Goals as goal
 
-pub returns-clause-does : goal.returns-clause-does
-returns-clause-does c = λ h.
+pub returns : goal.returns
+returns c = λ h.
     let new = (c.get_mut.follows.lender c.probe.new.self).entries in
     let known : line_of c.args.lines.now.entries c.args.client ≡ Some c.in-Some.line.now = search rules in
     let has : line_of new c.args.client ≡ Some c.probe.new.self = search rules in

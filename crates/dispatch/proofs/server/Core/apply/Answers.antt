@@ -1,17 +1,44 @@
-use Rattle.std.proofs.Common.{refl}
-use Rattle.dispatch.proofs.ServerLemmas.{clean-after, of-some}
+use Rattle.std.proofs.Common.{◌≡◌, ap, sym, ◌∙◌}
+use Rattle.hub.specs.Pass.{PlainHub}
+use Rattle.dispatch.specs.Place.{PlainCore}
+use Rattle.dispatch.proofs.EventLaws.{Applied, applied}
+use Rattle.dispatch.proofs.ServerLemmas.{clean-after, of-some, grown, turned}
+use Rattle.dispatch.proofs.server.Core.apply.Given.{Over}
 use Rattle.dispatch.proofs.server.Core.apply.Goals as goal
+
+-- what the event left, and of the whole core as it was
+left : (g : Over) (c : goal.After-catch_up g)
+    → Applied c.args.event.now (g.I.IdSource.stream c.args.ids.now) c.apply_to-answer.result c.hub.inside.state c.apply_to-answer.new.state c.apply_to-answer.new.lines.entries
+left g c =
+    applied c.args.now c.hub.inside.state c.apply_to-answer.new.state c.self.inside.lines.entries c.apply_to-answer.new.lines.entries (rw (← c.hub.view_is) at c.self.invariant.0)
+    (g.I.IdSource.stream c.args.ids.now) c.apply_to-answer.result (g.A.App.decides c.args.app.now) (g.A.App.allows c.args.app.now) c.self.inside.greeting.timing c.self.inside.greeting.numbers
+    (g.I.IdSource.stream c.apply_to-answer.new.ids) c.args.event.now c.apply_to-answer.ensures
+
+pub catch_up-requires-clause-grown : goal.catch_up-requires-clause-grown
+catch_up-requires-clause-grown g c =
+    let some = of-some c.args.event.now (g.I.IdSource.stream c.args.ids.now) in
+    let left =
+    applied c.args.now c.hub.inside.state c.apply_to-answer.new.state c.self.inside.lines.entries c.apply_to-answer.new.lines.entries (rw (← c.hub.view_is) at c.self.invariant.0)
+    (g.I.IdSource.stream c.args.ids.now) c.apply_to-answer.result (g.A.App.decides c.args.app.now) (g.A.App.allows c.args.app.now) c.self.inside.greeting.timing c.self.inside.greeting.numbers
+    (g.I.IdSource.stream c.apply_to-answer.new.ids) c.args.event.now c.apply_to-answer.ensures in
+    grown some.0 c.hub.inside.state c.apply_to-answer.new.state (left.turns some.0 some.1) c.hub.inside.books.commands c.hub.inside.books.taken c.hub.invariant.0 c.hub.invariant.1
 
 pub invariant_of-self : goal.invariant_of-self
 invariant_of-self g c =
     let some = of-some c.args.event.now (g.I.IdSource.stream c.args.ids.now) in
-    (c.apply_to.ensures.agree, clean-after some.0 _ _ c.self.invariant.1 (c.apply_to.ensures.turns some.0 some.1).follows)
+    ((left g c).agrees, clean-after some.0 c.hub.inside.state c.apply_to-answer.new.state (rw (← c.hub.view_is) at c.self.invariant.1) ((left g c).turns some.0 some.1))
 
-pub returns : goal.returns
-returns g c = rw (← c.self.view_is) (record {
-  does = c.apply_to.ensures.does;
-  settings = (refl, refl);
-  handed = c.apply_to.ensures.handed;
-  turns = c.apply_to.ensures.turns;
-  spares = c.apply_to.ensures.spares;
-})
+pub returns-clause-handed : goal.returns-clause-handed
+returns-clause-handed g c =
+    let same : c.hub.inside.state ≡ c.args.self.now.hub.history = ap (λ (h : PlainHub). h.history) c.hub.view_is ∙ ap (λ (k : PlainCore). k.hub.history) c.self.view_is in
+    rw (← same) (left g c).hands
+
+pub returns-clause-turns : goal.returns-clause-turns
+returns-clause-turns g c = λ d of.
+    turned d c.args.self.now.hub c.hub.inside.state c.apply_to-answer.new.state c.hub.inside.books c.catch_up.new.self c.args.pass.now c.catch_up.new.pass
+    (sym (c.hub.view_is ∙ ap (λ (k : PlainCore). k.hub) c.self.view_is)) ((left g c).turns d of) c.hub.invariant.0 c.hub.invariant.1 c.catch_up.ensures.books c.catch_up.ensures.pass
+
+pub returns-clause-spares : goal.returns-clause-spares
+returns-clause-spares g c =
+    let same : c.hub.inside.state ≡ c.args.self.now.hub.history = ap (λ (h : PlainHub). h.history) c.hub.view_is ∙ ap (λ (k : PlainCore). k.hub.history) c.self.view_is in
+    rw (← same) (left g c).spares

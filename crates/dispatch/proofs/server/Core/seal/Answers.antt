@@ -14,6 +14,6 @@ returns g c = rw (← c.self.view_is) (record {
   same = c.seal.ensures.same;
   handed = handed-sealed c.seal.result c.self.inside.hub.history c.seal.new.self.history c.seal.ensures.sealed;
   kept = (refl, refl, refl, c.seal.ensures.parts);
-  unchanged = core-unchanged c.seal.result (record { hub = c.self.inside.hub; lines = c.self.inside.lines.entries; timing = c.self.inside.timing; numbers = c.self.inside.numbers }) c.self.inside.hub c.seal.new.self c.seal.ensures.unchanged;
+  unchanged = core-unchanged c.seal.result (record { hub = c.self.inside.hub; lines = c.self.inside.lines.entries; timing = c.self.inside.greeting.timing; numbers = c.self.inside.greeting.numbers }) c.self.inside.hub c.seal.new.self c.seal.ensures.unchanged;
   memory = c.seal.ensures.memory;
 })

@@ -1,0 +1,13 @@
+use Rattle.std.proofs.Common.{ap}
+use Rattle.journal.specs.Journal.{History}
+use Rattle.effects.specs.Effects.{scene}
+use Rattle.effects.proofs.RefusalLemmas.{fails}
+use Rattle.effects.proofs.rooms.change.Goals as goal
+
+pub returns-in-Err : goal.returns-in-Err
+returns-in-Err g c = record {
+  ok = tt;
+  err = λ h k l now what does.
+      let f = fails c.args.answer c.in-Err.error c.in-Err.is c.of.ensures.fault h k now what does in
+      (rw c.of.ensures.named f.0, ap (λ (k : History). scene k l c.args.tally.now) f.1);
+}

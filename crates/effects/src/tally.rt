@@ -1,0 +1,71 @@
+//! What was done of an event so far.
+
+ghost use Rattle.std.specs.Prelude.{◌≡◌, ◌+◌, min, None, Some, false};
+ghost use Rattle.effects.specs.Plain.{nothing_done, one_more, noted};
+
+use crate::cause::Cause;
+use crate::done::Done;
+use room_maps::RoomError;
+use std::alloc::Global;
+
+/// What was done of an event so far, and how the packet stands that is worked on.
+#[derive(Drop)]
+pub struct Tally {
+    /// What was done.
+    pub done: Done,
+    /// The id under which the packet still asks to be acknowledged.
+    pub asked: Option<u64>,
+    /// Whether the packet's socket was disconnected.
+    pub ended: bool,
+}
+
+impl Tally {
+    /// Nothing was done yet.
+    pub fn new(alloc: Global) -> Tally
+        ensures { result ≡ record { done = nothing_done; asked = None; ended = false } }
+    {
+        Tally {
+            done: Done::nothing(alloc),
+            asked: None,
+            ended: false,
+        }
+    }
+
+    /// A packet begins, of which nothing is known yet.
+    pub fn begin(&mut self)
+        ensures { self.new ≡ record {
+          done = record self.old.done { packets = min (self.old.done.packets + 1) 18446744073709551615 };
+          asked = None;
+          ended = false;
+        } }
+    {
+        self.done.packets = self.done.packets.saturating_add(1);
+        self.asked = None;
+        self.ended = false;
+    }
+
+    /// The client was closed for a cause.
+    pub fn close(&mut self, cause: Cause)
+        ensures { self.new ≡ record self.old {
+          done = record self.old.done { closed = Some cause };
+        } }
+    {
+        self.done.closed = Some(cause);
+    }
+
+    /// One effect more was done.
+    pub fn count(&mut self)
+        ensures { self.new ≡ record self.old { done = one_more self.old.done } }
+    {
+        self.done.effects = self.done.effects.saturating_add(1);
+    }
+
+    /// An effect was skipped for this reason, or not: the first reason is kept.
+    pub(crate) fn note(&mut self, refused: Option<RoomError>)
+        ensures { self.new ≡ record self.old { done = noted refused self.old.done } }
+    {
+        if self.done.skipped.is_none() {
+            self.done.skipped = refused;
+        }
+    }
+}
