@@ -9,7 +9,7 @@ use crate::{events, gauge, hall};
 use dispatch::Core;
 use effects::IdSource;
 use hub::Pass;
-use hub_gate::{Locked, Peer, PeerFault, ServeError, Turnstile, serve_peers};
+use hub_gate::{Locked, Peer, PeerFault, Pool, ServeError, Turnstile, serve_peers};
 use journal::Totals;
 use relay::{Counter, RelayApp};
 use std::alloc::{AllocError, Global};
@@ -128,18 +128,15 @@ fn play<C: Ledger + Send + Sync, T: Ledger + Send + Sync, R: Clock + Threads + W
     let Ok(locked) = Box::new(alloc, Locked::new(Box::into_inner(core))) else {
         return Err(Fault::Memory);
     };
-    let served = serve_peers(
+    let pool = Pool {
         rt,
         alloc,
-        &locked,
-        &mut pass,
-        &RelayApp,
-        bands,
-        workers,
-        &Open,
-        ids,
-        u64::MAX,
-    );
+        locked: &*locked,
+        app: &RelayApp,
+        gate: &Open,
+        turns: u64::MAX,
+    };
+    let served = serve_peers(&pool, &mut pass, bands, workers, ids);
     match served {
         Ok(settled) => Ok(settled.report.totals),
         Err(ServeError::Memory) => Err(Fault::Memory),

@@ -73,6 +73,10 @@ pub record HasHistory (l : PlainLine) : Type 0 where
 abbrev pub Advances : PlainLine → List Call → PlainLine → Type 0
 Advances old calls new = ForEachHistory old (λ o h. LeadsTo o (calls ++ h) new)
 
+-- the assembler has failed with this error, and nothing else has changed
+abbrev pub FailsWith : SioError → PlainLine → PlainLine → Type 0
+FailsWith e old new = new ≡ record old { assembler = Failed e }
+
 -- U+001E, which separates the packets of a payload, stands neither in the packet's namespace nor in its payload
 abbrev pub IsWholeIfGiven : Option SioPacket → Type 0
 IsWholeIfGiven None = Unit {0}

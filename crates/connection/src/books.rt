@@ -12,7 +12,8 @@ use std::collections::BTreeMap;
 
 /// Forgets a socket's book.
 pub(crate) fn forget(books: &mut BTreeMap<Sid, AckBook>, sid: Sid)
-    ensures { (s : ℕ) → book_in books.new.entries s ≡ (if sid == s then fresh_book else book_in books.old.entries s) }
+    ensures { (s : ℕ) → book_in books.new.entries s
+        ≡ (if sid == s then fresh_book else book_in books.old.entries s) }
 {
     books.remove(&sid);
 }
@@ -32,10 +33,13 @@ fn put(books: &mut BTreeMap<Sid, AckBook>, sid: Sid, book: AckBook) -> Result<()
 
 /// A book with its first question, and the id of that.
 fn first_question(alloc: Global, tag: u64, until: u64) -> Result<(u64, AckBook), AckError>
-    ensures refused { ForEachHistory fresh_book (λ first h. IfSome (ask_refusal first h) (λ e. result ≡ Err e)) }
-    ensures memory_alone { ForEachHistory fresh_book (λ first h. ask_refusal first h ≡ None → IfErr result (λ e. e ≡ AckError.Memory)) }
+    ensures refused { ForEachHistory fresh_book (λ first h.
+        IfSome (ask_refusal first h) (λ e. result ≡ Err e)) }
+    ensures memory_alone { ForEachHistory fresh_book (λ first h.
+        ask_refusal first h ≡ None → IfErr result (λ e. e ≡ AckError.Memory)) }
     ensures id { IfOk result (λ both. ForEachHistory fresh_book (λ first h. both.0 ≡ next_id first h)) }
-    ensures leads { IfOk result (λ both. ForEachHistory fresh_book (λ first h. LeadsTo first (Asked tag until ∷ h) both.1)) }
+    ensures leads { IfOk result (λ both. ForEachHistory fresh_book (λ first h.
+        LeadsTo first (Asked tag until ∷ h) both.1)) }
 {
     let mut book = AckBook::new(alloc, 0);
     let id = book.ask(alloc, tag, until)?;
@@ -50,10 +54,14 @@ pub(crate) fn ask(
     tag: u64,
     until: u64,
 ) -> Result<u64, AckError>
-    ensures refused { ForEachHistory (book_in books.old.entries sid) (λ first h. IfSome (ask_refusal first h) (λ e. result ≡ Err e)) }
-    ensures memory_alone { ForEachHistory (book_in books.old.entries sid) (λ first h. ask_refusal first h ≡ None → IfErr result (λ e. e ≡ AckError.Memory)) }
-    ensures id { IfOk result (λ id. ForEachHistory (book_in books.old.entries sid) (λ first h. id ≡ next_id first h)) }
-    ensures leads { OnOk result (ForEachHistory (book_in books.old.entries sid) (λ first h. LeadsTo first (Asked tag until ∷ h) (book_in books.new.entries sid))) }
+    ensures refused { ForEachHistory (book_in books.old.entries sid) (λ first h.
+        IfSome (ask_refusal first h) (λ e. result ≡ Err e)) }
+    ensures memory_alone { ForEachHistory (book_in books.old.entries sid) (λ first h.
+        ask_refusal first h ≡ None → IfErr result (λ e. e ≡ AckError.Memory)) }
+    ensures id { IfOk result (λ id.
+        ForEachHistory (book_in books.old.entries sid) (λ first h. id ≡ next_id first h)) }
+    ensures leads { OnOk result (ForEachHistory (book_in books.old.entries sid) (λ first h.
+        LeadsTo first (Asked tag until ∷ h) (book_in books.new.entries sid))) }
     ensures unchanged { OnErr result (book_in books.new.entries sid ≡ book_in books.old.entries sid) }
     ensures others { (s : ℕ) → sid == s ≡ false → book_in books.new.entries s ≡ book_in books.old.entries s }
 {
@@ -67,8 +75,10 @@ pub(crate) fn ask(
 
 /// Takes a socket's answer to a question.
 pub(crate) fn answer(books: &mut BTreeMap<Sid, AckBook>, sid: Sid, id: u64) -> Result<u64, AckError>
-    ensures answer { ForEachHistory (book_in books.old.entries sid) (λ first h. result ≡ answer_of (question_at first h id)) }
-    ensures leads { OnOk result (ForEachHistory (book_in books.old.entries sid) (λ first h. LeadsTo first (Answered id ∷ h) (book_in books.new.entries sid))) }
+    ensures answer { ForEachHistory (book_in books.old.entries sid) (λ first h.
+        result ≡ answer_of (question_at first h id)) }
+    ensures leads { OnOk result (ForEachHistory (book_in books.old.entries sid) (λ first h.
+        LeadsTo first (Answered id ∷ h) (book_in books.new.entries sid))) }
     ensures unchanged { OnErr result (book_in books.new.entries sid ≡ book_in books.old.entries sid) }
     ensures others { (s : ℕ) → sid == s ≡ false → book_in books.new.entries s ≡ book_in books.old.entries s }
 {
@@ -80,7 +90,8 @@ pub(crate) fn answer(books: &mut BTreeMap<Sid, AckBook>, sid: Sid, id: u64) -> R
 
 /// Forgets each question that has run out at this moment.
 pub(crate) fn expire(books: &mut BTreeMap<Sid, AckBook>, now: u64)
-    ensures { (s : ℕ) → ForEachHistory (book_in books.old.entries s) (λ first h. LeadsTo first (Expired now ∷ h) (book_in books.new.entries s)) }
+    ensures { (s : ℕ) → ForEachHistory (book_in books.old.entries s) (λ first h.
+        LeadsTo first (Expired now ∷ h) (book_in books.new.entries s)) }
 {
     books.retain(|_, book| {
         book.expire(now);

@@ -3,14 +3,13 @@
 
 ghost use Rattle.std.specs.Prelude.{◌≡◌, ◌⊎◌, List, [], ◌∷◌, length, Some, None, Err, IfOk, IfErr, IfSome, OnOk, OnErr, IsErrOf};
 ghost use Rattle.terms.specs.Refusal.{ok_unless};
-ghost use Rattle.sio_wire.specs.declared.assembler.Progress.{Progress};
 ghost use Rattle.sio_wire.specs.Frames.{text as text_frame, binary as binary_frame, Accepts, RefusesText, binary_refusal, exceeds};
 ghost use Rattle.session_clock.specs.Heartbeat.{due};
 ghost use Rattle.session_clock.specs.Upgrade.{transport, probe_refusal, unprobed_refusal};
 ghost use Rattle.ack_book.specs.Questions.{next_id, question_at};
 ghost use Rattle.ack_book.specs.Book.{ask_refusal, answer_of};
 ghost use Rattle.connection.specs.History.{Call, Framed, Ticked, Ponged, Probed, Upgraded, ProbeLost, GetBegan, GetEnded, PingCarried, Entered, Left, Asked, Answered, clock_calls, book_calls, is_getting, is_ping_due};
-ghost use Rattle.connection.specs.Line.{LeadsTo, ForEachHistory, HasHistory, Advances, IsWholeIfGiven, ping_after};
+ghost use Rattle.connection.specs.Line.{LeadsTo, ForEachHistory, HasHistory, Advances, FailsWith, IsWholeIfGiven, ping_after};
 
 use crate::books;
 use ack_book::{AckBook, AckError};
@@ -43,9 +42,21 @@ impl Model for Line {
 
     ghost Value = { PlainLine };
 
-    ghost view = { λ l. record { assembler = l.assembler; clock = l.clock; getting = l.getting; ping = l.ping; books = l.books.entries } };
+    ghost view = { λ l. record {
+      assembler = l.assembler;
+      clock = l.clock;
+      getting = l.getting;
+      ping = l.ping;
+      books = l.books.entries;
+    } };
 
-    ghost invariant = { λ l. HasHistory (record { assembler = l.assembler; clock = l.clock; getting = l.getting; ping = l.ping; books = l.books.entries }) };
+    ghost invariant = { λ l. HasHistory (record {
+      assembler = l.assembler;
+      clock = l.clock;
+      getting = l.getting;
+      ping = l.ping;
+      books = l.books.entries;
+    }) };
 }
 
 /// Whether a ping is due after a tick that was answered so, where one was due before it or not.
@@ -95,22 +106,24 @@ impl Line {
     /// and payload U+001E stands nowhere. After an error other than `Memory` the assembler has
     /// failed, and each further frame is answered with that error.
     pub fn text(&mut self, alloc: Global, text: &str) -> Result<Option<SioPacket>, SioError>
-        ensures given { IfOk result (λ given. Accepts self.old.assembler (text_frame text.now) given self.new.assembler) }
+        ensures given { IfOk result (λ given.
+            Accepts self.old.assembler (text_frame text.now) given self.new.assembler) }
         ensures advances { OnOk result (Advances self.old (Framed (text_frame text.now) ∷ []) self.new) }
         ensures whole { IfOk result IsWholeIfGiven }
         ensures fault { IfErr result (λ e. ((e ≡ SioError.Memory) × (self.new ≡ self.old))
-            ⊎ (RefusesText self.old.assembler text.now e × (self.new ≡ record self.old { assembler = Progress.Failed e }))) }
+            ⊎ (RefusesText self.old.assembler text.now e × FailsWith e self.old self.new)) }
     {
         self.assembler.text(alloc, text)
     }
 
     /// The client sent a message of bytes. As `text`.
     pub fn binary(&mut self, alloc: Global, bytes: &[u8]) -> Result<Option<SioPacket>, SioError>
-        ensures given { IfOk result (λ given. Accepts self.old.assembler (binary_frame bytes.now) given self.new.assembler) }
+        ensures given { IfOk result (λ given.
+            Accepts self.old.assembler (binary_frame bytes.now) given self.new.assembler) }
         ensures advances { OnOk result (Advances self.old (Framed (binary_frame bytes.now) ∷ []) self.new) }
         ensures whole { IfOk result IsWholeIfGiven }
         ensures fault { IfErr result (λ e. ((e ≡ SioError.Memory) × (self.new ≡ self.old))
-            ⊎ ((binary_refusal self.old.assembler ≡ Some e) × (self.new ≡ record self.old { assembler = Progress.Failed e }))) }
+            ⊎ ((binary_refusal self.old.assembler ≡ Some e) × FailsWith e self.old self.new)) }
     {
         self.assembler.binary(alloc, bytes)
     }
@@ -130,7 +143,8 @@ impl Line {
         self.clock.pong(now);
     }
 
-    /// Forgets the questions that ran out, and answers what is due now. `SendPing` makes a ping due.
+    /// Forgets the questions that ran out, and answers what is due now. `SendPing` makes a ping
+    /// due.
     pub fn tick(&mut self, now: u64) -> Due
         ensures due { ForEachHistory self.old (λ o h. result ≡ due o (clock_calls h) now) }
         ensures advances { Advances self.old (Ticked now result ∷ []) self.new }
@@ -143,7 +157,8 @@ impl Line {
 
     /// A probe over a WebSocket begins.
     pub fn probe(&mut self) -> Result<(), ClockError>
-        ensures answer { ForEachHistory self.old (λ o h. result ≡ ok_unless (probe_refusal (transport o (clock_calls h)))) }
+        ensures answer { ForEachHistory self.old (λ o h.
+            result ≡ ok_unless (probe_refusal (transport o (clock_calls h)))) }
         ensures reached { HasHistory self.old }
         ensures advances { OnOk result (Advances self.old (Probed ∷ []) self.new) }
         ensures unchanged { OnErr result (self.new ≡ self.old) }
@@ -153,7 +168,8 @@ impl Line {
 
     /// The client speaks over the WebSocket from now on.
     pub fn upgrade(&mut self) -> Result<(), ClockError>
-        ensures answer { ForEachHistory self.old (λ o h. result ≡ ok_unless (unprobed_refusal (transport o (clock_calls h)))) }
+        ensures answer { ForEachHistory self.old (λ o h.
+            result ≡ ok_unless (unprobed_refusal (transport o (clock_calls h)))) }
         ensures reached { HasHistory self.old }
         ensures advances { OnOk result (Advances self.old (Upgraded ∷ []) self.new) }
         ensures unchanged { OnErr result (self.new ≡ self.old) }
@@ -163,7 +179,8 @@ impl Line {
 
     /// The probe failed, and the client polls on.
     pub fn probe_lost(&mut self) -> Result<(), ClockError>
-        ensures answer { ForEachHistory self.old (λ o h. result ≡ ok_unless (unprobed_refusal (transport o (clock_calls h)))) }
+        ensures answer { ForEachHistory self.old (λ o h.
+            result ≡ ok_unless (unprobed_refusal (transport o (clock_calls h)))) }
         ensures reached { HasHistory self.old }
         ensures advances { OnOk result (Advances self.old (ProbeLost ∷ []) self.new) }
         ensures unchanged { OnErr result (self.new ≡ self.old) }
@@ -208,12 +225,15 @@ impl Line {
         books::forget(&mut self.books, sid);
     }
 
-    /// Asks a question of a socket that runs out at a moment, and answers its id, the next one of the
-    /// socket, from 0.
+    /// Asks a question of a socket that runs out at a moment, and answers its id, the next one of
+    /// the socket, from 0.
     pub fn ask(&mut self, alloc: Global, sid: Sid, tag: u64, until: u64) -> Result<u64, AckError>
-        ensures refused { ForEachHistory self.old (λ o h. IfSome (ask_refusal 0 (book_calls sid h)) (λ e. result ≡ Err e)) }
-        ensures memory_alone { ForEachHistory self.old (λ o h. ask_refusal 0 (book_calls sid h) ≡ None → IfErr result (λ e. e ≡ AckError.Memory)) }
-        ensures id { IfOk result (λ id. ForEachHistory self.old (λ o h. id ≡ next_id 0 (book_calls sid h))) }
+        ensures refused { ForEachHistory self.old (λ o h.
+            IfSome (ask_refusal 0 (book_calls sid h)) (λ e. result ≡ Err e)) }
+        ensures memory_alone { ForEachHistory self.old (λ o h.
+            ask_refusal 0 (book_calls sid h) ≡ None → IfErr result (λ e. e ≡ AckError.Memory)) }
+        ensures id { IfOk result (λ id.
+            ForEachHistory self.old (λ o h. id ≡ next_id 0 (book_calls sid h))) }
         ensures advances { OnOk result (Advances self.old (Asked sid tag until ∷ []) self.new) }
         ensures unchanged { OnErr result (Advances self.old [] self.new) }
     {
@@ -222,7 +242,8 @@ impl Line {
 
     /// Takes a socket's answer to a question: gives its tag and forgets its id.
     pub fn answer(&mut self, sid: Sid, id: u64) -> Result<u64, AckError>
-        ensures answer { ForEachHistory self.old (λ o h. result ≡ answer_of (question_at 0 (book_calls sid h) id)) }
+        ensures answer { ForEachHistory self.old (λ o h.
+            result ≡ answer_of (question_at 0 (book_calls sid h) id)) }
         ensures advances { OnOk result (Advances self.old (Answered sid id ∷ []) self.new) }
         ensures unchanged { OnErr result (Advances self.old [] self.new) }
     {

@@ -9,6 +9,7 @@ use Rattle.session_clock.specs.declared.transport.Transport.{Transport}
 use Rattle.session_clock.specs.declared.transport.Transport.TheVariants.{Polling, Probing, Socket}
 use Rattle.sio_wire.specs.declared.entry.Entry.{Entry}
 use Rattle.connection.specs.Line.{PlainLine}
+use Rattle.journal.specs.declared.error.HubError.{HubError}
 use Rattle.journal.specs.declared.step.Step.{Step}
 use Rattle.journal.specs.declared.step.What.{What}
 use Rattle.journal.specs.declared.step.What.TheVariants.{Opened, Took}
@@ -16,7 +17,7 @@ use Rattle.journal.specs.Config.{empty_base}
 use Rattle.journal.specs.Plain.{Limits, PlainBase}
 use Rattle.journal.specs.Journal.{History, history, moment_at}
 use Rattle.journal.specs.Membership.{is_open}
-use Rattle.journal.specs.Seal.{IsSealed}
+use Rattle.journal.specs.Seal.{PlainEpoch, Seals}
 use Rattle.journal.proofs.EpochsSocketsLemmas.{is_open-step}
 use Rattle.journal.specs.Outboxes.{put, entries_for, begins, taken_by, placements, taken, waiting}
 use Rattle.effects.specs.declared.fault.CoreFault.{CoreFault}
@@ -393,7 +394,7 @@ handed-fresh limits h is c =
     rw is (record { entries = []; out = refl; are = record { whole = out.0; count = out.1 } })
 
 -- after a seal what waits is all that was put
-pub handed-sealed : {X E : Type 0} (r : Result X E) (h g : History) → OnOk r (IsSealed h g) → OnOk r ((c : ℕ) → Handed c [] g)
+pub handed-sealed : (r : Result PlainEpoch HubError) (h g : History) → Seals h r g → OnOk r ((c : ℕ) → Handed c [] g)
 unfolding HandedOut waiting taken placements
-handed-sealed (Ok x) h g sealed = λ c. record { entries = []; out = refl; are = record { whole = rw sealed.no_steps refl; count = rw sealed.no_steps refl } }
-handed-sealed (Err e) h g sealed = tt
+handed-sealed (Ok epoch) h g seals = λ c. record { entries = []; out = refl; are = record { whole = rw seals.sealed.no_steps refl; count = rw seals.sealed.no_steps refl } }
+handed-sealed (Err e) h g seals = tt

@@ -1,17 +1,18 @@
 -- What a core keeps from event to event.
-use Rattle.std.proofs.Common.{◌≡◌, ℕ, ◌+◌, ◌-◌, ◌<◌, ◌≤◌, false, List, [], ◌∷◌, ◌++◌, length, take, get_or, map, arith, refl, sym, ◌∙◌, ap, subst, Result, Ok, Err, OnOk, OnErr}
+use Rattle.std.proofs.Common.{◌≡◌, ℕ, ◌+◌, ◌<◌, ◌≤◌, false, List, [], ◌∷◌, ◌++◌, length, take, get_or, map, arith, refl, sym, ◌∙◌, ap, subst, Result, Ok, Err}
 use Rattle.std.specs.List.{AllByRecursion}
 use Rattle.std.proofs.lemmas.List.{take_more, take_all}
 use Rattle.eio_wire.specs.declared.handshake.Numbers.{Numbers}
 use Rattle.session_clock.specs.declared.timing.Timing.{Timing}
 use Rattle.connection.specs.Line.{PlainLine}
+use Rattle.journal.specs.declared.error.HubError.{HubError}
 use Rattle.journal.specs.declared.step.Step.{Step}
 use Rattle.journal.specs.Config.{empty_base}
 use Rattle.journal.specs.Plain.{Limits, PlainBase, PlainBaseClient}
 use Rattle.journal.specs.Journal.{History}
 use Rattle.journal.specs.Entries.{own_entries, AllPass}
 use Rattle.journal.specs.Membership.{open_clients, is_open}
-use Rattle.journal.specs.Seal.{base_client, client_of, IsSealed, SaysTheSame}
+use Rattle.journal.specs.Seal.{PlainEpoch, base_client, client_of, IsSealed, SaysTheSame, Seals}
 use Rattle.journal.proofs.EntriesLemmas.{what-waits}
 use Rattle.journal.proofs.SealListsLemmas.{all-append}
 use Rattle.journal.specs.Totals.{commands, handed_out}
@@ -109,43 +110,29 @@ clean-sealed h g sealed clean =
 agree-sealed : (h g : History) (lines : List (ℕ × PlainLine)) → SaysTheSame h g → Agree h lines → Agree g lines
 agree-sealed h g lines same agree = λ d. agree d ∙ sym (same.same_open d)
 
-abbrev IsKept : List (ℕ × PlainLine) → PlainHub → Type 0
-IsKept lines hub = Agree hub.history lines × IsClean hub.history
+abbrev IsKept : List (ℕ × PlainLine) → History → Type 0
+IsKept lines h = Agree h lines × IsClean h
 
-pub kept-sealed : {X E : Type 0} (r : Result X E) (lines : List (ℕ × PlainLine)) (old new : PlainHub)
-    → OnOk r (IsSealed old.history new.history) → OnOk r (SaysTheSame old.history new.history) → OnErr r (new ≡ old) → IsKept lines old → IsKept lines new
-kept-sealed (Ok x) lines old new sealed same unchanged kept = (agree-sealed old.history new.history lines same kept.0, clean-sealed old.history new.history sealed kept.1)
-kept-sealed (Err e) lines old new sealed same unchanged kept = subst (IsKept lines) (sym unchanged) kept
+pub kept-sealed : (r : Result PlainEpoch HubError) (lines : List (ℕ × PlainLine)) (old new : History) → Seals old r new → IsKept lines old → IsKept lines new
+kept-sealed (Ok epoch) lines old new seals kept = (agree-sealed old new lines seals.same kept.0, clean-sealed old new seals.sealed kept.1)
+kept-sealed (Err e) lines old new seals kept = subst (IsKept lines) (sym seals.1) kept
 
 -- ---- a core with another hub
 
 abbrev with_hub : PlainCore → PlainHub → PlainCore
 with_hub core hub = record core { hub = hub }
 
-pub kept-same : (lines : List (ℕ × PlainLine)) (old new : PlainHub) → new ≡ old → IsKept lines old → IsKept lines new
-kept-same lines old new same kept = subst (IsKept lines) (sym same) kept
-
-pub kept-passed : {X E : Type 0} (r : Result X E) (lines : List (ℕ × PlainLine)) (old new : PlainHub)
-    → OnOk r ((1 < old.rest) × (new ≡ record old { rest = old.rest - 1 })) → OnErr r ((old.rest ≡ 1) × (new ≡ old)) → IsKept lines old → IsKept lines new
-kept-passed (Ok x) lines old new passed same kept = subst (IsKept lines) (sym passed.1) kept
-kept-passed (Err e) lines old new passed same kept = subst (IsKept lines) (sym same.1) kept
+pub kept-history : (lines : List (ℕ × PlainLine)) (old new : PlainHub) → new.history ≡ old.history → IsKept lines old.history → IsKept lines new.history
+kept-history lines old new same kept = subst (IsKept lines) (sym same) kept
 
 pub core-same : (core : PlainCore) (old new : PlainHub) → new ≡ old → with_hub core new ≡ with_hub core old
 core-same core old new same = ap (with_hub core) same
 
-pub core-unchanged : {X E : Type 0} (r : Result X E) (core : PlainCore) (old new : PlainHub) → OnErr r (new ≡ old) → OnErr r (with_hub core new ≡ with_hub core old)
-core-unchanged (Ok x) core old new same = tt
-core-unchanged (Err e) core old new same = ap (with_hub core) same
+pub core-history : (core : PlainCore) (old new : PlainHub) → new.history ≡ old.history → with_hub core new ≡ with_hub core (record old { rest = new.rest })
+core-history core old new same = ap (λ (h : History). with_hub core (record { history = h; rest = new.rest })) same
 
-pub core-passed : {X E : Type 0} (r : Result X E) (core : PlainCore) (old new : PlainHub)
-    → OnOk r ((1 < old.rest) × (new ≡ record old { rest = old.rest - 1 })) → OnOk r ((1 < old.rest) × (with_hub core new ≡ with_hub core (record old { rest = old.rest - 1 })))
-core-passed (Ok x) core old new passed = (passed.0, ap (with_hub core) passed.1)
-core-passed (Err e) core old new passed = tt
-
-pub core-spent : {X E : Type 0} (r : Result X E) (core : PlainCore) (old new : PlainHub)
-    → OnErr r ((old.rest ≡ 1) × (new ≡ old)) → OnErr r ((old.rest ≡ 1) × (with_hub core new ≡ with_hub core old))
-core-spent (Ok x) core old new same = tt
-core-spent (Err e) core old new same = (same.0, ap (with_hub core) same.1)
+pub core-parts : (core : PlainCore) (old new : PlainHub) → new.rest ≡ old.rest → with_hub core new ≡ with_hub core (record old { history = new.history })
+core-parts core old new same = ap (λ (n : ℕ). with_hub core (record { history = new.history; rest = n })) same
 
 -- ---- the machine
 

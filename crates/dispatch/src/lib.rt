@@ -1,5 +1,5 @@
-//! What each event does to the server: the core, one value that holds the hub and a line for each of
-//! its clients.
+//! What each event does to the server: the core, one value that holds the hub and a line for each
+//! of its clients.
 #![tactic(auto)]
 
 mod connect;

@@ -158,8 +158,10 @@ fn handle_in_turn<A: App, I: IdSource>(
     packet: &Packet,
     tally: &mut Tally,
 ) -> Result<(), Stopped>
-    requires { is_open state.old.base state.old.journal visit.client ≡ is_none tally.old.done.closed }
-    ensures { HandlesOrBreaks (A.decides app.now) (A.allows app.now) visit.client packet.now visit.moment
+    requires { is_open state.old.base state.old.journal visit.client
+        ≡ is_none tally.old.done.closed }
+    ensures { HandlesOrBreaks (A.decides app.now) (A.allows app.now)
+        visit.client packet.now visit.moment
         (stage (scene state.old line.old tally.old) (I.stream ids.old)) result
         (stage (scene state.new line.new tally.new) (I.stream ids.new)) }
 {

@@ -146,8 +146,8 @@ fn serve<A: App>(
     }
 }
 
-/// What a packet does that isn't a CONNECT. One for a namespace that the client hasn't joined closes
-/// it.
+/// What a packet does that isn't a CONNECT. One for a namespace that the client hasn't joined
+/// closes it.
 pub(crate) fn serve_joined<A: App>(
     visit: Visit,
     state: &mut State,

@@ -1,14 +1,12 @@
 //! The whole state of the server, and what each event does to it.
 
-ghost use Rattle.std.specs.Prelude.{◌≡◌, ℕ, ◌+◌, ◌-◌, ◌<◌, List, [], ◌∷◌, Some, None, is_some, IsOk, IfOk, IfErr, IfSome, OnOk, OnErr};
+ghost use Rattle.std.specs.Prelude.{◌≡◌, ℕ, ◌+◌, List, [], ◌∷◌, Some, None, is_some, IsOk, IfOk, IfErr, IfSome, OnOk, OnErr};
 ghost use Rattle.std.specs.Ordering.{nat_cmp};
 ghost use Rattle.terms.specs.Listing.{ListsRising};
 ghost use Rattle.journal.specs.Config.{config_refusal, empty_base};
-ghost use Rattle.journal.specs.Legal.{IsLegal};
 ghost use Rattle.journal.specs.Membership.{is_open};
-ghost use Rattle.journal.specs.Seal.{IsSealed, SaysTheSame};
-ghost use Rattle.journal.specs.Totals as counted;
-ghost use Rattle.hub.specs.Pass.{AtLeast, commands_of, taken_of};
+ghost use Rattle.journal.specs.Seal.{Seals};
+ghost use Rattle.hub.specs.Pass.{new_pass, AtLeast, GivesPass, Settles};
 ghost use Rattle.effects.specs.Following.{TurnsFor, Spares};
 ghost use Rattle.connection.specs.Line.{PlainLine};
 ghost use Rattle.dispatch.specs.Place.{line_of, place, Agree, IsClean};
@@ -34,9 +32,9 @@ use std::collections::BTreeMap;
 use std::marker::Model;
 use std::sync::ledger::{Blank, Ledger};
 
-/// The hub, and a line for each of its open clients. In a contract it is the hub's value, the lines by
-/// their clients, and what each new client is told. Each core has a line for just the open clients,
-/// and U+001E, which separates the packets of a payload, stands in no entry of it.
+/// The hub, and a line for each of its open clients. In a contract it is the hub's value, the lines
+/// by their clients, and what each new client is told. Each core has a line for just the open
+/// clients, and U+001E, which separates the packets of a payload, stands in no entry of it.
 #[derive(Drop)]
 pub struct Core<C: Ledger, T: Ledger> {
     hub: Hub<C, T>,
@@ -49,7 +47,12 @@ impl<C: Ledger, T: Ledger> Model for Core<C, T> {
 
     ghost Value = { PlainCore };
 
-    ghost view = { λ c. record { hub = c.hub; lines = c.lines.entries; timing = c.greeting.timing; numbers = c.greeting.numbers } };
+    ghost view = { λ c. record {
+      hub = c.hub;
+      lines = c.lines.entries;
+      timing = c.greeting.timing;
+      numbers = c.greeting.numbers;
+    } };
 
     ghost invariant = { λ c. Agree c.hub.history c.lines.entries × IsClean c.hub.history };
 }
@@ -64,7 +67,8 @@ impl<C: Ledger, T: Ledger> Core<C, T> {
         commands: Blank,
         taken: Blank,
     ) -> Result<(Core<C, T>, Pass<C, T>), CoreError>
-        requires commands { (commands.name ≡ C.name) × (commands.parts ≡ C.parts) × (commands.parts ≡ 65536) }
+        requires commands { (commands.name ≡ C.name)
+            × (commands.parts ≡ C.parts) × (commands.parts ≡ 65536) }
         requires taken { (taken.name ≡ T.name) × (taken.parts ≡ T.parts) × (taken.parts ≡ 65536) }
         ensures config { OnOk result (config_refusal config ≡ None) }
         ensures core { IfOk result (λ made. made.0 ≡ record {
@@ -77,7 +81,7 @@ impl<C: Ledger, T: Ledger> Core<C, T> {
           numbers = numbers;
         }) }
         ensures handed { IfOk result (λ made. (c : ℕ) → Handed c [] made.0.hub.history) }
-        ensures pass { IfOk result (λ made. made.1 ≡ record { commands = 0; taken = 0; parts = 1 }) }
+        ensures pass { IfOk result (λ made. made.1 ≡ new_pass) }
         ensures err { IfErr result (λ e. e ≡ at_once (fault_of_config (config_refusal config))) }
     {
         match Hub::new(alloc, config, commands, taken) {
@@ -108,7 +112,8 @@ impl<C: Ledger, T: Ledger> Core<C, T> {
             self.old.timing self.old.numbers event.now
             (place self.old.hub.history self.old.lines) (I.stream ids.old) result
             (place self.new.hub.history self.new.lines) (I.stream ids.new) }
-        ensures settings { (self.new.timing ≡ self.old.timing) × (self.new.numbers ≡ self.old.numbers) }
+        ensures settings { (self.new.timing ≡ self.old.timing)
+            × (self.new.numbers ≡ self.old.numbers) }
         ensures handed { (c : ℕ) (turns : List Turn) → Handed c turns self.old.hub.history
             → Handed c ((event.now, result) ∷ turns) self.new.hub.history }
         ensures turns { (c : ℕ) → IsOf event.now (I.stream ids.old) c
@@ -128,8 +133,8 @@ impl<C: Ledger, T: Ledger> Core<C, T> {
         answer
     }
 
-    /// What each of these events in turn is answered with. Where there is no memory for so many answers
-    /// nothing is done.
+    /// What each of these events in turn is answered with. Where there is no memory for so many
+    /// answers nothing is done.
     pub fn apply_all<A: App, I: IdSource>(
         &mut self,
         alloc: Global,
@@ -145,7 +150,8 @@ impl<C: Ledger, T: Ledger> Core<C, T> {
         ensures handed { IfOk result (λ answers. (c : ℕ) (turns : List Turn)
             → Handed c turns self.old.hub.history
             → Handed c (turns_after turns events.now answers.items) self.new.hub.history) }
-        ensures unchanged { OnErr result ((self.new ≡ self.old) × (pass.new ≡ pass.old) × (ids.new ≡ ids.old)) }
+        ensures unchanged { OnErr result
+            ((self.new ≡ self.old) × (pass.new ≡ pass.old) × (ids.new ≡ ids.old)) }
     {
         let mut answers = Vec::with_capacity(alloc, events.len())?;
         for (event, now) in events {
@@ -173,15 +179,18 @@ impl<C: Ledger, T: Ledger> Core<C, T> {
 
     /// How a client speaks, or `None` where it isn't open.
     pub fn transport(&self, client: u128) -> Option<Transport>
-        ensures known { is_some result ≡ is_open self.now.hub.history.base self.now.hub.history.journal client }
-        ensures on { IfSome result (λ on. (line : PlainLine) × (line_of self.now.lines client ≡ Some line) × IsOn on line) }
+        ensures known { let h = self.now.hub.history in
+            is_some result ≡ is_open h.base h.journal client }
+        ensures on { IfSome result (λ on.
+            (line : PlainLine) × (line_of self.now.lines client ≡ Some line) × IsOn on line) }
     {
         transport_of(&self.lines, client)
     }
 
     /// The open clients, rising.
     pub fn clients(&self, alloc: Global) -> Result<Vec<u128>, CoreError>
-        ensures ok { IfOk result (λ clients. ListsRising nat_cmp (is_open self.now.hub.history.base self.now.hub.history.journal) clients.items) }
+        ensures ok { let h = self.now.hub.history in
+            IfOk result (λ clients. ListsRising nat_cmp (is_open h.base h.journal) clients.items) }
         ensures err { IfErr result (λ e. e ≡ at_once CoreFault.Memory) }
     {
         match self.lines.keys().copied().collect(alloc) {
@@ -193,10 +202,9 @@ impl<C: Ledger, T: Ledger> Core<C, T> {
     /// A pass that has counted nothing, for one more thread. Refused as `Spent` alone, after 65,534
     /// of them.
     pub fn new_pass(&mut self) -> Result<Pass<C, T>, HubError>
-        ensures pass { IfOk result (λ pass. pass ≡ record { commands = 0; taken = 0; parts = 1 }) }
-        ensures ok { OnOk result ((1 < self.old.hub.rest) × (self.new ≡ record self.old { hub = record self.old.hub { rest = self.old.hub.rest - 1 } })) }
-        ensures err { OnErr result ((self.old.hub.rest ≡ 1) × (self.new ≡ self.old)) }
-        ensures spent { IfErr result (λ e. e ≡ HubError.Spent) }
+        ensures gives { GivesPass self.old.hub.rest result self.new.hub.rest }
+        ensures kept { let hub = record self.old.hub { rest = self.new.hub.rest } in
+            self.new ≡ record self.old { hub = hub } }
     {
         self.hub.new_pass()
     }
@@ -209,14 +217,14 @@ impl<C: Ledger, T: Ledger> Core<C, T> {
         self.hub.audit(pass);
     }
 
-    /// The hub's counts, where the pass has all of its commands and all that it handed out, and else
-    /// what the pass lacks. It lacks nothing where every other pass was absorbed. Changes nothing.
+    /// The hub's counts, where the pass has all of its commands and all that it handed out, and
+    /// else what the pass lacks. It lacks nothing where every other pass was absorbed. Changes
+    /// nothing.
     pub fn settle(&mut self, pass: &mut Pass<C, T>) -> Result<Totals, NotAll>
         ensures same { (self.new ≡ self.old) × (pass.new ≡ pass.old) }
-        ensures totals { IfOk result (λ totals. totals ≡ counted.totals self.old.hub.history.base self.old.hub.history.limits self.old.hub.history.journal) }
-        ensures all { OnOk result ((pass.old.commands ≡ commands_of self.old.hub) × (pass.old.taken ≡ taken_of self.old.hub)) }
-        ensures lacks { IfErr result (λ lack. (pass.old.commands + lack.commands ≡ commands_of self.old.hub) × (pass.old.taken + lack.taken ≡ taken_of self.old.hub) × (0 < lack.commands + lack.taken)) }
-        ensures whole { self.old.hub.rest + pass.old.parts ≡ C.parts → self.old.hub.rest + pass.old.parts ≡ T.parts → IsOk result }
+        ensures settles { Settles self.old.hub pass.old result }
+        ensures whole { let parts = self.old.hub.rest + pass.old.parts in
+            parts ≡ C.parts → parts ≡ T.parts → IsOk result }
     {
         self.hub.settle(pass)
     }
@@ -225,14 +233,10 @@ impl<C: Ledger, T: Ledger> Core<C, T> {
     /// then. It is no command and no event: the lines stay, and what clients are handed is counted
     /// anew, from what waits. Refused for `Memory` alone.
     pub fn seal(&mut self, alloc: Global) -> Result<Epoch, HubError>
-        ensures epoch { IfOk result (λ epoch. epoch ≡ record { base = self.old.hub.history.base; journal = self.old.hub.history.journal }) }
-        ensures legal { IfOk result (λ epoch. IsLegal epoch.base self.old.hub.history.limits epoch.journal) }
-        ensures sealed { OnOk result (IsSealed self.old.hub.history self.new.hub.history) }
-        ensures same { OnOk result (SaysTheSame self.old.hub.history self.new.hub.history) }
+        ensures seals { Seals self.old.hub.history result self.new.hub.history }
         ensures handed { OnOk result ((c : ℕ) → Handed c [] self.new.hub.history) }
-        ensures kept { (self.new.lines ≡ self.old.lines) × (self.new.timing ≡ self.old.timing) × (self.new.numbers ≡ self.old.numbers) × (self.new.hub.rest ≡ self.old.hub.rest) }
-        ensures unchanged { OnErr result (self.new ≡ self.old) }
-        ensures memory { IfErr result (λ e. e ≡ HubError.Memory) }
+        ensures kept { let hub = record self.old.hub { history = self.new.hub.history } in
+            self.new ≡ record self.old { hub = hub } }
     {
         self.hub.seal(alloc)
     }

@@ -64,7 +64,8 @@ pub struct Answer {
     pub attachments: Attachments,
 }
 
-/// What the app wants done. All of it is done in the namespace of the socket that it is asked about.
+/// What the app wants done. All of it is done in the namespace of the socket that it is asked
+/// about.
 #[derive(Drop)]
 pub enum Effect {
     /// The socket joins a room.
@@ -118,8 +119,10 @@ pub trait App {
 
     /// Whether a client may connect to a namespace, with the payload that it sent.
     fn connects(&self, alloc: Global, space: &str, payload: &str) -> Result<Verdict, AllocError>
-        ensures allowed { IfOk result (λ verdict. allows self.now space.now payload.now (plain_verdict verdict)) }
-        ensures clean { IfOk result (λ verdict. IsCleanVerdict payload.now (plain_verdict verdict)) };
+        ensures allowed { IfOk result (λ verdict.
+            allows self.now space.now payload.now (plain_verdict verdict)) }
+        ensures clean { IfOk result (λ verdict.
+            IsCleanVerdict payload.now (plain_verdict verdict)) };
 
     /// What is done where something arrived from a socket.
     fn decides(
@@ -128,8 +131,10 @@ pub trait App {
         who: &Who,
         arrived: &Arrived,
     ) -> Result<Vec<Effect>, AllocError>
-        ensures decided { IfOk result (λ effects. decides self.now who.now arrived.now effects.items) }
-        ensures clean { IfOk result (λ effects. IsCleanArrival arrived.now → AllClean effects.items) };
+        ensures decided { IfOk result (λ effects.
+            decides self.now who.now arrived.now effects.items) }
+        ensures clean { IfOk result (λ effects.
+            IsCleanArrival arrived.now → AllClean effects.items) };
 }
 
 /// Where the ids come from: the numbers that it will give are known to it.

@@ -61,8 +61,8 @@ fn tell(
     commands::tell(visit, state, entry)
 }
 
-/// Asks the socket a question, or closes its client where the outbox has no place for it. A question
-/// that isn't told is forgotten again.
+/// Asks the socket a question, or closes its client where the outbox has no place for it. A
+/// question that isn't told is forgotten again.
 pub(crate) fn ask(
     visit: Visit,
     state: &mut State,

@@ -1,6 +1,5 @@
-//! The hub's commands, as an event of one client uses them: refusals that can't come are gone, those
-//! that end the event are faults, and the rest are answers.
-#![tactic(auto)]
+//! The hub's commands, as an event of one client uses them: refusals that can't come are gone,
+//! those that end the event are faults, and the rest are answers.
 
 ghost use Rattle.std.specs.Prelude.{◌≡◌, true, min, length, None, IfOk, IfSome, IfNone, IfErr};
 ghost use Rattle.journal.specs.declared.error.HubError.TheVariants as hub;
@@ -30,8 +29,8 @@ pub fn open(visit: Visit, state: &mut State) -> Result<(), CoreFault>
     }
 }
 
-/// Connects an open client's socket to a namespace that it hasn't joined. Answers whether its outbox
-/// had a place for the answer.
+/// Connects an open client's socket to a namespace that it hasn't joined. Answers whether its
+/// outbox had a place for the answer.
 pub fn attach(visit: Visit, state: &mut State, who: &Who, pid: Pid) -> Result<bool, CoreFault>
     requires open_client { is_open state.old.base state.old.journal who.now.client ≡ true }
     requires in_space { is_space state.old.limits (place_of state.old.limits who.now.space) ≡ true }
@@ -137,8 +136,9 @@ pub fn park(visit: Visit, state: &mut State) -> Result<bool, CoreFault>
 /// read them by then.
 pub fn take(visit: Visit, state: &mut State, most: usize) -> Result<(), CoreFault>
     requires { is_open state.old.base state.old.journal visit.client ≡ true }
-    ensures { let h = state.old in let number = min most (length (waiting h.base h.limits h.journal visit.client))
-        in DoesOrStops h visit.moment (What.Took visit.client most number) result state.new }
+    ensures { let h = state.old in
+        let number = min most (length (waiting h.base h.limits h.journal visit.client)) in
+        DoesOrStops h visit.moment (What.Took visit.client most number) result state.new }
 {
     match state.take_away(visit.alloc, visit.client, most, visit.moment) {
         Ok(_number) => Ok(()),

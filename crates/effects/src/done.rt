@@ -32,7 +32,14 @@ impl Model for Done {
 
     ghost Value = { PlainDone };
 
-    ghost view = { λ d. record { packets = d.packets; effects = d.effects; skipped = d.skipped; ignored = d.ignored; closed = d.closed; clients = d.clients.lists } };
+    ghost view = { λ d. record {
+      packets = d.packets;
+      effects = d.effects;
+      skipped = d.skipped;
+      ignored = d.ignored;
+      closed = d.closed;
+      clients = d.clients.lists;
+    } };
 }
 
 impl Done {

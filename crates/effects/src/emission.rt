@@ -25,5 +25,11 @@ impl Model for Emission {
 
     ghost Value = { PlainEmission };
 
-    ghost view = { λ e. record { rooms = e.rooms.items; excepted = e.excepted.items; logged = e.logged; payload = e.payload; attachments = e.attachments } };
+    ghost view = { λ e. record {
+      rooms = e.rooms.items;
+      excepted = e.excepted.items;
+      logged = e.logged;
+      payload = e.payload;
+      attachments = e.attachments;
+    } };
 }

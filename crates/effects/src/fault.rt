@@ -41,8 +41,8 @@ pub struct Stopped {
     pub effects: usize,
 }
 
-/// Why an event was not done to its end, and how far it came: so many of its packets are done, and of
-/// the next one so many effects.
+/// Why an event was not done to its end, and how far it came: so many of its packets are done, and
+/// of the next one so many effects.
 #[derive(Clone, Copy, Debug, PartialEq, Eq)]
 pub struct CoreError {
     pub fault: CoreFault,

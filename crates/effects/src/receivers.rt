@@ -18,7 +18,10 @@ impl Model for Receivers {
 
     ghost Value = { PlainReceivers };
 
-    ghost view = { λ r. record { lists = map (λ ids. ids.items) r.lists.items; room = vec_capacity r.lists - vec_len r.lists } };
+    ghost view = { λ r. record {
+      lists = map (λ ids. ids.items) r.lists.items;
+      room = vec_capacity r.lists - vec_len r.lists;
+    } };
 }
 
 impl Receivers {

@@ -25,9 +25,11 @@ use room_maps::{Room, Sid};
 fn change<X: Drop>(answer: Result<X, HubError>, tally: &mut Tally) -> Result<(), CoreFault>
     requires { IfErr answer IsRoomChange }
     ensures ok { OnOk result ((g h : History) (l : PlainLine) (now : ℕ) (what : What)
-        → Does g h now what answer → ChangesRooms what now (scene g l tally.old) (scene h l tally.new)) }
+        → Does g h now what answer
+        → ChangesRooms what now (scene g l tally.old) (scene h l tally.new)) }
     ensures err { IfErr result (λ f. (g h : History) (l : PlainLine) (now : ℕ) (what : What)
-        → Does g h now what answer → FailsAt what now (scene g l tally.old) f (scene h l tally.new)) }
+        → Does g h now what answer
+        → FailsAt what now (scene g l tally.old) f (scene h l tally.new)) }
 {
     match answer {
         Ok(_changed) => tally.count(),

@@ -5,7 +5,7 @@ use crate::peers::{Talker, one_that_joins, talkers};
 use crate::tasks::{Task, expect};
 use dispatch::Core;
 use hub::Pass;
-use hub_gate::{Locked, Queue, Turnstile, WorkerCounts, run_worker};
+use hub_gate::{Locked, Pool, Queue, Turnstile, WorkerCounts, run_worker};
 use journal::{Step, What};
 use relay::RelayApp;
 use room_maps::Room;
@@ -194,9 +194,15 @@ fn work_off<'a, C: Ledger, T: Ledger, R: Wait, G: Turnstile>(
     let Work { pass, peers } = work;
     let mut queue = Queue::new(peers);
     let mut ids = ids_behind((worker as u64).wrapping_mul(20));
-    let (pass, counts) = run_worker(
-        rt, alloc, locked, pass, &RelayApp, &mut queue, gate, worker, &mut ids, 10,
-    );
+    let pool = Pool {
+        rt,
+        alloc,
+        locked,
+        app: &RelayApp,
+        gate,
+        turns: 10,
+    };
+    let (pass, counts) = run_worker(&pool, pass, &mut queue, worker, &mut ids);
     Worked { pass, counts }
 }
 

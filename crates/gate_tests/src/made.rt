@@ -6,7 +6,7 @@ use dispatch::Core;
 use effects::{CoreError, CoreFault, IdSource};
 use eio_wire::Numbers;
 use hub::Pass;
-use hub_gate::{Locked, Peer, Report, ServeError, Turnstile, WorkerCounts, serve_peers};
+use hub_gate::{Locked, Peer, Pool, Report, ServeError, Turnstile, WorkerCounts, serve_peers};
 use journal::{Config, Totals};
 use relay::{Counter, RelayApp};
 use session_clock::Timing;
@@ -166,9 +166,15 @@ pub fn serve<
     let Ok(ids) = sources(alloc, workers as u64) else {
         return Err(ServeError::Memory);
     };
-    let settled = serve_peers(
-        rt, alloc, locked, pass, &RelayApp, peers, workers, gate, ids, turns,
-    )?;
+    let pool = Pool {
+        rt,
+        alloc,
+        locked,
+        app: &RelayApp,
+        gate,
+        turns,
+    };
+    let settled = serve_peers(&pool, pass, peers, workers, ids)?;
     Ok(seen_of(&settled.report))
 }
 

@@ -1,6 +1,8 @@
 -- What a pass has counted, and how a hub counts each command together with the pass that it came with.
-use Rattle.std.specs.Prelude.{◌≡◌, ℕ, ◌+◌, ◌≤◌, None, Result, Ok, Err}
+use Rattle.std.specs.Prelude.{◌≡◌, ℕ, ◌+◌, ◌-◌, ◌<◌, ◌≤◌, None, Result, Ok, Err}
 use Rattle.journal.specs.declared.error.HubError.{HubError}
+use Rattle.journal.specs.declared.error.HubError.TheVariants.{Spent}
+use Rattle.journal.specs.declared.totals.Totals.{Totals}
 use Rattle.journal.specs.declared.step.What.{What}
 use Rattle.journal.specs.Journal.{History, moment_at, with_step}
 use Rattle.journal.specs.Command.{refusal, is_found_late, IsErrorOf}
@@ -8,6 +10,7 @@ use Rattle.journal.specs.Plain.{PlainCast, PlainCastDone}
 use Rattle.journal.specs.Casting.{refusal_of, IsCast, IsCastError}
 use Rattle.journal.specs.Totals as totals
 use Rattle.journal.specs.Totals.{handed_out, handed_out_by}
+use Rattle.hub.specs.declared.pass.NotAll.{NotAll}
 
 -- a total, and how many parts of its ledger no holder was given
 pub record PlainCounter : Type 0 where
@@ -31,6 +34,15 @@ pub record PlainBooks : Type 0 where
   pub commands : ℕ
   pub taken : ℕ
   pub rest : ℕ
+
+-- a pass that has counted nothing
+abbrev pub new_pass : PlainPass
+new_pass = record { commands = 0; taken = 0; parts = 1 }
+
+-- a pass is made of the rest's parts, or is refused where the rest has its last one alone
+abbrev pub GivesPass : (old : ℕ) → Result PlainPass HubError → (new : ℕ) → Type 0
+GivesPass old (Ok pass) new = (pass ≡ new_pass) × (1 < old) × (new ≡ old - 1)
+GivesPass old (Err e) new = (e ≡ Spent) × (old ≡ 1) × (new ≡ old)
 
 -- a hub's history, and how many parts of each ledger no pass was given
 pub record PlainHub : Type 0 where
@@ -68,6 +80,14 @@ pub record Rises (before after : PlainHub) (old new : PlainPass) : Type 0 where
   pub commands : new.commands + commands_of before ≡ old.commands + commands_of after
   pub taken : new.taken + taken_of before ≡ old.taken + taken_of after
   pub parts : new.parts ≡ old.parts
+
+-- the hub's totals, where the pass has counted all of its commands and all that they handed out; else what the pass
+-- lacks of these, which isn't nothing
+abbrev pub Settles : PlainHub → PlainPass → Result Totals NotAll → Type 0
+Settles hub pass (Ok all) =
+    (all ≡ totals.totals hub.history.base hub.history.limits hub.history.journal) × (pass.commands ≡ commands_of hub) × (pass.taken ≡ taken_of hub)
+Settles hub pass (Err lack) =
+    (pass.commands + lack.commands ≡ commands_of hub) × (pass.taken + lack.taken ≡ taken_of hub) × (0 < lack.commands + lack.taken)
 
 -- the hub's totals are u64s, and at least what the pass has counted
 pub record AtLeast (hub : PlainHub) (pass : PlainPass) : Type 0 where

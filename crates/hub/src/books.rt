@@ -1,9 +1,10 @@
 //! The counts of commands and of entries that were handed out, which a hub raises together with its
 //! passes.
 
-ghost use Rattle.std.specs.Prelude.{◌≡◌, ℕ, ◌+◌, ◌-◌, ◌≤◌, ◌<◌, IfOk, IfErr, OnOk, OnErr};
+ghost use Rattle.std.specs.Prelude.{◌≡◌, ◌+◌, ◌≤◌};
 ghost use Rattle.journal.specs.Totals as totals;
 ghost use Rattle.journal.specs.Totals.{handed_out};
+ghost use Rattle.hub.specs.Pass.{new_pass, GivesPass};
 
 use crate::count::Counter;
 use crate::pass::{NotAll, Pass};
@@ -43,7 +44,7 @@ impl<C: Ledger, T: Ledger> Books<C, T> {
             × (commands.parts ≡ C.parts) × (commands.parts ≡ 65536) }
         requires taken { (taken.name ≡ T.name) × (taken.parts ≡ T.parts) × (taken.parts ≡ 65536) }
         ensures books { result.0 ≡ record { commands = 0; taken = 0; rest = 65535 } }
-        ensures pass { result.1 ≡ record { commands = 0; taken = 0; parts = 1 } }
+        ensures pass { result.1 ≡ new_pass }
     {
         let (commands, command_part) = Counter::open(commands);
         let (taken, taken_part) = Counter::open(taken);
@@ -99,11 +100,8 @@ impl<C: Ledger, T: Ledger> Books<C, T> {
 
     /// A new pass, which has nothing. Refused as `Spent` where the rest has its last part alone.
     pub(crate) fn new_pass(&mut self) -> Result<Pass<C, T>, HubError>
-        ensures pass { IfOk result (λ pass. pass ≡ record { commands = 0; taken = 0; parts = 1 }) }
-        ensures ok { OnOk result
-            ((1 < self.old.rest) × (self.new ≡ record self.old { rest = self.old.rest - 1 })) }
-        ensures err { OnErr result ((self.old.rest ≡ 1) × (self.new ≡ self.old)) }
-        ensures spent { IfErr result (λ e. e ≡ HubError.Spent) }
+        ensures gives { GivesPass self.old.rest result self.new.rest }
+        ensures kept { self.new ≡ record self.old { rest = self.new.rest } }
     {
         if self.commands.is_last() {
             return Err(HubError::Spent);

@@ -1,10 +1,10 @@
 //! A hub that many threads use: each counts what it has had accepted in a pass of its own.
+#![tactic(auto, unfolding(journal::specs::Totals::commands, journal::specs::Totals::handed_out, journal::specs::Journal::total))]
 
-ghost use Rattle.std.specs.Prelude.{◌≡◌, ℕ, ◌+◌, ◌-◌, ◌≤◌, ◌<◌, [], IsOk, IfOk, IfErr, OnOk, OnErr, unwrap_or};
+ghost use Rattle.std.specs.Prelude.{◌≡◌, ◌+◌, [], None, IsOk, IfOk, IfErr, OnOk, unwrap_or};
 ghost use Rattle.journal.specs.Config.{config_refusal, empty_base};
 ghost use Rattle.journal.specs.Journal.{history};
-ghost use Rattle.journal.specs.Totals as counted;
-ghost use Rattle.hub.specs.Pass.{commands_of, taken_of, AtLeast};
+ghost use Rattle.hub.specs.Pass.{new_pass, AtLeast, GivesPass, Settles};
 
 mod broadcasts;
 mod commands;
@@ -62,7 +62,6 @@ impl<C: Ledger, T: Ledger> Hub<C, T> {
     /// A hub with no clients and an empty journal, and its first pass. Each blank is a ledger cut
     /// into 65,536 parts, of which a pass takes one. Refused as `BadConfig`, then for `Memory`. It
     /// compares each two of the namespaces, and copies their names once.
-    #[tactic(auto, unfolding(journal::specs::Totals::commands, journal::specs::Totals::handed_out, journal::specs::Journal::total))]
     pub fn new(
         alloc: Global,
         config: Config,
@@ -75,8 +74,7 @@ impl<C: Ledger, T: Ledger> Hub<C, T> {
         ensures config { OnOk result (config_refusal config ≡ None) }
         ensures hub { let base = empty_base config.first_offset in IfOk result
             (λ made. made.0 ≡ record { history = history base config []; rest = 65535 }) }
-        ensures pass { IfOk result
-            (λ made. made.1 ≡ record { commands = 0; taken = 0; parts = 1 }) }
+        ensures pass { IfOk result (λ made. made.1 ≡ new_pass) }
         ensures err { IfErr result (λ e. e ≡ unwrap_or (config_refusal config) HubError.Memory) }
     {
         let state = State::new(alloc, config)?;
@@ -87,11 +85,8 @@ impl<C: Ledger, T: Ledger> Hub<C, T> {
     /// A pass that has counted nothing, for one more thread. Refused as `Spent` alone, after 65,534
     /// of them.
     pub fn new_pass(&mut self) -> Result<Pass<C, T>, HubError>
-        ensures pass { IfOk result (λ pass. pass ≡ record { commands = 0; taken = 0; parts = 1 }) }
-        ensures ok { OnOk result
-            ((1 < self.old.rest) × (self.new ≡ record self.old { rest = self.old.rest - 1 })) }
-        ensures err { OnErr result ((self.old.rest ≡ 1) × (self.new ≡ self.old)) }
-        ensures spent { IfErr result (λ e. e ≡ HubError.Spent) }
+        ensures gives { GivesPass self.old.rest result self.new.rest }
+        ensures kept { self.new.history ≡ self.old.history }
     {
         self.books.new_pass()
     }
@@ -111,14 +106,7 @@ impl<C: Ledger, T: Ledger> Hub<C, T> {
     /// nothing.
     pub fn settle(&mut self, pass: &mut Pass<C, T>) -> Result<Totals, NotAll>
         ensures same { (self.new ≡ self.old) × (pass.new ≡ pass.old) }
-        ensures totals { let h = self.old.history in
-            IfOk result (λ totals. totals ≡ counted.totals h.base h.limits h.journal) }
-        ensures all { OnOk result
-            ((pass.old.commands ≡ commands_of self.old) × (pass.old.taken ≡ taken_of self.old)) }
-        ensures lacks { IfErr result (λ lack.
-            (pass.old.commands + lack.commands ≡ commands_of self.old)
-            × (pass.old.taken + lack.taken ≡ taken_of self.old)
-            × (0 < lack.commands + lack.taken)) }
+        ensures settles { Settles self.old pass.old result }
         ensures whole { self.old.rest + pass.old.parts ≡ C.parts
             → self.old.rest + pass.old.parts ≡ T.parts → IsOk result }
     {

@@ -4,13 +4,13 @@ use Rattle.std.proofs.Math.ListN.{set}
 use Rattle.std.proofs.lemmas.Bool.Decides.{nat_tests}
 use Rattle.std.proofs.lemmas.List.{length-set, get_or-set_same, get_or-set_other, append-nil, map-append}
 use Rattle.std.proofs.lemmas.Option.{slice_get_within, get_or_from_slice_get, slice_get-get_or}
-use Rattle.std.specs.List.{slice_get}
-use Rattle.hub_gate.specs.Dealing.{dealt_from}
+use Rattle.std.specs.List.{enumerate_from, slice_get}
+use Rattle.hub_gate.specs.Dealing.{of_worker}
 
 -- each queue, with what is still to be dealt to it from this number on, is what it gets in all
 abbrev pub AreDue : {P : Type 0} → (workers number : ℕ) → (rest all : List P) → List (List P) → Type 0
 AreDue {P} workers number rest all queues = (w : ℕ) (queue : List P) → slice_get queues w ≡ Some queue
-    → queue ++ dealt_from workers w number rest ≡ dealt_from workers w 0 all
+    → queue ++ of_worker workers w (enumerate_from number rest) ≡ of_worker workers w (enumerate_from 0 all)
 
 get-set_same : {X : Type 0} (xs : List X) (k : ℕ) (x y : X) → k < length xs → slice_get (set xs k x) k ≡ Some y → y ≡ x
 get-set_same xs k x y within is = sym (get_or_from_slice_get (set xs k x) k y x is) ∙ get_or-set_same xs k x x within
@@ -25,13 +25,13 @@ get-set_other xs k w x y other is =
 due_more_by : {P : Type 0} (workers number : ℕ) (p : P) (rest all : List P) (queues : List (List P)) (k : ℕ) (old : List P) (w : ℕ) (queue : List P) (b : Bool)
     → (number % workers == w) ≡ b → k ≡ number % workers → k < length queues → slice_get queues k ≡ Some old
     → AreDue workers number (p ∷ rest) all queues → slice_get (set queues k (old ++ p ∷ [])) w ≡ Some queue
-    → queue ++ dealt_from workers w (number + 1) rest ≡ dealt_from workers w 0 all
+    → queue ++ of_worker workers w (enumerate_from (number + 1) rest) ≡ of_worker workers w (enumerate_from 0 all)
 due_more_by {P} workers number p rest all queues k old w queue true is at within had due found =
     let here : w ≡ k = grind (arith, nat_tests) in
     let same : queue ≡ old ++ p ∷ [] = get-set_same queues k (old ++ p ∷ []) queue within (subst (λ v. slice_get (set queues k (old ++ p ∷ [])) v ≡ Some queue) here found) in
     let was = due w old (subst (λ v. slice_get queues v ≡ Some old) (sym here) had) in
-    ap (λ q. q ++ dealt_from workers w (number + 1) rest) same
-    ∙ append_assoc old (p ∷ []) (dealt_from workers w (number + 1) rest)
+    ap (λ q. q ++ of_worker workers w (enumerate_from (number + 1) rest)) same
+    ∙ append_assoc old (p ∷ []) (of_worker workers w (enumerate_from (number + 1) rest))
     ∙ (rw is at was)
 due_more_by {P} workers number p rest all queues k old w queue false is at within had due found =
     let other : w ≢ k = grind (arith, nat_tests) in
@@ -64,7 +64,7 @@ due_begins workers all queues empty w queue found = rw (empty w queue found) ref
 
 -- nothing more is to be dealt
 pub due_ends : {P : Type 0} (workers number : ℕ) (all : List P) (queues : List (List P)) → AreDue workers number [] all queues
-    → (w : ℕ) (queue : List P) → slice_get queues w ≡ Some queue → queue ≡ dealt_from workers w 0 all
+    → (w : ℕ) (queue : List P) → slice_get queues w ≡ Some queue → queue ≡ of_worker workers w (enumerate_from 0 all)
 due_ends workers number all queues due w queue found = sym (append-nil queue) ∙ due w queue found
 
 pub nothing_left : {P : Type 0} (items : List P) (n : ℕ) → n ≡ length items → n ≡ 0 → items ≡ []

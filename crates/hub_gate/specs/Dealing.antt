@@ -1,15 +1,14 @@
 -- Which peers each worker of a pool is dealt.
-use Rattle.std.specs.Prelude.{◌≡◌, ℕ, ◌+◌, ◌%◌, ◌==◌, List, [], ◌∷◌, ◌++◌, Some, if◌then◌else◌, slice_get, slice_set}
+use Rattle.std.specs.List.{enumerate_from}
+use Rattle.std.specs.Prelude.{◌≡◌, ℕ, ◌%◌, ◌==◌, List, [], ◌∷◌, ◌++◌, Some, filter, map, slice_get, slice_set}
 
--- those of the items that are dealt to worker w of so many, in order; the first of them has this number
-abbrev pub dealt_from : {P : Type 0} → (workers w number : ℕ) → List P → List P
-dealt_from workers w number [] = []
-dealt_from workers w number (p ∷ ps) =
-    if number % workers == w then p ∷ dealt_from workers w (number + 1) ps else dealt_from workers w (number + 1) ps
+-- of items with their numbers, those that worker w of so many is dealt: the numbers modulo that of the workers are w
+abbrev pub of_worker : {P : Type 0} → (workers w : ℕ) → List (ℕ × P) → List P
+of_worker workers w items = map (λ item. item.1) (filter (λ item. item.0 % workers == w) items)
 
 -- item i is dealt to worker i modulo their number
 abbrev pub dealt : {P : Type 0} → (workers : ℕ) → List P → (w : ℕ) → List P
-dealt workers items w = dealt_from workers w 0 items
+dealt workers items w = of_worker workers w (enumerate_from 0 items)
 
 -- each of the queues holds what is dealt to it, of so many
 abbrev pub AreDealt : {P : Type 0} → (workers : ℕ) → List P → List (List P) → Type 0

@@ -1,7 +1,7 @@
 -- When a core is sealed, and what it is then.
 use Rattle.std.specs.Prelude.{◌≡◌, ◌⊎◌, ℕ, ◌<◌, ◌≤◌, List, length, Option, None, Some, Result, Ok, Err}
 use Rattle.journal.specs.declared.step.Step.{Step}
-use Rattle.journal.specs.Seal.{PlainEpoch, IsSealed, SaysTheSame}
+use Rattle.journal.specs.Seal.{PlainEpoch, SealsAs}
 use Rattle.journal.specs.Totals.{held}
 use Rattle.effects.specs.declared.fault.CoreError.{CoreError}
 use Rattle.dispatch.specs.Place.{PlainCore}
@@ -14,17 +14,13 @@ IsShort least bytes journal = (length journal < least) × (held journal < bytes)
 abbrev pub IsLong : (least bytes : ℕ) → List Step → Type 0
 IsLong least bytes journal = (least ≤ length journal) ⊎ (bytes ≤ held journal)
 
--- the epoch is all that the core had, and what is said of the core stays the same
-pub record SealsAs (before : PlainCore) (epoch : PlainEpoch) (after : PlainCore) : Type 0 where
-  pub epoch_is : epoch ≡ record { base = before.hub.history.base; journal = before.hub.history.journal }
-  pub sealed : IsSealed before.hub.history after.hub.history
-  pub same : SaysTheSame before.hub.history after.hub.history
-  pub rest : after.hub.rest ≡ before.hub.rest
-  pub lines : after.lines ≡ before.lines
-  pub settings : (after.timing ≡ before.timing) × (after.numbers ≡ before.numbers)
+-- the epoch is all that the core had, what is said of the core stays the same, and so does all of it but the history
+pub record SealsCore (before : PlainCore) (epoch : PlainEpoch) (after : PlainCore) : Type 0 where
+  pub seals : SealsAs before.hub.history epoch after.hub.history
+  pub kept : after ≡ record before { hub = record before.hub { history = after.hub.history } }
 
 -- a core whose journal is short stays as it is, and one whose journal is long is sealed, or after an error as it was
 abbrev pub Seals : (least bytes : ℕ) → (before : PlainCore) → Result (Option PlainEpoch) CoreError → (after : PlainCore) → Type 0
 Seals least bytes before (Ok None) after = IsShort least bytes before.hub.history.journal × (after ≡ before)
-Seals least bytes before (Ok (Some epoch)) after = IsLong least bytes before.hub.history.journal × SealsAs before epoch after
+Seals least bytes before (Ok (Some epoch)) after = IsLong least bytes before.hub.history.journal × SealsCore before epoch after
 Seals least bytes before (Err e) after = IsLong least bytes before.hub.history.journal × (after ≡ before)

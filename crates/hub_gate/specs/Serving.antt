@@ -1,10 +1,9 @@
 -- What a pool of workers reports, and when it is refused.
-use Rattle.std.specs.Prelude.{◌≡◌, ℕ, ◌+◌, ◌<◌, ◌≤◌, List, Option, Some, Result, length, map, min, slice_get}
+use Rattle.std.specs.Prelude.{◌≡◌, ℕ, ◌<◌, ◌≤◌, List, Option, Some, Result, Ok, Err, length, map, min, slice_get}
 use Rattle.std.specs.List.{FoldsTo}
 use Rattle.journal.specs.declared.totals.Totals.{Totals}
-use Rattle.journal.specs.Totals.{totals}
 use Rattle.hub.specs.declared.pass.NotAll.{NotAll}
-use Rattle.hub.specs.Pass.{PlainPass, commands_of, taken_of}
+use Rattle.hub.specs.Pass.{PlainPass, Settles, new_pass}
 use Rattle.effects.specs.declared.app.Arrived.{Arrived}
 use Rattle.effects.specs.declared.app.Effect.{Effect}
 use Rattle.effects.specs.declared.app.Who.{Who}
@@ -21,19 +20,12 @@ use Rattle.hub_gate.specs.declared.serve.ServeError.TheVariants as refused
 use Rattle.hub_gate.specs.Facts.{IsSoundCore}
 
 -- the totals of this core, which is sound, and of which the pass has counted all
-pub record AreCounted (pass : PlainPass) (core : PlainCore) (counted : Totals) : Type 0 where
-  pub sound : IsSoundCore core
-  pub totals_are : counted ≡ totals core.hub.history.base core.hub.history.limits core.hub.history.journal
-  pub commands : counted.commands ≡ pass.commands
-  pub taken : counted.taken ≡ pass.taken
+abbrev pub AreCounted : PlainPass → PlainCore → Totals → Type 0
+AreCounted pass core counted = IsSoundCore core × Settles core.hub pass (Ok counted)
 
 -- what the pass lacks of a core's totals, which isn't nothing
-pub record IsLacking (pass : PlainPass) (lack : NotAll) : Type 0 where
-  pub core : PlainCore
-  pub sound : IsSoundCore core
-  pub commands : pass.commands + lack.commands ≡ commands_of core.hub
-  pub taken : pass.taken + lack.taken ≡ taken_of core.hub
-  pub some : 0 < lack.commands + lack.taken
+abbrev pub IsLacking : PlainPass → NotAll → Type 0
+IsLacking pass lack = (core : PlainCore) × IsSoundCore core × Settles core.hub pass (Err lack)
 
 -- the number of workers is one that a pool may have
 abbrev pub MayBe : ℕ → Type 0
@@ -61,10 +53,6 @@ IsLackingFor pass (refused.NotAll lack) = IsLacking pass lack
 IsLackingFor pass _ = ⊥
 
 -- ---- the work of each worker
-
--- a pass that has counted nothing
-abbrev pub new_pass : PlainPass
-new_pass = record { commands = 0; taken = 0; parts = 1 }
 
 module _ {P : Type 0} (gives : P → Result (Option (Event × ℕ)) PeerFault → P → Type 0) (hears : P → Answer → Result (Unit {0}) PeerFault → P → Type 0)
     (decides : Who → Arrived → List Effect → Type 0) (allows : (space payload : List ℕ) → PlainVerdict → Type 0) where

@@ -3,10 +3,12 @@
 
 mod locked;
 mod peer;
+mod pool;
 mod serve;
 mod worker;
 
 pub use locked::{Locked, Sealing, mirrors_of};
 pub use peer::{Peer, PeerFault, PeerSource, Queue, Turnstile};
+pub use pool::Pool;
 pub use serve::{Report, ServeError, Settled, serve_peers};
 pub use worker::{WorkerCounts, run_worker};

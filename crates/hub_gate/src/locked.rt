@@ -5,7 +5,7 @@ ghost use Rattle.std.specs.Sync.Mutex.{mutex_guard_value};
 ghost use Rattle.room_maps.specs.Mirror.{IsMirrored};
 ghost use Rattle.journal.specs.Membership.{rooms};
 ghost use Rattle.journal.specs.Totals.{held};
-ghost use Rattle.hub.specs.Pass.{AtLeast};
+ghost use Rattle.hub.specs.Pass.{new_pass, AtLeast};
 ghost use Rattle.effects.specs.declared.fault.CoreFault.{CoreFault};
 ghost use Rattle.dispatch.specs.Answers.{at_once};
 ghost use Rattle.hub_gate.specs.Facts.{IsSoundCore, IsOfCore};
@@ -39,8 +39,8 @@ pub(crate) struct Turn<C: Ledger, T: Ledger> {
     pub(crate) after: Snapshot<Core<C, T>>,
 }
 
-/// What a seal did: the core as it was lent, the answer, and the core as it was given back. The cores
-/// are known to contracts alone, and take no bytes.
+/// What a seal did: the core as it was lent, the answer, and the core as it was given back. The
+/// cores are known to contracts alone, and take no bytes.
 #[derive(Drop)]
 pub struct Sealing<C: Ledger, T: Ledger> {
     pub before: Snapshot<Core<C, T>>,
@@ -96,40 +96,16 @@ impl<C: Ledger, T: Ledger> Locked<C, T> {
 
     /// A pass that has counted nothing. Refused as `Spent` alone. It may wait.
     pub(crate) fn new_pass<R: Wait>(&self, rt: &R) -> Result<Pass<C, T>, HubError>
-        ensures pass { IfOk result (λ pass. pass ≡ record { commands = 0; taken = 0; parts = 1 }) }
+        ensures pass { IfOk result (λ pass. pass ≡ new_pass) }
         ensures spent { IfErr result (λ e. e ≡ HubError.Spent) }
     {
         let mut guard = self.core.lock(rt);
         guard.new_pass()
     }
-
-    /// Applies one event to the core, under the lock. It may wait.
-    pub(crate) fn turn<R: Wait, A: App, I: IdSource>(
-        &self,
-        rt: &R,
-        alloc: Global,
-        pass: &mut Pass<C, T>,
-        app: &A,
-        event: &Event,
-        now: u64,
-        ids: &mut I,
-    ) -> Turn<C, T>
-        ensures applied { Applied (A.decides app.now) (A.allows app.now) event.now now result.before.value (desk pass.old (I.stream ids.old)) result.got result.after.value (desk pass.new (I.stream ids.new)) }
-        ensures sound { IsSoundCore result.before.value }
-        ensures at_least { AtLeast result.before.value.hub pass.old }
-        ensures grows { Grows pass.old pass.new }
-    {
-        let mut guard = self.look(rt, pass);
-        let before = Snapshot::of(&*guard);
-        let got = apply_counted(alloc, &mut *guard, pass, app, event, now, ids);
-        let after = Snapshot::of(&*guard);
-        drop(guard);
-        Turn { before, got, after }
-    }
 }
 
-/// The two maps of rooms that a core's hub keeps, and no others: the rooms of each connected socket,
-/// and the sockets of each room. They mirror each other, and hold what the history says.
+/// The two maps of rooms that a core's hub keeps, and no others: the rooms of each connected
+/// socket, and the sockets of each room. They mirror each other, and hold what the history says.
 pub fn mirrors_of<C: Ledger, T: Ledger>(
     core: &Core<C, T>,
 ) -> (
@@ -152,7 +128,7 @@ fn note_facts<C: Ledger, T: Ledger>(core: &Core<C, T>)
 }
 
 /// Applies one event, and compares the pass with the core's counts.
-fn apply_counted<C: Ledger, T: Ledger, A: App, I: IdSource>(
+pub(crate) fn apply_counted<C: Ledger, T: Ledger, A: App, I: IdSource>(
     alloc: Global,
     core: &mut Core<C, T>,
     pass: &mut Pass<C, T>,
@@ -163,7 +139,9 @@ fn apply_counted<C: Ledger, T: Ledger, A: App, I: IdSource>(
 ) -> Result<Outcome, CoreError>
     requires sound { IsSoundCore core.old }
     requires counted { AtLeast core.old.hub pass.old }
-    ensures applied { Applied (A.decides app.now) (A.allows app.now) event.now now core.old (desk pass.old (I.stream ids.old)) result core.new (desk pass.new (I.stream ids.new)) }
+    ensures applied { Applied (A.decides app.now) (A.allows app.now) event.now now
+        core.old (desk pass.old (I.stream ids.old)) result
+        core.new (desk pass.new (I.stream ids.new)) }
     ensures grows { Grows pass.old pass.new }
 {
     let got = core.apply(alloc, pass, app, event, now, ids);
@@ -174,14 +152,15 @@ fn apply_counted<C: Ledger, T: Ledger, A: App, I: IdSource>(
 
 /// Whether the journal has fewer steps, and entries of fewer bytes in them.
 fn is_short<C: Ledger, T: Ledger>(core: &Core<C, T>, least: usize, bytes: u64) -> bool
-    ensures { result ≡ (nat_lt (length core.now.hub.history.journal) least && nat_lt (held core.now.hub.history.journal) bytes) }
+    ensures { let journal = core.now.hub.history.journal in
+        result ≡ (nat_lt (length journal) least && nat_lt (held journal) bytes) }
 {
     let state = core.hub().state();
     state.steps().len() < least && state.held() < bytes
 }
 
-/// Seals the core where its journal has at least so many steps, or entries of at least so many bytes
-/// in them; else it does nothing.
+/// Seals the core where its journal has at least so many steps, or entries of at least so many
+/// bytes in them; else it does nothing.
 fn seal_if_long<C: Ledger, T: Ledger>(
     alloc: Global,
     core: &mut Core<C, T>,

@@ -7,8 +7,8 @@ ghost use Rattle.hub_gate.specs.Dealing.{AreDealt, Appends};
 ghost use Rattle.hub_gate.specs.Facts.{IsSoundCore};
 ghost use Rattle.hub_gate.specs.Serving.{AreCounted, AreServed, IsFromStarting, IsLackingFor, IsRefused, WorksAs};
 
-use crate::locked::Locked;
 use crate::peer::{Peer, Queue, Turnstile};
+use crate::pool::Pool;
 use crate::worker::{WorkerCounts, run_worker};
 use dispatch::Core;
 use effects::{App, IdSource};
@@ -34,8 +34,8 @@ pub struct Report {
     pub workers: Vec<WorkerCounts>,
 }
 
-/// A pool's report, and the core of which its totals are: as it was lent once all workers had ended. It
-/// is known to contracts alone, and takes no bytes.
+/// A pool's report, and the core of which its totals are: as it was lent once all workers had
+/// ended. It is known to contracts alone, and takes no bytes.
 #[derive(Drop)]
 pub struct Settled<C: Ledger, T: Ledger> {
     pub report: Report,
@@ -109,11 +109,11 @@ struct Finished<C: Ledger, T: Ledger> {
     ghost counted: { (pass.commands ≡ counts.commands) × (pass.taken ≡ counts.taken) },
 }
 
-/// Serves all peers by so many workers, each in a thread of its own, and compares what they did with
-/// the totals. Peer i is dealt to worker i modulo their number, and `ids` holds a source for each of
-/// them. Each worker has a pass of its own, which the caller's absorbs at the end. Refused as
-/// `NoWorkers`, then as `TooManyWorkers`. Nothing is allocated once the first thread has started, but
-/// for the threads. It may wait.
+/// Serves all peers by so many workers of a pool, each in a thread of its own, and compares what
+/// they did with the totals. Peer i is dealt to worker i modulo their number, and `ids` holds a
+/// source for each of them. Each worker has a pass of its own, which the caller's absorbs at the
+/// end. Refused as `NoWorkers`, then as `TooManyWorkers`. Nothing is allocated once the first
+/// thread has started, but for the threads. It may wait.
 pub fn serve_peers<
     R: Threads + Wait + Sync,
     C: Ledger + Send,
@@ -123,16 +123,11 @@ pub fn serve_peers<
     G: Turnstile + Sync,
     I: IdSource + Send + Drop,
 >(
-    rt: &R,
-    alloc: Global,
-    locked: &Locked<C, T>,
+    pool: &Pool<R, C, T, A, G>,
     pass: &mut Pass<C, T>,
-    app: &A,
     peers: Vec<P>,
     workers: usize,
-    gate: &G,
     ids: Vec<I>,
-    turns: u64,
 ) -> Result<Settled<C, T>, ServeError>
     requires { vec_len ids ≡ workers }
     ensures workers { IfOk result (λ s. vec_len s.report.workers ≡ workers) }
@@ -141,9 +136,11 @@ pub fn serve_peers<
     ensures taken { IfOk result (λ s. s.report.totals.taken
         ≡ pass.old.taken + sum_by (λ w. w.taken) s.report.workers.items) }
     ensures counted { IfOk result (λ s. AreCounted pass.new s.core.value s.report.totals) }
-    ensures works { IfOk result (λ s. AreServed P.gives P.hears (A.decides app.now)
-        (A.allows app.now) I.stream turns workers peers.items ids.items s.report.workers.items) }
-    ensures refused { MatchResult result (λ r. (0 < workers) × (workers ≤ 1024)) (λ e. IsRefused workers pass.old pass.new e) }
+    ensures works { IfOk result (λ s. AreServed P.gives P.hears (A.decides pool.now.app.now)
+        (A.allows pool.now.app.now) I.stream pool.now.turns workers peers.items ids.items
+        s.report.workers.items) }
+    ensures refused { MatchResult result (λ r. (0 < workers) × (workers ≤ 1024))
+        (λ e. IsRefused workers pass.old pass.new e) }
 {
     if workers == 0 {
         return Err(ServeError::NoWorkers);
@@ -151,16 +148,16 @@ pub fn serve_peers<
     if workers > MOST {
         return Err(ServeError::TooManyWorkers);
     }
-    let Ok(queues) = deal(alloc, peers, workers) else {
+    let Ok(queues) = deal(pool.alloc, peers, workers) else {
         return Err(ServeError::Memory);
     };
-    let Ok(counts) = Vec::with_capacity(alloc, workers) else {
+    let Ok(counts) = Vec::with_capacity(pool.alloc, workers) else {
         return Err(ServeError::Memory);
     };
-    let jobs = make_jobs(rt, alloc, locked, queues, ids)?;
-    let finished = run_all(rt, alloc, locked, app, gate, turns, jobs)?;
+    let jobs = make_jobs(pool, queues, ids)?;
+    let finished = run_all(pool, jobs)?;
     let workers = gather(pass, finished, counts);
-    let (totals, core) = settle(rt, locked, pass)?;
+    let (totals, core) = settle(pool, pass)?;
     Ok(Settled {
         report: Report { totals, workers },
         core,
@@ -198,10 +195,8 @@ fn append<P: Drop>(queues: &mut Vec<Vec<P>>, worker: usize, peer: P) -> Result<(
 }
 
 /// A pass, a queue and a source of ids for each worker.
-fn make_jobs<R: Wait, C: Ledger, T: Ledger, P: Drop, I: Drop>(
-    rt: &R,
-    alloc: Global,
-    locked: &Locked<C, T>,
+fn make_jobs<R: Wait, C: Ledger, T: Ledger, A, G, P: Drop, I: Drop>(
+    pool: &Pool<R, C, T, A, G>,
     queues: Vec<Vec<P>>,
     ids: Vec<I>,
 ) -> Result<Vec<Job<C, T, P, I>>, ServeError>
@@ -212,13 +207,13 @@ fn make_jobs<R: Wait, C: Ledger, T: Ledger, P: Drop, I: Drop>(
     ensures ids { IfOk result (λ v. map (λ j. j.ids) v.items ≡ ids.items) }
     ensures error { IfErr result IsFromStarting }
 {
-    let mut jobs = Vec::new(alloc);
+    let mut jobs = Vec::new(pool.alloc);
     let mut ids = ids.into_iter();
     for queue in queues {
         let Some(source) = ids.next() else {
             unreachable!()
         };
-        let Ok(pass) = locked.new_pass(rt) else {
+        let Ok(pass) = pool.locked.new_pass(pool.rt) else {
             return Err(ServeError::Spent);
         };
         let job = Job {
@@ -242,36 +237,28 @@ fn run_all<
     P: Peer + Send + Drop,
     G: Turnstile + Sync,
     I: IdSource + Send + Drop,
->(
-    rt: &R,
-    alloc: Global,
-    locked: &Locked<C, T>,
-    app: &A,
-    gate: &G,
-    turns: u64,
-    jobs: Vec<Job<C, T, P, I>>,
-) -> Result<Vec<Finished<C, T>>, ServeError>
-    ensures work { IfOk result (λ v. AllZip (λ job f. WorksAs P.gives P.hears (A.decides app.now)
-        (A.allows app.now) turns (into_iter_items job.queue.peers) (I.stream job.ids) f.counts)
-        jobs.items v.items) }
+>(pool: &Pool<R, C, T, A, G>, jobs: Vec<Job<C, T, P, I>>) -> Result<Vec<Finished<C, T>>, ServeError>
+    ensures work { IfOk result (λ v. AllZip (λ job f. WorksAs P.gives P.hears
+        (A.decides pool.now.app.now) (A.allows pool.now.app.now) pool.now.turns
+        (into_iter_items job.queue.peers) (I.stream job.ids) f.counts) jobs.items v.items) }
     ensures len { IfOk result (λ v. vec_len v ≡ vec_len jobs) }
     ensures error { IfErr result IsFromStarting }
 {
     thread::scope(
         thread::scope_env(),
-        rt,
+        pool.rt,
         |scope| -> Result<Vec<Finished<C, T>>, ServeError>
             ensures work { IfOk result (λ v. AllZip (λ job f. WorksAs P.gives P.hears
-                (A.decides app.entry.now) (A.allows app.entry.now) turns
-                (into_iter_items job.queue.peers) (I.stream job.ids) f.counts)
-                jobs.items v.items) }
+                (A.decides pool.entry.now.app.now) (A.allows pool.entry.now.app.now)
+                pool.entry.now.turns (into_iter_items job.queue.peers) (I.stream job.ids)
+                f.counts) jobs.items v.items) }
             ensures len { IfOk result (λ v. vec_len v ≡ vec_len jobs) }
             ensures error { IfErr result IsFromStarting }
         {
-            let Ok(mut handles) = Vec::with_capacity(alloc, jobs.len()) else {
+            let Ok(mut handles) = Vec::with_capacity(pool.alloc, jobs.len()) else {
                 return Err(ServeError::Memory);
             };
-            let Ok(mut all) = Vec::with_capacity(alloc, jobs.len()) else {
+            let Ok(mut all) = Vec::with_capacity(pool.alloc, jobs.len()) else {
                 return Err(ServeError::Memory);
             };
             let mut worker = 0usize;
@@ -279,13 +266,10 @@ fn run_all<
                 let number = worker;
                 let begun = Started {
                     job: Snapshot::of(&job),
-                    app: Snapshot::of(app),
-                    turns,
+                    app: Snapshot::of(pool.app),
+                    turns: pool.turns,
                 };
-                let started = scope.spawn_with(
-                    begun,
-                    move || work(rt, alloc, locked, app, gate, turns, number, job),
-                );
+                let started = scope.spawn_with(begun, move || work(pool, number, job));
                 let Ok(handle) = started else {
                     return Err(ServeError::Spawn);
                 };
@@ -293,7 +277,7 @@ fn run_all<
                 worker = worker.saturating_add(1);
             }
             for handle in handles {
-                all.push_reserved(handle.join(rt));
+                all.push_reserved(handle.join(pool.rt));
             }
             Ok(all)
         },
@@ -302,26 +286,19 @@ fn run_all<
 
 /// One job, to its end.
 fn work<R: Wait, C: Ledger, T: Ledger, A: App, P: Peer + Drop, G: Turnstile, I: IdSource + Drop>(
-    rt: &R,
-    alloc: Global,
-    locked: &Locked<C, T>,
-    app: &A,
-    gate: &G,
-    turns: u64,
+    pool: &Pool<R, C, T, A, G>,
     worker: usize,
     job: Job<C, T, P, I>,
 ) -> Finished<C, T>
-    ensures { WorksAs P.gives P.hears (A.decides app.now) (A.allows app.now) turns
-        (into_iter_items job.queue.peers) (I.stream job.ids) result.counts }
+    ensures { WorksAs P.gives P.hears (A.decides pool.now.app.now) (A.allows pool.now.app.now)
+        pool.now.turns (into_iter_items job.queue.peers) (I.stream job.ids) result.counts }
 {
     let Job {
         pass,
         mut queue,
         mut ids,
     } = job;
-    let (pass, counts) = run_worker(
-        rt, alloc, locked, pass, app, &mut queue, gate, worker, &mut ids, turns,
-    );
+    let (pass, counts) = run_worker(pool, pass, &mut queue, worker, &mut ids);
     Finished { pass, counts }
 }
 
@@ -351,16 +328,15 @@ fn gather<C: Ledger, T: Ledger>(
 }
 
 /// The core's totals, where the pass has counted all of them, with the core as it was lent.
-fn settle<R: Wait, C: Ledger, T: Ledger>(
-    rt: &R,
-    locked: &Locked<C, T>,
+fn settle<R: Wait, C: Ledger, T: Ledger, A, G>(
+    pool: &Pool<R, C, T, A, G>,
     pass: &mut Pass<C, T>,
 ) -> Result<(Totals, Snapshot<Core<C, T>>), ServeError>
     ensures same { pass.new ≡ pass.old }
     ensures counted { IfOk result (λ seen. AreCounted pass.old seen.1.value seen.0) }
     ensures lacks { IfErr result (IsLackingFor pass.old) }
 {
-    let mut guard = locked.look(rt, pass);
+    let mut guard = pool.locked.look(pool.rt, pass);
     let core = Snapshot::of(&*guard);
     let totals = totals_of(&mut *guard, pass)?;
     Ok((totals, core))

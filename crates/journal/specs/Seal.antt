@@ -1,8 +1,10 @@
 -- What a seal keeps: the present state becomes the base, and what is said of the hub stays the same.
-use Rattle.std.specs.Prelude.{◌≡◌, ℕ, true, List, [], map}
+use Rattle.std.specs.Prelude.{◌≡◌, ℕ, true, List, [], map, Result, Ok, Err}
 use Rattle.std.specs.Ordering.{nat_cmp}
 use Rattle.terms.specs.Listing.{ListsRising}
 use Rattle.room_maps.specs.Membership.{pair_cmp, is_in}
+use Rattle.journal.specs.declared.error.HubError.{HubError}
+use Rattle.journal.specs.declared.error.HubError.TheVariants.{Memory}
 use Rattle.journal.specs.declared.socket.Socket.{Socket}
 use Rattle.journal.specs.declared.step.Step.{Step}
 use Rattle.journal.specs.declared.step.What.{What}
@@ -69,6 +71,18 @@ pub record SaysTheSame (before after : History) : Type 0 where
   pub same_log : log after.base after.limits after.journal ≡ log before.base before.limits before.journal
   pub same_next : next after.base after.journal ≡ next before.base before.journal
   pub same_totals : totals after.base after.limits after.journal ≡ totals before.base before.limits before.journal
+
+-- the epoch is all that the history had, each step of it was allowed, and the new history says the same
+pub record SealsAs (before : History) (epoch : PlainEpoch) (after : History) : Type 0 where
+  pub epoch_is : epoch ≡ record { base = before.base; journal = before.journal }
+  pub legal : IsLegal before.base before.limits before.journal
+  pub sealed : IsSealed before after
+  pub same : SaysTheSame before after
+
+-- a seal is refused for want of memory alone, and changes nothing then
+abbrev pub Seals : History → Result PlainEpoch HubError → History → Type 0
+Seals before (Ok epoch) after = SealsAs before epoch after
+Seals before (Err e) after = (e ≡ Memory) × (after ≡ before)
 
 -- ---- steps after two such histories
 

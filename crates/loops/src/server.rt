@@ -19,7 +19,7 @@ use dispatch::Core;
 use effects::{App, CoreError, CoreFault};
 use eio_wire::Numbers;
 use hub::Pass;
-use hub_gate::{Locked, Report, Settled, serve_peers};
+use hub_gate::{Locked, Pool, Report, Settled, serve_peers};
 use journal::Config;
 use mio::net::TcpListener;
 use mio::{Poll, Waker};
@@ -202,18 +202,15 @@ fn serve_all<
 {
     let accepting = start_accepting(rt, common, acceptor)?;
     let number = workers.len();
-    let served = serve_peers(
+    let pool = Pool {
         rt,
-        common.alloc,
+        alloc: common.alloc,
         locked,
-        pass,
         app,
-        workers,
-        number,
-        &Open,
-        ids,
-        u64::MAX,
-    );
+        gate: &Open,
+        turns: u64::MAX,
+    };
+    let served = serve_peers(&pool, pass, workers, number, ids);
     common.shared.stop_accepting(rt);
     accepting.join(rt);
     match served {

@@ -7,7 +7,7 @@ use crate::sheet::{Sheet, Still};
 use dispatch::Event;
 use effects::{CoreError, CoreFault};
 use hub::Pass;
-use hub_gate::{Locked, Peer, Queue, Turnstile, WorkerCounts, run_worker};
+use hub_gate::{Locked, Peer, Pool, Queue, Turnstile, WorkerCounts, run_worker};
 use journal::Totals;
 use peers::{PollPeer, PollRequest};
 use relay::RelayApp;
@@ -108,9 +108,15 @@ fn worked<R: Wait, C: Ledger, T: Ledger>(
     } = server;
     let locked = Locked::new(core);
     let mut queue = Queue::new(peers);
-    let (mut pass, counts) = run_worker(
-        rt, alloc, &locked, pass, &RelayApp, &mut queue, &Open, 0, &mut ids, 10_000,
-    );
+    let pool = Pool {
+        rt,
+        alloc,
+        locked: &locked,
+        app: &RelayApp,
+        gate: &Open,
+        turns: 10_000,
+    };
+    let (mut pass, counts) = run_worker(&pool, pass, &mut queue, 0, &mut ids);
     let (totals, saved) = counted(rt, alloc, &locked, &mut pass)?;
     Some((counts, totals, saved))
 }

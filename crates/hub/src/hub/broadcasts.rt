@@ -1,5 +1,4 @@
 //! Broadcasts through a hub, and whom they may reach.
-#![tactic(auto, unfolding(journal::specs::Totals::commands, journal::specs::Totals::handed_out, journal::specs::Journal::total))]
 
 ghost use Rattle.std.specs.Prelude.{ℕ};
 ghost use Rattle.continuity.specs.Truly.{HearsWhatIsDue};

@@ -1,5 +1,4 @@
 //! The commands of a hub: `State`'s, each counted in a pass.
-#![tactic(auto, unfolding(journal::specs::Totals::commands, journal::specs::Totals::handed_out, journal::specs::Journal::total))]
 
 ghost use Rattle.std.specs.Prelude.{◌≡◌, None, Some, IfOk, length, min, take};
 ghost use Rattle.journal.specs.Membership.{sid_of, place_of};

@@ -1,5 +1,4 @@
 //! The commands for all sockets of a namespace that match: `State`'s, each counted in a pass.
-#![tactic(auto, unfolding(journal::specs::Totals::commands, journal::specs::Totals::handed_out, journal::specs::Journal::total))]
 
 ghost use Rattle.std.specs.Prelude.{◌≡◌, IfOk};
 ghost use Rattle.journal.specs.Membership.{place_of};

@@ -1,18 +1,16 @@
 //! Clients that are lost and sessions that are kept, through a hub (Socket.IO server documentation,
 //! "Connection state recovery").
-#![tactic(auto, unfolding(journal::specs::Totals::commands, journal::specs::Totals::handed_out, journal::specs::Journal::total))]
 
-ghost use Rattle.std.specs.Prelude.{◌≡◌, ℕ, ◌+◌, [], None, IfOk, IfErr, OnOk, OnErr, length};
+ghost use Rattle.std.specs.Prelude.{◌≡◌, ℕ, ◌+◌, IfOk, length};
 ghost use Rattle.journal.specs.Totals.{is_spent};
 ghost use Rattle.journal.specs.Sessions.{sessions};
 ghost use Rattle.journal.specs.Log.{log};
-ghost use Rattle.journal.specs.Legal.{IsLegal};
 ghost use Rattle.journal.specs.Journal.{History};
 ghost use Rattle.journal.specs.Membership.{place_of};
 ghost use Rattle.journal.specs.Recovery.{recovery_of};
 ghost use Rattle.journal.specs.Refusals.{or_spent, park_refusal, recover_refusal};
 ghost use Rattle.hub.specs.Pass.{DoesCounted};
-ghost use Rattle.journal.specs.Seal.{IsSealed, SaysTheSame};
+ghost use Rattle.journal.specs.Seal.{Seals};
 ghost use Rattle.journal.specs.declared.step.What.{What};
 ghost use Rattle.continuity.specs.Truly.{HearsWhatIsDue};
 
@@ -106,15 +104,8 @@ impl<C: Ledger, T: Ledger> Hub<C, T> {
     /// is no command, and says nothing of any pass. Refused for `Memory` alone. It takes time and
     /// memory for the present state, whose entries are shared, and none for the journal.
     pub fn seal(&mut self, alloc: Global) -> Result<Epoch, HubError>
-        ensures epoch { let h = self.old.history in
-            IfOk result (λ epoch. epoch ≡ record { base = h.base; journal = h.journal }) }
-        ensures legal { IfOk result
-            (λ epoch. IsLegal epoch.base self.old.history.limits epoch.journal) }
-        ensures sealed { OnOk result (IsSealed self.old.history self.new.history) }
-        ensures same { OnOk result (SaysTheSame self.old.history self.new.history) }
+        ensures seals { Seals self.old.history result self.new.history }
         ensures parts { self.new.rest ≡ self.old.rest }
-        ensures unchanged { OnErr result (self.new ≡ self.old) }
-        ensures memory { IfErr result (λ e. e ≡ HubError.Memory) }
     {
         self.state.seal(alloc)
     }

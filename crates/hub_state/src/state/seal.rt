@@ -1,6 +1,6 @@
 //! The present state becomes the base.
 
-ghost use Rattle.std.specs.Prelude.{◌≡◌, map, OnOk, OnErr, IfOk, IfErr};
+ghost use Rattle.std.specs.Prelude.{◌≡◌, map, IfOk, IfErr};
 ghost use Rattle.std.specs.Ordering.{nat_cmp};
 ghost use Rattle.std.specs.BTreeMap.{IsOrdered};
 ghost use Rattle.terms.specs.Listing.{ListsRising};
@@ -9,8 +9,7 @@ ghost use Rattle.recovery.specs.PacketLog.{IsRun, number_of};
 ghost use Rattle.journal.specs.Membership.{is_open, rooms};
 ghost use Rattle.journal.specs.Sessions.{sessions};
 ghost use Rattle.journal.specs.Log.{log, next};
-ghost use Rattle.journal.specs.Legal.{IsLegal};
-ghost use Rattle.journal.specs.Seal.{ids_of, client_of, base_of, base_client, LeadsTo, IsSealed, SaysTheSame};
+ghost use Rattle.journal.specs.Seal.{ids_of, client_of, base_of, base_client, LeadsTo, Seals};
 
 use crate::state::State;
 use hub_parts::{Client, Sockets};
@@ -128,12 +127,7 @@ impl State {
     /// `Memory` alone. It takes time and memory for the present state, whose entries are shared,
     /// and none for the journal.
     pub fn seal(&mut self, alloc: Global) -> Result<Epoch, HubError>
-        ensures epoch { IfOk result (λ epoch. epoch ≡ record { base = self.old.base; journal = self.old.journal }) }
-        ensures legal { IfOk result (λ epoch. IsLegal epoch.base self.old.limits epoch.journal) }
-        ensures sealed { OnOk result (IsSealed self.old self.new) }
-        ensures same { OnOk result (SaysTheSame self.old self.new) }
-        ensures unchanged { OnErr result (self.new ≡ self.old) }
-        ensures memory { IfErr result (λ e. e ≡ HubError.Memory) }
+        ensures { Seals self.old result self.new }
     {
         let present = self.present(alloc)?;
         let base = replace(&mut self.base, present);

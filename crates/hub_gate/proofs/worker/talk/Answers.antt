@@ -16,7 +16,7 @@ loop-preserved g c =
     record {
       grows = grows_trans _ _ _ before.grows c.serve_turn-served.ensures.grows;
       rounds = before.rounds ++ r ∷ [];
-      talks = FoldsTo-push (Serves g.P.Peer.gives g.P.Peer.hears (g.A.App.decides c.args.app.now) (g.A.App.allows c.args.app.now)) _ before.rounds _ r _ before.talks served;
+      talks = FoldsTo-push (Serves g.P.Peer.gives g.P.Peer.hears (g.A.App.decides c.args.pool.now.app.now) (g.A.App.allows c.args.pool.now.app.now)) _ before.rounds _ r _ before.talks served;
       count = omega (arith, length-append before.rounds (r ∷ []), before.count);
       lost_is = c.lost_after-lost.ensures ∙ sym (last_client-push None before.rounds r);
     }
@@ -55,7 +55,7 @@ returns-then-not-heard-clause-talks g c =
     record {
       rounds = before.rounds ++ r ∷ [];
       last = c.serve_turn-served.new.peer;
-      talks = FoldsTo-push (Serves g.P.Peer.gives g.P.Peer.hears (g.A.App.decides c.args.app.now) (g.A.App.allows c.args.app.now)) _ before.rounds _ r _ before.talks served;
+      talks = FoldsTo-push (Serves g.P.Peer.gives g.P.Peer.hears (g.A.App.decides c.args.pool.now.app.now) (g.A.App.allows c.args.pool.now.app.now)) _ before.rounds _ r _ before.talks served;
       within = omega (arith, length-append before.rounds (r ∷ []), before.count);
       ends = inr (refl, inl (before.rounds, r, refl, c.if-not-heard.true));
       lost_is = c.lost_after-lost.ensures ∙ sym (last_client-push None before.rounds r);

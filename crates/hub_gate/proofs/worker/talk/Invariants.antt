@@ -7,7 +7,7 @@ abbrev pub invariant-loop : goal.invariant-loop
 invariant-loop g l = record {
   grows : Grows l.fn.pass l.pass;
   rounds : List Round;
-  talks : FoldsTo (Serves g.P.Peer.gives g.P.Peer.hears (g.A.App.decides l.app) (g.A.App.allows l.app)) (l.fn.peer, desk l.fn.pass (g.I.IdSource.stream l.fn.ids)) rounds (l.peer, desk l.pass (g.I.IdSource.stream l.ids));
+  talks : FoldsTo (Serves g.P.Peer.gives g.P.Peer.hears (g.A.App.decides l.pool.app.now) (g.A.App.allows l.pool.app.now)) (l.fn.peer, desk l.fn.pass (g.I.IdSource.stream l.fn.ids)) rounds (l.peer, desk l.pass (g.I.IdSource.stream l.ids));
   count : length rounds ≡ l.counter;
   lost_is : l.lost ≡ last_client None rounds;
 }

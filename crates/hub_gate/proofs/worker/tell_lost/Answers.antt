@@ -15,7 +15,7 @@ loop-attempt-preserved g c =
     record {
       grows = grows_trans _ _ _ before.grows c.tell_once-told.ensures.grows;
       attempts = before.attempts ++ a ∷ [];
-      told = FoldsTo-push (λ (d : Desk) (x : Attempt) (e : Desk). Applied (g.A.App.decides c.args.app.now) (g.A.App.allows c.args.app.now) (TransportLost c.args.client) c.args.now x.before d x.got x.after e) _ before.attempts _ a _ before.told c.tell_once-told.ensures.applied;
+      told = FoldsTo-push (λ (d : Desk) (x : Attempt) (e : Desk). Applied (g.A.App.decides c.args.pool.now.app.now) (g.A.App.allows c.args.pool.now.app.now) (TransportLost c.args.client) c.args.now x.before d x.got x.after e) _ before.attempts _ a _ before.told c.tell_once-told.ensures.applied;
       count = omega (arith, length-append before.attempts (a ∷ []), before.count);
     }
 
@@ -25,7 +25,7 @@ returns-then-accepted-clause-told g c =
     let a : Attempt = record { before = c.tell_once-told.result.0.before.value; got = c.tell_once-told.result.0.got; after = c.tell_once-told.result.0.after.value } in
     record {
       attempts = before.attempts ++ a ∷ [];
-      told = FoldsTo-push (λ (d : Desk) (x : Attempt) (e : Desk). Applied (g.A.App.decides c.args.app.now) (g.A.App.allows c.args.app.now) (TransportLost c.args.client) c.args.now x.before d x.got x.after e) _ before.attempts _ a _ before.told c.tell_once-told.ensures.applied;
+      told = FoldsTo-push (λ (d : Desk) (x : Attempt) (e : Desk). Applied (g.A.App.decides c.args.pool.now.app.now) (g.A.App.allows c.args.pool.now.app.now) (TransportLost c.args.client) c.args.now x.before d x.got x.after e) _ before.attempts _ a _ before.told c.tell_once-told.ensures.applied;
       within = omega (arith, length-append before.attempts (a ∷ []), before.count);
       until = inl (before.attempts, a, refl, sym c.tell_once-told.ensures.accepted ∙ c.if-accepted.true);
     }

@@ -8,6 +8,6 @@ abbrev pub invariant-loop-attempt : goal.invariant-loop-attempt
 invariant-loop-attempt g l = record {
   grows : Grows l.fn.pass l.pass;
   attempts : List Attempt;
-  told : FoldsTo (λ (d : Desk) (a : Attempt) (e : Desk). Applied (g.A.App.decides l.app) (g.A.App.allows l.app) (TransportLost l.client) l.now a.before d a.got a.after e) (desk l.fn.pass (g.I.IdSource.stream l.fn.ids)) attempts (desk l.pass (g.I.IdSource.stream l.ids));
+  told : FoldsTo (λ (d : Desk) (a : Attempt) (e : Desk). Applied (g.A.App.decides l.pool.app.now) (g.A.App.allows l.pool.app.now) (TransportLost l.client) l.now a.before d a.got a.after e) (desk l.fn.pass (g.I.IdSource.stream l.fn.ids)) attempts (desk l.pass (g.I.IdSource.stream l.ids));
   count : length attempts ≡ l._attempt;
 }

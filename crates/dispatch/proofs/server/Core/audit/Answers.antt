@@ -1,8 +1,10 @@
-use Rattle.dispatch.proofs.ServerLemmas.{kept-same, core-same}
+use Rattle.std.proofs.Common.{ap}
+use Rattle.hub.specs.Pass.{PlainHub}
+use Rattle.dispatch.proofs.ServerLemmas.{kept-history, core-same}
 use Rattle.dispatch.proofs.server.Core.audit.Goals as goal
 
 pub invariant_of-self : goal.invariant_of-self
-invariant_of-self g c = kept-same c.self.inside.lines.entries c.self.inside.hub c.audit.new.self c.audit.ensures.same.0 c.self.invariant
+invariant_of-self g c = kept-history c.self.inside.lines.entries c.self.inside.hub c.audit.new.self (ap (λ (h : PlainHub). h.history) c.audit.ensures.same.0) c.self.invariant
 
 pub returns : goal.returns
 returns g c = rw (← c.self.view_is) (record {

@@ -1,14 +1,14 @@
-use Rattle.dispatch.proofs.ServerLemmas.{kept-same, core-same}
+use Rattle.std.proofs.Common.{ap}
+use Rattle.hub.specs.Pass.{PlainHub}
+use Rattle.dispatch.proofs.ServerLemmas.{kept-history, core-same}
 use Rattle.dispatch.proofs.server.Core.settle.Goals as goal
 
 pub invariant_of-self : goal.invariant_of-self
-invariant_of-self g c = kept-same c.self.inside.lines.entries c.self.inside.hub c.settle.new.self c.settle.ensures.same.0 c.self.invariant
+invariant_of-self g c = kept-history c.self.inside.lines.entries c.self.inside.hub c.settle.new.self (ap (λ (h : PlainHub). h.history) c.settle.ensures.same.0) c.self.invariant
 
 pub returns : goal.returns
 returns g c = rw (← c.self.view_is) (record {
   same = (core-same (record { hub = c.self.inside.hub; lines = c.self.inside.lines.entries; timing = c.self.inside.greeting.timing; numbers = c.self.inside.greeting.numbers }) c.self.inside.hub c.settle.new.self c.settle.ensures.same.0, c.settle.ensures.same.1);
-  totals = c.settle.ensures.totals;
-  all = c.settle.ensures.all;
-  lacks = c.settle.ensures.lacks;
+  settles = c.settle.ensures.settles;
   whole = c.settle.ensures.whole;
 })

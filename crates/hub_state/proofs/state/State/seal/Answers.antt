@@ -13,8 +13,13 @@ invariant_of-self c =
     (subst (λ (h : History). LeadsTo h.base h.limits h.journal c.in_ok-present.present) (sym c.self.view_is) c.in_ok-present.ensures.leads)
     (subst (λ (h : History). IsRun (number_of (next h.base h.journal)) (log h.base h.limits h.journal)) (sym c.self.view_is) c.in_ok-present.ensures.run))
 
-pub returns-clause-same : goal.returns-clause-same
-returns-clause-same c =
-    rw (← c.self.view_is, c.replace-base.ensures.after, c.take-steps.ensures.none)
-    (says-same _ _ _ c.in_ok-present.present c.self.invariant.2
-    (subst (λ (h : History). LeadsTo h.base h.limits h.journal c.in_ok-present.present) (sym c.self.view_is) c.in_ok-present.ensures.leads))
+pub returns : goal.returns
+returns c = record {
+  epoch_is = rw (← c.self.view_is) (search (c.replace-base.ensures.value, c.take-steps.ensures.steps));
+  legal = rw (← c.self.view_is) c.self.invariant.1;
+  sealed = search (c.self.view_is, c.replace-base.ensures.after, c.take-steps.ensures.none, c.in_ok-present.ensures.leads);
+  same =
+      rw (← c.self.view_is, c.replace-base.ensures.after, c.take-steps.ensures.none)
+      (says-same _ _ _ c.in_ok-present.present c.self.invariant.2
+      (subst (λ (h : History). LeadsTo h.base h.limits h.journal c.in_ok-present.present) (sym c.self.view_is) c.in_ok-present.ensures.leads));
+}

@@ -14,7 +14,7 @@ loop-job-preserved g c =
       count = omega (arith, c.push_reserved.ensures.len, at.invariant.count, c.in-Some.ensures.steps.1);
       room = omega (arith, c.push_reserved.ensures.capacity, at.invariant.room);
       yielded = append_assoc at.yielded (c.in-Some.job ∷ []) (into_iter_items c.next.new.self) ∙ rw (← steps) at.invariant.yielded;
-      begun = rw c.push_reserved.ensures.items (zip_push (λ j h. (h.promise.job.value ≡ j) × (h.promise.app.value ≡ c.captures.app.now) × (h.promise.turns ≡ c.captures.turns))
+      begun = rw c.push_reserved.ensures.items (zip_push (λ j h. (h.promise.job.value ≡ j) × (h.promise.app.value ≡ c.captures.pool.now.app.now) × (h.promise.turns ≡ c.captures.pool.now.turns))
           at.yielded at.handles.items c.in-Some.job c.in-Ok-started.handle at.invariant.begun (rw ok c.of.ensures, rw ok c.of-in-loop-job.ensures, rw ok refl));
     }
 
@@ -40,10 +40,10 @@ returns g c =
     let jobs = sym (append-nil at.yielded) ∙ (rw no_job at at.invariant.yielded) ∙ c.into_iter-job-iterator.ensures.into_iter_gives.0 in
     let handles = sym (append-nil end.yielded) ∙ (rw no_handle at end.invariant.yielded) ∙ c.into_iter-handle-iterator.ensures.into_iter_gives.0 in
     record {
-      work = zip_join (λ j h. (h.promise.job.value ≡ j) × (h.promise.app.value ≡ c.captures.app.now) × (h.promise.turns ≡ c.captures.turns))
+      work = zip_join (λ j h. (h.promise.job.value ≡ j) × (h.promise.app.value ≡ c.captures.pool.now.app.now) × (h.promise.turns ≡ c.captures.pool.now.turns))
           (λ h f. WorksAs g.P.Peer.gives g.P.Peer.hears (g.A.App.decides h.promise.app.value) (g.A.App.allows h.promise.app.value) h.promise.turns
           (into_iter_items h.promise.job.value.queue.peers) (g.I.IdSource.stream h.promise.job.value.ids) f.counts)
-          (λ j f. WorksAs g.P.Peer.gives g.P.Peer.hears (g.A.App.decides c.captures.app.now) (g.A.App.allows c.captures.app.now) c.captures.turns
+          (λ j f. WorksAs g.P.Peer.gives g.P.Peer.hears (g.A.App.decides c.captures.pool.now.app.now) (g.A.App.allows c.captures.pool.now.app.now) c.captures.pool.now.turns
           (into_iter_items j.queue.peers) (g.I.IdSource.stream j.ids) f.counts)
           (λ j h f one two. rw (one.0, one.1, one.2) at two)
           c.captures.jobs.items at.handles.items end.all.items (rw jobs at at.invariant.begun) (rw handles at end.invariant.kept);
