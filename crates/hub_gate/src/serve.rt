@@ -130,15 +130,14 @@ pub fn serve_peers<
     ids: Vec<I>,
 ) -> Result<Settled<C, T>, ServeError>
     requires { vec_len ids ≡ workers }
-    ensures workers { IfOk result (λ s. vec_len s.report.workers ≡ workers) }
     ensures commands { IfOk result (λ s. s.report.totals.commands
         ≡ pass.old.commands + sum_by (λ w. w.commands) s.report.workers.items) }
     ensures taken { IfOk result (λ s. s.report.totals.taken
         ≡ pass.old.taken + sum_by (λ w. w.taken) s.report.workers.items) }
     ensures counted { IfOk result (λ s. AreCounted pass.new s.core.value s.report.totals) }
-    ensures works { IfOk result (λ s. AreServed P.gives P.hears (A.decides pool.now.app.now)
-        (A.allows pool.now.app.now) I.stream pool.now.turns workers peers.items ids.items
-        s.report.workers.items) }
+    ensures works { IfOk result (λ s. (vec_len s.report.workers ≡ workers)
+        × AreServed P.gives P.hears (A.decides pool.now.app.now) (A.allows pool.now.app.now)
+            I.stream pool.now.turns workers peers.items ids.items s.report.workers.items) }
     ensures refused { MatchResult result (λ r. (0 < workers) × (workers ≤ 1024))
         (λ e. IsRefused workers pass.old pass.new e) }
 {

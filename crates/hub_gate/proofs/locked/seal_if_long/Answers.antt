@@ -8,7 +8,7 @@ returns-then-short-clause-seals g c =
     (short (length c.args.core.now.hub.history.journal) c.args.least (held c.args.core.now.hub.history.journal) c.args.bytes (sym c.is_short-short.ensures ∙ c.if-short.true), refl)
 
 pub returns-clause-epoch : goal.returns-clause-epoch
-returns-clause-epoch g c = rw c.in-Ok.ensures.epoch (record {
+returns-clause-epoch g c = rw c.in-Ok.ensures.seals.epoch_is (record {
   limits = c.args.core.now.hub.history.limits;
   kept = c.note_facts.ensures.kept;
   enough = long (length c.args.core.now.hub.history.journal) c.args.least (held c.args.core.now.hub.history.journal) c.args.bytes (sym c.is_short-short.ensures ∙ c.if-short.false);
