@@ -32,7 +32,7 @@ use Rattle.dispatch.specs.Frames.{Sends, SendsWaiting, SendsOn, SendsFor}
 use Rattle.dispatch.specs.Machine.{Opens, Takes, TakesFrames}
 use Rattle.dispatch.specs.Place.{Place, HasLine}
 use Rattle.dispatch.specs.Takes.{Take, handed, carried, Counts, IsShort, TellsNoop, Carries, FindsNothing, TakesWaiting, TakesOn, TakesFor}
-use Rattle.dispatch.specs.Handed.{Turn, turns_after, opens, takes, Holds, HandsOut, HandedOut, AreHanded, Handed}
+use Rattle.dispatch.specs.Handed.{Turn, turns_after, opens, takes, Holds, HandsOut, HandedOut, AreHanded, is_begun_in, Handed}
 use Rattle.dispatch.proofs.TurnLemmas.{Leads, leads-none, leads-on, as-before}
 
 -- entries that are handed out are no more than were put
@@ -87,6 +87,14 @@ pub work-hands-nothing : (d : ℕ) (h g : History) → Follows (is_work d) h g �
 work-hands-nothing d h g follows c es handed =
     let out = work-on h.base h.limits d c es follows.steps h.journal follows.own (handed.whole, handed.count) in
     rw (follows.base, follows.limits, follows.journal) (record { whole = out.0; count = out.1 })
+
+-- and opens nobody
+none-begun : (d c : ℕ) (h : History) (steps : List Step) → AreMade (is_work d) h steps → is_begun_in c (steps ++ h.journal) ≡ is_begun_in c h.journal
+none-begun d c h [] work = refl
+none-begun d c h (step ∷ steps) work = rw (opens-none d c (history h.base h.limits (steps ++ h.journal)) step.what work.0) (none-begun d c h steps work.1)
+
+work-begins-none : (d : ℕ) (h g : History) → Follows (is_work d) h g → (c : ℕ) → is_begun_in c g.journal ≡ is_begun_in c h.journal
+work-begins-none d h g follows c = rw follows.journal (none-begun d c h follows.steps follows.own)
 
 -- nothing changed
 same-handed : (h g : History) → g ≡ h → (c : ℕ) (es : List Entry) → AreHanded c h es → AreHanded c g es
@@ -149,6 +157,7 @@ took-none c d most n other = rw other refl
 pub record Gives (c : ℕ) (h g : History) (more : List Entry) : Type 0 where
   pub leads : Leads c h g
   pub stays : (d : ℕ) → is_open g.base g.journal d ≡ is_open h.base h.journal d
+  begun : (d : ℕ) → is_begun_in d g.journal ≡ is_begun_in d h.journal
   own : (es : List Entry) → AreHanded c h es → AreHanded c g (es ++ more)
   others : (d : ℕ) → (c == d) ≡ false → (es : List Entry) → AreHanded d h es → AreHanded d g es
 
@@ -156,6 +165,7 @@ gives-none : (c : ℕ) (h g : History) → g ≡ h → Gives c h g []
 gives-none c h g same = record {
   leads = leads-none c h g same;
   stays = λ d. ap (λ (k : History). is_open k.base k.journal d) same;
+  begun = λ d. ap (λ (k : History). is_begun_in d k.journal) same;
   own = λ es handed. subst (λ (xs : List Entry). AreHanded c g xs) (sym (append-nil es)) (same-handed h g same c es handed);
   others = λ d other es handed. same-handed h g same d es handed;
 }
@@ -166,6 +176,7 @@ took-gives h g now c most n made long =
     record {
       leads = leads-on c h h g now (Took c most n) made.1 (itself c) refl tt (leads-none c h h refl);
       stays = λ d. rw made.1 (is_open-step h.base step h.journal d ∙ as-before (is_open h.base h.journal d));
+      begun = λ d. ap (λ (k : History). is_begun_in d k.journal) made.1;
       own = λ es was. rw made.1 (record {
         whole = took-whole h.base h.limits h.journal (moment_at h now) c most n es was.whole long;
         count = took-count h.base h.journal (moment_at h now) c most n es (handed h c most) was.count long;
@@ -310,6 +321,7 @@ handed-work named c answer h g opened none follows d turns was =
       entries = was.entries;
       out = rw (opened d, none d, HandedOut) was.out;
       are = work-hands-nothing c h g follows d was.entries was.are;
+      opened = rw (opened d) (work-begins-none c h g follows d ∙ was.opened);
     }
 
 pub given-turn : (named : Event) (c : ℕ) (answer : Answer) (h g : History) → ((d : ℕ) → opens d named answer ≡ false) → ((d : ℕ) → takes d named ≡ (c == d)) → Given c answer h g
@@ -324,11 +336,13 @@ given-turn named c answer h g opened none given d turns was = by (c == d) refl
           entries = was.entries ++ given.0;
           out = rw (opened d, none d, same, HandedOut) (was.entries, given.0, was.out, given.1, refl);
           are = subst (λ (e : ℕ). AreHanded e h was.entries → AreHanded e g (was.entries ++ given.0)) one (given.2.own was.entries) was.are;
+          opened = rw (opened d) (given.2.begun d ∙ was.opened);
         }
     by false other = record {
       entries = was.entries;
       out = rw (opened d, none d, other, HandedOut) was.out;
       are = given.2.others d other was.entries was.are;
+      opened = rw (opened d) (given.2.begun d ∙ was.opened);
     }
 
 pub taken-given : (now c most : ℕ) (s : Place) (answer : Answer) (t : Place) → ForClient c (λ line. Takes now c most line s answer t) UnknownClient s answer t → Given c answer s.history t.history
@@ -343,11 +357,21 @@ unfolding HandedOut
 handed-open timing numbers now socket c s (Ok (outcome.Opened o)) t does d turns was = by (c == d) refl
   where
     by : (b : Bool) → (c == d) ≡ b → Handed d ((event.Opened socket, Ok (outcome.Opened o)) ∷ turns) t.history
-    by true same = record { entries = []; out = rw (does.0, same, HandedOut) refl; are = opened-fresh s.history t.history now c does.2 d same }
-    by false other = record { entries = was.entries; out = rw (does.0, other, HandedOut) was.out; are = opened-others s.history t.history now c does.2 d other was.entries was.are }
+    by true same = record {
+      entries = [];
+      out = rw (does.0, same, HandedOut) refl;
+      are = opened-fresh s.history t.history now c does.2 d same;
+      opened = rw (does.2.1, does.0, same) refl;
+    }
+    by false other = record {
+      entries = was.entries;
+      out = rw (does.0, other, HandedOut) was.out;
+      are = opened-others s.history t.history now c does.2 d other was.entries was.are;
+      opened = rw (does.2.1, does.0, other) was.opened;
+    }
 handed-open timing numbers now socket c s (Ok _) t does d turns was = absurd does
 handed-open timing numbers now socket c s (Err e) t does d turns was =
-    record { entries = was.entries; out = was.out; are = same-handed s.history t.history does.1.1 d was.entries was.are }
+    record { entries = was.entries; out = was.out; are = same-handed s.history t.history does.1.1 d was.entries was.are; opened = ap (λ (k : History). is_begun_in d k.journal) does.1.1 ∙ was.opened }
 
 -- ---- the events of a list
 
@@ -391,10 +415,12 @@ pub handed-fresh : (limits : Limits) (h : History) → h ≡ record { base = emp
 unfolding HandedOut
 handed-fresh limits h is c =
     let out = nothing-out (empty_base limits.first_offset) limits c refl in
-    rw is (record { entries = []; out = refl; are = record { whole = out.0; count = out.1 } })
+    rw is (record { entries = []; out = refl; are = record { whole = out.0; count = out.1 }; opened = refl })
 
 -- after a seal what waits is all that was put
 pub handed-sealed : (r : Result PlainEpoch HubError) (h g : History) → Seals h r g → OnOk r ((c : ℕ) → Handed c [] g)
 unfolding HandedOut waiting taken placements
-handed-sealed (Ok epoch) h g seals = λ c. record { entries = []; out = refl; are = record { whole = rw seals.sealed.no_steps refl; count = rw seals.sealed.no_steps refl } }
+handed-sealed (Ok epoch) h g seals = λ c.
+    let none = seals.sealed.no_steps in
+    record { entries = []; out = refl; are = record { whole = rw none refl; count = rw none refl }; opened = rw none refl }
 handed-sealed (Err e) h g seals = tt

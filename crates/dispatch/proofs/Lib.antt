@@ -1,4 +1,5 @@
 mod ConnectLemmas
+mod EpochLaws
 mod EventLaws
 mod FrameLemmas
 mod HandedLemmas

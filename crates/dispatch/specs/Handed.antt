@@ -1,12 +1,13 @@
 -- What the takes of a client hand out: put end to end, and with what still waits at the end, it is all that was put for the
 -- client since it was opened. A seal keeps what waits alone, so after it the account begins anew with that.
 use Rattle.std.specs.Prelude.{◌≡◌, ◌⊎◌, ℕ, ◌==◌, Bool, true, false, List, [], ◌∷◌, ◌++◌, length, Ok, Err}
-use Rattle.std.specs.List.{AllZip}
+use Rattle.std.specs.List.{AllZip, list_any}
 use Rattle.eio_wire.specs.declared.packet.Packet.TheVariants.{Noop}
 use Rattle.eio_wire.specs.Payload.{Payload}
 use Rattle.sio_wire.specs.declared.entry.Entry.{Entry}
+use Rattle.journal.specs.declared.step.Step.{Step}
 use Rattle.journal.specs.Journal.{History}
-use Rattle.journal.specs.Outboxes.{placements, taken, waiting}
+use Rattle.journal.specs.Outboxes.{begins, placements, taken, waiting}
 use Rattle.dispatch.specs.declared.event.Event.{Event}
 use Rattle.dispatch.specs.declared.event.Event.TheVariants as event
 use Rattle.dispatch.specs.declared.outcome.Outcome.{Outcome}
@@ -63,8 +64,17 @@ pub record AreHanded (c : ℕ) (h : History) (entries : List Entry) : Type 0 whe
   pub whole : entries ++ waiting h.base h.limits h.journal c ≡ placements h.base h.limits h.journal c
   pub count : taken h.base h.journal c ≡ length entries
 
--- what the client's takes handed out in these turns is so
+-- one of these turns opened the client
+abbrev pub is_opened_in : ℕ → List Turn → Bool
+is_opened_in c turns = list_any (λ (turn : Turn). opens c turn.0 turn.1) turns
+
+-- one of these steps did
+abbrev pub is_begun_in : ℕ → List Step → Bool
+is_begun_in c steps = list_any (λ (step : Step). begins c step.what) steps
+
+-- what the client's takes handed out in these turns is so; and the turns opened it where the steps did
 pub record Handed (c : ℕ) (turns : List Turn) (h : History) : Type 0 where
   pub entries : List Entry
   pub out : HandedOut c turns entries
   pub are : AreHanded c h entries
+  pub opened : is_begun_in c h.journal ≡ is_opened_in c turns
