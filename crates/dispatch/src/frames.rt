@@ -13,7 +13,7 @@ ghost use Rattle.dispatch.specs.Takes.{handed, carried};
 use crate::event::WsFrame;
 use crate::lines::transport_of;
 use crate::outcome::{Frames, Outcome};
-use crate::takes::{carry_ping, count};
+use crate::takes::count;
 use crate::turns::{close_unread, work_on};
 use connection::Line;
 use effects::{App, Cause, CoreError, CoreFault, IdSource, Visit};
@@ -151,8 +151,7 @@ fn send_waiting(
     if frames.is_empty() {
         return Ok(Outcome::Nothing);
     }
-    count(visit, state, most)?;
-    carry_ping(line, ping);
+    count(visit, state, line, most, ping)?;
     Ok(Outcome::Frames(Frames::from_vec(frames)))
 }
 

@@ -8,7 +8,7 @@ ghost use Rattle.journal.specs.Membership.{is_open};
 ghost use Rattle.connection.specs.History.{GetEnded};
 ghost use Rattle.connection.specs.Line.{Advances};
 ghost use Rattle.dispatch.specs.Place.{IsClean};
-ghost use Rattle.dispatch.specs.Takes.{packets_of, handed, carried, Counts, FailsToCount, TellsNoop, ping_calls, calls_of, Carries, TakesWaiting, TakesFor, AllWhole};
+ghost use Rattle.dispatch.specs.Takes.{packets_of, handed, carried, Counts, FailsToCount, TellsNoop, ping_calls, Carries, TakesWaiting, TakesFor, AllWhole};
 
 use crate::outcome::Outcome;
 use connection::Line;
@@ -87,34 +87,27 @@ fn noop(alloc: Global, line: &mut Line) -> Result<Outcome, CoreFault>
     Ok(Outcome::Payload(text))
 }
 
-/// Counts the entries that are handed out, where there are some.
-pub(crate) fn count(visit: Visit, state: &mut State, most: usize) -> Result<(), CoreFault>
+/// Counts the entries that are handed out, where there are some, and then a ping that was due.
+pub(crate) fn count(
+    visit: Visit,
+    state: &mut State,
+    line: &mut Line,
+    most: usize,
+    ping: bool,
+) -> Result<(), CoreFault>
     requires { is_open state.old.base state.old.journal visit.client ≡ true }
     ensures ok { OnOk result (Counts visit.client most visit.moment state.old state.new) }
-    ensures err { IfErr result (λ f.
-        FailsToCount visit.client most visit.moment state.old f × (state.new ≡ state.old)) }
+    ensures line { OnOk result (Advances line.old (ping_calls ping) line.new) }
+    ensures err { IfErr result (λ f. FailsToCount visit.client most visit.moment state.old f
+        × (state.new ≡ state.old) × (line.new ≡ line.old)) }
 {
-    if most == 0 || state.front(visit.client, 0).is_none() {
-        return Ok(());
+    if most > 0 && state.front(visit.client, 0).is_some() {
+        commands::take(visit, state, most)?;
     }
-    commands::take(visit, state, most)
-}
-
-/// A ping that was due is carried.
-pub(crate) fn carry_ping(line: &mut Line, ping: bool)
-    ensures { Advances line.old (ping_calls ping) line.new }
-{
     if ping {
         line.carry_ping();
     }
-}
-
-/// The GET is answered, and a ping that was due is carried.
-fn answer_get(line: &mut Line, ping: bool)
-    ensures { Advances line.old (calls_of ping) line.new }
-{
-    carry_ping(line, ping);
-    line.end_get();
+    Ok(())
 }
 
 /// Hands out a payload of these packets. It is written before the entries are taken.
@@ -134,8 +127,8 @@ fn carry(
         state.old state.new line.old line.new }
 {
     let text = payload_of(visit.alloc, packets)?;
-    count(visit, state, most)?;
-    answer_get(line, ping);
+    count(visit, state, line, most, ping)?;
+    line.end_get();
     Ok(Outcome::Payload(text))
 }
 
