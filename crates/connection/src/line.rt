@@ -1,14 +1,14 @@
 //! What the server keeps of one client beside the hub.
 #![tactic(auto, unfolding(crate::specs::History::frames, crate::specs::History::failure, crate::specs::History::IsLegal, crate::specs::History::clock_calls, crate::specs::History::book_calls, crate::specs::History::is_getting, crate::specs::History::is_ping_due))]
 
-ghost use Rattle.std.specs.Prelude.{◌≡◌, ◌⊎◌, List, [], ◌∷◌, length, Some, None, Err, IfOk, IfErr, IfSome, OnOk, OnErr, IsErrOf};
+ghost use Rattle.std.specs.Prelude.{◌≡◌, ◌⊎◌, [], ◌∷◌, length, Some, None, Err, IfOk, IfErr, IfSome, OnOk, OnErr};
 ghost use Rattle.terms.specs.Refusal.{ok_unless};
 ghost use Rattle.sio_wire.specs.Frames.{text as text_frame, binary as binary_frame, Accepts, RefusesText, binary_refusal, exceeds};
 ghost use Rattle.session_clock.specs.Heartbeat.{due};
 ghost use Rattle.session_clock.specs.Upgrade.{transport, probe_refusal, unprobed_refusal};
 ghost use Rattle.ack_book.specs.Questions.{next_id, question_at};
 ghost use Rattle.ack_book.specs.Book.{ask_refusal, answer_of};
-ghost use Rattle.connection.specs.History.{Call, Framed, Ticked, Ponged, Probed, Upgraded, ProbeLost, GetBegan, GetEnded, PingCarried, Entered, Left, Asked, Answered, clock_calls, book_calls, is_getting, is_ping_due};
+ghost use Rattle.connection.specs.History.{Framed, Ticked, Ponged, Probed, Upgraded, ProbeLost, GetBegan, GetEnded, PingCarried, Entered, Left, Asked, Answered, clock_calls, book_calls, is_getting, is_ping_due};
 ghost use Rattle.connection.specs.Line.{LeadsTo, ForEachHistory, HasHistory, Advances, FailsWith, IsWholeIfGiven, ping_after};
 
 use crate::books;

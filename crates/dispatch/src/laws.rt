@@ -1,6 +1,6 @@
 //! Laws about the payload of a CONNECT, and about all epochs together.
 
-ghost use Rattle.std.specs.Prelude.{◌≡◌, ◌≢◌, ℕ, true, false, List, [], ◌∷◌, ◌++◌, Option};
+ghost use Rattle.std.specs.Prelude.{◌≡◌, ℕ, true, false, List, [], ◌∷◌, ◌++◌, Option};
 ghost use Rattle.sio_wire.specs.declared.entry.Entry.{Entry};
 ghost use Rattle.journal.specs.declared.step.What.{What};
 ghost use Rattle.journal.specs.Journal.{History, with_step};

@@ -2,7 +2,6 @@
 //! "Acknowledgement" and "Disconnection from a namespace").
 
 ghost use Rattle.std.specs.Prelude.{◌≡◌, true, false, None};
-ghost use Rattle.connection.specs.Line.{PlainLine};
 ghost use Rattle.journal.specs.Membership.{is_open};
 ghost use Rattle.effects.specs.Commands.{IsSeated};
 ghost use Rattle.effects.specs.Effects.{scene, StandsWith};

@@ -1,11 +1,10 @@
 //! What a GET of a client carries away (Engine.IO protocol 4, "HTTP long-polling" and "Heartbeat").
 
-ghost use Rattle.std.specs.Prelude.{◌≡◌, ◌<◌, ◌++◌, ℕ, true, false, [], ◌∷◌, length, IfOk, IfErr, OnOk, if◌then◌else◌};
+ghost use Rattle.std.specs.Prelude.{◌≡◌, ◌<◌, ◌++◌, true, [], ◌∷◌, length, IfOk, IfErr, OnOk, if◌then◌else◌};
 ghost use Rattle.eio_wire.specs.declared.packet.Packet.TheVariants.{Ping, Noop};
-ghost use Rattle.eio_wire.specs.Payload.{Payload, HasWholeData};
+ghost use Rattle.eio_wire.specs.Payload.{Payload};
 ghost use Rattle.journal.specs.Journal.{History};
 ghost use Rattle.journal.specs.Membership.{is_open};
-ghost use Rattle.connection.specs.History.{GetEnded};
 ghost use Rattle.connection.specs.Line.{Advances};
 ghost use Rattle.dispatch.specs.Place.{IsClean};
 ghost use Rattle.dispatch.specs.Takes.{packets_of, handed, carried, Counts, FailsToCount, TellsNoop, ping_calls, Carries, TakesWaiting, TakesFor, AllWhole};

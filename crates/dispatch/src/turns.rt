@@ -1,6 +1,6 @@
 //! What each event of a client does to the hub and to the clients' lines.
 
-ghost use Rattle.std.specs.Prelude.{◌≡◌, ◌+◌, true, Some, is_some};
+ghost use Rattle.std.specs.Prelude.{◌≡◌, true, Some, is_some};
 ghost use Rattle.journal.specs.Journal.{History};
 ghost use Rattle.journal.specs.Membership.{is_open};
 ghost use Rattle.connection.specs.Line.{PlainLine};

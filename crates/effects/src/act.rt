@@ -7,7 +7,7 @@ ghost use Rattle.sio_wire.specs.Disconnect.{disconnect_text};
 ghost use Rattle.journal.specs.Membership.{is_open};
 ghost use Rattle.journal.specs.declared.step.What.{What};
 ghost use Rattle.effects.specs.Commands.{IsSeated, StopsAt};
-ghost use Rattle.effects.specs.Effects.{scene, is_unsendable, is_wrong, cast_of, Closes, Emits, Replies, Disconnects, Acts, ActsInTurn, Fails, Stops, StopsAfter, StandsWith, FailsAt, FailsToEmit, FailsToReply, FailsToDisconnect};
+ghost use Rattle.effects.specs.Effects.{scene, is_unsendable, is_wrong, cast_of, Closes, Emits, Replies, Disconnects, Acts, ActsInTurn, Fails, Stops, StopsAfter, StandsWith, FailsToEmit, FailsToReply, FailsToDisconnect};
 ghost use Rattle.effects.specs.Runs.{Runs};
 
 use crate::app::{Effect, Reply, Who};

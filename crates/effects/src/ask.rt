@@ -1,9 +1,8 @@
 //! Questions to a socket (Socket.IO protocol 5, "Acknowledgement").
 
-ghost use Rattle.std.specs.Prelude.{◌≡◌, ◌+◌, ℕ, true, false, [], ◌∷◌, min, IfOk, IfErr, OnOk, OnErr};
+ghost use Rattle.std.specs.Prelude.{◌≡◌, ℕ, true, false, [], ◌∷◌, IfOk, IfErr, OnOk, OnErr};
 ghost use Rattle.connection.specs.History.{Asked, Answered};
 ghost use Rattle.connection.specs.Line.{PlainLine, Advances};
-ghost use Rattle.journal.specs.Journal.{History};
 ghost use Rattle.journal.specs.Membership.{is_open};
 ghost use Rattle.effects.specs.Effects.{scene, is_unsendable, IsNextId, HasNoId, Asks, FailsToAsk, TellsInquiry};
 

@@ -1,6 +1,6 @@
 //! Totals that several holders raise, and each holder's part of them.
 
-ghost use Rattle.std.specs.Prelude.{◌≡◌, ℕ, ◌+◌, ◌-◌, ◌==◌, ◌<◌, ◌≤◌, min};
+ghost use Rattle.std.specs.Prelude.{◌≡◌, ◌+◌, ◌-◌, ◌==◌, ◌<◌, ◌≤◌, min};
 
 use std::marker::Model;
 use std::sync::ledger::{Blank, Book, Ledger, Share};

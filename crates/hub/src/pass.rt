@@ -1,6 +1,6 @@
 //! What one thread has had accepted.
 
-ghost use Rattle.std.specs.Prelude.{◌≡◌, ℕ, ◌+◌, min};
+ghost use Rattle.std.specs.Prelude.{◌≡◌, ◌+◌, min};
 
 use crate::count::Part;
 use std::marker::Model;

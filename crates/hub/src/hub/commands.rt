@@ -1,7 +1,7 @@
 //! The commands of a hub: `State`'s, each counted in a pass.
 
-ghost use Rattle.std.specs.Prelude.{◌≡◌, None, Some, IfOk, length, min, take};
-ghost use Rattle.journal.specs.Membership.{sid_of, place_of};
+ghost use Rattle.std.specs.Prelude.{◌≡◌, IfOk, length, min, take};
+ghost use Rattle.journal.specs.Membership.{place_of};
 ghost use Rattle.journal.specs.Outboxes.{waiting};
 ghost use Rattle.hub.specs.Pass.{DoesCounted};
 ghost use Rattle.journal.specs.declared.socket.Socket.{Socket};

@@ -2,13 +2,11 @@
 //! "Connection state recovery").
 
 ghost use Rattle.std.specs.Prelude.{◌≡◌, ℕ, ◌+◌, IfOk, length};
-ghost use Rattle.journal.specs.Totals.{is_spent};
 ghost use Rattle.journal.specs.Sessions.{sessions};
 ghost use Rattle.journal.specs.Log.{log};
 ghost use Rattle.journal.specs.Journal.{History};
 ghost use Rattle.journal.specs.Membership.{place_of};
 ghost use Rattle.journal.specs.Recovery.{recovery_of};
-ghost use Rattle.journal.specs.Refusals.{or_spent, park_refusal, recover_refusal};
 ghost use Rattle.hub.specs.Pass.{DoesCounted};
 ghost use Rattle.journal.specs.Seal.{Seals};
 ghost use Rattle.journal.specs.declared.step.What.{What};
