@@ -176,7 +176,9 @@ impl<C: Ledger, T: Ledger> Server<C, T> {
             return Err(CoreFault::BadEffect.at_once());
         };
         self.posts(alloc, client, "40\u{1e}42[\"join\",\"r\"]")?;
-        self.takes(alloc, client, "")?;
-        Ok(client)
+        match self.does(alloc, &Event::PollTake { client, most: 64 })? {
+            Seen::Payload => Ok(client),
+            _ => Err(CoreFault::BadEffect.at_once()),
+        }
     }
 }

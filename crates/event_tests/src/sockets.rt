@@ -119,12 +119,9 @@ fn answers_so<C: Ledger, T: Ledger>(
     let Ok(answers) = core.apply_all(alloc, pass, &RelayApp, events, ids) else {
         return Err(CoreFault::Memory.at_once());
     };
-    Ok(
-        answers
-            .iter()
-            .zip(want.iter())
-            .all(|(answer, want)| answer_seen(answer) == *want),
-    )
+    let mut pairs = answers.iter().zip(want.iter());
+    let are_so = pairs.all(|(answer, want)| answer_seen(answer) == *want);
+    Ok(are_so && answers.len() == want.len())
 }
 
 fn new_answers_so(

@@ -137,7 +137,7 @@ pub fn serve_peers<
     ensures counted { IfOk result (λ s. AreCounted pass.new s.core.value s.report.totals) }
     ensures works { IfOk result (λ s. (vec_len s.report.workers ≡ workers)
         × AreServed P.gives P.hears (A.decides pool.now.app.now) (A.allows pool.now.app.now)
-            I.stream pool.now.turns workers peers.items ids.items s.report.workers.items) }
+        I.stream pool.now.turns workers peers.items ids.items s.report.workers.items) }
     ensures refused { MatchResult result (λ r. (0 < workers) × (workers ≤ 1024))
         (λ e. IsRefused workers pass.old pass.new e) }
 {
