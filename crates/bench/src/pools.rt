@@ -9,7 +9,7 @@ use crate::{events, gauge, hall};
 use dispatch::Core;
 use effects::IdSource;
 use hub::Pass;
-use hub_gate::{Locked, Peer, PeerFault, Pool, ServeError, Turnstile, serve_peers};
+use hub_gate::{Locked, Peer, PeerFault, ServeError, Turnstile, serve_peers};
 use journal::Totals;
 use relay::{Counter, RelayApp};
 use std::alloc::{AllocError, Global};
@@ -128,7 +128,7 @@ fn play<C: Ledger + Send + Sync, T: Ledger + Send + Sync, R: Clock + Threads + W
     let Ok(locked) = Box::new(alloc, Locked::new(Box::into_inner(core))) else {
         return Err(Fault::Memory);
     };
-    let pool = Pool {
+    let pool = hub_gate::Pool {
         rt,
         alloc,
         locked: &*locked,
