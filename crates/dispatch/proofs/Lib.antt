@@ -1,5 +1,15 @@
 mod ConnectLemmas
+mod EpochAccounts
+mod EpochCasts
+mod EpochEffects
 mod EpochLaws
+mod EpochLists
+mod EpochMachine
+mod EpochPackets
+mod EpochRooms
+mod EpochSound
+mod EpochSteps
+mod EpochTakes
 mod EventLaws
 mod FrameLemmas
 mod HandedLemmas

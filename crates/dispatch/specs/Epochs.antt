@@ -1,12 +1,12 @@
 -- What was put for a client, what its takes handed out, and whom an event spares, over all epochs: those that were sealed,
--- and then the present one.
+-- and then the present one; and all of them as one history.
 use Rattle.std.specs.Prelude.{◌≡◌, ◌≢◌, ℕ, false, if◌then◌else◌, List, [], ◌∷◌, ◌++◌}
 use Rattle.sio_wire.specs.declared.entry.Entry.{Entry}
 use Rattle.journal.specs.declared.step.Step.{Step}
 use Rattle.journal.specs.Plain.{Limits, PlainBase}
 use Rattle.journal.specs.Journal.{History, history}
 use Rattle.journal.specs.Outboxes.{begins, put, entries_for, placements, waiting}
-use Rattle.journal.specs.Seal.{SaysTheSame}
+use Rattle.journal.specs.Seal.{SaysTheSame, IsLegalAndSound}
 use Rattle.effects.specs.Following.{is_listed}
 use Rattle.dispatch.specs.Handed.{Turn, HandedOut}
 
@@ -36,3 +36,20 @@ pub record HandedInAll (c : ℕ) (turns : List Turn) (sealed : List History) (h 
 abbrev pub SparesInAll : List History → ℕ → (before after : History) → List (List ℕ) → Type 0
 SparesInAll sealed c before after lists = (d : ℕ) → d ≢ c → is_listed d lists ≡ false
     → all_placements sealed after d ≡ all_placements sealed before d
+
+-- ---- all epochs as one
+
+-- a hub may have both histories, and they say the same
+pub record AreAlike (one other : History) : Type 0 where
+  pub first : IsLegalAndSound one
+  pub second : IsLegalAndSound other
+  pub same : SaysTheSame one other
+
+-- the history with these steps more, the newest first
+abbrev pub with_steps : List Step → History → History
+with_steps steps h = record h { journal = steps ++ h.journal }
+
+-- the histories up to each seal, the newest first, and the present one, as one: the oldest base with the steps of all epochs
+abbrev pub in_one : List History → History → History
+in_one [] h = h
+in_one (g ∷ sealed) h = with_steps h.journal (in_one sealed g)

@@ -40,6 +40,8 @@ use Rattle.effects.specs.Effects.{Scene, told_to, counted, Closes, ActsInTurn, S
 use Rattle.effects.specs.declared.fault.CoreError.{CoreError}
 use Rattle.effects.specs.declared.fault.Stopped.{Stopped}
 use Rattle.effects.specs.Runs.{Runs}
+use Rattle.effects.specs.Scene.{seen, IsSameEvent}
+use Rattle.effects.specs.declared.scene.Scene as values
 use Rattle.dispatch.specs.Parking.{ParksOrCloses, FailsToPark}
 
 -- where an event stands between two packets: a scene, and the ids to come
@@ -49,6 +51,19 @@ pub record Stage : Type 0 where
 
 abbrev pub stage : Scene → (ℕ → ℕ) → Stage
 stage scene ids = record { scene = scene; ids = ids }
+
+-- the event goes on at its moment, is answered so, and draws the ids up to these
+abbrev pub Draws : (ℕ → Stage → Result (Unit {0}) Stopped → Stage → Type 0) → values.Scene → (ℕ → ℕ) → Result (Unit {0}) Stopped → values.Scene → (ℕ → ℕ) → Type 0
+Draws does old ids result new left = IsSameEvent old new × does old.visit.moment (stage (seen old) ids) result (stage (seen new) left)
+
+-- nothing of the packet was done yet that ends its work
+abbrev pub IsFresh : Scene → Type 0
+IsFresh s = (s.done.closed ≡ None) × (s.ended ≡ false)
+
+-- the client has no socket in this namespace, which is the hub's
+abbrev pub IsFreeIn : (space : List ℕ) → ℕ → Scene → Type 0
+IsFreeIn space c s = let place = place_of s.history.limits space in
+    (is_space s.history.limits place ≡ true) × (socket_of s.history.base s.history.journal c place ≡ None)
 
 -- how a packet is answered: done, or the event ends with a fault after so many effects of it
 abbrev pub Upshot : Type 0

@@ -1,19 +1,16 @@
 //! What a CONNECT does (Socket.IO protocol 5, "Connection to a namespace"; Socket.IO server
 //! documentation, "Connection state recovery").
 
-ghost use Rattle.std.specs.Prelude.{◌≡◌, ◌≢◌, ◌<◌, ◌^◌, ℕ, true, false, None, IfOk, IfErr, IfSome, IfNone};
-ghost use Rattle.connection.specs.Line.{PlainLine};
-ghost use Rattle.journal.specs.Membership.{is_open, is_space, place_of, socket_of};
-ghost use Rattle.effects.specs.Effects.{scene};
-ghost use Rattle.dispatch.specs.Packets.{stage, Refuses, Connects, ConnectsAs, AsksApp, digits_of, Names, Returning, AsksToConnect};
+ghost use Rattle.std.specs.Prelude.{◌≡◌, ◌≢◌, ◌<◌, ◌^◌, ℕ, IfOk, IfErr, IfSome, IfNone};
+ghost use Rattle.effects.specs.Effects.{IsOpenFor};
+ghost use Rattle.effects.specs.Scene.{seen, Plays};
+ghost use Rattle.dispatch.specs.Packets.{Draws, IsFresh, IsFreeIn, Refuses, Connects, ConnectsAs, AsksApp, digits_of, Names, Returning, AsksToConnect};
 
 use crate::packets::close_for;
-use connection::Line;
 use effects::{
-    App, Cause, CoreFault, Effect, IdSource, Stopped, Tally, Verdict, Visit, Who, act_all, commands,
+    App, Cause, CoreFault, Effect, IdSource, Scene, Stopped, Verdict, Who, act_all, commands,
 };
 use eio_wire::read_id;
-use hub_state::State;
 use recovery::Pid;
 use room_maps::Sid;
 use sio_wire::{
@@ -23,91 +20,68 @@ use std::alloc::Global;
 use terms::Text;
 
 /// Tells the client that it isn't connected, or closes it where its outbox has no place for that.
-fn refuse(
-    visit: Visit,
-    state: &mut State,
-    space: &str,
-    message: &str,
-    tally: &mut Tally,
-) -> Result<(), Stopped>
-    requires { is_open state.old.base state.old.journal visit.client ≡ true }
-    ensures { (l : PlainLine) → Refuses visit.client visit.moment space.now message.now
-        (scene state.old l tally.old) result (scene state.new l tally.new) }
+fn refuse(scene: &mut Scene, space: &str, message: &str) -> Result<(), Stopped>
+    requires { IsOpenFor scene.old.visit.client (seen scene.old) }
+    ensures { let client = scene.old.visit.client in
+        Plays (λ now. Refuses client now space.now message.now) scene.old result scene.new }
 {
-    let Ok(text) = refused_text(visit.alloc, space, message) else {
+    let alloc = scene.visit.alloc;
+    let Ok(text) = refused_text(alloc, space, message) else {
         return Err(CoreFault::Memory.into());
     };
     let entry = Entry {
         text: Text::from_string(text),
-        attachments: Attachments::new(visit.alloc),
+        attachments: Attachments::new(alloc),
     };
-    if commands::tell(visit, state, entry)? {
+    if commands::tell(scene.visit, scene.state, entry)? {
         return Ok(());
     }
-    close_for(visit, state, Cause::OutboxFull, tally)
+    close_for(scene, Cause::OutboxFull)
 }
 
 /// Connects the client with a new socket, and does what the app wants then.
-fn accept(
-    visit: Visit,
-    state: &mut State,
-    line: &mut Line,
-    who: &Who,
-    pid: Pid,
-    wanted: Vec<Effect>,
-    tally: &mut Tally,
-) -> Result<(), Stopped>
-    requires own { who.now.client ≡ visit.client }
-    requires open_client { is_open state.old.base state.old.journal visit.client ≡ true }
-    requires fresh { (tally.old.done.closed ≡ None) × (tally.old.ended ≡ false) }
-    requires in_space { is_space state.old.limits (place_of state.old.limits who.now.space) ≡ true }
-    requires free { let place = place_of state.old.limits who.now.space in
-        socket_of state.old.base state.old.journal visit.client place ≡ None }
-    ensures { ConnectsAs who.now pid wanted.items visit.moment
-        (scene state.old line.old tally.old) result (scene state.new line.new tally.new) }
+fn accept(scene: &mut Scene, who: &Who, pid: Pid, wanted: Vec<Effect>) -> Result<(), Stopped>
+    requires own { who.now.client ≡ scene.old.visit.client }
+    requires open_client { IsOpenFor scene.old.visit.client (seen scene.old) }
+    requires fresh { IsFresh (seen scene.old) }
+    requires free { IsFreeIn who.now.space scene.old.visit.client (seen scene.old) }
+    ensures { Plays (ConnectsAs who.now pid wanted.items)
+        scene.old result scene.new }
 {
-    if commands::attach(visit, state, who, pid)? {
-        line.enter(who.sid);
-        tally.count();
-        return act_all(visit, state, line, who, wanted, 1, tally);
+    if commands::attach(scene.visit, scene.state, who, pid)? {
+        scene.line.enter(who.sid);
+        scene.tally.count();
+        return act_all(scene, who, wanted, 1);
     }
-    close_for(visit, state, Cause::OutboxFull, tally)
+    close_for(scene, Cause::OutboxFull)
 }
 
 /// Asks the app whether the client may connect.
 fn ask_app<A: App, I: IdSource>(
-    visit: Visit,
-    state: &mut State,
-    line: &mut Line,
+    scene: &mut Scene,
     app: &A,
     ids: &mut I,
     asked: (Text, Text),
-    tally: &mut Tally,
 ) -> Result<(), Stopped>
-    requires open_client { is_open state.old.base state.old.journal visit.client ≡ true }
-    requires fresh { (tally.old.done.closed ≡ None) × (tally.old.ended ≡ false) }
-    requires in_space { is_space state.old.limits (place_of state.old.limits asked.0) ≡ true }
-    requires free { let place = place_of state.old.limits asked.0 in
-        socket_of state.old.base state.old.journal visit.client place ≡ None }
-    ensures { AsksApp (A.allows app.now) visit.client asked.0 asked.1 visit.moment
-        (stage (scene state.old line.old tally.old) (I.stream ids.old)) result
-        (stage (scene state.new line.new tally.new) (I.stream ids.new)) }
+    requires open_client { IsOpenFor scene.old.visit.client (seen scene.old) }
+    requires fresh { IsFresh (seen scene.old) }
+    requires free { IsFreeIn asked.0 scene.old.visit.client (seen scene.old) }
+    ensures { Draws (AsksApp (A.allows app.now) scene.old.visit.client asked.0 asked.1)
+        scene.old (I.stream ids.old) result scene.new (I.stream ids.new) }
 {
     let (space, payload) = asked;
-    match app.connects(visit.alloc, space.as_str(), payload.as_str()) {
+    match app.connects(scene.visit.alloc, space.as_str(), payload.as_str()) {
         Ok(Verdict::Accept(wanted)) => {
             let sid = Sid::new(ids.draw());
             let pid = Pid::new(ids.draw());
             let who = Who {
-                client: visit.client,
+                client: scene.visit.client,
                 space,
                 sid,
             };
-            accept(visit, state, line, &who, pid, wanted, tally)
+            accept(scene, &who, pid, wanted)
         }
-        Ok(Verdict::Refuse(message)) => {
-            refuse(visit, state, space.as_str(), message.as_str(), tally)
-        }
+        Ok(Verdict::Refuse(message)) => { refuse(scene, space.as_str(), message.as_str()) }
         Err(_) => Err(CoreFault::Memory.into()),
     }
 }
@@ -138,59 +112,47 @@ fn ids_in(resume: &Resume) -> Option<(Pid, u64)>
 }
 
 /// Brings the session back that the client names. Answers whether it came back.
-fn come_back(
-    visit: Visit,
-    state: &mut State,
-    line: &mut Line,
-    space: &str,
-    named: (Pid, u64),
-    tally: &mut Tally,
-) -> Result<bool, Stopped>
-    requires open_client { is_open state.old.base state.old.journal visit.client ≡ true }
-    requires in_space { is_space state.old.limits (place_of state.old.limits space.now) ≡ true }
-    requires free { let place = place_of state.old.limits space.now in
-        socket_of state.old.base state.old.journal visit.client place ≡ None }
-    ensures { Returning visit.client space.now named.0 named.1 visit.moment
-        (scene state.old line.old tally.old) result (scene state.new line.new tally.new) }
+fn come_back(scene: &mut Scene, space: &str, named: (Pid, u64)) -> Result<bool, Stopped>
+    requires open_client { IsOpenFor scene.old.visit.client (seen scene.old) }
+    requires free { IsFreeIn space.now scene.old.visit.client (seen scene.old) }
+    ensures { Plays (Returning scene.old.visit.client space.now named.0 named.1)
+        scene.old result scene.new }
 {
     let (pid, offset) = named;
-    let Some(sid) = commands::recover(visit, state, space, pid, offset)? else {
+    let Some(sid) = commands::recover(scene.visit, scene.state, space, pid, offset)? else {
         return Ok(false);
     };
-    line.enter(sid);
-    tally.count();
+    scene.line.enter(sid);
+    scene.tally.count();
     Ok(true)
 }
 
 /// What a CONNECT does.
 pub(crate) fn connect<A: App, I: IdSource>(
-    visit: Visit,
-    state: &mut State,
-    line: &mut Line,
+    scene: &mut Scene,
     app: &A,
     ids: &mut I,
     header: Header,
-    tally: &mut Tally,
 ) -> Result<(), Stopped>
-    requires open_client { is_open state.old.base state.old.journal visit.client ≡ true }
-    requires fresh { (tally.old.done.closed ≡ None) × (tally.old.ended ≡ false) }
-    ensures { AsksToConnect (A.allows app.now) visit.client header.space header.payload visit.moment
-        (stage (scene state.old line.old tally.old) (I.stream ids.old)) result
-        (stage (scene state.new line.new tally.new) (I.stream ids.new)) }
+    requires open_client { IsOpenFor scene.old.visit.client (seen scene.old) }
+    requires fresh { IsFresh (seen scene.old) }
+    ensures { let client = scene.old.visit.client in Draws
+        (AsksToConnect (A.allows app.now) client header.space header.payload)
+        scene.old (I.stream ids.old) result scene.new (I.stream ids.new) }
 {
     let Header { space, payload, .. } = header;
-    if !state.has_space(space.as_str()) {
-        return refuse(visit, state, space.as_str(), "Invalid namespace", tally);
+    if !scene.state.has_space(space.as_str()) {
+        return refuse(scene, space.as_str(), "Invalid namespace");
     }
-    if let Some(_) = state.socket_of(visit.client, space.as_str()) {
-        return close_for(visit, state, Cause::AlreadyConnected, tally);
+    if let Some(_) = scene.state.socket_of(scene.visit.client, space.as_str()) {
+        return close_for(scene, Cause::AlreadyConnected);
     }
-    let Some(named) = named_in(visit.alloc, payload.as_str())? else {
-        return ask_app(visit, state, line, app, ids, (space, payload), tally);
+    let Some(named) = named_in(scene.visit.alloc, payload.as_str())? else {
+        return ask_app(scene, app, ids, (space, payload));
     };
-    match come_back(visit, state, line, space.as_str(), named, tally) {
+    match come_back(scene, space.as_str(), named) {
         Ok(true) => Ok(()),
-        Ok(false) => ask_app(visit, state, line, app, ids, (space, payload), tally),
+        Ok(false) => ask_app(scene, app, ids, (space, payload)),
         Err(stopped) => Err(stopped),
     }
 }

@@ -19,6 +19,8 @@ mod upgrade;
 mod upkeep;
 
 pub use event::{Event, WsFrame};
-pub use laws::named_once;
+pub use laws::{
+    does_in_all_epochs, handed_in_all_epochs, named_once, others_are_spared_in_all_epochs,
+};
 pub use outcome::{Frames, Opening, Outcome};
 pub use server::Core;

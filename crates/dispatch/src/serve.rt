@@ -1,18 +1,16 @@
 //! What a packet of a connected socket does (Socket.IO protocol 5, "Sending and receiving data",
 //! "Acknowledgement" and "Disconnection from a namespace").
 
-ghost use Rattle.std.specs.Prelude.{◌≡◌, true, false, None};
-ghost use Rattle.journal.specs.Membership.{is_open};
+ghost use Rattle.std.specs.Prelude.{◌≡◌};
 ghost use Rattle.effects.specs.Commands.{IsSeated};
-ghost use Rattle.effects.specs.Effects.{scene, StandsWith};
-ghost use Rattle.dispatch.specs.Packets.{Decides, Leaves, TakesAck, HearsEvent, Serves, ServesJoined};
+ghost use Rattle.effects.specs.Effects.{IsOpenFor, StandsWith};
+ghost use Rattle.effects.specs.Scene.{seen, Plays};
+ghost use Rattle.dispatch.specs.Packets.{IsFresh, Decides, Leaves, TakesAck, HearsEvent, Serves, ServesJoined};
 
 use crate::packets::close_for;
-use connection::Line;
 use effects::{
-    Answer, App, Arrived, Cause, CoreFault, Message, Stopped, Tally, Visit, Who, act_all, commands,
+    Answer, App, Arrived, Cause, CoreFault, Message, Scene, Stopped, Who, act_all, commands,
 };
-use hub_state::State;
 use sio_wire::{Attachments, Header, Kind, SioPacket};
 use terms::Text;
 
@@ -26,65 +24,42 @@ struct Said {
 }
 
 /// Asks the app about what arrived, and does what it wants.
-fn decide<A: App>(
-    visit: Visit,
-    state: &mut State,
-    line: &mut Line,
-    app: &A,
-    who: &Who,
-    arrived: &Arrived,
-    tally: &mut Tally,
-) -> Result<(), Stopped>
-    requires own { who.now.client ≡ visit.client }
-    requires stands { StandsWith who.now (scene state.old line.old tally.old) }
-    ensures { Decides (A.decides app.now) who.now arrived.now visit.moment
-        (scene state.old line.old tally.old) result (scene state.new line.new tally.new) }
+fn decide<A: App>(scene: &mut Scene, app: &A, who: &Who, arrived: &Arrived) -> Result<(), Stopped>
+    requires own { who.now.client ≡ scene.old.visit.client }
+    requires stands { StandsWith who.now (seen scene.old) }
+    ensures { Plays (Decides (A.decides app.now) who.now arrived.now)
+        scene.old result scene.new }
 {
-    match app.decides(visit.alloc, who, arrived) {
-        Ok(wanted) => act_all(visit, state, line, who, wanted, 0, tally),
+    match app.decides(scene.visit.alloc, who, arrived) {
+        Ok(wanted) => act_all(scene, who, wanted, 0),
         Err(_) => Err(CoreFault::Memory.into()),
     }
 }
 
 /// Ends the socket that leaves its namespace.
-fn leave(
-    visit: Visit,
-    state: &mut State,
-    line: &mut Line,
-    who: &Who,
-    tally: &mut Tally,
-) -> Result<(), Stopped>
-    requires { IsSeated who.now state.old }
-    ensures { Leaves who.now visit.moment
-        (scene state.old line.old tally.old) result (scene state.new line.new tally.new) }
+fn leave(scene: &mut Scene, who: &Who) -> Result<(), Stopped>
+    requires { IsSeated who.now scene.old.state.now }
+    ensures { Plays (Leaves who.now)
+        scene.old result scene.new }
 {
-    commands::end(visit, state, who.sid)?;
-    line.leave(who.sid);
+    commands::end(scene.visit, scene.state, who.sid)?;
+    scene.line.leave(who.sid);
     Ok(())
 }
 
 /// Takes the answer to a question. One to a question that isn't open is ignored.
-fn take_answer<A: App>(
-    visit: Visit,
-    state: &mut State,
-    line: &mut Line,
-    app: &A,
-    who: &Who,
-    said: Said,
-    tally: &mut Tally,
-) -> Result<(), Stopped>
-    requires own { who.now.client ≡ visit.client }
-    requires stands { StandsWith who.now (scene state.old line.old tally.old) }
-    ensures { TakesAck (A.decides app.now) who.now said.id said.payload
-        said.attachments visit.moment
-        (scene state.old line.old tally.old) result (scene state.new line.new tally.new) }
+fn take_answer<A: App>(scene: &mut Scene, app: &A, who: &Who, said: Said) -> Result<(), Stopped>
+    requires own { who.now.client ≡ scene.old.visit.client }
+    requires stands { StandsWith who.now (seen scene.old) }
+    ensures { Plays (TakesAck (A.decides app.now) who.now said.id said.payload said.attachments)
+        scene.old result scene.new }
 {
     let Some(id) = said.id else {
-        tally.done.ignored = true;
+        scene.tally.ignore();
         return Ok(());
     };
-    let Ok(tag) = line.answer(who.sid, id) else {
-        tally.done.ignored = true;
+    let Ok(tag) = scene.line.answer(who.sid, id) else {
+        scene.tally.ignore();
         return Ok(());
     };
     let arrived = Arrived::Answer(Answer {
@@ -92,55 +67,38 @@ fn take_answer<A: App>(
         payload: said.payload,
         attachments: said.attachments,
     });
-    decide(visit, state, line, app, who, &arrived, tally)
+    decide(scene, app, who, &arrived)
 }
 
 /// Hears an event of a socket. One with an id asks to be acknowledged.
-fn hear<A: App>(
-    visit: Visit,
-    state: &mut State,
-    line: &mut Line,
-    app: &A,
-    who: &Who,
-    said: Said,
-    tally: &mut Tally,
-) -> Result<(), Stopped>
-    requires own { who.now.client ≡ visit.client }
-    requires stands { StandsWith who.now (scene state.old line.old tally.old) }
-    ensures { HearsEvent (A.decides app.now) who.now said.id said.payload
-        said.attachments visit.moment
-        (scene state.old line.old tally.old) result (scene state.new line.new tally.new) }
+fn hear<A: App>(scene: &mut Scene, app: &A, who: &Who, said: Said) -> Result<(), Stopped>
+    requires own { who.now.client ≡ scene.old.visit.client }
+    requires stands { StandsWith who.now (seen scene.old) }
+    ensures { Plays (HearsEvent (A.decides app.now) who.now said.id said.payload said.attachments)
+        scene.old result scene.new }
 {
-    tally.asked = said.id;
+    scene.tally.asked = said.id;
     let arrived = Arrived::Event(Message {
         payload: said.payload,
         attachments: said.attachments,
         asked: said.id.is_some(),
     });
-    decide(visit, state, line, app, who, &arrived, tally)
+    decide(scene, app, who, &arrived)
 }
 
 /// What a packet of a connected socket does.
-fn serve<A: App>(
-    visit: Visit,
-    state: &mut State,
-    line: &mut Line,
-    app: &A,
-    who: &Who,
-    said: Said,
-    tally: &mut Tally,
-) -> Result<(), Stopped>
-    requires own { who.now.client ≡ visit.client }
-    requires seated { IsSeated who.now state.old }
-    requires stands { StandsWith who.now (scene state.old line.old tally.old) }
-    ensures { Serves (A.decides app.now) said.kind who.now said.id said.payload
-        said.attachments visit.moment
-        (scene state.old line.old tally.old) result (scene state.new line.new tally.new) }
+fn serve<A: App>(scene: &mut Scene, app: &A, who: &Who, said: Said) -> Result<(), Stopped>
+    requires own { who.now.client ≡ scene.old.visit.client }
+    requires seated { IsSeated who.now scene.old.state.now }
+    requires stands { StandsWith who.now (seen scene.old) }
+    ensures { Plays
+        (Serves (A.decides app.now) said.kind who.now said.id said.payload said.attachments)
+        scene.old result scene.new }
 {
     match said.kind {
-        Kind::Disconnect => leave(visit, state, line, who, tally),
-        Kind::Event | Kind::BinaryEvent => hear(visit, state, line, app, who, said, tally),
-        Kind::Ack | Kind::BinaryAck => take_answer(visit, state, line, app, who, said, tally),
+        Kind::Disconnect => leave(scene, who),
+        Kind::Event | Kind::BinaryEvent => hear(scene, app, who, said),
+        Kind::Ack | Kind::BinaryAck => take_answer(scene, app, who, said),
         Kind::Connect | Kind::ConnectError => Ok(()),
     }
 }
@@ -148,17 +106,14 @@ fn serve<A: App>(
 /// What a packet does that isn't a CONNECT. One for a namespace that the client hasn't joined
 /// closes it.
 pub(crate) fn serve_joined<A: App>(
-    visit: Visit,
-    state: &mut State,
-    line: &mut Line,
+    scene: &mut Scene,
     app: &A,
     packet: SioPacket,
-    tally: &mut Tally,
 ) -> Result<(), Stopped>
-    requires open_client { is_open state.old.base state.old.journal visit.client ≡ true }
-    requires fresh { (tally.old.done.closed ≡ None) × (tally.old.ended ≡ false) }
-    ensures { ServesJoined (A.decides app.now) visit.client packet visit.moment
-        (scene state.old line.old tally.old) result (scene state.new line.new tally.new) }
+    requires open_client { IsOpenFor scene.old.visit.client (seen scene.old) }
+    requires fresh { IsFresh (seen scene.old) }
+    ensures { Plays (ServesJoined (A.decides app.now) scene.old.visit.client packet)
+        scene.old result scene.new }
 {
     let SioPacket {
         header,
@@ -172,20 +127,17 @@ pub(crate) fn serve_joined<A: App>(
         ..
     } = header;
     // A hub's sockets are connected, each in one of its namespaces.
-    state.facts();
-    let Some(sid) = state.socket_of(visit.client, space.as_str()) else {
-        return close_for(visit, state, Cause::NotJoined, tally);
+    scene.state.facts();
+    let client = scene.visit.client;
+    let Some(sid) = scene.state.socket_of(client, space.as_str()) else {
+        return close_for(scene, Cause::NotJoined);
     };
-    let who = Who {
-        client: visit.client,
-        space,
-        sid,
-    };
+    let who = Who { client, space, sid };
     let said = Said {
         kind,
         id,
         payload,
         attachments,
     };
-    serve(visit, state, line, app, &who, said, tally)
+    serve(scene, app, &who, said)
 }

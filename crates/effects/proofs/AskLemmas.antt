@@ -1,5 +1,5 @@
 -- The question that was asked last is open; why a book has no id.
-use Rattle.std.proofs.Common.{◌≡◌, ◌⊎◌, inl, inr, ℕ, ◌==◌, Bool, true, false, cond, List, [], ◌∷◌, ◌++◌, refl, is_some, Option, None, Some, Result, Ok, Err, OnOk, OnErr, IfErr, IfSome}
+use Rattle.std.proofs.Common.{◌≡◌, ◌⊎◌, inl, inr, ℕ, ◌==◌, Bool, true, false, cond, List, [], ◌∷◌, ◌++◌, refl, sym, subst, ap, ◌∙◌, is_some, Option, None, Some, Result, Ok, Err, OnOk, IfErr, IfSome}
 use Rattle.std.specs.Map.{lookup}
 use Rattle.ack_book.specs.declared.book.Question.{Question}
 use Rattle.ack_book.specs.declared.error.AckError.{AckError}
@@ -17,7 +17,7 @@ use Rattle.effects.specs.declared.cause.Cause.TheVariants.{OutboxFull}
 use Rattle.effects.specs.declared.fault.CoreFault.{CoreFault}
 use Rattle.effects.specs.declared.fault.CoreFault.TheVariants.{Memory}
 use Rattle.effects.specs.Commands.{IsRefused, StopsAt}
-use Rattle.effects.specs.Effects.{Scene, Closes, IsInquiry, IsNextId, told_to, asked_in_vain, Asks, FailsToAsk}
+use Rattle.effects.specs.Effects.{Scene, Closes, IsInquiry, IsNextId, told_to, asked_in_vain, Asks, FailsAt, FailsToAsk}
 use Rattle.effects.proofs.StepLemmas.{itself}
 
 found-last : (id : ℕ) (q : Question) (es : List (ℕ × Question)) → is_some (lookup (λ key. id == key) (es ++ (id, q) ∷ [])) ≡ true
@@ -60,23 +60,29 @@ spent-book l sid r is refused short o h leads = on (ask_refusal 0 (book_calls si
 
 -- ---- nobody is told
 
-module _ (who : Who) (q : inquiry.Inquiry) (now id : ℕ) (s t : Scene) (next : IsNextId s.line who.sid id) (vain : Advances s.line (asked_in_vain who now q id) t.line) where
+module _ (who : Who) (q : inquiry.Inquiry) (now id : ℕ) (s m t : Scene) (next : IsNextId s.line who.sid id)
+    (vain : Advances s.line (asked_in_vain who now q id) m.line) (asked : m ≡ record s { line = m.line }) where
   -- the outbox has no place for the question, and the client is closed
   pub asks-full : {X : Type 0} (r : Result X CoreFault) (entry : Entry) → IsInquiry who.space id q entry
       → IsRefused s.history now (told_to who.client entry) hub.OutboxFull
-      → OnOk r (Closes who.client now OutboxFull (record s { line = t.line }) t) → OnOk r (Asks who q now s t)
-  asks-full (Ok x) entry is refused closes = (id, next, entry, is, inr (refused, vain, closes))
+      → OnOk r (Closes who.client now OutboxFull m t) → OnOk r (Asks who q now s t)
+  asks-full (Ok x) entry is refused closes =
+      let same = ap (λ (u : Scene). u.line) closes.1 in
+      let from = asked ∙ ap (λ (l : PlainLine). record s { line = l }) (sym same) in
+      (id, next, entry, is, inr (refused, subst (λ (l : PlainLine). Advances s.line (asked_in_vain who now q id) l) (sym same) vain, subst (λ (u : Scene). Closes who.client now OutboxFull u t) from closes))
   asks-full (Err f) entry is refused closes = tt
 
   -- or it isn't
   pub asks-open : {X : Type 0} (r : Result X CoreFault) (entry : Entry) → IsInquiry who.space id q entry
       → IsRefused s.history now (told_to who.client entry) hub.OutboxFull
-      → IfErr r (λ f. StopsAt s.history now (what.Closed who.client) f) → OnErr r (t ≡ record s { line = t.line }) → IfErr r (λ f. FailsToAsk who q now s f t)
-  asks-open (Ok x) entry is refused stops same = tt
-  asks-open (Err f) entry is refused stops same = (same, inr (id, next, vain, inr (entry, is, inr (refused, stops))))
+      → IfErr r (λ f. FailsAt (what.Closed who.client) now m f t) → IfErr r (λ f. FailsToAsk who q now s f t)
+  asks-open (Ok x) entry is refused fails = tt
+  asks-open (Err f) entry is refused fails =
+      let stops = subst (λ (u : Scene). StopsAt u.history now (what.Closed who.client) f) asked fails.0 in
+      subst (λ (u : Scene). FailsToAsk who q now s f u) (sym fails.1) (asked, inr (id, next, vain, inr (entry, is, inr (refused, stops))))
 
   -- there is no memory for the entry, or the command that tells it isn't done
   pub asks-untold : (f : CoreFault) → (f ≡ Memory) ⊎ ((entry : Entry) × IsInquiry who.space id q entry × StopsAt s.history now (told_to who.client entry) f)
-      → t ≡ record s { line = t.line } → FailsToAsk who q now s f t
-  asks-untold f (inl short) same = (same, inr (id, next, vain, inl short))
-  asks-untold f (inr (entry, is, stops)) same = (same, inr (id, next, vain, inr (entry, is, inl stops)))
+      → FailsToAsk who q now s f m
+  asks-untold f (inl short) = (asked, inr (id, next, vain, inl short))
+  asks-untold f (inr (entry, is, stops)) = (asked, inr (id, next, vain, inr (entry, is, inl stops)))

@@ -51,6 +51,10 @@ pub record Scene : Type 0 where
 abbrev pub scene : History → PlainLine → Tally → Scene
 scene history line tally = record { history = history; line = line; done = tally.done; asked = tally.asked; ended = tally.ended }
 
+-- the client is open
+abbrev pub IsOpenFor : ℕ → Scene → Type 0
+IsOpenFor c s = is_open s.history.base s.history.journal c ≡ true
+
 -- one effect more was done
 abbrev pub counted : Scene → Scene
 counted s = record s { done = one_more s.done }

@@ -6,4 +6,5 @@ pub mod Emission
 pub mod Following
 pub mod Plain
 pub mod Runs
+pub mod Scene
 pub mod Selection

@@ -1,14 +1,13 @@
 //! What the app's effects do (Socket.IO protocol 5, "Sending and receiving data" and "Disconnection
 //! from a namespace"; Socket.IO server documentation, "Rooms").
 
-ghost use Rattle.std.specs.Prelude.{◌≡◌, ◌≤◌, false, true, not, [], filter, ◌==◌, IfOk, IfErr, OnOk, OnErr};
-ghost use Rattle.connection.specs.Line.{PlainLine};
+ghost use Rattle.std.specs.Prelude.{◌≡◌, ◌≤◌, false, not, [], filter, ◌==◌, IfOk, IfErr, OnOk};
 ghost use Rattle.sio_wire.specs.Disconnect.{disconnect_text};
-ghost use Rattle.journal.specs.Membership.{is_open};
 ghost use Rattle.journal.specs.declared.step.What.{What};
-ghost use Rattle.effects.specs.Commands.{IsSeated, StopsAt};
-ghost use Rattle.effects.specs.Effects.{scene, is_unsendable, is_wrong, cast_of, Closes, Emits, Replies, Disconnects, Acts, ActsInTurn, Fails, Stops, StopsAfter, StandsWith, FailsToEmit, FailsToReply, FailsToDisconnect};
+ghost use Rattle.effects.specs.Commands.{IsSeated};
+ghost use Rattle.effects.specs.Effects.{is_unsendable, is_wrong, cast_of, Closes, Emits, Replies, Disconnects, Acts, ActsInTurn, Fails, Stops, StopsAfter, StandsWith, FailsAt, IsOpenFor, FailsToEmit, FailsToReply, FailsToDisconnect};
 ghost use Rattle.effects.specs.Runs.{Runs};
+ghost use Rattle.effects.specs.Scene.{seen, DoesOrFails, IsSameEvent};
 
 use crate::app::{Effect, Reply, Who};
 use crate::ask::ask;
@@ -18,10 +17,8 @@ use crate::emission::Emission;
 use crate::entry::reply_entry;
 use crate::fault::{CoreFault, Stopped};
 use crate::rooms::{end_all, join, join_all, leave, leave_all};
-use crate::tally::Tally;
+use crate::scene::Scene;
 use crate::visit::Visit;
-use connection::Line;
-use hub_state::State;
 use journal::Cast;
 use sio_wire::{Attachments, Entry, disconnect_text};
 use std::alloc::Global;
@@ -53,20 +50,13 @@ fn is_wrong(asked: Option<u64>, effect: &Effect) -> bool
 }
 
 /// Closes the client for a cause.
-pub fn close_for(
-    visit: Visit,
-    state: &mut State,
-    cause: Cause,
-    tally: &mut Tally,
-) -> Result<(), CoreFault>
-    requires { is_open state.old.base state.old.journal visit.client ≡ true }
-    ensures ok { OnOk result ((l : PlainLine) → Closes visit.client visit.moment cause
-        (scene state.old l tally.old) (scene state.new l tally.new)) }
-    ensures err { IfErr result (λ f. StopsAt state.old visit.moment (What.Closed visit.client) f) }
-    ensures unchanged { OnErr result ((state.new ≡ state.old) × (tally.new ≡ tally.old)) }
+pub fn close_for(scene: &mut Scene, cause: Cause) -> Result<(), CoreFault>
+    requires { IsOpenFor scene.old.visit.client (seen scene.old) }
+    ensures { let client = scene.old.visit.client in DoesOrFails
+        (λ now. Closes client now cause) (FailsAt (What.Closed client)) scene.old result scene.new }
 {
-    commands::close(visit, state)?;
-    tally.close(cause);
+    commands::close(scene.visit, scene.state)?;
+    scene.tally.close(cause);
     Ok(())
 }
 
@@ -100,23 +90,17 @@ pub(crate) fn retain_others(ids: &mut Vec<u128>, client: u128)
 }
 
 /// Sends an event to the sockets of some rooms.
-fn emit(
-    visit: Visit,
-    state: &mut State,
-    who: &Who,
-    emission: Emission,
-    tally: &mut Tally,
-) -> Result<(), CoreFault>
-    requires seated { IsSeated who.now state.old }
+fn emit(scene: &mut Scene, who: &Who, emission: Emission) -> Result<(), CoreFault>
+    requires seated { IsSeated who.now scene.old.state.now }
     requires sendable { is_unsendable emission.payload emission.attachments ≡ false }
-    ensures ok { OnOk result ((l : PlainLine) → Emits who.now emission visit.moment
-        (scene state.old l tally.old) (scene state.new l tally.new)) }
-    ensures err { IfErr result (λ f. (l : PlainLine) → FailsToEmit who.now emission
-        (scene state.old l tally.old) f (scene state.new l tally.new)) }
+    ensures { DoesOrFails (Emits who.now emission) (λ _. FailsToEmit who.now emission)
+        scene.old result scene.new }
 {
+    let Visit { alloc, moment, .. } = scene.visit;
+    let tally = &mut *scene.tally;
     tally.done.clients.reserve()?;
-    let cast = cast_of(visit.alloc, who, emission)?;
-    let cast_done = match state.cast(visit.alloc, cast, visit.moment) {
+    let cast = cast_of(alloc, who, emission)?;
+    let cast_done = match scene.state.cast(alloc, cast, moment) {
         Ok(cast_done) => cast_done,
         Err(error) => return Err(CoreFault::of(error)),
     };
@@ -128,29 +112,20 @@ fn emit(
 }
 
 /// Tells the client the acknowledgement of an event, or closes it where its outbox has no place.
-fn reply(
-    visit: Visit,
-    state: &mut State,
-    who: &Who,
-    id: u64,
-    reply: Reply,
-    tally: &mut Tally,
-) -> Result<(), CoreFault>
-    requires own { who.now.client ≡ visit.client }
-    requires open_client { is_open state.old.base state.old.journal visit.client ≡ true }
+fn reply(scene: &mut Scene, who: &Who, id: u64, reply: Reply) -> Result<(), CoreFault>
+    requires own { who.now.client ≡ scene.old.visit.client }
+    requires open_client { IsOpenFor who.now.client (seen scene.old) }
     requires sendable { is_unsendable reply.payload reply.attachments ≡ false }
-    ensures ok { OnOk result ((l : PlainLine) → Replies who.now id reply visit.moment
-        (scene state.old l tally.old) (scene state.new l tally.new)) }
-    ensures err { IfErr result (λ f. (l : PlainLine) → FailsToReply who.now id reply visit.moment
-        (scene state.old l tally.old) f (scene state.new l tally.new)) }
+    ensures { DoesOrFails (Replies who.now id reply) (FailsToReply who.now id reply)
+        scene.old result scene.new }
 {
-    let entry = reply_entry(visit.alloc, who.space.as_str(), id, reply)?;
-    if commands::tell(visit, state, entry)? {
-        tally.count();
-        tally.asked = None;
+    let entry = reply_entry(scene.visit.alloc, who.space.as_str(), id, reply)?;
+    if commands::tell(scene.visit, scene.state, entry)? {
+        scene.tally.count();
+        scene.tally.asked = None;
         return Ok(());
     }
-    close_for(visit, state, Cause::OutboxFull, tally)
+    close_for(scene, Cause::OutboxFull)
 }
 
 /// What the client is told whose socket is disconnected.
@@ -169,109 +144,81 @@ fn goodbye(alloc: Global, space: &str) -> Result<Entry, CoreFault>
 }
 
 /// Disconnects the socket, and tells the client so where its outbox has a place. Its questions go.
-fn disconnect(
-    visit: Visit,
-    state: &mut State,
-    line: &mut Line,
-    who: &Who,
-    tally: &mut Tally,
-) -> Result<(), CoreFault>
-    requires own { who.now.client ≡ visit.client }
-    requires seated { IsSeated who.now state.old }
-    ensures ok { OnOk result (Disconnects who.now visit.moment
-        (scene state.old line.old tally.old) (scene state.new line.new tally.new)) }
-    ensures err { IfErr result (λ f. FailsToDisconnect who.now visit.moment
-        (scene state.old line.old tally.old) f (scene state.new line.new tally.new)) }
+fn disconnect(scene: &mut Scene, who: &Who) -> Result<(), CoreFault>
+    requires own { who.now.client ≡ scene.old.visit.client }
+    requires seated { IsSeated who.now scene.old.state.now }
+    ensures { DoesOrFails (Disconnects who.now) (FailsToDisconnect who.now)
+        scene.old result scene.new }
 {
-    let entry = goodbye(visit.alloc, who.space.as_str())?;
-    commands::tell(visit, state, entry)?;
-    commands::end(visit, state, who.sid)?;
-    line.leave(who.sid);
-    tally.count();
-    tally.ended = true;
+    let entry = goodbye(scene.visit.alloc, who.space.as_str())?;
+    commands::tell(scene.visit, scene.state, entry)?;
+    commands::end(scene.visit, scene.state, who.sid)?;
+    scene.line.leave(who.sid);
+    scene.tally.count();
+    scene.tally.ended = true;
     Ok(())
 }
 
 /// What an effect does that is allowed.
-fn act_allowed(
-    visit: Visit,
-    state: &mut State,
-    line: &mut Line,
-    who: &Who,
-    effect: Effect,
-    tally: &mut Tally,
-) -> Result<(), CoreFault>
-    requires own { who.now.client ≡ visit.client }
-    requires seated { IsSeated who.now state.old }
-    requires allowed { is_wrong tally.old.asked effect ≡ false }
-    ensures ok { OnOk result (Acts who.now visit.moment
-        (scene state.old line.old tally.old) effect (scene state.new line.new tally.new)) }
-    ensures err { IfErr result (λ f. Fails who.now visit.moment
-        (scene state.old line.old tally.old) effect f (scene state.new line.new tally.new)) }
+fn act_allowed(scene: &mut Scene, who: &Who, effect: Effect) -> Result<(), CoreFault>
+    requires own { who.now.client ≡ scene.old.visit.client }
+    requires seated { IsSeated who.now scene.old.state.now }
+    requires allowed { is_wrong scene.old.tally.now.asked effect ≡ false }
+    ensures { DoesOrFails (λ now s t. Acts who.now now s effect t)
+        (λ now s f t. Fails who.now now s effect f t) scene.old result scene.new }
 {
     match effect {
-        Effect::Join(room) => join(visit, state, who, room, tally),
-        Effect::Leave(room) => leave(visit, state, who, room, tally),
-        Effect::Emit(emission) => emit(visit, state, who, emission, tally),
-        Effect::Reply(answer) => match tally.asked {
-            Some(id) => reply(visit, state, who, id, answer, tally),
+        Effect::Join(room) => join(scene, who, room),
+        Effect::Leave(room) => leave(scene, who, room),
+        Effect::Emit(emission) => emit(scene, who, emission),
+        Effect::Reply(answer) => match scene.tally.asked {
+            Some(id) => reply(scene, who, id, answer),
             None => unreachable!(),
         },
-        Effect::EmitAsk(inquiry) => ask(visit, state, line, who, inquiry, tally),
-        Effect::Disconnect => disconnect(visit, state, line, who, tally),
-        Effect::AllJoin(selection, room) => join_all(visit, state, who, selection, room, tally),
-        Effect::AllLeave(selection, room) => leave_all(visit, state, who, selection, room, tally),
-        Effect::AllEnd(selection) => end_all(visit, state, line, who, selection, tally),
+        Effect::EmitAsk(inquiry) => ask(scene, who, inquiry),
+        Effect::Disconnect => disconnect(scene, who),
+        Effect::AllJoin(selection, room) => join_all(scene, who, selection, room),
+        Effect::AllLeave(selection, room) => leave_all(scene, who, selection, room),
+        Effect::AllEnd(selection) => end_all(scene, who, selection),
     }
 }
 
 /// What an effect does in its turn.
-fn act(
-    visit: Visit,
-    state: &mut State,
-    line: &mut Line,
-    who: &Who,
-    effect: Effect,
-    tally: &mut Tally,
-) -> Result<(), CoreFault>
-    requires own { who.now.client ≡ visit.client }
-    requires stands { StandsWith who.now (scene state.old line.old tally.old) }
-    ensures ok { OnOk result (ActsInTurn who.now visit.moment
-        (scene state.old line.old tally.old) effect (scene state.new line.new tally.new)) }
-    ensures err { IfErr result (λ f. Stops who.now visit.moment
-        (scene state.old line.old tally.old) effect f (scene state.new line.new tally.new)) }
+fn act(scene: &mut Scene, who: &Who, effect: Effect) -> Result<(), CoreFault>
+    requires own { who.now.client ≡ scene.old.visit.client }
+    requires stands { StandsWith who.now (seen scene.old) }
+    ensures { DoesOrFails (λ now s t. ActsInTurn who.now now s effect t)
+        (λ now s f t. Stops who.now now s effect f t) scene.old result scene.new }
 {
-    if tally.done.closed.is_some() {
+    if scene.tally.is_closed() {
         return Ok(());
     }
-    if tally.ended || is_wrong(tally.asked, &effect) {
+    if scene.tally.ended || is_wrong(scene.tally.asked, &effect) {
         return Err(CoreFault::BadEffect);
     }
-    act_allowed(visit, state, line, who, effect, tally)
+    act_allowed(scene, who, effect)
 }
 
 /// What the effects of one packet do, in order. So many of its effects were done before, and after
 /// an error so many are done as it says.
 pub fn act_all(
-    visit: Visit,
-    state: &mut State,
-    line: &mut Line,
+    scene: &mut Scene,
     who: &Who,
     effects: Vec<Effect>,
     before: usize,
-    tally: &mut Tally,
 ) -> Result<(), Stopped>
-    requires own { who.now.client ≡ visit.client }
+    requires own { who.now.client ≡ scene.old.visit.client }
     requires few { before ≤ 1 }
-    requires stands { StandsWith who.now (scene state.old line.old tally.old) }
-    ensures ok { OnOk result (Runs (ActsInTurn who.now visit.moment) effects.items
-        (scene state.old line.old tally.old) (scene state.new line.new tally.new)) }
-    ensures err { IfErr result (λ stopped. StopsAfter who.now visit.moment before effects.items
-        (scene state.old line.old tally.old) stopped (scene state.new line.new tally.new)) }
+    requires stands { StandsWith who.now (seen scene.old) }
+    ensures same { IsSameEvent scene.old scene.new }
+    ensures ok { OnOk result (Runs (ActsInTurn who.now scene.old.visit.moment) effects.items
+        (seen scene.old) (seen scene.new)) }
+    ensures err { IfErr result (λ stopped. StopsAfter who.now scene.old.visit.moment
+        before effects.items (seen scene.old) stopped (seen scene.new)) }
 {
     let mut count = before;
     for effect in effects {
-        if let Err(fault) = act(visit, state, line, who, effect, tally) {
+        if let Err(fault) = act(scene, who, effect) {
             return Err(Stopped {
                 fault,
                 effects: count,

@@ -1,10 +1,10 @@
 //! Questions to a socket (Socket.IO protocol 5, "Acknowledgement").
 
-ghost use Rattle.std.specs.Prelude.{◌≡◌, ℕ, true, false, [], ◌∷◌, IfOk, IfErr, OnOk, OnErr};
+ghost use Rattle.std.specs.Prelude.{◌≡◌, ℕ, false, [], ◌∷◌, IfOk, IfErr, OnOk, OnErr};
 ghost use Rattle.connection.specs.History.{Asked, Answered};
 ghost use Rattle.connection.specs.Line.{PlainLine, Advances};
-ghost use Rattle.journal.specs.Membership.{is_open};
-ghost use Rattle.effects.specs.Effects.{scene, is_unsendable, IsNextId, HasNoId, Asks, FailsToAsk, TellsInquiry};
+ghost use Rattle.effects.specs.Effects.{is_unsendable, IsOpenFor, IsNextId, HasNoId, Asks, FailsToAsk, TellsInquiry};
+ghost use Rattle.effects.specs.Scene.{seen, DoesOrFails, IsSameEvent};
 
 use crate::act::close_for;
 use crate::app::{Inquiry, Who};
@@ -12,11 +12,10 @@ use crate::cause::Cause;
 use crate::commands;
 use crate::entry::inquiry_entry;
 use crate::fault::CoreFault;
-use crate::tally::Tally;
+use crate::scene::Scene;
 use crate::visit::Visit;
 use ack_book::AckError;
 use connection::Line;
-use hub_state::State;
 use room_maps::Sid;
 use std::alloc::Global;
 
@@ -44,53 +43,43 @@ fn forget(line: &mut Line, sid: Sid, id: u64)
 }
 
 /// Tells the client the question with this id. Answers whether its outbox had a place for it.
-fn tell(
-    visit: Visit,
-    state: &mut State,
-    who: &Who,
-    id: u64,
-    inquiry: Inquiry,
-) -> Result<bool, CoreFault>
-    requires own { who.now.client ≡ visit.client }
-    requires open_client { is_open state.old.base state.old.journal visit.client ≡ true }
+fn tell(scene: &mut Scene, who: &Who, id: u64, inquiry: Inquiry) -> Result<bool, CoreFault>
+    requires own { who.now.client ≡ scene.old.visit.client }
+    requires open_client { IsOpenFor who.now.client (seen scene.old) }
     requires sendable { is_unsendable inquiry.payload inquiry.attachments ≡ false }
-    ensures { TellsInquiry who.now id inquiry visit.moment state.old result state.new }
+    ensures same { IsSameEvent scene.old scene.new }
+    ensures tells { TellsInquiry who.now id inquiry scene.old.visit.moment
+        scene.old.state.now result scene.new.state.now }
+    ensures kept { (scene.new.line.now ≡ scene.old.line.now)
+        × (scene.new.tally.now ≡ scene.old.tally.now) }
 {
-    let entry = inquiry_entry(visit.alloc, who.space.as_str(), id, inquiry)?;
-    commands::tell(visit, state, entry)
+    let entry = inquiry_entry(scene.visit.alloc, who.space.as_str(), id, inquiry)?;
+    commands::tell(scene.visit, scene.state, entry)
 }
 
 /// Asks the socket a question, or closes its client where the outbox has no place for it. A
 /// question that isn't told is forgotten again.
-pub(crate) fn ask(
-    visit: Visit,
-    state: &mut State,
-    line: &mut Line,
-    who: &Who,
-    inquiry: Inquiry,
-    tally: &mut Tally,
-) -> Result<(), CoreFault>
-    requires own { who.now.client ≡ visit.client }
-    requires open_client { is_open state.old.base state.old.journal visit.client ≡ true }
+pub(crate) fn ask(scene: &mut Scene, who: &Who, inquiry: Inquiry) -> Result<(), CoreFault>
+    requires own { who.now.client ≡ scene.old.visit.client }
+    requires open_client { IsOpenFor who.now.client (seen scene.old) }
     requires sendable { is_unsendable inquiry.payload inquiry.attachments ≡ false }
-    ensures ok { OnOk result (Asks who.now inquiry visit.moment
-        (scene state.old line.old tally.old) (scene state.new line.new tally.new)) }
-    ensures err { IfErr result (λ f. FailsToAsk who.now inquiry visit.moment
-        (scene state.old line.old tally.old) f (scene state.new line.new tally.new)) }
+    ensures { DoesOrFails (Asks who.now inquiry) (FailsToAsk who.now inquiry)
+        scene.old result scene.new }
 {
-    let until = visit.moment.saturating_add(inquiry.wait);
-    let id = enter(visit.alloc, line, who.sid, inquiry.tag, until)?;
-    match tell(visit, state, who, id, inquiry) {
+    let Visit { alloc, moment, .. } = scene.visit;
+    let until = moment.saturating_add(inquiry.wait);
+    let id = enter(alloc, scene.line, who.sid, inquiry.tag, until)?;
+    match tell(scene, who, id, inquiry) {
         Ok(true) => {
-            tally.count();
+            scene.tally.count();
             Ok(())
         }
         Ok(false) => {
-            forget(line, who.sid, id);
-            close_for(visit, state, Cause::OutboxFull, tally)
+            forget(scene.line, who.sid, id);
+            close_for(scene, Cause::OutboxFull)
         }
         Err(fault) => {
-            forget(line, who.sid, id);
+            forget(scene.line, who.sid, id);
             Err(fault)
         }
     }

@@ -9,15 +9,16 @@ ghost use Rattle.journal.specs.Command.{Does};
 ghost use Rattle.journal.specs.declared.step.What.{What};
 ghost use Rattle.effects.specs.Commands.{IsSeated, IsRoomChange};
 ghost use Rattle.effects.specs.Effects.{scene, all_joined, all_left, is_among, ChangesRooms, EndsAll, FailsAt, FailsToEndAll};
+ghost use Rattle.effects.specs.Scene.{DoesOrFails};
 
 use crate::act::retain_others;
 use crate::app::Who;
 use crate::fault::CoreFault;
+use crate::scene::Scene;
 use crate::selection::Selection;
 use crate::tally::Tally;
 use crate::visit::Visit;
 use connection::Line;
-use hub_state::State;
 use journal::{Dismissed, HubError};
 use room_maps::{Room, Sid};
 
@@ -43,85 +44,65 @@ fn change<X: Drop>(answer: Result<X, HubError>, tally: &mut Tally) -> Result<(),
 }
 
 /// Lets the socket join a room.
-pub(crate) fn join(
-    visit: Visit,
-    state: &mut State,
-    who: &Who,
-    room: Room,
-    tally: &mut Tally,
-) -> Result<(), CoreFault>
-    requires { IsSeated who.now state.old }
-    ensures ok { OnOk result ((l : PlainLine) → ChangesRooms (What.Joined who.now.sid room)
-        visit.moment (scene state.old l tally.old) (scene state.new l tally.new)) }
-    ensures err { IfErr result (λ f. (l : PlainLine) → FailsAt (What.Joined who.now.sid room)
-        visit.moment (scene state.old l tally.old) f (scene state.new l tally.new)) }
+pub(crate) fn join(scene: &mut Scene, who: &Who, room: Room) -> Result<(), CoreFault>
+    requires { IsSeated who.now scene.old.state.now }
+    ensures { let what = What.Joined who.now.sid room in
+        DoesOrFails (ChangesRooms what) (FailsAt what) scene.old result scene.new }
 {
-    let answer = state.join(visit.alloc, who.sid, room, visit.moment);
-    change(answer, tally)
+    let Visit { alloc, moment, .. } = scene.visit;
+    let answer = scene.state.join(alloc, who.sid, room, moment);
+    change(answer, scene.tally)
 }
 
 /// Lets the socket leave a room.
-pub(crate) fn leave(
-    visit: Visit,
-    state: &mut State,
-    who: &Who,
-    room: Room,
-    tally: &mut Tally,
-) -> Result<(), CoreFault>
-    requires { IsSeated who.now state.old }
-    ensures ok { OnOk result ((l : PlainLine) → ChangesRooms (What.Left who.now.sid room)
-        visit.moment (scene state.old l tally.old) (scene state.new l tally.new)) }
-    ensures err { IfErr result (λ f. (l : PlainLine) → FailsAt (What.Left who.now.sid room)
-        visit.moment (scene state.old l tally.old) f (scene state.new l tally.new)) }
+pub(crate) fn leave(scene: &mut Scene, who: &Who, room: Room) -> Result<(), CoreFault>
+    requires { IsSeated who.now scene.old.state.now }
+    ensures { let what = What.Left who.now.sid room in
+        DoesOrFails (ChangesRooms what) (FailsAt what) scene.old result scene.new }
 {
-    let answer = state.leave(visit.alloc, who.sid, room, visit.moment);
-    change(answer, tally)
+    let Visit { alloc, moment, .. } = scene.visit;
+    let answer = scene.state.leave(alloc, who.sid, room, moment);
+    change(answer, scene.tally)
 }
 
 /// Lets all these sockets join a room, or none where the rooms don't allow it.
 pub(crate) fn join_all(
-    visit: Visit,
-    state: &mut State,
+    scene: &mut Scene,
     who: &Who,
     selection: Selection,
     room: Room,
-    tally: &mut Tally,
 ) -> Result<(), CoreFault>
-    requires { IsSeated who.now state.old }
-    ensures ok { let what = all_joined who.now selection room state.old in
-        OnOk result ((l : PlainLine) → ChangesRooms what
-        visit.moment (scene state.old l tally.old) (scene state.new l tally.new)) }
-    ensures err { let what = all_joined who.now selection room state.old in
-        IfErr result (λ f. (l : PlainLine) → FailsAt what
-        visit.moment (scene state.old l tally.old) f (scene state.new l tally.new)) }
+    requires { IsSeated who.now scene.old.state.now }
+    ensures { let what = all_joined who.now selection room scene.old.state.now in
+        DoesOrFails (ChangesRooms what) (FailsAt what) scene.old result scene.new }
 {
+    let Visit { alloc, moment, .. } = scene.visit;
     let Selection { rooms, excepted } = selection;
     let space = who.space.as_str();
-    let answer = state.sockets_join(visit.alloc, space, rooms, excepted, room, visit.moment);
-    change(answer, tally)
+    let answer = scene
+        .state
+        .sockets_join(alloc, space, rooms, excepted, room, moment);
+    change(answer, scene.tally)
 }
 
 /// Lets all these sockets leave a room, or none where the rooms don't allow it.
 pub(crate) fn leave_all(
-    visit: Visit,
-    state: &mut State,
+    scene: &mut Scene,
     who: &Who,
     selection: Selection,
     room: Room,
-    tally: &mut Tally,
 ) -> Result<(), CoreFault>
-    requires { IsSeated who.now state.old }
-    ensures ok { let what = all_left who.now selection room state.old in
-        OnOk result ((l : PlainLine) → ChangesRooms what
-        visit.moment (scene state.old l tally.old) (scene state.new l tally.new)) }
-    ensures err { let what = all_left who.now selection room state.old in
-        IfErr result (λ f. (l : PlainLine) → FailsAt what
-        visit.moment (scene state.old l tally.old) f (scene state.new l tally.new)) }
+    requires { IsSeated who.now scene.old.state.now }
+    ensures { let what = all_left who.now selection room scene.old.state.now in
+        DoesOrFails (ChangesRooms what) (FailsAt what) scene.old result scene.new }
 {
+    let Visit { alloc, moment, .. } = scene.visit;
     let Selection { rooms, excepted } = selection;
     let space = who.space.as_str();
-    let answer = state.sockets_leave(visit.alloc, space, rooms, excepted, room, visit.moment);
-    change(answer, tally)
+    let answer = scene
+        .state
+        .sockets_leave(alloc, space, rooms, excepted, room, moment);
+    change(answer, scene.tally)
 }
 
 /// Whether the socket is one of these.
@@ -146,24 +127,19 @@ fn leave_if_among(line: &mut Line, tally: &mut Tally, sid: Sid, ended: &[Sid])
 }
 
 /// Disconnects all these sockets. Where the acting one is among them, its questions go.
-pub(crate) fn end_all(
-    visit: Visit,
-    state: &mut State,
-    line: &mut Line,
-    who: &Who,
-    selection: Selection,
-    tally: &mut Tally,
-) -> Result<(), CoreFault>
-    requires { IsSeated who.now state.old }
-    ensures ok { OnOk result (EndsAll who.now selection visit.moment
-        (scene state.old line.old tally.old) (scene state.new line.new tally.new)) }
-    ensures err { IfErr result (λ f. FailsToEndAll who.now selection visit.moment
-        (scene state.old line.old tally.old) f (scene state.new line.new tally.new)) }
+pub(crate) fn end_all(scene: &mut Scene, who: &Who, selection: Selection) -> Result<(), CoreFault>
+    requires { IsSeated who.now scene.old.state.now }
+    ensures { DoesOrFails (EndsAll who.now selection) (FailsToEndAll who.now selection)
+        scene.old result scene.new }
 {
+    let Visit { alloc, moment, .. } = scene.visit;
+    let tally = &mut *scene.tally;
     tally.done.clients.reserve()?;
     let Selection { rooms, excepted } = selection;
     let space = who.space.as_str();
-    let answer = state.disconnect_sockets(visit.alloc, space, rooms, excepted, visit.moment);
+    let answer = scene
+        .state
+        .disconnect_sockets(alloc, space, rooms, excepted, moment);
     let Dismissed { ended, told } = match answer {
         Ok(done) => done,
         Err(error) => return Err(CoreFault::of(error)),
@@ -172,6 +148,6 @@ pub(crate) fn end_all(
     retain_others(&mut ids, who.client);
     tally.done.clients.push(ids);
     tally.count();
-    leave_if_among(line, tally, who.sid, ended.as_slice());
+    leave_if_among(scene.line, tally, who.sid, ended.as_slice());
     Ok(())
 }

@@ -1,6 +1,6 @@
 //! What was done of an event so far.
 
-ghost use Rattle.std.specs.Prelude.{◌≡◌, ◌+◌, min, None, Some, false};
+ghost use Rattle.std.specs.Prelude.{◌≡◌, ◌+◌, min, None, Some, is_some, true, false};
 ghost use Rattle.effects.specs.Plain.{nothing_done, one_more, noted};
 
 use crate::cause::Cause;
@@ -44,6 +44,13 @@ impl Tally {
         self.ended = false;
     }
 
+    /// Whether the client was closed.
+    pub fn is_closed(&self) -> bool
+        ensures { result ≡ is_some self.now.done.closed }
+    {
+        self.done.closed.is_some()
+    }
+
     /// The client was closed for a cause.
     pub fn close(&mut self, cause: Cause)
         ensures { self.new ≡ record self.old {
@@ -51,6 +58,15 @@ impl Tally {
         } }
     {
         self.done.closed = Some(cause);
+    }
+
+    /// The packet was an answer to no question.
+    pub fn ignore(&mut self)
+        ensures { self.new ≡ record self.old {
+          done = record self.old.done { ignored = true };
+        } }
+    {
+        self.done.ignored = true;
     }
 
     /// One effect more was done.

@@ -1,15 +1,18 @@
-use Rattle.std.proofs.Common.{List, length, arith, sym, subst, rules}
+use Rattle.std.proofs.Common.{ℕ, ap, List, length, arith, sym, subst, rules}
 use Rattle.std.proofs.lemmas.List.{length_push}
 use Rattle.journal.proofs.CastLemmas.{split-more}
 use Rattle.effects.specs.declared.app.Effect.{Effect}
-use Rattle.effects.specs.Effects.{scene, ActsInTurn}
+use Rattle.effects.specs.declared.visit.Visit.{Visit}
+use Rattle.effects.specs.Effects.{ActsInTurn, Stops}
 use Rattle.effects.specs.Runs.{Runs}
+use Rattle.effects.specs.Scene.{seen}
 use Rattle.effects.proofs.ActLemmas.{stands}
 use Rattle.effects.proofs.RunsLemmas.{runs-more, runs-none, take-done, get-next}
 use Rattle.effects.proofs.act.act_all.Goals as goal
 
 pub loop-effect-init : goal.loop-effect-init
 loop-effect-init c = record {
+  same = search rules;
   run = runs-none _ _;
   split = search rules;
   stands = c.requires.stands;
@@ -17,25 +20,28 @@ loop-effect-init c = record {
 }
 
 pub loop-effect-preserved : goal.loop-effect-preserved
-loop-effect-preserved c = record {
-  run = runs-more (ActsInTurn c.args.who.now c.args.visit.moment) c.loop-effect.yielded c.in-Some.effect _ _ _ c.loop-effect.invariant.run c.in_default.ensures.ok;
-  split = split-more _ c.loop-effect.yielded _ c.next.new.self.rest.items c.in-Some.effect c.loop-effect.invariant.split c.in-Some.ensures.steps.0;
-  stands = stands c.args.who.now c.args.visit.moment _ _ c.in-Some.effect c.loop-effect.invariant.stands c.in_default.ensures.ok;
-  count = let more = length_push c.loop-effect.yielded c.in-Some.effect in let count = c.loop-effect.invariant.count in omega arith;
-}
+loop-effect-preserved c =
+    let moment = ap (λ (v : Visit). v.moment) c.loop-effect.invariant.same.visit in
+    let acts = subst (λ (now : ℕ). ActsInTurn c.args.who.now now (seen c.loop-effect.scene) c.in-Some.effect (seen c.act.new.scene)) moment c.in_default.ensures.ok in record {
+      same = search rules;
+      run = runs-more (ActsInTurn c.args.who.now c.args.scene.now.visit.moment) c.loop-effect.yielded c.in-Some.effect _ _ _ c.loop-effect.invariant.run acts;
+      split = split-more _ c.loop-effect.yielded _ c.next.new.self.rest.items c.in-Some.effect c.loop-effect.invariant.split c.in-Some.ensures.steps.0;
+      stands = stands c.args.who.now c.args.scene.now.visit.moment _ _ c.in-Some.effect c.loop-effect.invariant.stands acts;
+      count = let more = length_push c.loop-effect.yielded c.in-Some.effect in let count = c.loop-effect.invariant.count in omega arith;
+    }
 
 pub returns-in-Err-clause-err : goal.returns-in-Err-clause-err
 returns-in-Err-clause-err c =
     let yielded = c.loop-effect.yielded in
-    let start = scene c.args.state.now c.args.line.now c.args.tally.now in
-    let at = scene c.loop-effect.state c.loop-effect.line c.loop-effect.tally in (
+    let now = c.args.scene.now.visit.moment in
+    let at = seen c.loop-effect.scene in (
       length yielded,
       c.loop-effect.invariant.count,
       at,
-      subst (λ (xs : List Effect). Runs (ActsInTurn c.args.who.now c.args.visit.moment) xs start at) (sym (take-done c.args.effects.items yielded _ c.loop-effect.invariant.split)) c.loop-effect.invariant.run,
+      subst (λ (xs : List Effect). Runs (ActsInTurn c.args.who.now now) xs (seen c.args.scene.now) at) (sym (take-done c.args.effects.items yielded _ c.loop-effect.invariant.split)) c.loop-effect.invariant.run,
       c.in-Some.effect,
       get-next c.args.effects.items yielded _ c.next.new.self.rest.items c.in-Some.effect c.loop-effect.invariant.split c.in-Some.ensures.steps.0,
-      c.in-Err.ensures.err,
+      subst (λ (moment : ℕ). Stops c.args.who.now moment at c.in-Some.effect c.in-Err.fault (seen c.act.new.scene)) (ap (λ (v : Visit). v.moment) c.loop-effect.invariant.same.visit) c.in-Err.ensures.err,
     )
 
 pub act-requires-clause-stands : goal.act-requires-clause-stands

@@ -1,12 +1,14 @@
 use Rattle.std.proofs.Common.{◌≡◌, ◌+◌, ◌++◌, length}
-use Rattle.effects.specs.Effects.{scene, ActsInTurn, StandsWith}
+use Rattle.effects.specs.Effects.{ActsInTurn, StandsWith}
 use Rattle.effects.specs.Runs.{Runs}
+use Rattle.effects.specs.Scene.{seen, IsSameEvent}
 use Rattle.effects.proofs.act.act_all.Given as goal
 
 abbrev pub invariant-loop-effect : goal.invariant-loop-effect
 invariant-loop-effect l = record {
-  run : Runs (ActsInTurn l.who l.visit.moment) l.yielded (scene l.fn.state l.fn.line l.fn.tally) (scene l.state l.line l.tally);
+  same : IsSameEvent l.fn.scene l.scene;
+  run : Runs (ActsInTurn l.who l.fn.scene.visit.moment) l.yielded (seen l.fn.scene) (seen l.scene);
   split : l.fn.effects.items ≡ l.yielded ++ l.effect-iterator.rest.items;
-  stands : StandsWith l.who (scene l.state l.line l.tally);
+  stands : StandsWith l.who (seen l.scene);
   count : l.count ≡ l.before + length l.yielded;
 }

@@ -1,4 +1,4 @@
-use Rattle.std.proofs.Common.{ℕ, List, [], ◌∷◌, ◌++◌, ◌∙◌, ap}
+use Rattle.std.proofs.Common.{ℕ, List, [], ◌∷◌, ◌++◌, ◌∙◌, ap, rules}
 use Rattle.effects.specs.Selection.{PlainSelection}
 use Rattle.effects.specs.declared.tally.Tally.{Tally}
 use Rattle.effects.specs.Effects.{scene, dismissed, is_among}
@@ -6,20 +6,24 @@ use Rattle.effects.specs.Plain.{told, one_more}
 use Rattle.effects.proofs.ActLemmas.{told-is}
 use Rattle.effects.proofs.rooms.end_all.Goals as goal
 
-pub returns-clause-ok : goal.returns-clause-ok
-returns-clause-ok c =
+pub returns : goal.returns
+returns c =
     let sid = c.args.who.now.sid in
     let client = c.args.who.now.client in
-    let old = c.args.tally.now in
+    let old = c.args.scene.now.tally.now in
     let at = λ (t : Tally). scene c.disconnect_sockets-answer.new.self c.leave_if_among.new.line t in
     let counted = told-is old c.count.new.self _ _ _ c.push.new.self.lists client c.in-Ok.done.told.items c.retain_others.new.ids.items c.tally.view_is c.count.ensures
     (c.push.ensures ∙ ap (λ (lists : List (List ℕ)). lists ++ c.retain_others.new.ids.items ∷ []) c.reserve.ensures.same)
     c.retain_others.ensures in
     let answered = rw (c.as_str-space.ensures, ap (λ (m : PlainSelection). m.rooms) c.selection.view_is, ap (λ (m : PlainSelection). m.excepted) c.selection.view_is) at c.in-Ok.ensures in
-    let ended = c.as_slice.ensures.value ∙ answered.done.0 in (
-      answered.does,
-      ap at (c.leave_if_among.ensures.tally ∙ ap (λ (t : Tally). record t { ended = is_among sid c.as_slice.result.now }) counted)
-          ∙ ap (λ (ids : List ℕ). at (record old { done = told client ids (one_more old.done); ended = is_among sid c.as_slice.result.now })) answered.done.1
-          ∙ ap (λ (sids : List ℕ). at (record old { done = told client (dismissed c.args.who.now c.args.selection c.args.state.now).told (one_more old.done); ended = is_among sid sids })) ended,
-      rw (← ended) c.leave_if_among.ensures.line,
-    )
+    let ended = c.as_slice.ensures.value ∙ answered.done.0 in record {
+      same = search rules;
+      ok = (
+        answered.does,
+        ap at (c.leave_if_among.ensures.tally ∙ ap (λ (t : Tally). record t { ended = is_among sid c.as_slice.result.now }) counted)
+            ∙ ap (λ (ids : List ℕ). at (record old { done = told client ids (one_more old.done); ended = is_among sid c.as_slice.result.now })) answered.done.1
+            ∙ ap (λ (sids : List ℕ). at (record old { done = told client (dismissed c.args.who.now c.args.selection c.args.scene.now.state.now).told (one_more old.done); ended = is_among sid sids })) ended,
+        rw (← ended) c.leave_if_among.ensures.line,
+      );
+      err = tt;
+    }

@@ -1,0 +1,27 @@
+-- What contracts see of the values that an event of one client works on.
+use Rattle.std.specs.Prelude.{◌≡◌, ℕ, Result, OnOk, IfErr}
+use Rattle.effects.specs.declared.fault.CoreFault.{CoreFault}
+use Rattle.effects.specs.declared.scene.Scene as values
+use Rattle.effects.specs.Effects.{Scene, scene}
+
+-- where the event stands
+abbrev pub seen : values.Scene → Scene
+seen s = scene s.state.now s.line.now s.tally.now
+
+-- it is the same event of the same hub and line
+pub record IsSameEvent (old new : values.Scene) : Type 0 where
+  pub visit : new.visit ≡ old.visit
+  pub state : new.state.ghost_name ≡ old.state.ghost_name
+  pub line : new.line.ghost_name ≡ old.line.ghost_name
+  pub tally : new.tally.ghost_name ≡ old.tally.ghost_name
+
+-- the event goes on at its moment: this is done, or not done, as this says
+pub record DoesOrFails (does : ℕ → Scene → Scene → Type 0) (fails : ℕ → Scene → CoreFault → Scene → Type 0)
+    (old : values.Scene) (result : Result (Unit {0}) CoreFault) (new : values.Scene) : Type 0 where
+  pub same : IsSameEvent old new
+  pub ok : OnOk result (does old.visit.moment (seen old) (seen new))
+  pub err : IfErr result (λ fault. fails old.visit.moment (seen old) fault (seen new))
+
+-- the event goes on at its moment, and is answered so
+abbrev pub Plays : {R : Type 0} → (ℕ → Scene → R → Scene → Type 0) → values.Scene → R → values.Scene → Type 0
+Plays does old result new = IsSameEvent old new × does old.visit.moment (seen old) result (seen new)
