@@ -42,25 +42,86 @@ fn in_two(alloc: Global, bytes: &[u8], first: usize) -> (Seen, Seen) {
 
 #[test]
 fn two_pieces(rt: HostRuntime) {
-    static CASES: [&[u8]; 5] = [
-        b"POST / HTTP/1.1\r\nContent-Length: 4\r\n\r\nabcd",
-        b"\r\nPOST / HTTP/1.1\nContent-Length: 4\n\nabcd",
-        b"GET /x?y HTTP/1.1\r\n\r\n",
-        b"POST / HTTP/1.1\r\nContent-Length: +4\r\n\r\n",
-        b"GET / HTTP/3\r\n\r\n",
+    // With each, how many of its bytes are refused alone.
+    static CASES: [(&[u8], usize); 5] = [
+        (
+            b"POST / HTTP/1.1\r\nContent-Length: 4\r\n\r\nabcd",
+            usize::MAX,
+        ),
+        (
+            b"\r\nPOST / HTTP/1.1\nContent-Length: 4\n\nabcd",
+            usize::MAX,
+        ),
+        (b"GET /x?y HTTP/1.1\r\n\r\n", usize::MAX),
+        (b"POST / HTTP/1.1\r\nContent-Length: +4\r\n\r\n", usize::MAX),
+        (b"GET / HTTP/3\r\n\r\n", 12),
     ];
-    for (place, bytes) in CASES.iter().enumerate() {
-        let wrong = first_wrong_cut(rt.alloc(), bytes, read_whole(rt.alloc(), bytes));
+    for (place, (bytes, refused)) in CASES.iter().enumerate() {
+        let wrong = first_wrong_cut(rt.alloc(), bytes, *refused, read_whole(rt.alloc(), bytes));
         assert!(rt; wrong == None, "case {place}");
     }
 }
 
-/// The first place at which the bytes can't be cut in two, of which the first piece needs more and the
-/// second one is answered as the whole.
-fn first_wrong_cut(alloc: Global, bytes: &[u8], whole: Seen) -> Option<usize> {
+/// The first place at which the bytes can't be cut in two, of which the first piece needs more, unless
+/// it is refused already, and the second one is answered as the whole.
+fn first_wrong_cut(alloc: Global, bytes: &[u8], refused: usize, whole: Seen) -> Option<usize> {
     for first in 0..bytes.len() {
-        if in_two(alloc, bytes, first) != (Seen::More, whole) {
+        let early = if first < refused { Seen::More } else { whole };
+        if in_two(alloc, bytes, first) != (early, whole) {
             return Some(first);
+        }
+    }
+    None
+}
+
+/// What one read of a first piece is answered. A method is any token, in any case.
+#[test]
+fn first_pieces(rt: HostRuntime) {
+    const REFUSED: Seen = Seen::Fault(EdgeError::BadHead);
+    static CASES: [(&[u8], Seen); 12] = [
+        // The hello of TLS 1.0 to 1.3, and the preface of HTTP/2.
+        (b"\x16\x03\x01\x02\x00\x01\x00\x01\xfc\x03\x03", REFUSED),
+        (b"PRI * HTTP/2.0\r\n\r\nSM\r\n\r\n", REFUSED),
+        (b"PRI * HTTP/2.0", REFUSED),
+        (b"\x00", REFUSED),
+        (b"SSH-2.0-OpenSSH_9.6\r\n", REFUSED),
+        (b"HTTP/1.1 200 OK\r\n", REFUSED),
+        (b"GET /\r\n", REFUSED),
+        (b"GET / HTTP/1.1\r\nHost: a\r\nno field\r\n", REFUSED),
+        (b"get / HTTP/1.1\r\n\r\n", Seen::Request(18, 0, 0)),
+        (b"\n", Seen::More),
+        (b"G", Seen::More),
+        (b"GET / HTTP/1.1\r\nHost: a\r\n", Seen::More),
+    ];
+    for (place, (bytes, want)) in CASES.iter().enumerate() {
+        let seen = fed(rt.alloc(), &mut Gathered::new(rt.alloc()), bytes);
+        assert!(rt; seen == *want, "case {place}");
+    }
+}
+
+/// Byte by byte, a head is judged at the first byte of its first line and at each line end.
+#[test]
+fn bytes_before_the_fault(rt: HostRuntime) {
+    static CASES: [(&[u8], usize); 6] = [
+        (b"\x16\x03\x01\x02\x00", 1),
+        (b"\r\n\n\x00\x00", 4),
+        (b"PRI * HTTP/2.0\r\n\r\n", 16),
+        (b"GET /\nHost: a\n\n", 6),
+        (b"GET / HTTP/1.1\r\nHost a\r\nAccept: b\r\n\r\n", 24),
+        (b"GET / HTTP/1.1\nA: b\nHost : a\nB: c\n\n", 29),
+    ];
+    for (place, (bytes, want)) in CASES.iter().enumerate() {
+        let refused = bytes_until_refused(rt.alloc(), bytes);
+        assert!(rt; refused == Some(*want), "case {place}");
+    }
+}
+
+/// How many bytes were fed, one after another, when they were refused.
+fn bytes_until_refused(alloc: Global, bytes: &[u8]) -> Option<usize> {
+    let mut gathered = Gathered::new(alloc);
+    for (place, byte) in bytes.iter().enumerate() {
+        if fed(alloc, &mut gathered, &[*byte]) == Seen::Fault(EdgeError::BadHead) {
+            return place.checked_add(1);
         }
     }
     None

@@ -99,24 +99,30 @@ fn shapes(rt: HostRuntime) {
     expect_faults(&rt, &CASES);
 }
 
+/// The first lines of a head with so many fields.
 fn with_fields(alloc: Global, count: usize) -> Result<Vec<u8>, AllocError> {
     let mut bytes = Vec::from_slice(alloc, b"GET / HTTP/1.1\r\n")?;
     for _ in 0..count {
         bytes.extend_from_slice(b"A: b\r\n")?;
     }
-    bytes.extend_from_slice(b"\r\n")?;
     Ok(bytes)
 }
 
-fn fault_with_fields(alloc: Global, count: usize) -> Option<EdgeError> {
-    match with_fields(alloc, count) {
-        Ok(bytes) => fault(alloc, bytes.as_slice()),
+fn fault_with_fields(alloc: Global, count: usize, end: &[u8]) -> Option<EdgeError> {
+    let Ok(mut bytes) = with_fields(alloc, count) else {
+        return Some(EdgeError::Memory);
+    };
+    match bytes.extend_from_slice(end) {
+        Ok(()) => fault(alloc, bytes.as_slice()),
         Err(_) => Some(EdgeError::Memory),
     }
 }
 
 #[test]
 fn many_fields(rt: HostRuntime) {
-    assert!(rt; fault_with_fields(rt.alloc(), 100) == None);
-    assert!(rt; fault_with_fields(rt.alloc(), 101) == Some(EdgeError::BadHead));
+    assert!(rt; fault_with_fields(rt.alloc(), 100, b"\r\n") == None);
+    assert!(rt; fault_with_fields(rt.alloc(), 101, b"\r\n") == Some(EdgeError::BadHead));
+    // One field too many is refused before the head ends.
+    assert!(rt; fault_with_fields(rt.alloc(), 100, b"") == Some(EdgeError::EarlyEnd));
+    assert!(rt; fault_with_fields(rt.alloc(), 101, b"") == Some(EdgeError::BadHead));
 }

@@ -1,12 +1,12 @@
 -- The walk over a head's lines finds the empty one.
-use Rattle.std.proofs.Common.{◌≡◌, ◌==◌, ℕ, Bool, true, false, List, [], ◌∷◌, ◌++◌, refl, ap, ◌∙◌, append_assoc, append-nil, arith, rules, cond}
+use Rattle.std.proofs.Common.{◌≡◌, ◌≢◌, ◌==◌, ℕ, Bool, true, false, List, [], ◌∷◌, ◌++◌, refl, ap, ◌∙◌, append_assoc, append-nil, arith, rules, cond}
 use Rattle.std.specs.Prelude.{◌||◌, ⊤}
 use Rattle.std.specs.List.{list_any}
 use Rattle.std.proofs.lemmas.Bool.Decides.{nat_tests}
 use Rattle.std.proofs.lemmas.List.Sums.{fold-append}
 use Rattle.std.proofs.lemmas.List.Folds.{list_any-append}
 use Rattle.httparse.specs.Grammar.{LineEnd, crlf, lf, print_end}
-use Rattle.http_edge.specs.Reading.{is_text, HasEmptyLine}
+use Rattle.http_edge.specs.Reading.{is_text, HasEmptyLine, HasBegun}
 use Rattle.http_edge.specs.Line.{next, walk}
 use Rattle.http_edge.specs.declared.line.Line.{Line}
 use Rattle.http_edge.specs.declared.line.Line.TheVariants.{Blank, Text, Ended, Return, Empty}
@@ -136,6 +136,20 @@ after_next Empty p b h = more_after p (b ∷ []) h
 after_walk : (line : Line) (p bytes : List ℕ) → After line p → After (walk line bytes) (p ++ bytes)
 after_walk line p [] h = rw (append-nil p) h
 after_walk line p (b ∷ bytes) h = rw (← append_assoc p (b ∷ []) bytes) (after_walk (next line b) (p ++ b ∷ []) bytes (after_next line p b h))
+
+text_after : (line : Line) (p : List ℕ) → After line p → line ≢ Blank → HasBegun p
+text_after Blank p h other = absurd (other refl)
+text_after Text p h other = h
+text_after Ended p h other = rw h.1 (any_more h.0 (10 ∷ []) h.2)
+text_after Return p h other = rw h.1 (any_more h.0 (10 ∷ 13 ∷ []) h.2)
+text_after Empty p h other = rw h.3 (any_more h.0 ((10 ∷ print_end h.1) ++ h.2) h.4)
+
+-- the walk has left the empty lines just where the start line has begun
+pub has_begun : (bytes : List ℕ) → walk Blank bytes ≢ Blank → HasBegun bytes
+has_begun bytes other = text_after (walk Blank bytes) bytes (after_walk Blank [] bytes tt) other
+
+pub none_begun : (bytes : List ℕ) → walk Blank bytes ≡ Blank → ¬ HasBegun bytes
+none_begun bytes is any = let on : begun Blank ≡ true = rw is at (begins bytes any) in cc
 
 pub empty_found : (bytes : List ℕ) → walk Blank bytes ≡ Empty → HasEmptyLine bytes
 empty_found bytes e = rw e at (after_walk Blank [] bytes tt)

@@ -1,13 +1,14 @@
 -- The bytes in which a head has to end.
-use Rattle.std.proofs.Common.{◌≡◌, ◌≢◌, ◌≤◌, ◌<◌, ◌+◌, ◌-◌, ℕ, Bool, true, false, List, ◌++◌, length, take, drop, min, refl, sym, ap, ◌∙◌, inl, inr, arith, rules, length-append, length-take, take-append-drop, append_assoc, Result, Ok, Err}
+use Rattle.std.proofs.Common.{◌≡◌, ◌≢◌, ◌≤◌, ◌<◌, ◌+◌, ◌-◌, ◌==◌, ℕ, Bool, true, false, List, [], ◌++◌, length, take, drop, min, refl, sym, ap, ◌∙◌, inl, inr, arith, rules, length-append, length-take, take-append-drop, append_assoc, append-nil, Result, Ok, Err}
 use Rattle.std.specs.Prelude.{◌⊎◌, IfOk, IfErr}
 use Rattle.std.proofs.lemmas.List.{take_all}
 use Rattle.std.proofs.lemmas.List.Sums.{fold-append}
+use Rattle.std.proofs.lemmas.List.Folds.{list_any-append}
 use Rattle.std.proofs.Math.Seq.{take-append-add}
 use Rattle.httparse.specs.Grammar.{RequestHead, ReadsRequest, MayBecomeRequest, print_request}
 use Rattle.httparse.specs.Spans.{RequestOverflows}
-use Rattle.http_edge.specs.Reading.{front, HasEmptyLine, HasNoHead, HasHead, StartsWith, LacksLength, NamesTooMuch, IsFault, IsUnfinished}
-use Rattle.http_edge.specs.Head.{IsHeadOf, IsOpening, HasParsed, Begins, Decided}
+use Rattle.http_edge.specs.Reading.{front, HasEmptyLine, HasBegun, EndsNoLine, MayBegin, HasNoHead, HasHead, StartsWith, LacksLength, NamesTooMuch, IsFault, IsUnfinished}
+use Rattle.http_edge.specs.Head.{IsHeadOf, IsOpening, IsJudged, HasParsed, Begins, Decided}
 use Rattle.http_edge.specs.Line.{next, walk}
 use Rattle.http_edge.specs.Stages.{StepsTo, so_far, fed}
 use Rattle.http_edge.specs.declared.head.Head.{Head}
@@ -18,31 +19,66 @@ use Rattle.http_edge.specs.declared.line.Line.{Line}
 use Rattle.http_edge.specs.declared.line.Line.TheVariants.{Blank, Empty}
 use Rattle.http_edge.specs.declared.error.EdgeError.{EdgeError}
 use Rattle.http_edge.specs.declared.error.EdgeError.TheVariants.{Memory, Device, EarlyEnd, BadHead, HeadTooLong, BodyTooLong, NoLength, NotUtf8, TurnsSpent}
-use Rattle.http_edge.proofs.LineLemmas.{finds_empty, empty_found}
+use Rattle.http_edge.proofs.LineLemmas.{finds_empty, empty_found, has_begun, none_begun}
 
 -- ---- the walk
 
 walk_more : (line : Line) (bytes more : List ℕ) → line ≡ walk Blank bytes → walk Blank (bytes ++ more) ≡ walk line more
 walk_more line bytes more is = rw is (fold-append next Blank bytes more)
 
+-- ---- what was judged
+
+whole : (bytes : List ℕ) → HasBegun bytes → MayBecomeRequest bytes → MayBegin bytes
+whole bytes begun may = record { judged = bytes; rest = []; parts = sym (append-nil bytes); begun = begun; unended = refl; may = may }
+
+none_ends : (rest piece : List ℕ) → EndsNoLine rest → EndsNoLine piece → EndsNoLine (rest ++ piece)
+none_ends rest piece one two = rw (list_any-append (λ b. b == 10) rest piece, one) two
+
+part : (bytes piece : List ℕ) → MayBegin bytes → EndsNoLine piece → MayBegin (bytes ++ piece)
+part bytes piece m unended = record {
+  judged = m.judged;
+  rest = m.rest ++ piece;
+  parts = rw m.parts (append_assoc m.judged m.rest piece);
+  begun = m.begun;
+  unended = none_ends m.rest piece m.unended unended;
+  may = m.may;
+}
+
+still_may : (bytes piece : List ℕ) (line after : Line) → line ≡ walk Blank bytes → after ≡ walk Blank (bytes ++ piece) → (HasBegun bytes → MayBegin bytes)
+    → IsJudged line piece after (bytes ++ piece) → HasBegun (bytes ++ piece) → MayBegin (bytes ++ piece)
+still_may bytes piece line after before is may (inl blank) begun = absurd (none_begun (bytes ++ piece) (sym is ∙ blank) begun)
+still_may bytes piece line after before is may (inr (inl rests)) begun =
+    part bytes piece (may (has_begun bytes (λ e. rests.0 (before ∙ e)))) rests.1
+still_may bytes piece line after before is may (inr (inr judged)) begun = whole (bytes ++ piece) begun judged
+
+walked_all : (bytes piece : List ℕ) (line after : Line) (room : ℕ) → IsOpening line bytes → length piece < room
+    → after ≡ walk line (take (min room (length piece)) piece) → after ≡ walk Blank (bytes ++ piece)
+walked_all bytes piece line after room is short walked =
+    let all : take (min room (length piece)) piece ≡ piece = take_all _ _ (grind (arith, short)) in
+    walked ∙ rw all (sym (walk_more line bytes piece is.walked))
+
+pub none_ended : (bytes piece : List ℕ) (line after : Line) (room : ℕ) → IsOpening line bytes → length piece < room
+    → after ≡ walk line (take (min room (length piece)) piece) → after ≢ Empty → ¬ HasEmptyLine (bytes ++ piece)
+none_ended bytes piece line after room is short walked other h = other (walked_all bytes piece line after room is short walked ∙ finds_empty (bytes ++ piece) h)
+
 -- all that came was walked over, and no empty line was found
 pub unfinished : (bytes piece : List ℕ) (line after : Line) (room : ℕ) → IsOpening line bytes → room ≡ 16384 - length bytes → length piece < room
-    → after ≡ walk line (take (min room (length piece)) piece) → after ≢ Empty → IsUnfinished (bytes ++ piece)
-unfinished bytes piece line after room is room_is short walked other =
-    let all : take (min room (length piece)) piece ≡ piece = take_all _ _ (grind (arith, short)) in
+    → after ≡ walk line (take (min room (length piece)) piece) → after ≢ Empty → IsJudged line piece after (bytes ++ piece) → IsUnfinished (bytes ++ piece)
+unfinished bytes piece line after room is room_is short walked other judged =
     inl (
       grind (arith, length-append, short, room_is),
-      λ h. other (walked ∙ rw all (sym (walk_more line bytes piece is.walked) ∙ finds_empty (bytes ++ piece) h)),
+      none_ended bytes piece line after room is short walked other,
+      still_may bytes piece line after is.walked (walked_all bytes piece line after room is short walked) is.may judged,
     )
 
 pub still_opening : (bytes piece : List ℕ) (line after : Line) (room : ℕ) → IsOpening line bytes → room ≡ 16384 - length bytes → length piece < room
-    → after ≡ walk line (take (min room (length piece)) piece) → after ≢ Empty → IsOpening after (bytes ++ piece)
-still_opening bytes piece line after room is room_is short walked other =
-    let all : take (min room (length piece)) piece ≡ piece = take_all _ _ (grind (arith, short)) in
+    → after ≡ walk line (take (min room (length piece)) piece) → after ≢ Empty → IsJudged line piece after (bytes ++ piece) → IsOpening after (bytes ++ piece)
+still_opening bytes piece line after room is room_is short walked other judged =
     record {
-      walked = walked ∙ rw all (sym (walk_more line bytes piece is.walked));
+      walked = walked_all bytes piece line after room is short walked;
       unended = other;
       short = grind (arith, length-append, short, room_is);
+      may = still_may bytes piece line after is.walked (walked_all bytes piece line after room is short walked) is.may judged;
     }
 
 take_least : (room : ℕ) (piece : List ℕ) (n : ℕ) → n ≡ min room (length piece) → (room ≤ length piece) ⊎ (length piece ≤ room) → take n piece ≡ take room piece
@@ -76,9 +112,9 @@ has_head : (P : RequestHead → Type 0) (bytes : List ℕ) → HasParsed (front 
 has_head P bytes p = (p.0, p.1 ++ drop 16384 bytes, lifted bytes p.0 p.1 p.2 p.3, p.4)
 
 bad_head : (ended : Bool) (bytes : List ℕ) → Decided ended bytes → (ended ≡ false → RequestOverflows 100 (front bytes))
-    → HasEmptyLine (front bytes) ⊎ ((16384 ≤ length bytes) × RequestOverflows 100 (front bytes))
+    → HasEmptyLine (front bytes) ⊎ RequestOverflows 100 (front bytes)
 bad_head true bytes decided over = inl decided
-bad_head false bytes decided over = inr (decided.0, over refl)
+bad_head false bytes decided over = inr (over refl)
 
 too_long_head : (ended : Bool) (bytes : List ℕ) → Decided ended bytes → (ended ≡ false) × MayBecomeRequest (front bytes) → IsFault HeadTooLong bytes
 too_long_head true bytes decided long = absurd (search (rules, long.0))
@@ -116,6 +152,12 @@ head_fault BodyTooLong ended bytes decided bad long unnamed much kinds = has_hea
 head_fault NoLength ended bytes decided bad long unnamed much kinds = has_head LacksLength bytes (unnamed refl)
 head_fault NotUtf8 ended bytes decided bad long unnamed much kinds = absurd (grind (rules, kinds))
 head_fault TurnsSpent ended bytes decided bad long unnamed much kinds = absurd (grind (rules, kinds))
+
+-- no head is at the front of bytes that can't begin one
+pub cant_begin : (bytes : List ℕ) → length bytes < 16384 → RequestOverflows 100 bytes → IsFault BadHead bytes
+cant_begin bytes short over =
+    let all : front bytes ≡ bytes = take_all 16384 bytes (grind (arith, short)) in
+    rw all ((λ h rest reads. over [] h rest (rw (append-nil bytes) reads)), inr over)
 
 -- ---- one piece more
 

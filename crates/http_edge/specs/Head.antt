@@ -1,9 +1,9 @@
 -- What is kept of a head once it was read.
-use Rattle.std.specs.Prelude.{◌≡◌, Bool, true, false, ◌≢◌, ◌<◌, ◌≤◌, List, ℕ, length, codes, option_map, string_bytes}
+use Rattle.std.specs.Prelude.{◌≡◌, Bool, true, false, ◌≢◌, ◌⊎◌, ◌<◌, ◌≤◌, List, ℕ, length, codes, option_map, string_bytes}
 use Rattle.std.specs.List.{list_any}
-use Rattle.httparse.specs.Grammar.{RequestHead, ReadsRequest, print_request}
+use Rattle.httparse.specs.Grammar.{RequestHead, ReadsRequest, MayBecomeRequest, print_request}
 use Rattle.http_edge.specs.Request.{HasBodyOf, IsTargetOf, IsOnlyText, values, fields_of, is_upgrade}
-use Rattle.http_edge.specs.Reading.{StartsWith, HasEmptyLine, front}
+use Rattle.http_edge.specs.Reading.{StartsWith, HasEmptyLine, HasBegun, EndsNoLine, MayBegin, front}
 use Rattle.http_edge.specs.Line.{walk}
 use Rattle.http_edge.specs.declared.line.Line.{Line}
 use Rattle.http_edge.specs.declared.line.Line.TheVariants.{Blank, Empty}
@@ -35,6 +35,11 @@ pub record IsOpening (line : Line) (bytes : List ℕ) : Type 0 where
   pub walked : line ≡ walk Blank bytes
   pub unended : line ≢ Empty
   pub short : length bytes < 16384
+  pub may : HasBegun bytes → MayBegin bytes
+
+-- where this piece leaves the start line unbegun, or ends no line of a head that has begun, nothing is judged
+abbrev pub IsJudged : (before : Line) → (piece : List ℕ) → (after : Line) → (bytes : List ℕ) → Type 0
+IsJudged before piece after bytes = (after ≡ Blank) ⊎ ((before ≢ Blank) × EndsNoLine piece) ⊎ MayBecomeRequest bytes
 
 -- the head has ended; or it hasn't, and too many bytes came
 abbrev pub Decided : Bool → List ℕ → Type 0

@@ -1,5 +1,5 @@
 -- What the bytes are that came so far: a request, a first part of one, or none for a reason (RFC 9112).
-use Rattle.std.specs.Prelude.{◌≡◌, ◌⊎◌, ◌<◌, ◌≤◌, ◌==◌, ◌||◌, ◌++◌, ℕ, Bool, true, not, List, ◌∷◌, Option, None, Some, Result, Ok, Err, length, take, IsUtf8, string_bytes, ⊤}
+use Rattle.std.specs.Prelude.{◌≡◌, ◌⊎◌, ◌<◌, ◌≤◌, ◌==◌, ◌||◌, ◌++◌, ℕ, Bool, true, false, not, List, ◌∷◌, Option, None, Some, Result, Ok, Err, length, take, IsUtf8, string_bytes, ⊤}
 use Rattle.std.specs.List.{list_any}
 use Rattle.httparse.specs.Grammar.{RequestHead, ReadsRequest, MayBecomeRequest, LineEnd, print_end, print_request}
 use Rattle.httparse.specs.Spans.{RequestOverflows}
@@ -34,12 +34,28 @@ pub record StartsWith (bytes : List ℕ) (h : RequestHead) (rest : List ℕ) : T
 abbrev pub HasNoHead : List ℕ → Type 0
 HasNoHead bytes = (h : RequestHead) (rest : List ℕ) → ReadsRequest bytes h rest → 100 < length h.fields
 
+-- the start line has begun
+abbrev pub HasBegun : List ℕ → Type 0
+HasBegun bytes = list_any is_text bytes ≡ true
+
+-- no line ends in the bytes
+abbrev pub EndsNoLine : List ℕ → Type 0
+EndsNoLine bytes = list_any (λ b. b == 10) bytes ≡ false
+
+-- what came up to the last line end, and of the start line its first byte at least, may become a head
+pub record MayBegin (bytes : List ℕ) : Type 0 where
+  pub judged : List ℕ
+  pub rest : List ℕ
+  pub parts : bytes ≡ judged ++ rest
+  pub begun : HasBegun judged
+  pub unended : EndsNoLine rest
+  pub may : MayBecomeRequest judged
+
 -- ---- faults, of which each is found before the next is looked for
 
--- the head has ended and is none; or too many bytes came, and nothing that follows makes them one
+-- the head has ended and is none; or nothing that follows makes the bytes one
 abbrev pub IsBadHead : List ℕ → Type 0
-IsBadHead bytes =
-    HasNoHead (front bytes) × (HasEmptyLine (front bytes) ⊎ ((16384 ≤ length bytes) × RequestOverflows 100 (front bytes)))
+IsBadHead bytes = HasNoHead (front bytes) × (HasEmptyLine (front bytes) ⊎ RequestOverflows 100 (front bytes))
 
 -- too many bytes came, and it could still become a head
 abbrev pub IsHeadTooLong : List ℕ → Type 0
@@ -81,7 +97,7 @@ IsFault TurnsSpent bytes = ⊥
 
 -- a first part of a request, of which no fault is known
 abbrev pub IsUnfinished : List ℕ → Type 0
-IsUnfinished bytes = ((length bytes < 16384) × (¬ HasEmptyLine bytes)) ⊎ HasHead LacksBody bytes
+IsUnfinished bytes = ((length bytes < 16384) × (¬ HasEmptyLine bytes) × (HasBegun bytes → MayBegin bytes)) ⊎ HasHead LacksBody bytes
 
 -- the request and what follows it are these bytes
 abbrev pub request_bytes : Request → List ℕ

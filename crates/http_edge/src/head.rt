@@ -1,10 +1,10 @@
 //! A head, read by `httparse` (RFC 9112, sections 2, 3 and 5).
 
-ghost use Rattle.std.specs.Prelude.{◌≡◌, ◌⊎◌, ◌≤◌, ℕ, List, Bool, true, false, take, length, map, All, IfOk, IfErr, OnErr, IsUtf8, ◌<◌, codes, bytes_eq, string_bytes};
+ghost use Rattle.std.specs.Prelude.{◌≡◌, ◌⊎◌, ◌≤◌, ℕ, List, Bool, true, false, take, length, map, All, IfOk, IfErr, OnOk, OnErr, IsUtf8, ◌<◌, codes, bytes_eq, string_bytes};
 ghost use Rattle.httparse.specs.Grammar.{RequestHead, ReadsRequest, MayBecomeRequest};
 ghost use Rattle.httparse.specs.Spans.{IsRequestWithin, IsRequestOf, IsRequestAt, IsHeaderWithin, RequestOverflows, header_bytes};
 ghost use Rattle.http_edge.specs.Request.{NamesLength, IsTargetOf, fields_of};
-ghost use Rattle.http_edge.specs.Reading.{HasNoHead, LacksLength, NamesTooMuch};
+ghost use Rattle.http_edge.specs.Reading.{HasEmptyLine, HasNoHead, LacksLength, NamesTooMuch, IsFault};
 ghost use Rattle.http_edge.specs.Head.{IsHeadOf, HasParsed};
 ghost use Rattle.http_edge.specs.declared.error.EdgeError.TheVariants.{Memory, BadHead, HeadTooLong, NoLength, BodyTooLong};
 
@@ -99,6 +99,20 @@ fn head_of(
         len: found.len,
         body_len,
     })
+}
+
+/// Whether these bytes, in which no head has ended, may become one.
+pub(crate) fn judge(bytes: &[u8]) -> Result<(), EdgeError>
+    requires short { length bytes.now < 16384 }
+    requires unended { ¬ HasEmptyLine bytes.now }
+    ensures may { OnOk result (MayBecomeRequest bytes.now) }
+    ensures fault { IfErr result (λ e. IsFault e bytes.now) }
+{
+    let mut spans = [EMPTY_HEADER_SPAN; FIELDS];
+    match parse_request(bytes, &mut spans) {
+        Ok(_) => Ok(()),
+        Err(_) => Err(EdgeError::BadHead),
+    }
 }
 
 /// The head at the front of the bytes. Where it has ended, none that is found is a bad one.

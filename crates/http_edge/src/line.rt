@@ -1,7 +1,8 @@
 //! Looks for the empty line that ends a head (RFC 9112, section 2.1), each byte once.
 
-ghost use Rattle.std.specs.Prelude.{◌≡◌, ◌≢◌, true, false};
-ghost use Rattle.http_edge.specs.declared.line.Line.TheVariants.{Empty};
+ghost use Rattle.std.specs.Prelude.{◌≡◌, ◌≢◌, ◌⊎◌, true, false};
+ghost use Rattle.http_edge.specs.declared.line.Line.TheVariants.{Blank, Empty};
+ghost use Rattle.http_edge.specs.Reading.{EndsNoLine};
 ghost use Rattle.http_edge.specs.Line.{next, walk};
 
 /// What the last bytes were.
@@ -42,6 +43,14 @@ impl Line {
             line = line.after(*byte);
         }
         line
+    }
+
+    /// Has the start line begun in this piece, or has a line ended in it since?
+    pub(crate) fn is_due(self, before: Line, piece: &[u8]) -> bool
+        ensures due { result ≡ true → self ≢ Blank }
+        ensures rests { result ≡ false → (self ≡ Blank) ⊎ ((before ≢ Blank) × EndsNoLine piece.now) }
+    {
+        self != Line::Blank && (before == Line::Blank || piece.contains(&b'\n'))
     }
 
     /// Has the empty line come?

@@ -1,13 +1,13 @@
 //! What the next bytes of a request lead to.
 
-ghost use Rattle.std.specs.Prelude.{◌≡◌, ◌≤◌, ◌++◌, ◌+◌, [], ℕ, List, Ok, Err, length, IfOk, IfErr};
-ghost use Rattle.http_edge.specs.Reading.{IsRequestIn, IsFault};
-ghost use Rattle.http_edge.specs.Head.{Begins, Decided};
+ghost use Rattle.std.specs.Prelude.{◌≡◌, ◌≤◌, ◌<◌, ◌++◌, ◌+◌, [], ℕ, List, Ok, Err, length, IfOk, IfErr, OnOk};
+ghost use Rattle.http_edge.specs.Reading.{HasEmptyLine, IsRequestIn, IsFault};
+ghost use Rattle.http_edge.specs.Head.{Begins, IsJudged, Decided};
 ghost use Rattle.http_edge.specs.Stages.{StepsTo, so_far};
 ghost use Rattle.http_edge.specs.declared.error.EdgeError.{EdgeError};
 
 use crate::error::EdgeError;
-use crate::head::{Head, find_head};
+use crate::head::{Head, find_head, judge};
 use crate::line::Line;
 use crate::request::Request;
 use crate::stage::{Filling, Opening, Stage, Step};
@@ -44,15 +44,30 @@ impl Opening {
     {
         let Opening { mut bytes, line } = self;
         let room = HEAD_LIMIT - bytes.len();
-        let line = line.after_all(&piece[..room.min(piece.len())]);
+        let after = line.after_all(&piece[..room.min(piece.len())]);
         bytes.extend_from_slice(piece)?;
-        let ended = line.is_empty_line();
+        let ended = after.is_empty_line();
         if !ended && piece.len() < room {
-            return Ok(Step::More(Stage::Opening(Opening { bytes, line })));
+            judge_due(&bytes, line, piece, after)?;
+            return Ok(Step::More(Stage::Opening(Opening { bytes, line: after })));
         }
         let head = head_in(alloc, &bytes, ended)?;
         filled(alloc, bytes, head)
     }
+}
+
+// Judges the bytes, the last of which are this piece, where the start line has begun in it or a line
+// has ended. So a head has at most 102 looks, in whatever pieces it comes.
+fn judge_due(bytes: &[u8], before: Line, piece: &[u8], after: Line) -> Result<(), EdgeError>
+    requires short { length bytes.now < 16384 }
+    requires unended { ¬ HasEmptyLine bytes.now }
+    ensures judged { OnOk result (IsJudged before piece.now after bytes.now) }
+    ensures fault { IfErr result (λ e. IsFault e bytes.now) }
+{
+    if after.is_due(before, piece) {
+        judge(bytes)?;
+    }
+    Ok(())
 }
 
 // The head at the front of the bytes, which has ended or has to.
