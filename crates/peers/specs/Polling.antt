@@ -1,5 +1,5 @@
 -- The turns of a request over HTTP: a GET that waits asks again and again.
-use Rattle.std.specs.Prelude.{◌==◌, ◌&&◌, ◌-◌, nat_lt, ℕ, Bool, true, false, Option, None, Some, Ok, Err, cond}
+use Rattle.std.specs.Prelude.{◌==◌, ◌&&◌, ◌-◌, nat_lt, ℕ, Bool, true, false, Option, None, Some, Ok, Err, cond, codes, bytes_eq}
 use Rattle.effects.specs.declared.fault.CoreFault.{CoreFault}
 use Rattle.effects.specs.declared.fault.CoreFault.TheVariants as fault
 use Rattle.dispatch.specs.declared.event.Event.{Event}
@@ -101,3 +101,8 @@ client_of (stage.Over c) = c
 abbrev pub is_idle : PollStage → Bool
 is_idle (stage.Waits c left) = nat_lt 0 left && nat_lt left takes
 is_idle _ = false
+
+-- a lone noop packet was taken
+abbrev pub is_noop : Answer → Bool
+is_noop (Ok (outcome.Payload text)) = bytes_eq text (codes "6")
+is_noop _ = false

@@ -1,7 +1,7 @@
 //! One request over HTTP, as a peer.
 
 ghost use Rattle.std.specs.Prelude.{◌≡◌};
-ghost use Rattle.peers.specs.Polling.{client_of, given_up, is_idle};
+ghost use Rattle.peers.specs.Polling.{client_of, given_up, is_idle, is_noop};
 ghost use Rattle.peers.specs.declared.poll_stage.PollStage.TheVariants as stage;
 ghost use Rattle.peers.specs.Polled.{Writes};
 ghost use Rattle.peers.specs.Replies.{plain_reply};
@@ -146,7 +146,9 @@ impl<W: Wire, M: Moments> Peer for PollPeer<W, M> {
 }
 
 /// Whether a lone noop packet was taken.
-fn is_noop(got: &Result<Outcome, CoreError>) -> bool {
+fn is_noop(got: &Result<Outcome, CoreError>) -> bool
+    ensures { result ≡ is_noop got.now }
+{
     match got {
         Ok(Outcome::Payload(text)) => text.as_str() == "6",
         _ => false,
