@@ -1,6 +1,5 @@
-//! Tests of the hub: whole chats as lists of commands with their answers and totals, passes that are
-//! settled together, many steps and many clients; and random histories, of which the hub and the slow
-//! program have to say the same.
+//! Tests of the hub: chats as lines of commands with their answers, and random histories, of which the
+//! hub and the slow program have to say the same.
 #![tactic(auto)]
 
 #[cfg(test)]
@@ -8,12 +7,12 @@ mod chats;
 #[cfg(test)]
 mod histories;
 #[cfg(test)]
-mod long;
-#[cfg(test)]
 mod made;
 #[cfg(test)]
-mod passes;
+mod player;
+#[cfg(test)]
+mod printing;
 #[cfg(test)]
 mod rig;
 #[cfg(test)]
-mod tasks;
+mod words;

@@ -18,21 +18,7 @@ pub struct Limits {
     pub first_offset: u64,
     /// The names of the namespaces.
     pub spaces: &'static [&'static str],
-    /// Whether the journal is sealed after each line.
-    pub sealed: bool,
 }
-
-pub const AMPLE: Limits = Limits {
-    clients: 1024,
-    capacity: 64,
-    bytes: 8_388_608,
-    log: 1024,
-    saved: 4096,
-    keep: 120_000,
-    first_offset: 1,
-    spaces: &["/"],
-    sealed: false,
-};
 
 fn push_name(alloc: Global, names: &mut Vec<Text>, name: &str) -> Result<(), HubError> {
     let name = Text::copy_of(alloc, name)?;
@@ -73,10 +59,6 @@ pub fn room(name: &str) -> Room {
         Some(room) => room,
         None => Room::own(Sid::new(0)),
     }
-}
-
-pub fn own(sid: u128) -> Room {
-    Room::own(Sid::new(sid))
 }
 
 pub fn rooms_of(alloc: Global, names: &[&str]) -> Result<Vec<Room>, HubError> {

@@ -89,12 +89,6 @@ impl<C: Ledger, T: Ledger> Rig<C, T> {
         )
     }
 
-    /// Connects a socket to `/`, whose private id is the next number.
-    pub fn attach_next(&mut self, client: u128, sid: u128) -> Result<(), HubError> {
-        let pid = Pid::new(sid.saturating_add(1));
-        self.attach(client, "/", Sid::new(sid), pid)
-    }
-
     pub fn recover(
         &mut self,
         client: u128,

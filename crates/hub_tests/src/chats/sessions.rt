@@ -1,332 +1,202 @@
 //! Clients that are lost, sessions that come back, sweeps and seals.
 
-use super::{
-    A, AMPLE, Answer, B, C, CONNECTED_B, CONNECTED_C, CONNECTED_D, D, Limits, Line, OF_A, OF_B,
-    OF_C, OF_D, PID_B, expect_chat_of_two, expect_chat_over_seals,
-};
-use journal::{HubError, RecoveryRefusal};
+pub const OVER_SEALS: &str = r#"both 1024 64 8388608 1024 4096 120000 1 /
+# A lost session comes back, once.
+cast / r @3 ["say","r","1"]
+  Some(1) 1 0 [2]
+take 2 64
+  2["say","r","1","0000000000000001"]
+at 1000
+park 2
+cast / r @3 ["say","r","2"]
+  Some(2) 0 0 []
+cast / r @3 ["say","r","3"]
+  Some(3) 0 0 []
+at 121000
+open 7
+recover 7 / 6 1
+  5
+take 7 64
+  0{"sid":"00000000000000000000000000000005","pid":"00000000000000000000000000000006"}
+  2["say","r","2","0000000000000002"]
+  2["say","r","3","0000000000000003"]
+open 8
+recover 8 / 6 1
+  ! NotRecoverable(UnknownPid)
+attach 8 / 9 10
+take 8 64
+  0{"sid":"00000000000000000000000000000009","pid":"0000000000000000000000000000000a"}
 
-#[test]
-fn a_lost_session_comes_back(rt: HostRuntime) -> Result<(), HubError> {
-    static LINES: [(Line, Answer); 14] = [
-        (
-            Line::Say(OF_A, "[\"say\",\"r\",\"1\"]"),
-            Answer::Cast(Some(1), 1, 0),
-        ),
-        (
-            Line::Take(B, 64),
-            Answer::Texts(&["2[\"say\",\"r\",\"1\",\"0000000000000001\"]"]),
-        ),
-        (Line::At(1000), Answer::Done),
-        (Line::Park(B), Answer::Done),
-        (
-            Line::Say(OF_A, "[\"say\",\"r\",\"2\"]"),
-            Answer::Cast(Some(2), 0, 0),
-        ),
-        (
-            Line::Say(OF_A, "[\"say\",\"r\",\"3\"]"),
-            Answer::Cast(Some(3), 0, 0),
-        ),
-        (Line::At(121000), Answer::Done),
-        (Line::Open(C), Answer::Done),
-        (Line::Recover(C, PID_B, 1), Answer::Back(OF_B)),
-        (
-            Line::Take(C, 64),
-            Answer::Texts(&[
-                CONNECTED_B,
-                "2[\"say\",\"r\",\"2\",\"0000000000000002\"]",
-                "2[\"say\",\"r\",\"3\",\"0000000000000003\"]",
-            ]),
-        ),
-        (Line::Open(D), Answer::Done),
-        (
-            Line::Recover(D, PID_B, 1),
-            Answer::Refused(HubError::NotRecoverable(RecoveryRefusal::UnknownPid)),
-        ),
-        (Line::Attach(D, OF_D), Answer::Done),
-        (Line::Take(D, 64), Answer::Texts(&[CONNECTED_D])),
-    ];
-    expect_chat_over_seals(&rt, AMPLE, &LINES)
-}
+both 1024 64 8388608 1024 4096 120000 1 /
+# A session is lost too long.
+cast / r @3 ["say","r","1"]
+  Some(1) 1 0 [2]
+take 2 64
+  2["say","r","1","0000000000000001"]
+at 1000
+park 2
+cast / r @3 ["say","r","2"]
+  Some(2) 0 0 []
+cast / r @3 ["say","r","3"]
+  Some(3) 0 0 []
+at 121001
+open 7
+recover 7 / 6 1
+  ! NotRecoverable(Expired)
+attach 7 / 8 9
+take 7 64
+  0{"sid":"00000000000000000000000000000008","pid":"00000000000000000000000000000009"}
 
-#[test]
-fn a_session_is_lost_too_long(rt: HostRuntime) -> Result<(), HubError> {
-    static LINES: [(Line, Answer); 11] = [
-        (
-            Line::Say(OF_A, "[\"say\",\"r\",\"1\"]"),
-            Answer::Cast(Some(1), 1, 0),
-        ),
-        (
-            Line::Take(B, 64),
-            Answer::Texts(&["2[\"say\",\"r\",\"1\",\"0000000000000001\"]"]),
-        ),
-        (Line::At(1000), Answer::Done),
-        (Line::Park(B), Answer::Done),
-        (
-            Line::Say(OF_A, "[\"say\",\"r\",\"2\"]"),
-            Answer::Cast(Some(2), 0, 0),
-        ),
-        (
-            Line::Say(OF_A, "[\"say\",\"r\",\"3\"]"),
-            Answer::Cast(Some(3), 0, 0),
-        ),
-        (Line::At(121001), Answer::Done),
-        (Line::Open(C), Answer::Done),
-        (
-            Line::Recover(C, PID_B, 1),
-            Answer::Refused(HubError::NotRecoverable(RecoveryRefusal::Expired)),
-        ),
-        (Line::Attach(C, OF_C), Answer::Done),
-        (Line::Take(C, 64), Answer::Texts(&[CONNECTED_C])),
-    ];
-    expect_chat_over_seals(&rt, AMPLE, &LINES)
-}
+both 1024 64 8388608 2 4096 120000 1 /
+# The offset is gone.
+cast / r @3 ["say","r","1"]
+  Some(1) 1 0 [2]
+take 2 64
+  2["say","r","1","0000000000000001"]
+park 2
+cast / z - ["say","z","2"]
+  Some(2) 0 0 []
+cast / z - ["say","z","3"]
+  Some(3) 0 0 []
+open 7
+recover 7 / 6 1
+  ! NotRecoverable(OffsetGone)
+attach 7 / 8 9
+take 7 64
+  0{"sid":"00000000000000000000000000000008","pid":"00000000000000000000000000000009"}
 
-#[test]
-fn the_offset_is_gone(rt: HostRuntime) -> Result<(), HubError> {
-    static LINES: [(Line, Answer); 9] = [
-        (
-            Line::Say(OF_A, "[\"say\",\"r\",\"1\"]"),
-            Answer::Cast(Some(1), 1, 0),
-        ),
-        (
-            Line::Take(B, 64),
-            Answer::Texts(&["2[\"say\",\"r\",\"1\",\"0000000000000001\"]"]),
-        ),
-        (Line::Park(B), Answer::Done),
-        (
-            Line::Elsewhere("[\"say\",\"z\",\"2\"]"),
-            Answer::Cast(Some(2), 0, 0),
-        ),
-        (
-            Line::Elsewhere("[\"say\",\"z\",\"3\"]"),
-            Answer::Cast(Some(3), 0, 0),
-        ),
-        (Line::Open(C), Answer::Done),
-        (
-            Line::Recover(C, PID_B, 1),
-            Answer::Refused(HubError::NotRecoverable(RecoveryRefusal::OffsetGone)),
-        ),
-        (Line::Attach(C, OF_C), Answer::Done),
-        (Line::Take(C, 64), Answer::Texts(&[CONNECTED_C])),
-    ];
-    const LIMITS: Limits = Limits { log: 2, ..AMPLE };
-    expect_chat_over_seals(&rt, LIMITS, &LINES)
-}
+both 1024 2 8388608 1024 4096 120000 1 /
+# What was missed has no place.
+cast / r @3 ["say","r","1"]
+  Some(1) 1 0 [2]
+take 2 64
+  2["say","r","1","0000000000000001"]
+at 1000
+park 2
+cast / r @3 ["say","r","2"]
+  Some(2) 0 0 []
+cast / r @3 ["say","r","3"]
+  Some(3) 0 0 []
+at 121000
+open 7
+recover 7 / 6 1
+  ! OutboxFull
+attach 7 / 8 9
+take 7 64
+  0{"sid":"00000000000000000000000000000008","pid":"00000000000000000000000000000009"}
 
-#[test]
-fn what_was_missed_has_no_place(rt: HostRuntime) -> Result<(), HubError> {
-    static LINES: [(Line, Answer); 11] = [
-        (
-            Line::Say(OF_A, "[\"say\",\"r\",\"1\"]"),
-            Answer::Cast(Some(1), 1, 0),
-        ),
-        (
-            Line::Take(B, 64),
-            Answer::Texts(&["2[\"say\",\"r\",\"1\",\"0000000000000001\"]"]),
-        ),
-        (Line::At(1000), Answer::Done),
-        (Line::Park(B), Answer::Done),
-        (
-            Line::Say(OF_A, "[\"say\",\"r\",\"2\"]"),
-            Answer::Cast(Some(2), 0, 0),
-        ),
-        (
-            Line::Say(OF_A, "[\"say\",\"r\",\"3\"]"),
-            Answer::Cast(Some(3), 0, 0),
-        ),
-        (Line::At(121000), Answer::Done),
-        (Line::Open(C), Answer::Done),
-        (
-            Line::Recover(C, PID_B, 1),
-            Answer::Refused(HubError::OutboxFull),
-        ),
-        (Line::Attach(C, OF_C), Answer::Done),
-        (Line::Take(C, 64), Answer::Texts(&[CONNECTED_C])),
-    ];
-    const LIMITS: Limits = Limits {
-        capacity: 2,
-        ..AMPLE
-    };
-    expect_chat_over_seals(&rt, LIMITS, &LINES)
-}
+both 1024 64 8388608 1024 4096 120000 1 /
+# Swept after the time to keep.
+cast / r @3 ["say","r","1"]
+  Some(1) 1 0 [2]
+at 120000
+sweep
+  0 0
+at 120001
+sweep
+  1 0
+cast / r @3 ["say","r","2"]
+  Some(2) 1 0 [2]
+take 2 64
+  2["say","r","1","0000000000000001"]
+  2["say","r","2","0000000000000002"]
+"#;
 
-#[test]
-fn what_waits_for_the_lost_is_discarded(rt: HostRuntime) -> Result<(), HubError> {
-    static LINES: [(Line, Answer); 3] = [
-        (
-            Line::Say(OF_A, "[\"say\",\"r\",\"1\"]"),
-            Answer::Cast(Some(1), 1, 0),
-        ),
-        (Line::Park(B), Answer::Done),
-        (Line::Totals([10, 3, 0, 2, 1, 0]), Answer::Done),
-    ];
-    expect_chat_of_two(&rt, AMPLE, &LINES)
-}
+pub const SESSIONS: &str = r#"both 1024 64 8388608 1024 4096 120000 1 /
+# What waits for the lost is discarded.
+cast / r @3 ["say","r","1"]
+  Some(1) 1 0 [2]
+park 2
+totals
+  10 3 0 2 1 0
 
-#[test]
-fn one_session_has_a_place(rt: HostRuntime) -> Result<(), HubError> {
-    static LINES: [(Line, Answer); 2] = [
-        (Line::Park(A), Answer::Done),
-        (Line::Park(B), Answer::Refused(HubError::SavedFull)),
-    ];
-    const LIMITS: Limits = Limits { saved: 1, ..AMPLE };
-    expect_chat_of_two(&rt, LIMITS, &LINES)
-}
+both 1024 64 8388608 1024 1 120000 1 /
+# One session has a place.
+park 1
+park 2
+  ! SavedFull
 
-#[test]
-fn swept_after_the_time_to_keep(rt: HostRuntime) -> Result<(), HubError> {
-    static LINES: [(Line, Answer); 7] = [
-        (
-            Line::Say(OF_A, "[\"say\",\"r\",\"1\"]"),
-            Answer::Cast(Some(1), 1, 0),
-        ),
-        (Line::At(120000), Answer::Done),
-        (Line::Sweep, Answer::Swept(0, 0)),
-        (Line::At(120001), Answer::Done),
-        (Line::Sweep, Answer::Swept(1, 0)),
-        (
-            Line::Say(OF_A, "[\"say\",\"r\",\"2\"]"),
-            Answer::Cast(Some(2), 1, 0),
-        ),
-        (
-            Line::Take(B, 64),
-            Answer::Texts(&[
-                "2[\"say\",\"r\",\"1\",\"0000000000000001\"]",
-                "2[\"say\",\"r\",\"2\",\"0000000000000002\"]",
-            ]),
-        ),
-    ];
-    expect_chat_over_seals(&rt, AMPLE, &LINES)
-}
+both 1024 64 8388608 1024 4096 120000 1 /
+# A sealed hub goes on.
+seal
+  8
+cast / r @3 ["say","r","1"]
+  Some(1) 1 0 [2]
+take 2 64
+  2["say","r","1","0000000000000001"]
+totals
+  10 3 0 3 0 0
+seal
+  2
+seal
+  0
 
-#[test]
-fn a_sealed_hub_goes_on(rt: HostRuntime) -> Result<(), HubError> {
-    static LINES: [(Line, Answer); 6] = [
-        (Line::Seal, Answer::Sealed(8)),
-        (
-            Line::Say(OF_A, "[\"say\",\"r\",\"1\"]"),
-            Answer::Cast(Some(1), 1, 0),
-        ),
-        (
-            Line::Take(B, 64),
-            Answer::Texts(&["2[\"say\",\"r\",\"1\",\"0000000000000001\"]"]),
-        ),
-        (Line::Totals([10, 3, 0, 3, 0, 0]), Answer::Done),
-        (Line::Seal, Answer::Sealed(2)),
-        (Line::Seal, Answer::Sealed(0)),
-    ];
-    expect_chat_of_two(&rt, AMPLE, &LINES)
-}
+both 1024 64 8388608 1024 4096 120000 1 /
+# Each offset comes once over two breaks.
+cast / r @3 ["say","r","1"]
+  Some(1) 1 0 [2]
+take 2 64
+  2["say","r","1","0000000000000001"]
+cast / r @3 ["say","r","2"]
+  Some(2) 1 0 [2]
+park 2
+cast / r @3 ["say","r","3"]
+  Some(3) 0 0 []
+open 7
+recover 7 / 6 1
+  5
+seal
+  15
+take 7 64
+  0{"sid":"00000000000000000000000000000005","pid":"00000000000000000000000000000006"}
+  2["say","r","2","0000000000000002"]
+  2["say","r","3","0000000000000003"]
+cast / r @3 ["say","r","4"]
+  Some(4) 1 0 [7]
+take 7 64
+  2["say","r","4","0000000000000004"]
+park 7
+cast / r @3 ["say","r","5"]
+  Some(5) 0 0 []
+open 8
+recover 8 / 6 4
+  5
+take 8 64
+  0{"sid":"00000000000000000000000000000005","pid":"00000000000000000000000000000006"}
+  2["say","r","5","0000000000000005"]
 
-#[test]
-fn each_offset_once_over_two_breaks(rt: HostRuntime) -> Result<(), HubError> {
-    static LINES: [(Line, Answer); 16] = [
-        (
-            Line::Say(OF_A, "[\"say\",\"r\",\"1\"]"),
-            Answer::Cast(Some(1), 1, 0),
-        ),
-        (
-            Line::Take(B, 64),
-            Answer::Texts(&["2[\"say\",\"r\",\"1\",\"0000000000000001\"]"]),
-        ),
-        (
-            Line::Say(OF_A, "[\"say\",\"r\",\"2\"]"),
-            Answer::Cast(Some(2), 1, 0),
-        ),
-        (Line::Park(B), Answer::Done),
-        (
-            Line::Say(OF_A, "[\"say\",\"r\",\"3\"]"),
-            Answer::Cast(Some(3), 0, 0),
-        ),
-        (Line::Open(C), Answer::Done),
-        (Line::Recover(C, PID_B, 1), Answer::Back(OF_B)),
-        (Line::Seal, Answer::Sealed(15)),
-        (
-            Line::Take(C, 64),
-            Answer::Texts(&[
-                CONNECTED_B,
-                "2[\"say\",\"r\",\"2\",\"0000000000000002\"]",
-                "2[\"say\",\"r\",\"3\",\"0000000000000003\"]",
-            ]),
-        ),
-        (
-            Line::Say(OF_A, "[\"say\",\"r\",\"4\"]"),
-            Answer::Cast(Some(4), 1, 0),
-        ),
-        (
-            Line::Take(C, 64),
-            Answer::Texts(&["2[\"say\",\"r\",\"4\",\"0000000000000004\"]"]),
-        ),
-        (Line::Park(C), Answer::Done),
-        (
-            Line::Say(OF_A, "[\"say\",\"r\",\"5\"]"),
-            Answer::Cast(Some(5), 0, 0),
-        ),
-        (Line::Open(D), Answer::Done),
-        (Line::Recover(D, PID_B, 4), Answer::Back(OF_B)),
-        (
-            Line::Take(D, 64),
-            Answer::Texts(&[CONNECTED_B, "2[\"say\",\"r\",\"5\",\"0000000000000005\"]"]),
-        ),
-    ];
-    expect_chat_of_two(&rt, AMPLE, &LINES)
-}
-
-#[test]
-fn what_was_taken_and_lost_is_sent_again(rt: HostRuntime) -> Result<(), HubError> {
-    static LINES: [(Line, Answer); 16] = [
-        (
-            Line::Say(OF_A, "[\"say\",\"r\",\"1\"]"),
-            Answer::Cast(Some(1), 1, 0),
-        ),
-        (
-            Line::Take(B, 64),
-            Answer::Texts(&["2[\"say\",\"r\",\"1\",\"0000000000000001\"]"]),
-        ),
-        (
-            Line::Say(OF_A, "[\"say\",\"r\",\"2\"]"),
-            Answer::Cast(Some(2), 1, 0),
-        ),
-        (Line::Park(B), Answer::Done),
-        (
-            Line::Say(OF_A, "[\"say\",\"r\",\"3\"]"),
-            Answer::Cast(Some(3), 0, 0),
-        ),
-        (Line::Open(C), Answer::Done),
-        (Line::Recover(C, PID_B, 1), Answer::Back(OF_B)),
-        (Line::Seal, Answer::Sealed(15)),
-        (
-            Line::Take(C, 64),
-            Answer::Texts(&[
-                CONNECTED_B,
-                "2[\"say\",\"r\",\"2\",\"0000000000000002\"]",
-                "2[\"say\",\"r\",\"3\",\"0000000000000003\"]",
-            ]),
-        ),
-        (
-            Line::Say(OF_A, "[\"say\",\"r\",\"4\"]"),
-            Answer::Cast(Some(4), 1, 0),
-        ),
-        (
-            Line::Take(C, 64),
-            Answer::Texts(&["2[\"say\",\"r\",\"4\",\"0000000000000004\"]"]),
-        ),
-        (Line::Park(C), Answer::Done),
-        (
-            Line::Say(OF_A, "[\"say\",\"r\",\"5\"]"),
-            Answer::Cast(Some(5), 0, 0),
-        ),
-        (Line::Open(D), Answer::Done),
-        (Line::Recover(D, PID_B, 3), Answer::Back(OF_B)),
-        (
-            Line::Take(D, 64),
-            Answer::Texts(&[
-                CONNECTED_B,
-                "2[\"say\",\"r\",\"4\",\"0000000000000004\"]",
-                "2[\"say\",\"r\",\"5\",\"0000000000000005\"]",
-            ]),
-        ),
-    ];
-    expect_chat_of_two(&rt, AMPLE, &LINES)
-}
+both 1024 64 8388608 1024 4096 120000 1 /
+# What was taken and lost is sent again.
+cast / r @3 ["say","r","1"]
+  Some(1) 1 0 [2]
+take 2 64
+  2["say","r","1","0000000000000001"]
+cast / r @3 ["say","r","2"]
+  Some(2) 1 0 [2]
+park 2
+cast / r @3 ["say","r","3"]
+  Some(3) 0 0 []
+open 7
+recover 7 / 6 1
+  5
+seal
+  15
+take 7 64
+  0{"sid":"00000000000000000000000000000005","pid":"00000000000000000000000000000006"}
+  2["say","r","2","0000000000000002"]
+  2["say","r","3","0000000000000003"]
+cast / r @3 ["say","r","4"]
+  Some(4) 1 0 [7]
+take 7 64
+  2["say","r","4","0000000000000004"]
+park 7
+cast / r @3 ["say","r","5"]
+  Some(5) 0 0 []
+open 8
+recover 8 / 6 3
+  5
+take 8 64
+  0{"sid":"00000000000000000000000000000005","pid":"00000000000000000000000000000006"}
+  2["say","r","4","0000000000000004"]
+  2["say","r","5","0000000000000005"]
+"#;

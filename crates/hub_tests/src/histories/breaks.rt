@@ -9,9 +9,9 @@ use super::listener::{Listener, offset_of, since};
 use super::random::Random;
 use super::stage::Stage;
 use super::tally::raise;
+use crate::chats::PARTS;
 use crate::made::{Limits, config};
 use crate::rig::new_rig;
-use crate::tasks::PARTS;
 use journal::HubError;
 use replay::{due_casts, heard};
 use std::alloc::Global;
@@ -27,7 +27,6 @@ const LIMITS: Limits = Limits {
     keep: 60,
     first_offset: 1,
     spaces: &SPACES,
-    sealed: false,
 };
 
 /// Three listeners who have no session yet, one of them in another namespace.

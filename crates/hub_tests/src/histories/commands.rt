@@ -8,9 +8,9 @@ use super::entries::{are_same_broadcasts, are_same_sessions};
 use super::random::Random;
 use super::run::Run;
 use super::tally::{NOTHING, Tally};
+use crate::chats::PARTS;
 use crate::made::{Limits, config};
 use crate::rig::{Rig, new_rig};
-use crate::tasks::PARTS;
 use journal::{Base, HubError};
 use recovery::{Logged, Saved};
 use replay::{log, sessions};
@@ -27,7 +27,6 @@ const LIMITS: Limits = Limits {
     keep: 40,
     first_offset: 1,
     spaces: &SPACES,
-    sealed: false,
 };
 
 /// Seals the hub, and says whether its new base has the sessions and the log that the slow program
