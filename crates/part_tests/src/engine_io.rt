@@ -1,198 +1,153 @@
+//! Packets of Engine.IO, ids, and the digits of numbers.
+
+use crate::play::{Part, play};
 use eio_wire::{
     Numbers, Packet, WireError, id_text, open_text, read_id, read_packet, read_payload,
     write_packet, write_payload,
 };
 use std::alloc::Global;
-use std::process::Abort;
-use std::test::Fail;
-use terms::{Bytes, Text};
+use terms::{Text, write_digits};
 
-// Asks again where memory was refused: of a run's allocations at most one is, so the second answer
-// is that of ample memory.
-fn ample<T: Drop, F: Fn() -> Result<T, WireError>>(call: F) -> Result<T, WireError>
-    requires { F.IsAlwaysCallable call }
-{
-    match call() {
-        Err(WireError::Memory) => call(),
-        answer => answer,
+/// A packet's type and what it holds.
+type Held = (char, &'static [u8]);
+
+/// What is read, or written.
+pub enum Row {
+    /// A text is read as this packet, which is written as the same text.
+    Packet(&'static str, Held),
+    /// A payload of these packets, likewise.
+    Payload(&'static str, &'static [Held]),
+    /// Messages of these texts are written.
+    Messages(&'static [&'static str]),
+    /// The open packet of the client 1, which polls or not.
+    Open(bool, &'static str),
+}
+
+type Rows = &'static [(Row, Result<bool, WireError>)];
+
+const YES: Result<bool, WireError> = Ok(true);
+
+/// The reader and the writer.
+#[derive(Drop)]
+struct Wire;
+
+impl Part for Wire {
+    type Row = Row;
+
+    type Fault = WireError;
+
+    const MEMORY: WireError = WireError::Memory;
+
+    fn act(&mut self, alloc: Global, row: &Row) -> Result<bool, WireError> {
+        Ok(match row {
+            Row::Packet(text, want) => {
+                let packet = read_packet(alloc, text)?;
+                holds(&packet, *want) && write_packet(alloc, &packet)?.as_str() == *text
+            }
+            Row::Payload(text, want) => {
+                let packets = read_payload(alloc, text)?;
+                packets.len() == want.len()
+                    && packets
+                        .iter()
+                        .zip(*want)
+                        .all(|(packet, held)| holds(packet, *held))
+                    && write_payload(alloc, packets.as_slice())?.as_str() == *text
+            }
+            Row::Messages(texts) => {
+                let messages = messages(alloc, texts)?;
+                write_payload(alloc, messages.as_slice())?.is_empty()
+            }
+            Row::Open(polling, want) => {
+                open_text(alloc, 1, *polling, &NUMBERS)?.as_str() == *want
+            }
+        })
     }
 }
 
-// A packet's type and what it holds.
-fn parts(packet: &Packet) -> (char, &[u8]) {
-    match packet {
-        Packet::Open(text) => ('0', text.as_str().as_bytes()),
-        Packet::Close(text) => ('1', text.as_str().as_bytes()),
-        Packet::Ping(text) => ('2', text.as_str().as_bytes()),
-        Packet::Pong(text) => ('3', text.as_str().as_bytes()),
-        Packet::Message(text) => ('4', text.as_str().as_bytes()),
-        Packet::Binary(bytes) => ('b', bytes.as_slice()),
-        Packet::Upgrade(text) => ('5', text.as_str().as_bytes()),
-        Packet::Noop(text) => ('6', text.as_str().as_bytes()),
-    }
-}
+const NUMBERS: Numbers = Numbers {
+    ping_interval: 25_000,
+    ping_timeout: 20_000,
+    max_payload: 1_000_000,
+};
 
-fn read(alloc: Global, text: &str) -> Result<Packet, WireError> {
-    ample(|| read_packet(alloc, text))
-}
-
-fn write(alloc: Global, packet: &Packet) -> Result<String, WireError> {
-    ample(|| write_packet(alloc, packet))
-}
-
-/// Whether the text is read as a packet with these parts, which is written as the same text.
-fn is_packet(alloc: Global, text: &str, kind: char, held: &[u8]) -> Result<bool, WireError> {
-    let packet = read(alloc, text)?;
-    is_written(alloc, &packet, text, kind, held)
-}
-
-fn is_written(
-    alloc: Global,
-    packet: &Packet,
-    text: &str,
-    kind: char,
-    held: &[u8],
-) -> Result<bool, WireError> {
-    Ok(has_parts(packet, kind, held) && write(alloc, packet)?.as_str() == text)
-}
-
-fn has_parts(packet: &Packet, kind: char, held: &[u8]) -> bool {
-    parts(packet) == (kind, held)
-}
-
-#[test]
-fn texts(rt: HostRuntime) -> Result<(), Fail> {
-    static CASES: [(&str, char, &[u8]); 7] = [
-        ("0{}", '0', b"{}"),
-        ("1", '1', b""),
-        ("2", '2', b""),
-        ("3probe", '3', b"probe"),
-        ("4", '4', b""),
-        ("5", '5', b""),
-        ("6", '6', b""),
-    ];
-    for (text, kind, held) in CASES.iter() {
-        assert!(rt; is_packet(rt.alloc(), text, *kind, held)?, "at {text}");
-    }
-    Ok(())
-}
-
-// RFC 4648's vectors, and the last two symbols of its alphabet.
-#[test]
-fn base64(rt: HostRuntime) -> Result<(), Fail> {
-    static CASES: [(&str, &[u8]); 4] = [
-        ("b", b""),
-        ("bAQI=", b"\x01\x02"),
-        ("bZm9vYmFy", b"foobar"),
-        ("b+//+", b"\xfb\xff\xfe"),
-    ];
-    for (text, held) in CASES.iter() {
-        assert!(rt; is_packet(rt.alloc(), text, 'b', held)?, "at {text}");
-    }
-    Ok(())
-}
-
-#[test]
-fn faults(rt: HostRuntime) {
-    static CASES: [(&str, WireError); 7] = [
-        ("", WireError::Empty),
-        ("4a\u{1e}", WireError::Empty),
-        ("9x", WireError::BadType),
-        ("\u{e9}", WireError::BadType),
-        ("2\u{1e}B\u{1e}\u{1e}b-", WireError::BadType),
-        ("bAQI", WireError::BadBase64),
-        ("bAQ", WireError::BadBase64),
-    ];
-    for (text, fault) in CASES.iter() {
-        assert!(rt; fault_of(rt.alloc(), text) == Some(*fault), "of {text}");
-    }
-}
-
-fn fault_of(alloc: Global, text: &str) -> Option<WireError> {
-    read_all(alloc, text).err()
-}
-
-fn read_all(alloc: Global, text: &str) -> Result<Vec<Packet>, WireError> {
-    ample(|| read_payload(alloc, text))
-}
-
-fn write_all(alloc: Global, packets: &[Packet]) -> Result<String, WireError> {
-    ample(|| write_payload(alloc, packets))
-}
-
-#[test]
-fn payloads(rt: HostRuntime) -> Result<(), Fail> {
-    let packets = read_all(rt.alloc(), TEXT)?;
-    expect_parts(&rt, packets.as_slice());
-    assert!(rt; are_written(rt.alloc(), packets.as_slice())?);
-    Ok(())
-}
-
-static TEXT: &str = "4hello\u{1e}2\u{1e}4world\u{1e}bAQIDBA==";
-
-fn are_written(alloc: Global, packets: &[Packet]) -> Result<bool, WireError> {
-    Ok(write_all(alloc, packets)?.as_str() == TEXT)
-}
-
-fn expect_parts(rt: &impl Abort, packets: &[Packet]) {
-    static WANT: [(char, &[u8]); 4] = [
-        ('4', b"hello"),
-        ('2', b""),
-        ('4', b"world"),
-        ('b', b"\x01\x02\x03\x04"),
-    ];
-    assert!(rt; packets.len() == WANT.len());
-    for (packet, (kind, held)) in packets.iter().zip(WANT.iter()) {
-        assert!(rt; has_parts(packet, *kind, held));
-    }
-}
-
-fn unwritten(alloc: Global, packets: &[Packet]) -> Option<WireError> {
-    write_all(alloc, packets).err()
-}
-
-#[test]
-fn payloads_that_are_not_written(rt: HostRuntime) {
-    let alloc = rt.alloc();
-    assert!(rt; unwritten(alloc, &[]) == Some(WireError::Empty));
-    if let Ok(broken) = Text::copy_of(alloc, "a\u{1e}") {
-        let broken = [Packet::Message(broken)];
-        assert!(rt; unwritten(alloc, &broken) == Some(WireError::Separator));
-    }
-}
-
-// The open packet of the client 1 that polls or not.
-fn open_packet(alloc: Global, polling: bool) -> Result<String, WireError> {
-    const NUMBERS: Numbers = Numbers {
-        ping_interval: 25_000,
-        ping_timeout: 20_000,
-        max_payload: 1_000_000,
+/// Whether the packet is of this type and holds this.
+fn holds(packet: &Packet, want: Held) -> bool {
+    let (kind, text) = match packet {
+        Packet::Open(text) => ('0', text),
+        Packet::Close(text) => ('1', text),
+        Packet::Ping(text) => ('2', text),
+        Packet::Pong(text) => ('3', text),
+        Packet::Message(text) => ('4', text),
+        Packet::Upgrade(text) => ('5', text),
+        Packet::Noop(text) => ('6', text),
+        Packet::Binary(bytes) => return want == ('b', bytes.as_slice()),
     };
-    ample(|| open_text(alloc, 1, polling, &NUMBERS))
+    want == (kind, text.as_str().as_bytes())
+}
+
+fn messages(alloc: Global, texts: &[&str]) -> Result<Vec<Packet>, WireError> {
+    let mut packets = Vec::new(alloc);
+    for text in texts {
+        packets.push(Packet::Message(Text::copy_of(alloc, text)?))?;
+    }
+    Ok(packets)
 }
 
 #[test]
-fn open_packet_of_polling(rt: HostRuntime) -> Result<(), Fail> {
-    let text = open_packet(rt.alloc(), true)?;
-    assert!(rt;
-        text.as_str()
-            == "0{\"sid\":\"00000000000000000000000000000001\",\"upgrades\":[\"websocket\"],\"pingInterval\":25000,\"pingTimeout\":20000,\"maxPayload\":1000000}"
-    );
-    Ok(())
-}
-
-#[test]
-fn open_packet_of_a_socket(rt: HostRuntime) -> Result<(), Fail> {
-    let text = open_packet(rt.alloc(), false)?;
-    assert!(rt;
-        text.as_str()
-            == "0{\"sid\":\"00000000000000000000000000000001\",\"upgrades\":[],\"pingInterval\":25000,\"pingTimeout\":20000,\"maxPayload\":1000000}"
-    );
-    Ok(())
-}
-
-fn is_id(id: u128, digits: &str) -> bool {
-    id_text(id).as_slice() == digits.as_bytes() && read_id(digits) == Some(id)
+fn packets(rt: HostRuntime) {
+    static PACKETS: Rows = &[
+        (Row::Packet("0{}", ('0', b"{}")), YES),
+        (Row::Packet("1", ('1', b"")), YES),
+        (Row::Packet("2", ('2', b"")), YES),
+        (Row::Packet("3probe", ('3', b"probe")), YES),
+        (Row::Packet("4", ('4', b"")), YES),
+        (Row::Packet("5", ('5', b"")), YES),
+        (Row::Packet("6", ('6', b"")), YES),
+        // RFC 4648's vectors, and the last two symbols of its alphabet.
+        (Row::Packet("b", ('b', b"")), YES),
+        (Row::Packet("bAQI=", ('b', b"\x01\x02")), YES),
+        (Row::Packet("bZm9vYmFy", ('b', b"foobar")), YES),
+        (Row::Packet("b+//+", ('b', b"\xfb\xff\xfe")), YES),
+        (
+            Row::Payload(
+                "4hello\u{1e}2\u{1e}4world\u{1e}bAQIDBA==",
+                &[
+                    ('4', b"hello"),
+                    ('2', b""),
+                    ('4', b"world"),
+                    ('b', b"\x01\x02\x03\x04"),
+                ],
+            ),
+            YES,
+        ),
+        (Row::Payload("", &[]), Err(WireError::Empty)),
+        (Row::Payload("4a\u{1e}", &[]), Err(WireError::Empty)),
+        (Row::Payload("9x", &[]), Err(WireError::BadType)),
+        (Row::Payload("\u{e9}", &[]), Err(WireError::BadType)),
+        (
+            Row::Payload("2\u{1e}B\u{1e}\u{1e}b-", &[]),
+            Err(WireError::BadType),
+        ),
+        (Row::Payload("bAQI", &[]), Err(WireError::BadBase64)),
+        (Row::Payload("bAQ", &[]), Err(WireError::BadBase64)),
+        (Row::Messages(&[]), Err(WireError::Empty)),
+        (Row::Messages(&["a\u{1e}"]), Err(WireError::Separator)),
+        (
+            Row::Open(
+                true,
+                "0{\"sid\":\"00000000000000000000000000000001\",\"upgrades\":[\"websocket\"],\"pingInterval\":25000,\"pingTimeout\":20000,\"maxPayload\":1000000}",
+            ),
+            YES,
+        ),
+        (
+            Row::Open(
+                false,
+                "0{\"sid\":\"00000000000000000000000000000001\",\"upgrades\":[],\"pingInterval\":25000,\"pingTimeout\":20000,\"maxPayload\":1000000}",
+            ),
+            YES,
+        ),
+    ];
+    play(&rt, &mut Wire, PACKETS);
 }
 
 #[test]
@@ -205,12 +160,9 @@ fn ids(rt: HostRuntime) {
         (u128::MAX, "ffffffffffffffffffffffffffffffff"),
     ];
     for (id, digits) in IDS.iter() {
-        assert!(rt; is_id(*id, digits), "of {digits}");
+        assert!(rt; id_text(*id).as_slice() == digits.as_bytes(), "of {digits}");
+        assert!(rt; read_id(digits) == Some(*id), "of {digits}");
     }
-}
-
-#[test]
-fn texts_of_no_id(rt: HostRuntime) {
     static NONE: [&str; 6] = [
         "0123456789abcdef0000000000000ff",
         "0123456789abcdef000000000000000ff",
@@ -221,5 +173,22 @@ fn texts_of_no_id(rt: HostRuntime) {
     ];
     for text in NONE.iter() {
         assert!(rt; read_id(text) == None, "of {text}");
+    }
+}
+
+// The last four digits of a number.
+#[test]
+fn digits_of_numbers(rt: HostRuntime) {
+    static CASES: [(u128, &[u8]); 5] = [
+        (0, b"0000"),
+        (1, b"0001"),
+        (10, b"000a"),
+        (0xbeef, b"beef"),
+        (0x1_2345, b"2345"),
+    ];
+    for (number, want) in CASES.iter() {
+        let mut text = [0u8; 4];
+        write_digits(*number, &mut text);
+        assert!(rt; text.as_slice() == *want, "of {number}");
     }
 }

@@ -1,16 +1,13 @@
-//! Tests of the wire formats and of the hub's parts: one module for each crate.
+//! Tests of the wire formats and of the hub's parts. A case is a row of a table, which says what is
+//! called and what it answers.
 #![tactic(auto)]
 
 #[cfg(test)]
-mod clock;
-#[cfg(test)]
-mod digits;
-#[cfg(test)]
 mod engine_io;
 #[cfg(test)]
-mod line;
+mod lines;
 #[cfg(test)]
-mod questions;
+mod play;
 #[cfg(test)]
 mod rooms;
 #[cfg(test)]

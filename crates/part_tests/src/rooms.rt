@@ -1,388 +1,301 @@
+//! Which sockets are in which rooms.
+
+use crate::play::{Part, play};
 use room_maps::{Room, RoomError, Rooms, Sid};
-use std::alloc::Global;
-use std::process::Abort;
+use std::alloc::{AllocError, Global};
 
-static LONGEST: &str = "0123456789012345678901234567890123456789012345678901234567890123";
+/// A room, by its name or as the own one of a socket.
+#[derive(Clone, Copy)]
+pub enum At {
+    Named(&'static str),
+    Own(u128),
+}
 
-/// A room named by a text that is short enough.
-fn room(name: &str) -> Room {
-    match Room::read(name) {
-        Some(room) => room,
-        None => Room::own(Sid::new(0)),
+const Q: At = At::Named("q");
+
+const R: At = At::Named("r");
+
+const YES: Result<bool, RoomError> = Ok(true);
+
+type Rows = &'static [(Row, Result<bool, RoomError>)];
+
+/// What is called, with what it answers last.
+#[derive(Clone, Copy)]
+pub enum Row {
+    Enter(u128),
+    EnterAll(u128, &'static [At]),
+    Join(u128, At),
+    Leave(u128, At),
+    End(u128),
+    JoinAll(&'static [u128], At, &'static [u128]),
+    LeaveAll(&'static [u128], At, &'static [u128]),
+    /// By the call and by both maps.
+    IsIn(u128, At, bool),
+    RoomsOf(u128, &'static [At]),
+    MembersOf(At, &'static [u128]),
+    /// Of those in one of these rooms, or all where none is named, those in none of the others.
+    Addressees(&'static [At], &'static [At], &'static [u128]),
+    /// How many sockets and how many rooms there are.
+    Sizes(usize, usize),
+}
+
+/// A room whose name is short.
+fn room(at: At) -> Room {
+    match at {
+        At::Named(name) => Room::read(name).unwrap_or(Room::own(Sid::new(0))),
+        At::Own(sid) => Room::own(Sid::new(sid)),
     }
 }
 
-/// Socket 1 in its own room, also where the first try has no memory.
-fn one_socket(alloc: Global) -> Rooms {
-    let mut rooms = Rooms::new(alloc);
-    if rooms.enter(alloc, Sid::new(1)).is_err()
-        && !rooms.is_in(Sid::new(1), Room::own(Sid::new(1)))
-    {
-        rooms.enter(alloc, Sid::new(1)).is_ok();
+fn rooms(alloc: Global, places: &[At]) -> Result<Vec<Room>, AllocError> {
+    let mut list = Vec::new(alloc);
+    for at in places {
+        list.push(room(*at))?;
     }
-    rooms
+    Ok(list)
 }
 
-fn is_list<T: PartialEq + Copy>(answer: Result<Vec<T>, RoomError>, want: &[T]) -> bool {
-    match answer {
-        Ok(list) => list.as_slice() == want,
-        Err(_) => false,
+fn sids(alloc: Global, numbers: &[u128]) -> Result<Vec<Sid>, AllocError> {
+    let mut list = Vec::new(alloc);
+    for number in numbers {
+        list.push(Sid::new(*number))?;
     }
+    Ok(list)
 }
 
-/// Whether the call answers this, at the second try where the first has no memory.
-fn are_rooms_of(rooms: &Rooms, alloc: Global, sid: Sid, want: &[Room]) -> bool {
-    match rooms.rooms_of(alloc, sid) {
-        Err(RoomError::Memory) => is_list(rooms.rooms_of(alloc, sid), want),
-        answer => is_list(answer, want),
-    }
-}
+impl Part for Rooms {
+    type Row = Row;
 
-fn are_members(rooms: &Rooms, alloc: Global, room: Room, want: &[Sid]) -> bool {
-    match rooms.members_of(alloc, room) {
-        Err(RoomError::Memory) => is_list(rooms.members_of(alloc, room), want),
-        answer => is_list(answer, want),
-    }
-}
+    type Fault = RoomError;
 
-fn are_addressees(
-    rooms: &Rooms,
-    alloc: Global,
-    named: &[Room],
-    excepted: &[Room],
-    want: &[Sid],
-) -> bool {
-    match rooms.addressees(alloc, named, excepted) {
-        Err(RoomError::Memory) => is_list(rooms.addressees(alloc, named, excepted), want),
-        answer => is_list(answer, want),
-    }
-}
+    const MEMORY: RoomError = RoomError::Memory;
 
-/// Sockets 1 to 3, each in its own room.
-fn three_sockets(alloc: Global) -> Rooms {
-    let mut rooms = one_socket(alloc);
-    for sid in [Sid::new(2), Sid::new(3)] {
-        if rooms.enter(alloc, sid).is_err() {
-            rooms.enter(alloc, sid).is_ok();
+    /// The pairs of both maps.
+    fn size(&self) -> usize {
+        let (by_socket, by_room) = self.mirrors();
+        let mut pairs = 0usize;
+        for rooms in by_socket.values() {
+            pairs = pairs.saturating_add(rooms.len());
         }
-    }
-    rooms
-}
-
-/// Who is in a room before a call on many sockets, and whom the call answers.
-#[derive(Drop)]
-struct Change<'a> {
-    room: Room,
-    members: &'a [Sid],
-    answer: &'a [Sid],
-}
-
-/// Whether the sockets join as told. Where the first try has no memory, nothing has changed, and
-/// the second one answers.
-fn join_together(rooms: &mut Rooms, alloc: Global, sids: &[Sid], change: Change<'_>) -> bool {
-    match rooms.join_all(alloc, sids, change.room) {
-        Err(RoomError::Memory) => {
-            are_members(rooms, alloc, change.room, change.members)
-                && is_list(rooms.join_all(alloc, sids, change.room), change.answer)
+        for sids in by_room.values() {
+            pairs = pairs.saturating_add(sids.len());
         }
-        answer => is_list(answer, change.answer),
+        pairs
+    }
+
+    fn act(&mut self, alloc: Global, row: &Row) -> Result<bool, RoomError> {
+        match row {
+            Row::Enter(sid) => self.enter(alloc, Sid::new(*sid))?,
+            Row::EnterAll(sid, all) => {
+                self.enter_all(alloc, Sid::new(*sid), rooms(alloc, all)?.as_slice())?;
+            }
+            Row::Join(sid, at) => self.join(alloc, Sid::new(*sid), room(*at))?,
+            Row::Leave(sid, at) => self.leave(Sid::new(*sid), room(*at))?,
+            Row::End(sid) => self.end(Sid::new(*sid))?,
+            _ => return tells(self, alloc, row),
+        }
+        Ok(true)
     }
 }
 
-fn leave_together(rooms: &mut Rooms, alloc: Global, sids: &[Sid], change: Change<'_>) -> bool {
-    match rooms.leave_all(alloc, sids, change.room) {
-        Err(RoomError::Memory) => {
-            are_members(rooms, alloc, change.room, change.members)
-                && is_list(rooms.leave_all(alloc, sids, change.room), change.answer)
+/// Whether the call gives what the row says.
+fn tells(maps: &mut Rooms, alloc: Global, row: &Row) -> Result<bool, RoomError> {
+    let (given, want) = match row {
+        Row::JoinAll(all, at, want) => {
+            let all = sids(alloc, all)?;
+            (maps.join_all(alloc, all.as_slice(), room(*at))?, want)
         }
-        answer => is_list(answer, change.answer),
-    }
+        Row::LeaveAll(all, at, want) => {
+            let all = sids(alloc, all)?;
+            (maps.leave_all(alloc, all.as_slice(), room(*at))?, want)
+        }
+        Row::MembersOf(at, want) => (maps.members_of(alloc, room(*at))?, want),
+        Row::Addressees(named, excepted, want) => {
+            let (named, excepted) = (rooms(alloc, named)?, rooms(alloc, excepted)?);
+            let given = maps.addressees(alloc, named.as_slice(), excepted.as_slice())?;
+            (given, want)
+        }
+        Row::RoomsOf(sid, want) => {
+            let given = maps.rooms_of(alloc, Sid::new(*sid))?;
+            return Ok(given.as_slice() == rooms(alloc, want)?.as_slice());
+        }
+        Row::IsIn(sid, at, want) => return Ok(is_in(maps, Sid::new(*sid), room(*at), *want)),
+        Row::Sizes(sockets, named) => {
+            let (by_socket, by_room) = maps.mirrors();
+            return Ok(by_socket.len() == *sockets && by_room.len() == *named);
+        }
+        _ => return Ok(false),
+    };
+    Ok(are(given.as_slice(), want))
 }
+
+/// Whether these are the sockets.
+fn are(given: &[Sid], want: &[u128]) -> bool {
+    given.len() == want.len()
+        && given
+            .iter()
+            .zip(want)
+            .all(|(sid, number)| sid.number() == *number)
+}
+
+/// Whether the call and each map have the socket in the room, or none has.
+fn is_in(maps: &Rooms, sid: Sid, room: Room, want: bool) -> bool {
+    let (by_socket, by_room) = maps.mirrors();
+    let inside = by_socket
+        .get(&sid)
+        .is_some_and(|rooms| rooms.contains(&room));
+    let member = by_room.get(&room).is_some_and(|sids| sids.contains(&sid));
+    [maps.is_in(sid, room), inside, member] == [want; 3]
+}
+
+const LONGEST: &str = "0123456789012345678901234567890123456789012345678901234567890123";
 
 #[test]
 fn names_of_rooms(rt: HostRuntime) {
     assert!(rt; Room::read("").is_some());
-    assert!(rt; room(LONGEST).bytes() == LONGEST.as_bytes());
+    assert!(rt; room(At::Named(LONGEST)).bytes() == LONGEST.as_bytes());
     assert!(rt;
         Room::read("01234567890123456789012345678901234567890123456789012345678901234").is_none()
     );
-    assert!(rt; Room::own(Sid::new(0xab)).bytes() == "000000000000000000000000000000ab".as_bytes());
+    assert!(rt; room(At::Own(0xab)).bytes() == "000000000000000000000000000000ab".as_bytes());
 }
 
 #[test]
 fn calls_and_refusals(rt: HostRuntime) {
-    let mut rooms = one_socket(rt.alloc());
-    let (one, two, r) = (Sid::new(1), Sid::new(2), room("r"));
-    expect_joined(&rt, &mut rooms, one, r);
-    expect_refusals(&rt, &mut rooms, one, two, r);
-    expect_ended(&rt, &mut rooms, one, r);
-}
-
-fn expect_joined(rt: &(impl Abort + AllocGlobal), rooms: &mut Rooms, one: Sid, r: Room) {
-    let alloc = rt.alloc();
-    let mut joined = rooms.join(alloc, one, r);
-    if joined == Err(RoomError::Memory) {
-        assert!(rt; !rooms.is_in(one, r));
-        assert!(rt; are_members(rooms, alloc, r, &[]));
-        joined = rooms.join(alloc, one, r);
-    }
-    assert!(rt; joined == Ok(()));
-    assert!(rt; rooms.is_in(one, r));
-    assert!(rt; rooms.join(alloc, one, r) == Err(RoomError::AlreadyIn));
-    assert!(rt; is_inside(rooms, alloc, one, r));
-}
-
-/// Whether the socket is in its own room and this one, in which nobody else is.
-fn is_inside(rooms: &Rooms, alloc: Global, one: Sid, r: Room) -> bool {
-    are_rooms_of(rooms, alloc, one, &[Room::own(one), r])
-        && are_members(rooms, alloc, r, &[one])
-        && are_addressees(rooms, alloc, &[r], &[r], &[])
-}
-
-fn expect_refusals(
-    rt: &(impl Abort + AllocGlobal),
-    rooms: &mut Rooms,
-    one: Sid,
-    two: Sid,
-    r: Room,
-) {
-    let alloc = rt.alloc();
-    assert!(rt; rooms.leave(one, Room::own(one)) == Err(RoomError::OwnRoom));
-    assert!(rt; rooms.leave(one, room("q")) == Err(RoomError::NotIn));
-    assert!(rt; rooms.join(alloc, two, r) == Err(RoomError::UnknownSocket));
-    assert!(rt; rooms.enter(alloc, one) == Err(RoomError::SidTaken));
-}
-
-fn expect_ended(rt: &(impl Abort + AllocGlobal), rooms: &mut Rooms, one: Sid, r: Room) {
-    assert!(rt; rooms.end(one) == Ok(()));
-    assert!(rt; are_members(rooms, rt.alloc(), r, &[]));
-    assert!(rt; rooms.end(one) == Err(RoomError::UnknownSocket));
+    static ROWS: Rows = &[
+        (Row::Enter(1), YES),
+        (Row::Join(1, R), YES),
+        (Row::IsIn(1, R, true), YES),
+        (Row::Join(1, R), Err(RoomError::AlreadyIn)),
+        (Row::RoomsOf(1, &[At::Own(1), R]), YES),
+        (Row::MembersOf(R, &[1]), YES),
+        (Row::Addressees(&[R], &[R], &[]), YES),
+        (Row::Leave(1, At::Own(1)), Err(RoomError::OwnRoom)),
+        (Row::Leave(1, Q), Err(RoomError::NotIn)),
+        (Row::Join(2, R), Err(RoomError::UnknownSocket)),
+        (Row::Enter(1), Err(RoomError::SidTaken)),
+        (Row::End(1), YES),
+        (Row::MembersOf(R, &[]), YES),
+        (Row::End(1), Err(RoomError::UnknownSocket)),
+    ];
+    play(&rt, &mut Rooms::new(rt.alloc()), ROWS);
 }
 
 #[test]
 fn broadcasts(rt: HostRuntime) {
-    let mut rooms = one_socket(rt.alloc());
-    let (one, two, q, r) = (Sid::new(1), Sid::new(2), room("q"), room("r"));
-    expect_entered(
-        &rt,
-        &mut rooms,
-        two,
-        &[r, Room::own(two), q, Room::own(one), r],
-    );
-    expect_addressed(&rt, &rooms, [one, two], [q, r]);
-    assert!(rt; rooms.leave(two, r) == Ok(()));
-    assert!(rt; are_addressees(&rooms, rt.alloc(), &[r], &[], &[]));
+    static ROWS: Rows = &[
+        (Row::Enter(1), YES),
+        (
+            Row::Addressees(&[R, At::Own(2), Q, At::Own(1), R], &[], &[1]),
+            YES,
+        ),
+        (Row::End(2), Err(RoomError::UnknownSocket)),
+        (Row::EnterAll(2, &[R, At::Own(2), Q, At::Own(1), R]), YES),
+        (Row::RoomsOf(2, &[At::Own(1), At::Own(2), Q, R]), YES),
+        // Where no room is named everybody is addressed, but for those in excepted rooms.
+        (Row::Addressees(&[], &[], &[1, 2]), YES),
+        (Row::Addressees(&[], &[Q], &[1]), YES),
+        (Row::Addressees(&[R, At::Own(1), Q], &[], &[1, 2]), YES),
+        (Row::Addressees(&[R, At::Own(1)], &[Q], &[1]), YES),
+        (Row::Leave(2, R), YES),
+        (Row::Addressees(&[R], &[], &[]), YES),
+    ];
+    play(&rt, &mut Rooms::new(rt.alloc()), ROWS);
 }
 
-/// Beside socket 1, this one enters all the rooms.
-fn expect_entered(rt: &(impl Abort + AllocGlobal), rooms: &mut Rooms, two: Sid, all: &[Room]) {
-    let alloc = rt.alloc();
-    let mut entered = rooms.enter_all(alloc, two, all);
-    if entered == Err(RoomError::Memory) {
-        assert!(rt; are_addressees(rooms, alloc, all, &[], &[Sid::new(1)]));
-        assert!(rt; rooms.end(two) == Err(RoomError::UnknownSocket));
-        entered = rooms.enter_all(alloc, two, all);
-    }
-    assert!(rt; entered == Ok(()));
-}
-
-fn expect_addressed(
-    rt: &(impl Abort + AllocGlobal),
-    rooms: &Rooms,
-    sids: [Sid; 2],
-    named: [Room; 2],
-) {
-    let alloc = rt.alloc();
-    let ([one, two], [q, r]) = (sids, named);
-    assert!(rt; are_rooms_of(rooms, alloc, two, &[Room::own(one), Room::own(two), q, r]));
-    assert!(rt; are_addressed_by_all(rooms, alloc, sids, q));
-    assert!(rt; are_addressed_by_rooms(rooms, alloc, sids, [q, r, Room::own(one)]));
-}
-
-/// Whether both are addressed where no room is named, and only the first where `q` is excepted.
-fn are_addressed_by_all(rooms: &Rooms, alloc: Global, sids: [Sid; 2], q: Room) -> bool {
-    are_addressees(rooms, alloc, &[], &[], &sids)
-        && are_addressees(rooms, alloc, &[], &[q], &sids[..1])
-}
-
-fn are_addressed_by_rooms(rooms: &Rooms, alloc: Global, sids: [Sid; 2], named: [Room; 3]) -> bool {
-    let [q, r, own] = named;
-    are_addressees(rooms, alloc, &[r, own, q], &[], &sids)
-        && are_addressees(rooms, alloc, &[r, own], &[q], &sids[..1])
-}
+static THREE: Rows = &[
+    (Row::Enter(1), YES),
+    (Row::Enter(2), YES),
+    (Row::Enter(3), YES),
+];
 
 #[test]
 fn many_sockets(rt: HostRuntime) {
-    let mut rooms = three_sockets(rt.alloc());
-    expect_joined_together(&rt, &mut rooms, room("r"));
-    expect_mirrored(&rt, &rooms, room("r"), room("q"));
-    expect_left_together(&rt, &mut rooms, room("r"));
-    expect_refused_together(&rt, &mut rooms, room("r"));
-}
-
-fn expect_joined_together(rt: &(impl Abort + AllocGlobal), rooms: &mut Rooms, r: Room) {
-    let alloc = rt.alloc();
-    let (one, two, three) = (Sid::new(1), Sid::new(2), Sid::new(3));
-    let rows: [(&[Sid], &[Sid], &[Sid]); 5] = [
-        (&[], &[], &[]),
-        (&[three, one, three], &[], &[one, three]),
-        (&[one], &[one, three], &[]),
-        (&[three, two, one], &[one, three], &[two]),
-        (&[], &[one, two, three], &[]),
+    static JOINED: Rows = &[
+        (Row::JoinAll(&[], R, &[]), YES),
+        (Row::MembersOf(R, &[]), YES),
+        (Row::JoinAll(&[3, 1, 3], R, &[1, 3]), YES),
+        (Row::MembersOf(R, &[1, 3]), YES),
+        (Row::JoinAll(&[1], R, &[]), YES),
+        (Row::MembersOf(R, &[1, 3]), YES),
+        (Row::JoinAll(&[3, 2, 1], R, &[2]), YES),
+        (Row::JoinAll(&[], R, &[]), YES),
+        (Row::MembersOf(R, &[1, 2, 3]), YES),
+        (Row::RoomsOf(2, &[At::Own(2), R]), YES),
+        (Row::Sizes(3, 4), YES),
+        (Row::IsIn(1, R, true), YES),
+        (Row::IsIn(2, R, true), YES),
+        (Row::IsIn(3, R, true), YES),
+        (Row::IsIn(1, Q, false), YES),
     ];
-    for (sids, members, answer) in rows {
-        let change = Change {
-            room: r,
-            members,
-            answer,
-        };
-        assert!(rt; join_together(rooms, alloc, sids, change));
-    }
-    assert!(rt; are_members(rooms, alloc, r, &[one, two, three]));
-    assert!(rt; are_rooms_of(rooms, alloc, two, &[Room::own(two), r]));
-}
-
-/// Both maps have the three sockets in `r`, and nobody in `q`.
-fn expect_mirrored(rt: &impl Abort, rooms: &Rooms, r: Room, q: Room) {
-    let (of_socket, of_room) = rooms.mirrors();
-    assert!(rt; of_socket.len() == 3);
-    assert!(rt; of_room.len() == 4);
-    assert!(rt; of_room.get(&q).is_none());
-    for number in 1..4u64 {
-        assert!(rt; is_mirrored(rooms, Sid::new(u128::from(number)), r));
-    }
-}
-
-/// Whether each map has the socket in `r`.
-fn is_mirrored(rooms: &Rooms, sid: Sid, r: Room) -> bool {
-    let (of_socket, of_room) = rooms.mirrors();
-    of_socket
-        .get(&sid)
-        .is_some_and(|inside| inside.contains(&r))
-        && of_room
-            .get(&r)
-            .is_some_and(|members| members.contains(&sid))
-}
-
-fn expect_left_together(rt: &(impl Abort + AllocGlobal), rooms: &mut Rooms, r: Room) {
-    let alloc = rt.alloc();
-    let (one, two, three) = (Sid::new(1), Sid::new(2), Sid::new(3));
-    let rows: [(&[Sid], &[Sid], &[Sid]); 4] = [
-        (&[], &[one, two, three], &[]),
-        (&[two, one, two], &[one, two, three], &[one, two]),
-        (&[one, three], &[three], &[three]),
-        (&[one, two, three], &[], &[]),
+    static LEFT: Rows = &[
+        (Row::LeaveAll(&[], R, &[]), YES),
+        (Row::MembersOf(R, &[1, 2, 3]), YES),
+        (Row::LeaveAll(&[2, 1, 2], R, &[1, 2]), YES),
+        (Row::MembersOf(R, &[3]), YES),
+        (Row::LeaveAll(&[1, 3], R, &[3]), YES),
+        (Row::MembersOf(R, &[]), YES),
+        (Row::LeaveAll(&[1, 2, 3], R, &[]), YES),
+        (Row::MembersOf(R, &[]), YES),
+        (Row::RoomsOf(2, &[At::Own(2)]), YES),
     ];
-    for (sids, members, answer) in rows {
-        let change = Change {
-            room: r,
-            members,
-            answer,
-        };
-        assert!(rt; leave_together(rooms, alloc, sids, change));
+    // Nobody is in `r` now, and there is no socket 9.
+    static REFUSED: Rows = &[
+        (Row::JoinAll(&[1, 9], R, &[]), Err(RoomError::UnknownSocket)),
+        (
+            Row::LeaveAll(&[9, 1], R, &[]),
+            Err(RoomError::UnknownSocket),
+        ),
+        (
+            Row::LeaveAll(&[2, 1], At::Own(1), &[]),
+            Err(RoomError::OwnRoom),
+        ),
+        (
+            Row::LeaveAll(&[1, 9], At::Own(1), &[]),
+            Err(RoomError::UnknownSocket),
+        ),
+        (Row::MembersOf(R, &[]), YES),
+    ];
+    // Socket 1's own room is one that others join and leave.
+    static GUESTS: Rows = &[
+        (Row::MembersOf(At::Own(1), &[1]), YES),
+        (Row::JoinAll(&[2, 1], At::Own(1), &[2]), YES),
+        (Row::MembersOf(At::Own(1), &[1, 2]), YES),
+        (Row::LeaveAll(&[2], At::Own(1), &[2]), YES),
+        (Row::MembersOf(At::Own(1), &[1]), YES),
+    ];
+    let mut maps = Rooms::new(rt.alloc());
+    for rows in [THREE, JOINED, LEFT, REFUSED, GUESTS] {
+        play(&rt, &mut maps, rows);
     }
-    assert!(rt; are_members(rooms, alloc, r, &[]));
-    assert!(rt; are_rooms_of(rooms, alloc, two, &[Room::own(two)]));
-}
-
-/// Nobody is in `r`, and there is no socket 9.
-fn expect_refused_together(rt: &(impl Abort + AllocGlobal), rooms: &mut Rooms, r: Room) {
-    let alloc = rt.alloc();
-    let (one, two, nine) = (Sid::new(1), Sid::new(2), Sid::new(9));
-    let own = Room::own(one);
-    assert!(rt; refuses_to_join(rooms, alloc, &[one, nine], r, RoomError::UnknownSocket));
-    assert!(rt; refuses_to_leave(rooms, alloc, &[nine, one], r, RoomError::UnknownSocket));
-    assert!(rt; refuses_to_leave(rooms, alloc, &[two, one], own, RoomError::OwnRoom));
-    assert!(rt; refuses_to_leave(rooms, alloc, &[one, nine], own, RoomError::UnknownSocket));
-    assert!(rt; are_members(rooms, alloc, r, &[]));
-    expect_guests(rt, rooms, own);
-}
-
-fn refuses_to_join(
-    rooms: &mut Rooms,
-    alloc: Global,
-    sids: &[Sid],
-    room: Room,
-    want: RoomError,
-) -> bool {
-    rooms.join_all(alloc, sids, room).err() == Some(want)
-}
-
-fn refuses_to_leave(
-    rooms: &mut Rooms,
-    alloc: Global,
-    sids: &[Sid],
-    room: Room,
-    want: RoomError,
-) -> bool {
-    rooms.leave_all(alloc, sids, room).err() == Some(want)
-}
-
-/// Socket 1's own room is one that others join and leave.
-fn expect_guests(rt: &(impl Abort + AllocGlobal), rooms: &mut Rooms, own: Room) {
-    let alloc = rt.alloc();
-    let (one, two) = (Sid::new(1), Sid::new(2));
-    let joined = Change {
-        room: own,
-        members: &[one],
-        answer: &[two],
-    };
-    assert!(rt; join_together(rooms, alloc, &[two, one], joined));
-    let left = Change {
-        room: own,
-        members: &[one, two],
-        answer: &[two],
-    };
-    assert!(rt; leave_together(rooms, alloc, &[two], left));
-    assert!(rt; are_members(rooms, alloc, own, &[one]));
 }
 
 // Its name puts it behind the other tests, since it allocates some hundred times.
 #[test]
 fn too_many_rooms(rt: HostRuntime) {
-    let mut rooms = three_sockets(rt.alloc());
-    expect_full(&rt, &mut rooms, Sid::new(1));
-    expect_full_together(&rt, &mut rooms, room("r"));
-}
-
-fn expect_full(rt: &(impl Abort + AllocGlobal), rooms: &mut Rooms, one: Sid) {
-    let alloc = rt.alloc();
+    // Socket 1 is full, and in the own room of 1000; socket 2 isn't, and there is no socket 9.
+    static FULL: Rows = &[
+        (Row::Join(1, R), Err(RoomError::TooManyRooms)),
+        (Row::JoinAll(&[2, 1], R, &[]), Err(RoomError::TooManyRooms)),
+        (Row::JoinAll(&[1, 9], R, &[]), Err(RoomError::UnknownSocket)),
+        (Row::MembersOf(R, &[]), YES),
+    ];
+    // It leaves this room, which then has socket 2 alone, and has a place for another.
+    static PLACE_MADE: Rows = &[
+        (Row::MembersOf(At::Own(1000), &[1]), YES),
+        (Row::JoinAll(&[1, 2], At::Own(1000), &[2]), YES),
+        (Row::Leave(1, At::Own(1000)), YES),
+        (Row::IsIn(1, At::Own(1000), false), YES),
+        (Row::MembersOf(At::Own(1000), &[2]), YES),
+        (Row::MembersOf(R, &[]), YES),
+        (Row::JoinAll(&[2, 1], R, &[1, 2]), YES),
+    ];
+    let mut maps = Rooms::new(rt.alloc());
+    play(&rt, &mut maps, THREE);
     for number in 1000u64..1255 {
-        let named = Room::own(Sid::new(u128::from(number)));
-        if rooms.join(alloc, one, named).is_err() {
-            assert!(rt; rooms.join(alloc, one, named) == Ok(()));
-        }
+        let own = At::Own(u128::from(number));
+        play(&rt, &mut maps, &[(Row::Join(1, own), YES)]);
     }
-    assert!(rt; rooms.join(alloc, one, room("r")) == Err(RoomError::TooManyRooms));
-}
-
-/// Socket 1 is full, and in the own room of 1000, socket 2 isn't, and there is no socket 9.
-fn expect_full_together(rt: &(impl Abort + AllocGlobal), rooms: &mut Rooms, r: Room) {
-    let alloc = rt.alloc();
-    let (one, two, nine) = (Sid::new(1), Sid::new(2), Sid::new(9));
-    let inside = Room::own(Sid::new(1000));
-    assert!(rt; refuses_to_join(rooms, alloc, &[two, one], r, RoomError::TooManyRooms));
-    assert!(rt; refuses_to_join(rooms, alloc, &[one, nine], r, RoomError::UnknownSocket));
-    assert!(rt; are_members(rooms, alloc, r, &[]));
-    expect_place_made(rt, rooms, inside, r);
-}
-
-/// Socket 1 leaves this room, which then has socket 2 alone, and has a place for another.
-fn expect_place_made(rt: &(impl Abort + AllocGlobal), rooms: &mut Rooms, inside: Room, r: Room) {
-    let alloc = rt.alloc();
-    let (one, two) = (Sid::new(1), Sid::new(2));
-    let joined = Change {
-        room: inside,
-        members: &[one],
-        answer: &[two],
-    };
-    assert!(rt; join_together(rooms, alloc, &[one, two], joined));
-    assert!(rt; rooms.leave(one, inside) == Ok(()));
-    assert!(rt; !rooms.is_in(one, inside));
-    let last = Change {
-        room: r,
-        members: &[],
-        answer: &[one, two],
-    };
-    assert!(rt; join_together(rooms, alloc, &[two, one], last));
+    play(&rt, &mut maps, FULL);
+    play(&rt, &mut maps, PLACE_MADE);
 }

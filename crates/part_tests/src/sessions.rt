@@ -1,205 +1,228 @@
-//! What no clause says: that the calls succeed, with moments and offsets from outside, and that a
-//! refused growth changes nothing. `rt try --test --fail-alloc N` refuses one growth of the whole
-//! run, so each second try succeeds.
+//! The log and the saved sessions: moments and offsets from outside.
 
-use recovery::{Logged, PacketLog, Pid, RecoveryError, Saved, SavedTable};
-use room_maps::{Room, Sid};
+ghost use Rattle.std.specs.Prelude.{◌≤◌};
+
+use crate::play::{Part, play};
+use recovery::{PacketLog, Pid, RecoveryError, Saved, SavedTable};
+use room_maps::Sid;
 use sio_wire::{Attachments, Entry};
 use std::alloc::Global;
-use std::process::Abort;
 use std::sync::Arc;
 use terms::Text;
 
-fn entry(alloc: Global) -> Option<Arc<Entry>> {
-    let text = Text::copy_of(alloc, "2[\"x\"]").ok()?;
+/// What is called, with what it answers last.
+pub enum Row {
+    /// What is pushed at a moment gets these offsets, from one to another.
+    Push(u64, u64, u64),
+    /// Of the offsets below the first number those from the second to the third stand in the log.
+    Stand(u64, u64, u64),
+    /// What a socket in no room misses after an offset.
+    Missed(u64, &'static [u64]),
+    Next(Option<u64>),
+    /// The session of a socket that was lost at a moment; its private id is one more.
+    Save(u64, u64),
+    /// The session with this private id, at a moment, of those that are kept so long.
+    Find(u64, u64, u64),
+    Remove(u64),
+    HasSid(u64, bool),
+    HasPid(u64, bool),
+    /// Of the log or the table: so many were older, and are dropped.
+    Sweep(u64, u64, usize),
+    Len(usize),
+    List(&'static [u64]),
+}
+
+type Rows = &'static [(Row, Result<bool, RecoveryError>)];
+
+const YES: Result<bool, RecoveryError> = Ok(true);
+
+impl Part for PacketLog {
+    type Row = Row;
+
+    type Fault = RecoveryError;
+
+    const MEMORY: RecoveryError = RecoveryError::Memory;
+
+    fn size(&self) -> usize {
+        self.len()
+    }
+
+    fn act(&mut self, alloc: Global, row: &Row) -> Result<bool, RecoveryError> {
+        Ok(match row {
+            Row::Push(at, first, last) => return push(self, alloc, *at, *first, *last),
+            Row::Stand(below, first, last) => stand(self, *below, *first, *last),
+            Row::Missed(after, want) => self.missed(alloc, *after, 0, &[])?.as_slice() == *want,
+            Row::Next(want) => self.next() == *want,
+            Row::Sweep(now, keep, many) => self.sweep(*now, *keep) == *many,
+            Row::Len(want) => self.len() == *want,
+            Row::List(want) => {
+                let all = self.list(alloc)?;
+                all.len() == want.len() && all.iter().zip(*want).all(|(one, n)| one.offset == *n)
+            }
+            _ => false,
+        })
+    }
+}
+
+fn push(
+    log: &mut PacketLog,
+    alloc: Global,
+    at: u64,
+    first: u64,
+    last: u64,
+) -> Result<bool, RecoveryError> {
+    let text = Text::copy_of(alloc, "2[\"x\"]")?;
     let attachments = Attachments::new(alloc);
-    Arc::new(alloc, Entry { text, attachments }).ok()
+    let entry = Arc::new(alloc, Entry { text, attachments })?;
+    for want in first..=last {
+        let Ok(shared) = Arc::try_clone(&entry) else {
+            return Ok(false);
+        };
+        if log.push(at, 0, Vec::new(alloc), Vec::new(alloc), shared)? != want {
+            return Ok(false);
+        }
+    }
+    Ok(true)
 }
 
-fn some_entry(alloc: Global) -> Option<Arc<Entry>> {
-    match entry(alloc) {
-        Some(entry) => Some(entry),
-        None => entry(alloc),
+fn stand(log: &PacketLog, below: u64, first: u64, last: u64) -> bool {
+    for offset in 0..below {
+        if log.find(offset).is_some() != (first <= offset && offset <= last) {
+            return false;
+        }
+    }
+    true
+}
+
+impl Part for SavedTable {
+    type Row = Row;
+
+    type Fault = RecoveryError;
+
+    const MEMORY: RecoveryError = RecoveryError::Memory;
+
+    fn size(&self) -> usize {
+        self.len()
+    }
+
+    fn act(&mut self, alloc: Global, row: &Row) -> Result<bool, RecoveryError> {
+        Ok(match row {
+            Row::Save(id, lost_at) => return save(self, alloc, *id, *lost_at),
+            Row::Find(pid, now, keep) => {
+                let pid = Pid::new(u128::from(*pid));
+                self.find(pid, *now, *keep)?.pid == pid
+            }
+            Row::Remove(pid) => {
+                let pid = Pid::new(u128::from(*pid));
+                self.remove(pid)?.pid == pid
+            }
+            Row::HasSid(sid, want) => self.has_sid(Sid::new(u128::from(*sid))) == *want,
+            Row::HasPid(pid, want) => self.has_pid(Pid::new(u128::from(*pid))) == *want,
+            Row::Sweep(now, keep, many) => self.sweep(*now, *keep) == *many,
+            Row::Len(want) => self.len() == *want,
+            Row::List(want) => {
+                let all = self.list(alloc)?;
+                all.len() == want.len()
+                    && all
+                        .iter()
+                        .zip(*want)
+                        .all(|(one, n)| one.pid.number() == u128::from(*n))
+            }
+            _ => false,
+        })
     }
 }
 
-fn log_of_three(alloc: Global) -> Option<PacketLog> {
-    match PacketLog::new(alloc, 3, 1) {
-        Ok(log) => Some(log),
-        Err(_) => PacketLog::new(alloc, 3, 1).ok(),
+/// Saves a session. A growth that is refused leaves nothing behind.
+fn save(
+    table: &mut SavedTable,
+    alloc: Global,
+    id: u64,
+    lost_at: u64,
+) -> Result<bool, RecoveryError> {
+    let (before, sid) = (table.len(), Sid::new(u128::from(id)));
+    let saved = table.save(
+        alloc,
+        Saved {
+            sid,
+            pid: Pid::new(u128::from(id) + 1),
+            space: 0,
+            rooms: Vec::new(alloc),
+            lost_at,
+        },
+    );
+    if saved == Err(RecoveryError::Memory) && (table.len() != before || table.has_sid(sid)) {
+        return Ok(false);
     }
+    saved?;
+    Ok(true)
 }
 
-/// Logs a broadcast to everybody in the first namespace.
-fn push(alloc: Global, log: &mut PacketLog, entry: &Arc<Entry>, at: u64) -> Option<u64> {
-    let shared = Arc::try_clone(entry).ok()?;
-    log.push(at, 0, Vec::new(alloc), Vec::new(alloc), shared)
-        .ok()
-}
-
-fn session(alloc: Global, id: u64, lost_at: u64) -> Saved {
-    Saved {
-        sid: Sid::new(u128::from(id)),
-        pid: Pid::new(u128::from(id) + 1),
-        space: 0,
-        rooms: Vec::new(alloc),
-        lost_at,
+/// A log of at most so many broadcasts, the first with this offset.
+fn log(alloc: Global, limit: usize, first: u64) -> Result<PacketLog, RecoveryError>
+    requires limit { 1 ≤ limit }
+    requires first { 1 ≤ first }
+{
+    match PacketLog::new(alloc, limit, first) {
+        Err(_) => PacketLog::new(alloc, limit, first),
+        log => log,
     }
-}
-
-fn save(alloc: Global, table: &mut SavedTable, id: u64, lost_at: u64) -> bool {
-    let before = table.len();
-    if table.save(alloc, session(alloc, id, lost_at)).is_ok() {
-        return true;
-    }
-    // The refused growth left nothing behind.
-    if table.len() != before || table.has_sid(Sid::new(u128::from(id))) {
-        return false;
-    }
-    table.save(alloc, session(alloc, id, lost_at)).is_ok()
-}
-
-/// A log and an entry for it.
-fn log_and_entry(alloc: Global) -> Option<(PacketLog, Arc<Entry>)> {
-    Some((log_of_three(alloc)?, some_entry(alloc)?))
 }
 
 #[test]
-fn ten_thousand_pushes_into_a_log_of_three(rt: HostRuntime) {
-    match log_and_entry(rt.alloc()) {
-        Some((mut log, entry)) => expect_last_three(&rt, &mut log, &entry),
-        None => assert!(rt; false, "no log"),
-    }
-}
-
-fn expect_last_three(rt: &(impl Abort + AllocGlobal), log: &mut PacketLog, entry: &Arc<Entry>) {
-    for want in 1..=10_000u64 {
-        assert!(rt;
-            push(rt.alloc(), log, entry, 0) == Some(want),
-            "push {want}"
-        );
-    }
-    assert!(rt; log.len() == 3);
-    for offset in 0..10_010u64 {
-        let stands = 9_998 <= offset && offset <= 10_000;
-        assert!(rt; log.find(offset).is_some() == stands, "offset {offset}");
-    }
-}
-
-#[test]
-fn the_greatest_offset(rt: HostRuntime) {
+fn logs(rt: HostRuntime) -> Result<(), RecoveryError> {
+    static LAST_THREE: Rows = &[
+        (Row::Push(0, 1, 10_000), YES),
+        (Row::Len(3), YES),
+        (Row::Stand(10_010, 9_998, 10_000), YES),
+    ];
+    static MISSED: Rows = &[
+        (Row::Push(0, 1, 2), YES),
+        (Row::Push(1, 3, 3), YES),
+        (Row::Push(2, 4, 4), YES),
+        (Row::Missed(1, &[]), Err(RecoveryError::OffsetGone)),
+        (Row::Missed(2, &[3, 4]), YES),
+        (Row::List(&[2, 3, 4]), YES),
+        (Row::Sweep(120_000, 120_000, 0), YES),
+        (Row::Sweep(120_001, 120_000, 1), YES),
+        (Row::Next(Some(5)), YES),
+    ];
+    static GREATEST_OFFSET: Rows = &[
+        (Row::Next(Some(u64::MAX)), YES),
+        (Row::Push(0, u64::MAX, u64::MAX), YES),
+        (Row::Next(None), YES),
+        (Row::Push(0, 0, 0), Err(RecoveryError::Spent)),
+        (Row::Missed(u64::MAX, &[]), YES),
+        (Row::List(&[u64::MAX]), YES),
+    ];
+    play(&rt, &mut log(rt.alloc(), 3, 1)?, LAST_THREE);
+    play(&rt, &mut log(rt.alloc(), 3, 1)?, MISSED);
+    play(&rt, &mut log(rt.alloc(), 1, u64::MAX)?, GREATEST_OFFSET);
     assert!(rt; PacketLog::new(rt.alloc(), usize::MAX, 1).is_err());
-    match last_log_and_entry(rt.alloc()) {
-        Some((mut log, entry)) => expect_greatest(&rt, &mut log, &entry),
-        None => assert!(rt; false, "no log"),
-    }
-}
-
-/// A log whose first offset is the greatest, and an entry for it.
-fn last_log_and_entry(alloc: Global) -> Option<(PacketLog, Arc<Entry>)> {
-    let log = match PacketLog::new(alloc, 1, u64::MAX) {
-        Ok(log) => log,
-        Err(_) => PacketLog::new(alloc, 1, u64::MAX).ok()?,
-    };
-    Some((log, some_entry(alloc)?))
-}
-
-fn expect_greatest(rt: &(impl Abort + AllocGlobal), log: &mut PacketLog, entry: &Arc<Entry>) {
-    assert!(rt; log.next() == Some(u64::MAX));
-    assert!(rt; push(rt.alloc(), log, entry, 0) == Some(u64::MAX));
-    assert!(rt; log.next() == None);
-    assert!(rt; push(rt.alloc(), log, entry, 0) == None);
-    assert!(rt; log.find(u64::MAX).is_some());
-}
-
-#[test]
-fn missed_and_swept(rt: HostRuntime) {
-    match log_and_entry(rt.alloc()) {
-        Some((mut log, entry)) => expect_missed(&rt, &mut log, &entry),
-        None => assert!(rt; false, "no log"),
-    }
-}
-
-fn expect_missed(rt: &(impl Abort + AllocGlobal), log: &mut PacketLog, entry: &Arc<Entry>) {
-    let alloc = rt.alloc();
-    for at in [0, 0, 1, 2] {
-        assert!(rt; push(alloc, log, entry, at).is_some());
-    }
-    assert!(rt; log.missed(alloc, 1, 0, &[]).is_err());
-    assert!(rt; misses(alloc, log, 2, &[3, 4]));
-    assert!(rt; lists_three(alloc, log));
-    assert!(rt; log.sweep(120_000, 120_000) == 0);
-    assert!(rt; log.sweep(120_001, 120_000) == 1);
-    assert!(rt; log.next() == Some(5));
-}
-
-/// Whether these offsets are missed, at the second try where the first has no memory and leaves
-/// the log as it was.
-fn misses(alloc: Global, log: &PacketLog, after: u64, want: &[u64]) -> bool {
-    match log.missed(alloc, after, 0, &[]) {
-        Ok(offsets) => offsets.as_slice() == want,
-        Err(_) if log.len() != 3 => false,
-        Err(_) => match log.missed(alloc, after, 0, &[]) {
-            Ok(offsets) => offsets.as_slice() == want,
-            Err(_) => false,
-        },
-    }
-}
-
-fn lists_three(alloc: Global, log: &PacketLog) -> bool {
-    match log.list(alloc) {
-        Ok(list) => list.len() == 3,
-        Err(_) if log.len() != 3 => false,
-        Err(_) => match log.list(alloc) {
-            Ok(list) => list.len() == 3,
-            Err(_) => false,
-        },
-    }
+    Ok(())
 }
 
 #[test]
 fn sessions(rt: HostRuntime) {
-    let mut table = SavedTable::new(rt.alloc(), 2);
-    expect_saved(&rt, &mut table);
-    expect_found(&rt, &table);
-    assert!(rt; lists_two(rt.alloc(), &table));
-    expect_swept(&rt, &mut table);
-}
-
-fn expect_saved(rt: &(impl Abort + AllocGlobal), table: &mut SavedTable) {
-    let alloc = rt.alloc();
-    assert!(rt; save(alloc, table, 5, 1_000));
-    assert!(rt; save(alloc, table, 3, 2_000));
-    assert!(rt; table.save(alloc, session(alloc, 5, 0)) == Err(RecoveryError::PidTaken));
-    assert!(rt; table.save(alloc, session(alloc, 7, 0)) == Err(RecoveryError::TableFull));
-}
-
-fn expect_found(rt: &impl Abort, table: &SavedTable) {
-    assert!(rt; table.find(Pid::new(6), 121_000, 120_000).is_ok());
-    assert!(rt; table.find(Pid::new(6), 121_001, 120_000).is_err());
-    assert!(rt; table.find(Pid::new(6), u64::MAX, u64::MAX).is_ok());
-    assert!(rt; table.has_sid(Sid::new(3)) && !table.has_sid(Sid::new(4)));
-}
-
-/// Whether both sessions are listed, at the second try where the first has no memory and leaves
-/// the table as it was.
-fn lists_two(alloc: Global, table: &SavedTable) -> bool {
-    match table.list(alloc) {
-        Ok(list) => list.len() == 2 && list[0].pid == Pid::new(4),
-        Err(_) if table.len() != 2 => false,
-        Err(_) => match table.list(alloc) {
-            Ok(list) => list.len() == 2 && list[0].pid == Pid::new(4),
-            Err(_) => false,
-        },
-    }
-}
-
-fn expect_swept(rt: &impl Abort, table: &mut SavedTable) {
-    assert!(rt; table.sweep(121_000, 120_000) == 0);
-    assert!(rt; table.sweep(121_001, 120_000) == 1);
-    assert!(rt; !table.has_sid(Sid::new(5)));
-    assert!(rt; table.has_pid(Pid::new(4)) && !table.has_pid(Pid::new(6)));
-    assert!(rt; table.remove(Pid::new(4)).is_ok());
-    assert!(rt; table.remove(Pid::new(4)).is_err());
-    assert!(rt; table.len() == 0);
+    static ROWS: Rows = &[
+        (Row::Save(5, 1_000), YES),
+        (Row::Save(3, 2_000), YES),
+        (Row::Save(5, 0), Err(RecoveryError::PidTaken)),
+        (Row::Save(7, 0), Err(RecoveryError::TableFull)),
+        (Row::Find(6, 121_000, 120_000), YES),
+        (Row::Find(6, 121_001, 120_000), Err(RecoveryError::Expired)),
+        (Row::Find(6, u64::MAX, u64::MAX), YES),
+        (Row::HasSid(3, true), YES),
+        (Row::HasSid(4, false), YES),
+        (Row::List(&[4, 6]), YES),
+        (Row::Sweep(121_000, 120_000, 0), YES),
+        (Row::Sweep(121_001, 120_000, 1), YES),
+        (Row::HasSid(5, false), YES),
+        (Row::HasPid(4, true), YES),
+        (Row::HasPid(6, false), YES),
+        (Row::Remove(4), YES),
+        (Row::Remove(4), Err(RecoveryError::UnknownPid)),
+        (Row::Len(0), YES),
+    ];
+    play(&rt, &mut SavedTable::new(rt.alloc(), 2), ROWS);
 }
