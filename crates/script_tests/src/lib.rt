@@ -1,25 +1,14 @@
-//! Tests of scripts: whole scripts over memory, and devices that fail.
+//! Tests of scripts over devices that fail, scripts in pieces, and long ones. `script_corpus` plays the
+//! others.
 #![tactic(auto)]
 
 #[cfg(test)]
-mod clients;
-#[cfg(test)]
 mod devices;
-#[cfg(test)]
-mod epochs;
-#[cfg(test)]
-mod events;
 #[cfg(test)]
 mod expected;
 #[cfg(test)]
-mod limits;
-#[cfg(test)]
 mod lines;
 #[cfg(test)]
-mod payloads;
+mod long;
 #[cfg(test)]
-mod sessions;
-#[cfg(test)]
-mod sockets;
-#[cfg(test)]
-mod upkeep;
+mod refused;
