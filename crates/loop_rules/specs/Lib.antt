@@ -1,5 +1,6 @@
 pub mod Deadlines
 pub mod Frames
 pub mod Ids
+pub mod Looks
 pub mod Owners
 pub mod Turns

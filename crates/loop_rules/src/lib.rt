@@ -5,11 +5,13 @@
 mod deadlines;
 mod frames;
 mod ids;
+mod looks;
 mod owners;
 mod turns;
 
 pub use deadlines::{Overdue, Part, find_overdue};
 pub use frames::left_after_message;
 pub use ids::{LOOPS, loop_of, marked};
+pub use looks::{Found, Look, LookState, Pause};
 pub use owners::{dealt_to, owner_of};
 pub use turns::{Turn, Verdict};

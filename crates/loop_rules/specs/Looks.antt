@@ -1,0 +1,135 @@
+-- When a connection may rest.
+use Rattle.std.specs.Prelude.{◌≡◌, ◌≢◌, ℕ, Bool, true, false, ◌&&◌, List, [], ◌∷◌, cond}
+use Rattle.loop_rules.specs.declared.looks.LookState.{LookState}
+use Rattle.loop_rules.specs.declared.looks.LookState.TheVariants as state
+use Rattle.loop_rules.specs.declared.looks.Found.{Found}
+use Rattle.loop_rules.specs.declared.looks.Found.TheVariants as found
+use Rattle.loop_rules.specs.declared.looks.Pause.{Pause}
+use Rattle.loop_rules.specs.declared.looks.Pause.TheVariants as pause
+use Rattle.loop_rules.specs.declared.turns.Verdict.{Verdict}
+use Rattle.loop_rules.specs.declared.turns.Verdict.TheVariants as verdict
+use Rattle.loop_rules.specs.Turns.{verdict_for}
+
+-- ## The table
+
+-- nothing came yet
+abbrev pub first : LookState
+first = state.Rests
+
+-- something came: one in its turn looks once more, and any other is called to its turn
+abbrev pub called : LookState → LookState
+called (state.Looks dry) = state.Stirred dry
+called (state.Stirred dry) = state.Stirred dry
+called _ = state.Called
+
+-- then it is put into the queue, unless it stands there, or it is its turn
+abbrev pub is_to_queue : LookState → Bool
+is_to_queue state.Called = false
+is_to_queue (state.Looks dry) = false
+is_to_queue (state.Stirred dry) = false
+is_to_queue _ = true
+
+-- there was no memory to queue it
+abbrev pub missed : LookState → LookState
+missed state.Called = state.Missed
+missed s = s
+
+-- its turn begins, and with it a look
+abbrev pub begun : LookState
+begun = state.Looks false
+
+abbrev pub is_dry : LookState → Bool
+is_dry (state.Looks dry) = dry
+is_dry (state.Stirred dry) = dry
+is_dry _ = false
+
+abbrev pub is_calm : LookState → Bool
+is_calm (state.Looks dry) = true
+is_calm _ = false
+
+abbrev pub is_called : LookState → Bool
+is_called state.Called = true
+is_called _ = false
+
+-- a look is over where nothing was due after a stream was found dry, or where there is nothing to do
+abbrev pub has_looked : Bool → Found → Bool
+has_looked dry found.Idle = true
+has_looked dry found.Quiet = dry
+has_looked dry _ = false
+
+abbrev pub finds_dry : Found → Bool
+finds_dry found.Dry = true
+finds_dry _ = false
+
+-- one may rest whose look is over, and for which nothing came since it began
+abbrev pub may_rest : LookState → Found → Bool
+may_rest s f = is_calm s && has_looked (is_dry s) f
+
+-- one that goes on: where its look is over, another begins
+abbrev pub going_on : LookState → Found → LookState
+going_on s f =
+    cond (has_looked (is_dry s) f) (state.Looks false)
+    (cond (is_calm s) (state.Looks (finds_dry f)) (state.Stirred (finds_dry f)))
+
+-- an event was answered, and this follows
+abbrev pub followed : LookState → Found → Verdict → LookState
+followed s f verdict.Rests = state.Rests
+followed s f verdict.Held = state.Full
+followed s f verdict.Again = state.Called
+followed s f verdict.GoesOn = going_on s f
+
+-- a turn is over in which no event was answered
+abbrev pub paused : LookState → Pause → LookState
+paused s pause.Full = state.Full
+paused s pause.Early = state.Early
+paused s pause.More = state.Called
+paused s pause.Done = cond (is_calm s) state.Rests state.Called
+
+-- ## The law
+
+-- it is called, or has more to look at
+abbrev pub is_awake : LookState → Bool
+is_awake state.Rests = false
+is_awake (state.Looks dry) = false
+is_awake _ = true
+
+-- what may happen to a connection; at an answer, how many events its turn has left, and whether it has
+-- too much unsent
+pub data Step : Type 0 where
+  Comes : Step
+  Misses : Step
+  Begins : Step
+  Follows : Found → ℕ → Bool → Step
+  Pauses : Pause → Step
+
+-- how a connection stands after such a history, of which the newest step is the first
+unfoldable pub state_after : List Step → LookState
+state_after [] = first
+state_after (Comes ∷ h) = called (state_after h)
+state_after (Misses ∷ h) = missed (state_after h)
+state_after (Begins ∷ h) = begun
+state_after (Follows f left full ∷ h) =
+    followed (state_after h) f (verdict_for left (may_rest (state_after h) f) full)
+state_after (Pauses p ∷ h) = paused (state_after h) p
+
+-- in its present look the last answer but for what came has found the stream dry
+unfoldable pub was_dry : List Step → Bool
+was_dry (Follows f left full ∷ h) = finds_dry f
+was_dry (Comes ∷ h) = was_dry h
+was_dry (Misses ∷ h) = was_dry h
+was_dry _ = false
+
+-- something came since the last look began: one begins with each turn, and where one is over
+unfoldable pub came_since_look : List Step → Bool
+came_since_look [] = false
+came_since_look (Comes ∷ h) = true
+came_since_look (Misses ∷ h) = came_since_look h
+came_since_look (Begins ∷ h) = false
+came_since_look (Follows f left full ∷ h) = cond (has_looked (was_dry h) f) false (came_since_look h)
+came_since_look (Pauses p ∷ h) = came_since_look h
+
+-- after whatever history: what stood so and for which something came since its last look began doesn't
+-- rest
+abbrev pub NeverRests : LookState → LookState → Type 0
+NeverRests old new =
+    (h : List Step) → state_after h ≡ old → came_since_look h ≡ true → new ≢ state.Rests
