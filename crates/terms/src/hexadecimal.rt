@@ -43,7 +43,8 @@ pub fn read_digits(text: &[u8]) -> Option<u128>
 fn digit_of(character: u8) -> Option<u8>
     ensures some { IfSome result (λ digit. character ≡ hexadecimal.hex_digit digit) }
     ensures fits { IfSome result (λ digit. digit < 16) }
-    ensures none { IfNone result ((digit : ℕ) → digit < 16 → character ≢ hexadecimal.hex_digit digit) }
+    ensures none { IfNone result ((digit : ℕ)
+        → digit < 16 → character ≢ hexadecimal.hex_digit digit) }
 {
     match character {
         b'0'..=b'9' => Some(character - b'0'),
@@ -54,5 +55,6 @@ fn digit_of(character: u8) -> Option<u8>
 
 /// Two numbers that fit the width differ in their digits. It has no effect.
 pub fn digits_differ()
-    ensures { (width m n : ℕ) → m < 16 ^ width → n < 16 ^ width → hex_digits width m ≡ hex_digits width n → m ≡ n }
+    ensures { (width m n : ℕ)
+        → m < 16 ^ width → n < 16 ^ width → hex_digits width m ≡ hex_digits width n → m ≡ n }
 {}
