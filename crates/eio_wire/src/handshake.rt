@@ -1,4 +1,5 @@
-//! The open packet, with which the server answers a new session (Engine.IO protocol 4, "Handshake").
+//! The open packet, with which the server answers a new session (Engine.IO protocol 4,
+//! "Handshake").
 
 ghost use Rattle.std.specs.Prelude.{◌≡◌, IfOk, IfErr, string_bytes, codes, ◌++◌};
 ghost use Rattle.std.specs.Fmt.{decimal};
@@ -30,7 +31,8 @@ pub fn open_text(
     polling: bool,
     numbers: &Numbers,
 ) -> Result<String, WireError>
-    ensures ok { IfOk result (λ text. string_bytes text ≡ open_packet_text client polling numbers.now) }
+    ensures ok { IfOk result
+        (λ text. string_bytes text ≡ open_packet_text client polling numbers.now) }
     ensures err { IfErr result (λ error. error ≡ WireError.Memory) }
 {
     let digits = id_text(client);

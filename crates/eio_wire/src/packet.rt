@@ -127,7 +127,8 @@ pub(crate) fn push_packet(text: &mut String, packet: &Packet) -> Result<(), Allo
 
 /// Adds a type and what follows it.
 fn push_typed(text: &mut String, kind: &str, rest: &Text) -> Result<(), AllocError>
-    ensures { OnOk result (string_bytes text.new ≡ string_bytes text.old ++ (kind.now ++ rest.now)) }
+    ensures { OnOk result
+        (string_bytes text.new ≡ string_bytes text.old ++ (kind.now ++ rest.now)) }
 {
     text.push_str(kind)?;
     text.push_str(rest.as_str())
@@ -145,7 +146,8 @@ fn push_binary(text: &mut String, bytes: &Bytes) -> Result<(), AllocError>
 /// Adds the base64 text of the bytes.
 fn push_base64(text: &mut String, bytes: &Bytes) -> Result<(), AllocError>
     ensures bytes { IsBytes bytes.now }
-    ensures ok { OnOk result (string_bytes text.new ≡ string_bytes text.old ++ base64_text bytes.now) }
+    ensures ok { OnOk result
+        (string_bytes text.new ≡ string_bytes text.old ++ base64_text bytes.now) }
 {
     STANDARD.encode_string(bytes.as_slice(), text)
 }

@@ -88,20 +88,24 @@ fn holds_separator(rest: &Text) -> bool
 /// Packets have at most one payload, and a text is the payload of at most one list of packets. It
 /// has no effect.
 pub fn one_payload()
-    ensures packets { (ps qs : List Packet) (text : List ℕ) → Payload ps text → Payload qs text → ps ≡ qs }
-    ensures text { (packets : List Packet) (t u : List ℕ) → Payload packets t → Payload packets u → t ≡ u }
+    ensures packets { (ps qs : List Packet) (text : List ℕ)
+        → Payload ps text → Payload qs text → ps ≡ qs }
+    ensures text { (packets : List Packet) (t u : List ℕ)
+        → Payload packets t → Payload packets u → t ≡ u }
 {}
 
 /// A text has at most one fault, and none where it is a payload. It has no effect.
 pub fn one_fault()
     ensures fault { (text : List ℕ) (e f : WireError) → HasFault text e → HasFault text f → e ≡ f }
-    ensures payload { (packets : List Packet) (text : List ℕ) (error : WireError) → Payload packets text → ¬ HasFault text error }
+    ensures payload { (packets : List Packet) (text : List ℕ) (error : WireError)
+        → Payload packets text → ¬ HasFault text error }
 {}
 
 /// A fault is one of Empty, BadType and BadBase64. It has no effect.
 pub fn faults_of_texts()
     ensures packet { (text : List ℕ) → IsTextFault (fault_of text) }
-    ensures payload { (text : List ℕ) (error : WireError) → HasFault text error → IsTextFault error }
+    ensures payload { (text : List ℕ) (error : WireError)
+        → HasFault text error → IsTextFault error }
 {}
 
 /// Packets without a separator in their data are not refused. It has no effect.
@@ -112,5 +116,6 @@ pub fn whole_data_is_written()
 
 /// Packets that are refused have no payload. It has no effect.
 pub fn payloads_or_refusals()
-    ensures { (packets : List Packet) (text : List ℕ) (error : WireError) → Payload packets text → ¬ IsRefused packets error }
+    ensures { (packets : List Packet) (text : List ℕ) (error : WireError)
+        → Payload packets text → ¬ IsRefused packets error }
 {}
