@@ -11,4 +11,5 @@ connected_text space sid pid = codes "0" ++ space_text space
 
 -- a CONNECT_ERROR packet with a message
 abbrev pub refused_text : List ℕ → List ℕ → List ℕ
-refused_text space message = codes "4" ++ space_text space ++ codes "{\"message\":" ++ quoted message ++ codes "}"
+refused_text space message =
+    codes "4" ++ space_text space ++ codes "{\"message\":" ++ quoted message ++ codes "}"

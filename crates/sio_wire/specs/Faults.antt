@@ -1,4 +1,5 @@
--- The fault of a text that spells no header: the first from the left (Socket.IO protocol 5, "Packet encoding").
+-- The fault of a text that spells no header: the first from the left (Socket.IO protocol 5, "Packet
+-- encoding").
 use Rattle.std.specs.Prelude.{◌≡◌, ◌≢◌, ◌⊎◌, ◌<◌, ◌++◌, ⊤, ℕ, List, ◌∷◌, length, slice_index, Option, Result, Ok, Err, false, IsTrue}
 use Rattle.std.specs.List.{list_any, before_first}
 use Rattle.std.specs.Str.Parse.{AllDigits}
@@ -17,17 +18,20 @@ HasNoKind t = (kind : Kind) (rest : List ℕ) → t ≢ digit_of kind ∷ rest
 
 -- a binary packet, in which one to fifteen digits and a `-` do not follow
 abbrev pub HasNoCount : List ℕ → Type 0
-HasNoCount t = (kind : Kind) × (rest : List ℕ) × (t ≡ digit_of kind ∷ rest) × IsTrue (is_binary kind)
+HasNoCount t = (kind : Kind) × (rest : List ℕ)
+    × (t ≡ digit_of kind ∷ rest) × IsTrue (is_binary kind)
     × ((n : ℕ) (digits more : List ℕ) → Writes n digits → rest ≢ digits ++ dash ∷ more)
 
 -- a binary packet with a count over 32
 abbrev pub CountsTooMany : List ℕ → Type 0
-CountsTooMany t = (kind : Kind) × (n : ℕ) × (digits : List ℕ) × (more : List ℕ) × (t ≡ digit_of kind ∷ (digits ++ dash ∷ more))
+CountsTooMany t = (kind : Kind) × (n : ℕ) × (digits : List ℕ) × (more : List ℕ)
+    × (t ≡ digit_of kind ∷ (digits ++ dash ∷ more))
     × IsTrue (is_binary kind) × Writes n digits × (32 < n)
 
 -- the rest of the text follows its type and count
 abbrev pub FollowsCount : List ℕ → List ℕ → Type 0
-FollowsCount t rest = (kind : Kind) × (n : ℕ) × (part : List ℕ) × (t ≡ digit_of kind ∷ (part ++ rest)) × CountPart kind n part
+FollowsCount t rest = (kind : Kind) × (n : ℕ) × (part : List ℕ)
+    × (t ≡ digit_of kind ∷ (part ++ rest)) × CountPart kind n part
 
 -- a namespace with a control character, up to the first comma or the end
 abbrev pub HasBadSpace : List ℕ → Type 0
@@ -36,16 +40,20 @@ HasBadSpace t = (rest : List ℕ) × FollowsCount t rest × (slice_index rest 0 
 
 -- over fifteen digits behind the namespace
 abbrev pub HasBadId : List ℕ → Type 0
-HasBadId t = (space : List ℕ) × (part : List ℕ) × (digits : List ℕ) × (more : List ℕ) × FollowsCount t (part ++ (digits ++ more))
+HasBadId t = (space : List ℕ) × (part : List ℕ) × (digits : List ℕ) × (more : List ℕ)
+    × FollowsCount t (part ++ (digits ++ more))
     × SpacePart space part (digits ++ more) × AllDigits 10 digits × (15 < length digits)
 
 -- the first fault of a payload: no JSON text, then its shape, then its name, then its placeholders
 abbrev pub PayloadFault : Header → SioError → Type 0
 PayloadFault h BadJson = IsNoTree h.payload
-PayloadFault h BadShape = (tree : Option Data) × IsTree h.payload tree × (has_shape h.kind h.id tree ≡ false)
-PayloadFault h Reserved = (tree : Option Data) × IsTree h.payload tree × IsTrue (has_shape h.kind h.id tree)
+PayloadFault h BadShape =
+    (tree : Option Data) × IsTree h.payload tree × (has_shape h.kind h.id tree ≡ false)
+PayloadFault h Reserved =
+    (tree : Option Data) × IsTree h.payload tree × IsTrue (has_shape h.kind h.id tree)
     × HasReservedName h.kind tree
-PayloadFault h BadPlaceholder = (tree : Option Data) × IsTree h.payload tree × IsTrue (has_shape h.kind h.id tree)
+PayloadFault h BadPlaceholder =
+    (tree : Option Data) × IsTree h.payload tree × IsTrue (has_shape h.kind h.id tree)
     × (¬ HasReservedName h.kind tree) × (¬ IsPlaced h.kind h.count tree)
 PayloadFault h _ = ⊥
 

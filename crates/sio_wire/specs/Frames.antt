@@ -43,20 +43,24 @@ Keeps (Waiting packet) rest = IsUnfinished rest packet
 Keeps (Failed error) rest = ⊥
 
 -- an assembler that has accepted these frames and has given these packets
-pub record Accepted (progress : Progress) (frames : List Frame) (packets : List SioPacket) : Type 0 where
+pub record Accepted (progress : Progress) (frames : List Frame) (packets : List SioPacket)
+    : Type 0 where
   pub rest : List Frame
   pub groups : Groups frames packets rest
   pub keeps : Keeps progress rest
 
 -- whatever was accepted before, one more frame is accepted, and gives this packet or none
 abbrev pub Accepts : Progress → Frame → Option SioPacket → Progress → Type 0
-Accepts old frame given new = (frames : List Frame) (packets : List SioPacket) → Accepted old frames packets
+Accepts old frame given new =
+    (frames : List Frame) (packets : List SioPacket) → Accepted old frames packets
     → Accepted new (frames ++ frame ∷ []) (packets ++ option_to_list given)
 
 -- a packet is given where it is whole; else the assembler waits for the rest of it
 abbrev pub GivesOrKeeps : SioPacket → Option SioPacket → Progress → Type 0
-GivesOrKeeps packet (Some given) new = (given ≡ packet) × (length packet.attachments ≡ packet.header.count) × (new ≡ Ready)
-GivesOrKeeps packet None new = (length packet.attachments < packet.header.count) × (new ≡ Waiting packet)
+GivesOrKeeps packet (Some given) new =
+    (given ≡ packet) × (length packet.attachments ≡ packet.header.count) × (new ≡ Ready)
+GivesOrKeeps packet None new =
+    (length packet.attachments < packet.header.count) × (new ≡ Waiting packet)
 
 -- why each text is refused, whatever it spells
 abbrev pub text_refusal : Progress → Option SioError
@@ -66,7 +70,8 @@ text_refusal (Failed error) = Some error
 
 -- the error that a text is refused for: that of any text, or else its own first fault
 abbrev pub RefusesText : Progress → List ℕ → SioError → Type 0
-RefusesText old t error = (text_refusal old ≡ Some error) ⊎ ((text_refusal old ≡ None) × HasFault t error)
+RefusesText old t error =
+    (text_refusal old ≡ Some error) ⊎ ((text_refusal old ≡ None) × HasFault t error)
 
 -- why each binary frame is refused
 abbrev pub binary_refusal : Progress → Option SioError
@@ -80,9 +85,11 @@ awaited Ready = 0
 awaited (Waiting packet) = packet.header.count - length packet.attachments
 awaited (Failed error) = 0
 
--- so many bytes more, with those of the attachments that came so far, are over the limit; only where attachments are awaited
+-- so many bytes more, with those of the attachments that came so far, are over the limit; only
+-- where attachments are awaited
 abbrev pub exceeds : Progress → (limit : ℕ) → (more : ℕ) → Bool
-exceeds (Waiting packet) limit more = nat_lt limit (sum_by (λ part. length part) packet.attachments + more)
+exceeds (Waiting packet) limit more =
+    nat_lt limit (sum_by (λ part. length part) packet.attachments + more)
 exceeds _ limit more = false
 
 -- an unfinished packet lacks attachments, and want of memory is no failure

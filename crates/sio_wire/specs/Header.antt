@@ -19,7 +19,8 @@ pub record Writes (n : ℕ) (digits : List ℕ) : Type 0 where
   pub few : length digits ≤ 15
   pub value : digits_value 10 digits ≡ n
 
--- in a binary packet the digits of the count, at most 32, and a `-`; in any other nothing, and the count is 0
+-- in a binary packet the digits of the count, at most 32, and a `-`; in any other nothing, and the
+-- count is 0
 abbrev pub CountPart : Kind → ℕ → List ℕ → Type 0
 CountPart kind count part = MatchBool (is_binary kind)
     ((digits : List ℕ) × Writes count digits × (count ≤ 32) × (part ≡ digits ++ dash ∷ []))
@@ -43,7 +44,8 @@ pub record IsSpace (space : List ℕ) : Type 0 where
   pub no_comma : list_any is_comma space ≡ false
   pub no_control : list_any is_control space ≡ false
 
--- the namespace and a comma, or the namespace at the end of the text, or nothing for `/` where no `/` follows
+-- the namespace and a comma, or the namespace at the end of the text, or nothing for `/` where no
+-- `/` follows
 abbrev pub SpacePart : List ℕ → List ℕ → List ℕ → Type 0
 SpacePart space part rest = ((space ≡ codes "/") × (part ≡ []) × (slice_index rest 0 ≢ slash))
     ⊎ (IsSpace space × ((part ≡ space ++ codes ",") ⊎ ((part ≡ space) × (rest ≡ []))))
@@ -53,7 +55,8 @@ abbrev pub IdPart : Option ℕ → List ℕ → Type 0
 IdPart None part = part ≡ []
 IdPart (Some n) part = Writes n part
 
--- the text is the type's digit, the count, the namespace, the id and the payload, which begins with no digit
+-- the text is the type's digit, the count, the namespace, the id and the payload, which begins with
+-- no digit
 pub record HasParts (h : Header) (t : List ℕ) : Type 0 where
   pub count : List ℕ
   pub space : List ℕ
@@ -87,4 +90,5 @@ id_text (Some id) = decimal id
 
 -- the text is the header's, with no zeros in front and no namespace where it is `/`
 unfoldable pub Plain : Header → List ℕ → Type 0
-Plain h t = t ≡ digit_of h.kind ∷ (count_text h.kind h.count ++ (space_text h.space ++ (id_text h.id ++ h.payload)))
+Plain h t = t ≡ digit_of h.kind
+    ∷ (count_text h.kind h.count ++ (space_text h.space ++ (id_text h.id ++ h.payload)))

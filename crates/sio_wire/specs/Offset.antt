@@ -1,4 +1,5 @@
--- The offset as a payload's last element (Socket.IO server documentation, "Connection state recovery").
+-- The offset as a payload's last element (Socket.IO server documentation, "Connection state
+-- recovery").
 use Rattle.std.specs.Prelude.{ℕ, Bool, ◌==◌, List, ◌++◌, codes}
 use Rattle.std.specs.List.{before_last}
 use Rattle.terms.specs.Hexadecimal.{hex_digits}
@@ -13,4 +14,5 @@ is_bracket b = b == 93
 
 -- the payload up to its last `]`, then the offset in quotes as one more element
 abbrev pub payload_with_offset : List ℕ → ℕ → List ℕ
-payload_with_offset payload offset = before_last is_bracket payload ++ codes ",\"" ++ offset_digits offset ++ codes "\"]"
+payload_with_offset payload offset =
+    before_last is_bracket payload ++ codes ",\"" ++ offset_digits offset ++ codes "\"]"

@@ -25,9 +25,11 @@ abbrev mutual
 abbrev pub IsPlaceholder : Data → Type 0
 IsPlaceholder o = option_and_then as_bool (get (codes "_placeholder") o) ≡ Some true
 
--- an object whose `num` is a whole number below n, which `serde_json` reads as unsigned: it has no sign, no fraction and no exponent
+-- an object whose `num` is a whole number below n, which `serde_json` reads as unsigned: it has no
+-- sign, no fraction and no exponent
 abbrev pub HasNumberBelow : ℕ → Data → Type 0
-HasNumberBelow n o = IsSomeAnd (option_and_then as_u64 (option_and_then as_number (get (codes "num") o))) (λ k. k < n)
+HasNumberBelow n o = IsSomeAnd
+    (option_and_then as_u64 (option_and_then as_number (get (codes "num") o))) (λ k. k < n)
 
 -- each placeholder in the tree v has a number below n
 abbrev pub Placed : Data → ℕ → Type 0

@@ -43,7 +43,9 @@ kind_at (digit ∷ rest) =
 unfoldable pub count_at : Kind → List ℕ → Result (ℕ × List ℕ) SioError
 count_at kind text =
     if not (is_binary kind) then Ok (0, text)
-    else if not (nat_lt 0 (digit_count text) && nat_le (digit_count text) 15 && slice_index text (digit_count text) == 45) then Err BadCount
+    else if not (nat_lt 0 (digit_count text) && nat_le (digit_count text) 15
+    && slice_index text (digit_count text) == 45)
+    then Err BadCount
     else if nat_lt 32 (number_in_front text) then Err TooMany
     else Ok (number_in_front text, drop (digit_count text + 1) text)
 

@@ -1,4 +1,5 @@
--- The JSON payload that each packet type allows (Socket.IO protocol 5, "Packet types" and "Packet encoding").
+-- The JSON payload that each packet type allows (Socket.IO protocol 5, "Packet types" and "Packet
+-- encoding").
 use Rattle.std.specs.Prelude.{◌≡◌, ◌≢◌, ℕ, List, [], ◌∷◌, Option, Some, None, Bool, false, ◌&&◌, ◌||◌, is_some, is_none, IsTrue, IsSomeAnd, IfSome, codes, Contains, option_and_then}
 use Rattle.serde_json.specs.Data.{Data}
 use Rattle.serde_json.specs.Read.{read}
@@ -9,7 +10,8 @@ use Rattle.sio_wire.specs.declared.header.Header.{Header}
 use Rattle.sio_wire.specs.Kinds.{is_binary, is_event}
 use Rattle.sio_wire.specs.Placeholders.{Placed}
 
--- the tree of a payload: none for the empty text, else what `serde_json` reads, where no U+001E is in the text
+-- the tree of a payload: none for the empty text, else what `serde_json` reads, where no U+001E is
+-- in the text
 abbrev pub IsTree : List ℕ → Option Data → Type 0
 IsTree text None = text ≡ []
 IsTree text (Some v) = (¬ Contains text 30) × (text ≢ []) × (read text ≡ Some v)
@@ -20,7 +22,8 @@ IsNoTree text = (tree : Option Data) → IsTree text tree → ⊥
 
 -- an array whose first item is a text or a number
 abbrev pub begins_event : Data → Bool
-begins_event v = is_some (option_and_then as_str (at 0 v)) || is_some (option_and_then as_number (at 0 v))
+begins_event v =
+    is_some (option_and_then as_str (at 0 v)) || is_some (option_and_then as_number (at 0 v))
 
 -- the payload and the acknowledgement id that each type allows
 abbrev pub has_shape : Kind → Option ℕ → Option Data → Bool
@@ -41,7 +44,8 @@ has_shape BinaryAck id (Some v) = is_some id && is_some (as_array v)
 
 -- the names that the protocol keeps for itself
 abbrev pub reserved_names : List (List ℕ)
-reserved_names = codes "connect" ∷ codes "connect_error" ∷ codes "disconnect" ∷ codes "disconnecting"
+reserved_names =
+    codes "connect" ∷ codes "connect_error" ∷ codes "disconnect" ∷ codes "disconnecting"
     ∷ codes "newListener" ∷ codes "removeListener" ∷ []
 
 -- an array whose first item is one of these names

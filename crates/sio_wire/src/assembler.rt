@@ -69,7 +69,8 @@ impl Assembler {
     /// `Memory` the assembler has failed: each further frame is answered with that error. After
     /// `Memory` it is as before.
     pub fn text(&mut self, alloc: Global, text: &str) -> Result<Option<SioPacket>, SioError>
-        ensures accepted { IfOk result (λ given. Accepts self.old (text_frame text.now) given self.new) }
+        ensures accepted { IfOk result
+            (λ given. Accepts self.old (text_frame text.now) given self.new) }
         ensures spells { OnOk result ((header : Header) × Sio header text.now) }
 
         // While binary frames are awaited, and after a failure, no text is looked at.
@@ -95,7 +96,8 @@ impl Assembler {
     /// `Memory` the assembler has failed: each further frame is answered with that error. After
     /// `Memory` it is as before.
     pub fn binary(&mut self, alloc: Global, bytes: &[u8]) -> Result<Option<SioPacket>, SioError>
-        ensures accepted { IfOk result (λ given. Accepts self.old (binary_frame bytes.now) given self.new) }
+        ensures accepted { IfOk result
+            (λ given. Accepts self.old (binary_frame bytes.now) given self.new) }
         ensures refused { IfSome (binary_refusal self.old) (λ error.
             (result ≡ Err error) × (self.new ≡ Progress.Failed error)) }
         ensures fault { IfErr result (λ error. ((error ≡ SioError.Memory) × (self.new ≡ self.old))
@@ -193,6 +195,7 @@ impl Assembler {
 /// accepted none. It has no effect.
 pub fn frames_cut_once()
     ensures once { (frames : List Frame) (packets others : List SioPacket) (one other : Progress)
-        → Accepted one frames packets → Accepted other frames others → (packets ≡ others) × (one ≡ other) }
+        → Accepted one frames packets → Accepted other frames others
+        → (packets ≡ others) × (one ≡ other) }
     ensures none { Accepted Progress.Ready [] [] }
 {}

@@ -26,7 +26,8 @@ pub fn connected_text(alloc: Global, space: &str, sid: u128, pid: u128) -> Resul
 
 /// The answer that the connection is refused, with a message for the client.
 pub fn refused_text(alloc: Global, space: &str, message: &str) -> Result<String, SioError>
-    ensures ok { IfOk result (λ text. string_bytes text ≡ answer.refused_text space.now message.now) }
+    ensures ok { IfOk result
+        (λ text. string_bytes text ≡ answer.refused_text space.now message.now) }
     ensures err { OnErr result (IsErrOf result SioError.Memory) }
 {
     let part = space_part(alloc, space)?;

@@ -13,7 +13,8 @@ use terms::{ascii_text, read_digits, write_digits};
 /// digits and `"`, and nothing follows the `]`. `BadShape` where the payload has no `]`.
 pub fn with_offset(alloc: Global, payload: &str, offset: u64) -> Result<String, SioError>
     ensures ok { IfOk result (λ text. string_bytes text ≡ payload_with_offset payload.now offset) }
-    ensures bad_shape { IsErrOf result SioError.BadShape ↔ (list_any is_bracket payload.now ≡ false) }
+    ensures bad_shape { IsErrOf result SioError.BadShape
+        ↔ (list_any is_bracket payload.now ≡ false) }
     ensures err { IfErr result (λ e. (e ≡ SioError.Memory) ⊎ (e ≡ SioError.BadShape)) }
 {
     let Some(front) = before_last_bracket(payload) else {
@@ -28,7 +29,8 @@ pub fn with_offset(alloc: Global, payload: &str, offset: u64) -> Result<String, 
 /// The offset that has these digits.
 pub fn read_offset(text: &str) -> Option<u64>
     ensures digits { IfSome result (λ offset. text.now ≡ offset_digits offset) }
-    ensures again { (offset : ℕ) → offset < 2 ^ 64 → text.now ≡ offset_digits offset → result ≡ Some offset }
+    ensures again { (offset : ℕ)
+        → offset < 2 ^ 64 → text.now ≡ offset_digits offset → result ≡ Some offset }
 {
     if text.len() != 16 {
         return None;

@@ -46,7 +46,8 @@ fn are_members_placed(members: &Map<String, Value>, count: u32) -> bool
 
 /// Whether the value, if it is a placeholder, has a number below `count`.
 fn is_numbered(value: &Value, count: u32) -> bool
-    ensures { IsTrue result ↔ (IsPlaceholder (view value.now) → HasNumberBelow count (view value.now)) }
+    ensures { IsTrue result
+        ↔ (IsPlaceholder (view value.now) → HasNumberBelow count (view value.now)) }
 {
     if value.get("_placeholder").and_then(Value::as_bool) != Some(true) {
         return true;

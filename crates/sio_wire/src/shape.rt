@@ -34,7 +34,8 @@ pub(crate) fn check_payload(alloc: Global, header: &Header) -> Result<(), SioErr
 /// The JSON tree of a payload; none for the empty text.
 fn read_tree(alloc: Global, text: &str) -> Result<Option<Value>, SioError>
     ensures ok { IfOk result (λ tree. IsTree text.now (option_map view tree)) }
-    ensures err { IfErr result (λ e. (e ≡ SioError.Memory) ⊎ ((e ≡ SioError.BadJson) × IsNoTree text.now)) }
+    ensures err { IfErr result
+        (λ e. (e ≡ SioError.Memory) ⊎ ((e ≡ SioError.BadJson) × IsNoTree text.now)) }
 {
     if text.is_empty() {
         return Ok(None);

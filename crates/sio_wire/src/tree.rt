@@ -11,7 +11,8 @@ use std::alloc::Global;
 /// The tree, or `BadJson` where the text is no JSON text.
 pub(crate) fn parse(alloc: Global, text: &str) -> Result<Value, SioError>
     ensures ok { IfOk result (λ value. read text.now ≡ Some (view value)) }
-    ensures err { IfErr result (λ e. (e ≡ SioError.Memory) ⊎ ((e ≡ SioError.BadJson) × (read text.now ≡ None))) }
+    ensures err { IfErr result
+        (λ e. (e ≡ SioError.Memory) ⊎ ((e ≡ SioError.BadJson) × (read text.now ≡ None))) }
 {
     match Value::from_str(alloc, text) {
         Ok(value) => Ok(value),
