@@ -11,7 +11,8 @@ names_no_room (room ∷ rooms) = false
 -- a broadcast to `rooms` except `excepted` is for one who is in the rooms that pass the test:
 -- in one of `rooms`, where some are named, and in none of `excepted`
 abbrev pub is_for : List (List ℕ) → List (List ℕ) → (List ℕ → Bool) → Bool
-is_for rooms excepted inside = (names_no_room rooms || list_any inside rooms) && not (list_any inside excepted)
+is_for rooms excepted inside =
+    (names_no_room rooms || list_any inside rooms) && not (list_any inside excepted)
 
 -- a broadcast to `rooms` except `excepted` is for this socket
 abbrev pub is_addressed : RoomSets → List (List ℕ) → List (List ℕ) → ℕ → Bool

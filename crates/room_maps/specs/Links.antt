@@ -19,11 +19,13 @@ module _ {K V : Type 0} (R : K → K → Ordering) (S : V → V → Ordering) wh
 
   -- n has the links and the keys of m
   abbrev pub IsUnchanged : BTreeMap K (BTreeSet V) → BTreeMap K (BTreeSet V) → Type 0
-  IsUnchanged m n = ((k : K) (v : V) → is_linked n k v ≡ is_linked m k v) × ((k : K) → is_some (tree.get R n k) ≡ is_some (tree.get R m k))
+  IsUnchanged m n = ((k : K) (v : V) → is_linked n k v ≡ is_linked m k v)
+      × ((k : K) → is_some (tree.get R n k) ≡ is_some (tree.get R m k))
 
   -- n is m with this link more
   pub record AddsLink (m n : BTreeMap K (BTreeSet V)) (k : K) (v : V) : Type 0 where
-    pub links : (q : K) (w : V) → is_in_some S (tree.get R n q) w ≡ ((eq_by_cmp R k q && eq_by_cmp S v w) || is_in_some S (tree.get R m q) w)
+    pub links : (q : K) (w : V) → is_in_some S (tree.get R n q) w
+        ≡ ((eq_by_cmp R k q && eq_by_cmp S v w) || is_in_some S (tree.get R m q) w)
     pub keys : (q : K) → is_some (tree.get R n q) ≡ (eq_by_cmp R k q || is_some (tree.get R m q))
 
 module _ {K V : Type 0} (R : K → K → Ordering) where

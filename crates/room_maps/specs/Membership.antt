@@ -1,4 +1,5 @@
--- Which sockets there are and which rooms they are in (Socket.IO server documentation, "Rooms" and "Adapter").
+-- Which sockets there are and which rooms they are in (Socket.IO server documentation, "Rooms" and
+-- "Adapter").
 use Rattle.std.specs.Prelude.{◌≡◌, ℕ, Bool, true, ◌≤◌, ◌&&◌, not, List, [], ◌∷◌, map, nat_le, nat_lt, Option, refl}
 use Rattle.room_maps.specs.declared.error.RoomError.{RoomError}
 use Rattle.room_maps.specs.declared.error.RoomError.TheVariants.{UnknownSocket, AlreadyIn, NotIn, OwnRoom, TooManyRooms, SidTaken}
@@ -20,7 +21,9 @@ pub record RoomSets : Type 0 where
   pub pairs : set.FinSet pair_cmp
 
 abbrev pub room_sets_code : Coded RoomSets
-room_sets_code = code_by (set.FinSet nat_cmp × set.FinSet pair_cmp) (coded× (set.code coded_ℕ) (set.code (coded× coded_ℕ (coded_list coded_ℕ)))) (λ v. (v.sockets, v.pairs)) (λ p. record { sockets = p.0; pairs = p.1 }) (λ _. refl)
+room_sets_code = code_by (set.FinSet nat_cmp × set.FinSet pair_cmp)
+    (coded× (set.code coded_ℕ) (set.code (coded× coded_ℕ (coded_list coded_ℕ))))
+    (λ v. (v.sockets, v.pairs)) (λ p. record { sockets = p.0; pairs = p.1 }) (λ _. refl)
 
 abbrev pub is_socket : RoomSets → ℕ → Bool
 is_socket sets sid = set.contains sets.sockets sid
@@ -30,7 +33,8 @@ is_in sets sid room = set.contains sets.pairs (sid, room)
 
 -- the rooms that a socket is in
 unfoldable pub rooms_in : RoomSets → ℕ → set.FinSet room_cmp
-rooms_in sets sid = set.from_list (map (λ p. p.1) (filter (λ p. eq_by_cmp nat_cmp sid p.0) (set.items sets.pairs)))
+rooms_in sets sid =
+    set.from_list (map (λ p. p.1) (filter (λ p. eq_by_cmp nat_cmp sid p.0) (set.items sets.pairs)))
 
 -- whether the socket is one of these
 abbrev pub is_named : List ℕ → ℕ → Bool
@@ -46,26 +50,38 @@ abbrev pub no_sockets : RoomSets
 no_sockets = record { sockets = set.empty; pairs = set.empty }
 
 abbrev pub with_pair : RoomSets → ℕ → List ℕ → RoomSets
-with_pair sets sid room = record { sockets = sets.sockets; pairs = set.insert sets.pairs (sid, room) }
+with_pair sets sid room =
+    record { sockets = sets.sockets; pairs = set.insert sets.pairs (sid, room) }
 
 abbrev pub without_pair : RoomSets → ℕ → List ℕ → RoomSets
-without_pair sets sid room = record { sockets = sets.sockets; pairs = set.remove sets.pairs (sid, room) }
+without_pair sets sid room =
+    record { sockets = sets.sockets; pairs = set.remove sets.pairs (sid, room) }
 
 -- the socket is in these rooms too
 abbrev pub with_pairs : RoomSets → ℕ → List (List ℕ) → RoomSets
-with_pairs sets sid rooms = record { sockets = sets.sockets; pairs = set.union sets.pairs (set.from_list (map (λ room. (sid, room)) rooms)) }
+with_pairs sets sid rooms =
+    record {
+      sockets = sets.sockets;
+      pairs = set.union sets.pairs (set.from_list (map (λ room. (sid, room)) rooms));
+    }
 
 -- these sockets are in the room too
 abbrev pub with_members : RoomSets → List ℕ → List ℕ → RoomSets
-with_members sets sids room = record { sockets = sets.sockets; pairs = set.union sets.pairs (pairs_with sids room) }
+with_members sets sids room =
+    record { sockets = sets.sockets; pairs = set.union sets.pairs (pairs_with sids room) }
 
 -- these sockets aren't in the room
 abbrev pub without_members : RoomSets → List ℕ → List ℕ → RoomSets
-without_members sets sids room = record { sockets = sets.sockets; pairs = set.difference sets.pairs (pairs_with sids room) }
+without_members sets sids room =
+    record { sockets = sets.sockets; pairs = set.difference sets.pairs (pairs_with sids room) }
 
 -- a new socket is in its own room
 abbrev pub with_socket : RoomSets → ℕ → RoomSets
-with_socket sets sid = record { sockets = set.insert sets.sockets sid; pairs = set.insert sets.pairs (sid, own_room sid) }
+with_socket sets sid =
+    record {
+      sockets = set.insert sets.sockets sid;
+      pairs = set.insert sets.pairs (sid, own_room sid);
+    }
 
 -- a new socket is in its own room and in these
 abbrev pub with_socket_in : RoomSets → ℕ → List (List ℕ) → RoomSets
@@ -73,7 +89,11 @@ with_socket_in sets sid rooms = with_pairs (with_socket sets sid) sid rooms
 
 -- a socket ends with all its pairs
 abbrev pub without_socket : RoomSets → ℕ → RoomSets
-without_socket sets sid = record { sockets = set.remove sets.sockets sid; pairs = set.retain sets.pairs (λ p. not (eq_by_cmp nat_cmp sid p.0)) }
+without_socket sets sid =
+    record {
+      sockets = set.remove sets.sockets sid;
+      pairs = set.retain sets.pairs (λ p. not (eq_by_cmp nat_cmp sid p.0));
+    }
 
 -- ---- the refusals
 
@@ -94,11 +114,19 @@ enter_all_refusal sets sid rooms =
 
 abbrev pub join_refusal : RoomSets → ℕ → List ℕ → Option RoomError
 join_refusal sets sid room =
-    first_refusal ((not (is_socket sets sid), UnknownSocket) ∷ (is_in sets sid room, AlreadyIn) ∷ (is_full sets sid, TooManyRooms) ∷ [])
+    first_refusal
+    ((not (is_socket sets sid), UnknownSocket)
+    ∷ (is_in sets sid room, AlreadyIn)
+    ∷ (is_full sets sid, TooManyRooms)
+    ∷ [])
 
 abbrev pub leave_refusal : RoomSets → ℕ → List ℕ → Option RoomError
 leave_refusal sets sid room =
-    first_refusal ((not (is_socket sets sid), UnknownSocket) ∷ (same_room (own_room sid) room, OwnRoom) ∷ (not (is_in sets sid room), NotIn) ∷ [])
+    first_refusal
+    ((not (is_socket sets sid), UnknownSocket)
+    ∷ (same_room (own_room sid) room, OwnRoom)
+    ∷ (not (is_in sets sid room), NotIn)
+    ∷ [])
 
 -- one of these isn't a socket
 abbrev pub has_unknown : RoomSets → List ℕ → Bool
@@ -114,7 +142,8 @@ has_own_room sids room = list_any (λ sid. same_room (own_room sid) room) sids
 
 abbrev pub join_all_refusal : RoomSets → List ℕ → List ℕ → Option RoomError
 join_all_refusal sets sids room =
-    first_refusal ((has_unknown sets sids, UnknownSocket) ∷ (has_full sets sids room, TooManyRooms) ∷ [])
+    first_refusal
+    ((has_unknown sets sids, UnknownSocket) ∷ (has_full sets sids room, TooManyRooms) ∷ [])
 
 abbrev pub leave_all_refusal : RoomSets → List ℕ → List ℕ → Option RoomError
 leave_all_refusal sets sids room =

@@ -41,7 +41,9 @@ pub(crate) fn unlink<K: Ord + Drop, V: Ord + Drop>(
     key: &K,
     value: &V,
 )
-    ensures links { (k : K) (v : V) → is_linked K.cmp V.cmp map.new k v ≡ (not (eq_by_cmp K.cmp key.now k && eq_by_cmp V.cmp value.now v) && is_linked K.cmp V.cmp map.old k v) }
+    ensures links { (k : K) (v : V) → is_linked K.cmp V.cmp map.new k v
+        ≡ (not (eq_by_cmp K.cmp key.now k && eq_by_cmp V.cmp value.now v)
+        && is_linked K.cmp V.cmp map.old k v) }
     ensures filled { HasNoEmptySet K.cmp map.old → HasNoEmptySet K.cmp map.new }
 {
     let emptied = match map.get_mut(key) {
@@ -62,7 +64,9 @@ pub(crate) fn unlink_all<K: Ord + Drop, V: Ord + Drop>(
     keys: BTreeSet<K>,
     value: &V,
 )
-    ensures links { (k : K) (v : V) → is_linked K.cmp V.cmp map.new k v ≡ (not (sorted.contains K.cmp keys k && eq_by_cmp V.cmp value.now v) && is_linked K.cmp V.cmp map.old k v) }
+    ensures links { (k : K) (v : V) → is_linked K.cmp V.cmp map.new k v
+        ≡ (not (sorted.contains K.cmp keys k && eq_by_cmp V.cmp value.now v)
+        && is_linked K.cmp V.cmp map.old k v) }
     ensures filled { HasNoEmptySet K.cmp map.old → HasNoEmptySet K.cmp map.new }
 {
     for key in keys {
@@ -76,7 +80,9 @@ pub(crate) fn unlink_keys<K: Ord + Drop, V: Ord + Drop>(
     keys: &[K],
     value: &V,
 )
-    ensures links { (k : K) (v : V) → is_linked K.cmp V.cmp map.new k v ≡ (not (list_any (eq_by_cmp K.cmp k) keys.now && eq_by_cmp V.cmp value.now v) && is_linked K.cmp V.cmp map.old k v) }
+    ensures links { (k : K) (v : V) → is_linked K.cmp V.cmp map.new k v
+        ≡ (not (list_any (eq_by_cmp K.cmp k) keys.now && eq_by_cmp V.cmp value.now v)
+        && is_linked K.cmp V.cmp map.old k v) }
     ensures filled { HasNoEmptySet K.cmp map.old → HasNoEmptySet K.cmp map.new }
 {
     for key in keys {
@@ -90,7 +96,9 @@ pub(crate) fn unlink_values<K: Ord + Drop, V: Ord + Drop>(
     key: &K,
     values: &[V],
 )
-    ensures links { (k : K) (v : V) → is_linked K.cmp V.cmp map.new k v ≡ (not (eq_by_cmp K.cmp key.now k && list_any (eq_by_cmp V.cmp v) values.now) && is_linked K.cmp V.cmp map.old k v) }
+    ensures links { (k : K) (v : V) → is_linked K.cmp V.cmp map.new k v
+        ≡ (not (eq_by_cmp K.cmp key.now k && list_any (eq_by_cmp V.cmp v) values.now)
+        && is_linked K.cmp V.cmp map.old k v) }
     ensures filled { HasNoEmptySet K.cmp map.old → HasNoEmptySet K.cmp map.new }
 {
     for value in values {

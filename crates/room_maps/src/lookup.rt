@@ -8,7 +8,7 @@ ghost use Rattle.std.specs.Ordering.{nat_cmp, eq_by_cmp};
 ghost use Rattle.std.specs.BTreeMap as tree;
 ghost use Rattle.std.specs.BTreeSet as sorted;
 ghost use Rattle.room_maps.specs.Links.{is_linked};
-ghost use Rattle.room_maps.specs.Mirror.{entry_pairs, HasRisingRooms};
+ghost use Rattle.room_maps.specs.Mirror.{entry_pairs, HasRisingRooms, is_in_one_of, is_member_of_one};
 ghost use Rattle.room_maps.specs.Room.{room_cmp};
 ghost use Rattle.terms.specs.Listing.{ListsRising};
 
@@ -27,7 +27,7 @@ fn meets(inside: &BTreeSet<Room>, rooms: &[Room]) -> bool
 
 /// Whether the socket is in one of the rooms.
 fn is_in_any(by_socket: &BTreeMap<Sid, BTreeSet<Room>>, sid: Sid, rooms: &[Room]) -> bool
-    ensures { result ≡ list_any (is_linked nat_cmp room_cmp by_socket.now sid) rooms.now }
+    ensures { result ≡ is_in_one_of by_socket.now rooms.now sid }
 {
     if rooms.is_empty() {
         return false;
@@ -45,7 +45,9 @@ pub(crate) fn sockets_but(
     excepted: &[Room],
 ) -> Result<Vec<Sid>, AllocError>
     ensures ordered { tree.IsOrdered nat_cmp by_socket.now }
-    ensures items { IfOk result (λ sids. sids.items ≡ map (λ e. e.0) (filter (λ e. not (list_any (sorted.contains room_cmp e.1) excepted.now)) by_socket.now.entries)) }
+    ensures items { IfOk result (λ sids. sids.items ≡ map (λ e. e.0)
+        (filter (λ e. not (list_any (sorted.contains room_cmp e.1) excepted.now))
+        by_socket.now.entries)) }
 {
     by_socket
         .iter()
@@ -61,7 +63,8 @@ fn add_chosen(
     members: &BTreeSet<Sid>,
     excepted: &[Room],
 ) -> Result<(), AllocError>
-    ensures { OnOk result (sids.new.items ≡ sids.old.items ++ filter (λ sid. not (list_any (is_linked nat_cmp room_cmp by_socket.now sid) excepted.now)) members.now.keys) }
+    ensures { OnOk result (sids.new.items ≡ sids.old.items ++ filter
+        (λ sid. not (is_in_one_of by_socket.now excepted.now sid)) members.now.keys) }
 {
     sids.extend(
         members
@@ -80,7 +83,10 @@ fn add_members(
     room: Room,
     excepted: &[Room],
 ) -> Result<(), AllocError>
-    ensures { OnOk result ((sid : ℕ) → list_any (eq_by_cmp nat_cmp sid) sids.new.items ≡ (list_any (eq_by_cmp nat_cmp sid) sids.old.items || (is_linked room_cmp nat_cmp by_room.now room sid && not (list_any (is_linked nat_cmp room_cmp by_socket.now sid) excepted.now)))) }
+    ensures { OnOk result ((sid : ℕ) → list_any (eq_by_cmp nat_cmp sid) sids.new.items
+        ≡ (list_any (eq_by_cmp nat_cmp sid) sids.old.items
+        || (is_linked room_cmp nat_cmp by_room.now room sid
+        && not (is_in_one_of by_socket.now excepted.now sid)))) }
 {
     match by_room.get(&room) {
         Some(members) => add_chosen(sids, by_socket, members, excepted),
@@ -96,7 +102,9 @@ fn all_members(
     rooms: &[Room],
     excepted: &[Room],
 ) -> Result<Vec<Sid>, AllocError>
-    ensures { IfOk result (λ sids. (sid : ℕ) → list_any (eq_by_cmp nat_cmp sid) sids.items ≡ (list_any (λ room. is_linked room_cmp nat_cmp by_room.now room sid) rooms.now && not (list_any (is_linked nat_cmp room_cmp by_socket.now sid) excepted.now))) }
+    ensures { IfOk result (λ sids. (sid : ℕ) → list_any (eq_by_cmp nat_cmp sid) sids.items
+        ≡ (is_member_of_one by_room.now rooms.now sid
+        && not (is_in_one_of by_socket.now excepted.now sid))) }
 {
     let mut sids = Vec::new(alloc);
     for room in rooms {
@@ -114,7 +122,9 @@ pub(crate) fn members_but(
     rooms: &[Room],
     excepted: &[Room],
 ) -> Result<Vec<Sid>, AllocError>
-    ensures { IfOk result (λ sids. ListsRising nat_cmp (λ sid. list_any (λ room. is_linked room_cmp nat_cmp by_room.now room sid) rooms.now && not (list_any (is_linked nat_cmp room_cmp by_socket.now sid) excepted.now)) sids.items) }
+    ensures { IfOk result (λ sids. ListsRising nat_cmp
+        (λ sid. is_member_of_one by_room.now rooms.now sid
+        && not (is_in_one_of by_socket.now excepted.now sid)) sids.items) }
 {
     let sids = all_members(alloc, by_socket, by_room, rooms, excepted)?;
     Ok(rising(sids))
@@ -122,7 +132,8 @@ pub(crate) fn members_but(
 
 /// The sockets, rising, each once.
 pub(crate) fn rising(mut sids: Vec<Sid>) -> Vec<Sid>
-    ensures { ListsRising nat_cmp (λ sid. list_any (eq_by_cmp nat_cmp sid) sids.items) result.items }
+    ensures { ListsRising nat_cmp
+        (λ sid. list_any (eq_by_cmp nat_cmp sid) sids.items) result.items }
 {
     sids.sort_unstable();
     sids.dedup();
@@ -135,7 +146,8 @@ fn add_pairs(
     sid: Sid,
     rooms: &BTreeSet<Room>,
 ) -> Result<(), AllocError>
-    ensures items { OnOk result (pairs.new.items ≡ pairs.old.items ++ map (λ room. (sid, room)) rooms.now.keys) }
+    ensures items { OnOk result
+        (pairs.new.items ≡ pairs.old.items ++ map (λ room. (sid, room)) rooms.now.keys) }
     ensures rises { IsStrictlySortedBy room_cmp rooms.now.keys }
 {
     for room in rooms.iter() {
@@ -151,7 +163,8 @@ pub(crate) fn all_pairs(
     by_socket: &BTreeMap<Sid, BTreeSet<Room>>,
 ) -> Result<Vec<(Sid, Room)>, AllocError>
     ensures ordered { tree.IsOrdered nat_cmp by_socket.now }
-    ensures items { IfOk result (λ pairs. pairs.items ≡ flat_map entry_pairs by_socket.now.entries) }
+    ensures items { IfOk result
+        (λ pairs. pairs.items ≡ flat_map entry_pairs by_socket.now.entries) }
     ensures rises { IfOk result (λ pairs. AllByRecursion HasRisingRooms by_socket.now.entries) }
 {
     let mut pairs = Vec::with_capacity(alloc, by_socket.len())?;

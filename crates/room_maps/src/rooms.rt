@@ -47,7 +47,8 @@ impl Model for Rooms {
 
     ghost view = { λ a. sets_of a.by_socket };
 
-    ghost invariant = { λ a. Mirror a.by_socket a.by_room (pairs_of a.by_socket) × HasFewRooms (sets_of a.by_socket) };
+    ghost invariant = { λ a. Mirror a.by_socket a.by_room (pairs_of a.by_socket)
+        × HasFewRooms (sets_of a.by_socket) };
 }
 
 impl Rooms {
@@ -133,7 +134,8 @@ impl Rooms {
     /// the logarithm.
     pub fn enter(&mut self, alloc: Global, sid: Sid) -> Result<(), RoomError>
         ensures refused { IfSome (enter_refusal self.old sid) (λ e. result ≡ Err e) }
-        ensures memory_alone { enter_refusal self.old sid ≡ None → IfErr result (λ e. e ≡ RoomError.Memory) }
+        ensures memory_alone { enter_refusal self.old sid ≡ None
+            → IfErr result (λ e. e ≡ RoomError.Memory) }
         ensures entered { OnOk result (self.new ≡ with_socket self.old sid) }
         ensures unchanged { OnErr result (self.new ≡ self.old) }
     {
@@ -152,7 +154,8 @@ impl Rooms {
     /// comparison with each that is named after it.
     pub fn enter_all(&mut self, alloc: Global, sid: Sid, rooms: &[Room]) -> Result<(), RoomError>
         ensures refused { IfSome (enter_all_refusal self.old sid rooms.now) (λ e. result ≡ Err e) }
-        ensures memory_alone { enter_all_refusal self.old sid rooms.now ≡ None → IfErr result (λ e. e ≡ RoomError.Memory) }
+        ensures memory_alone { enter_all_refusal self.old sid rooms.now ≡ None
+            → IfErr result (λ e. e ≡ RoomError.Memory) }
         ensures entered { OnOk result (self.new ≡ with_socket_in self.old sid rooms.now) }
         ensures unchanged { OnErr result (self.new ≡ self.old) }
     {
@@ -165,11 +168,12 @@ impl Rooms {
         }
     }
 
-    /// The socket is in one room more. Refused as `UnknownSocket`, `AlreadyIn`, `TooManyRooms`, then
-    /// for `Memory`. It takes the logarithm.
+    /// The socket is in one room more. Refused as `UnknownSocket`, `AlreadyIn`, `TooManyRooms`,
+    /// then for `Memory`. It takes the logarithm.
     pub fn join(&mut self, alloc: Global, sid: Sid, room: Room) -> Result<(), RoomError>
         ensures refused { IfSome (join_refusal self.old sid room) (λ e. result ≡ Err e) }
-        ensures memory_alone { join_refusal self.old sid room ≡ None → IfErr result (λ e. e ≡ RoomError.Memory) }
+        ensures memory_alone { join_refusal self.old sid room ≡ None
+            → IfErr result (λ e. e ≡ RoomError.Memory) }
         ensures joined { OnOk result (self.new ≡ with_pair self.old sid room) }
         ensures unchanged { OnErr result (self.new ≡ self.old) }
     {
@@ -196,8 +200,8 @@ impl Rooms {
         Ok(())
     }
 
-    /// Ends a socket, and with it all its pairs. Refused as `UnknownSocket`. Each of its rooms takes
-    /// the logarithm. It takes no memory.
+    /// Ends a socket, and with it all its pairs. Refused as `UnknownSocket`. Each of its rooms
+    /// takes the logarithm. It takes no memory.
     pub fn end(&mut self, sid: Sid) -> Result<(), RoomError>
         ensures answer { result ≡ ok_unless (unknown_refusal self.old sid) }
         ensures ended { OnOk result (self.new ≡ without_socket self.old sid) }
@@ -214,8 +218,10 @@ impl Rooms {
     /// `Memory`. It takes the logarithm, and walks the socket's rooms.
     pub fn rooms_of(&self, alloc: Global, sid: Sid) -> Result<Vec<Room>, RoomError>
         ensures refused { IfSome (unknown_refusal self.now sid) (λ e. result ≡ Err e) }
-        ensures memory_alone { unknown_refusal self.now sid ≡ None → IfErr result (λ e. e ≡ RoomError.Memory) }
-        ensures rooms { IfOk result (λ rooms. ListsRising room_cmp (is_in self.now sid) rooms.items) }
+        ensures memory_alone { unknown_refusal self.now sid ≡ None
+            → IfErr result (λ e. e ≡ RoomError.Memory) }
+        ensures rooms { IfOk result
+            (λ rooms. ListsRising room_cmp (is_in self.now sid) rooms.items) }
         // So `enter_all` takes them all again.
         ensures few { IfOk result (λ rooms. membership.are_too_many sid rooms.items ≡ false) }
     {
@@ -241,7 +247,8 @@ impl Rooms {
     /// The sockets in a room, rising by their ids. Refused for `Memory` alone. It takes the
     /// logarithm, and walks the room's members.
     pub fn members_of(&self, alloc: Global, room: Room) -> Result<Vec<Sid>, RoomError>
-        ensures members { IfOk result (λ sids. ListsRising nat_cmp (λ sid. is_in self.now sid room) sids.items) }
+        ensures members { IfOk result
+            (λ sids. ListsRising nat_cmp (λ sid. is_in self.now sid room) sids.items) }
         ensures memory_alone { IfErr result (λ e. e ≡ RoomError.Memory) }
     {
         match self.member_list(alloc, room) {
@@ -251,7 +258,8 @@ impl Rooms {
     }
 
     fn member_list(&self, alloc: Global, room: Room) -> Result<Vec<Sid>, AllocError>
-        ensures { IfOk result (λ sids. ListsRising nat_cmp (λ sid. is_in self.now sid room) sids.items) }
+        ensures { IfOk result
+            (λ sids. ListsRising nat_cmp (λ sid. is_in self.now sid room) sids.items) }
     {
         match self.by_room.get(&room) {
             Some(members) => links::list(alloc, members),
@@ -269,7 +277,8 @@ impl Rooms {
         rooms: &[Room],
         excepted: &[Room],
     ) -> Result<Vec<Sid>, RoomError>
-        ensures addressed { IfOk result (λ sids. ListsRising nat_cmp (is_addressed self.now rooms.now excepted.now) sids.items) }
+        ensures addressed { IfOk result (λ sids. ListsRising nat_cmp
+            (is_addressed self.now rooms.now excepted.now) sids.items) }
         ensures memory_alone { IfErr result (λ e. e ≡ RoomError.Memory) }
     {
         match self.addressed_list(alloc, rooms, excepted) {
@@ -284,7 +293,8 @@ impl Rooms {
         rooms: &[Room],
         excepted: &[Room],
     ) -> Result<Vec<Sid>, AllocError>
-        ensures { IfOk result (λ sids. ListsRising nat_cmp (is_addressed self.now rooms.now excepted.now) sids.items) }
+        ensures { IfOk result (λ sids. ListsRising nat_cmp
+            (is_addressed self.now rooms.now excepted.now) sids.items) }
     {
         if rooms.is_empty() {
             lookup::sockets_but(alloc, &self.by_socket, excepted)
@@ -296,7 +306,8 @@ impl Rooms {
     /// Each socket with each room that it is in, rising by the sockets' ids and each socket's rooms
     /// by their bytes. Refused for `Memory` alone. It walks the pairs once.
     pub fn pairs(&self, alloc: Global) -> Result<Vec<(Sid, Room)>, RoomError>
-        ensures pairs { IfOk result (λ pairs. ListsRising pair_cmp (λ pair. is_in self.now pair.0 pair.1) pairs.items) }
+        ensures pairs { IfOk result
+            (λ pairs. ListsRising pair_cmp (λ pair. is_in self.now pair.0 pair.1) pairs.items) }
         ensures memory_alone { IfErr result (λ e. e ≡ RoomError.Memory) }
     {
         match self.pair_list(alloc) {
@@ -306,7 +317,8 @@ impl Rooms {
     }
 
     fn pair_list(&self, alloc: Global) -> Result<Vec<(Sid, Room)>, AllocError>
-        ensures { IfOk result (λ pairs. ListsRising pair_cmp (λ pair. is_in self.now pair.0 pair.1) pairs.items) }
+        ensures { IfOk result
+            (λ pairs. ListsRising pair_cmp (λ pair. is_in self.now pair.0 pair.1) pairs.items) }
     {
         lookup::all_pairs(alloc, &self.by_socket)
     }
@@ -429,11 +441,13 @@ fn add_pair(
 ) -> Result<(), AllocError>
     requires filled { HasNoEmptySet nat_cmp by_socket.old }
     requires absent { is_linked nat_cmp room_cmp by_socket.old sid room ≡ false }
-    ensures socket_side { OnOk result (AddsLink nat_cmp room_cmp by_socket.old by_socket.new sid room) }
-    ensures room_side { OnOk result (AddsLink room_cmp nat_cmp by_room.old by_room.new room sid) }
+    ensures added { OnOk result (AddsLink nat_cmp room_cmp by_socket.old by_socket.new sid room
+        × AddsLink room_cmp nat_cmp by_room.old by_room.new room sid) }
     ensures filled { HasNoEmptySet room_cmp by_room.old → HasNoEmptySet room_cmp by_room.new }
-    ensures socket_side_unchanged { OnErr result (IsUnchanged nat_cmp room_cmp by_socket.old by_socket.new) }
-    ensures room_side_unchanged { OnErr result (IsUnchanged room_cmp nat_cmp by_room.old by_room.new) }
+    ensures socket_side_unchanged { OnErr result
+        (IsUnchanged nat_cmp room_cmp by_socket.old by_socket.new) }
+    ensures room_side_unchanged { OnErr result
+        (IsUnchanged room_cmp nat_cmp by_room.old by_room.new) }
 {
     links::link(alloc, by_socket, sid, room)?;
     let second = links::link(alloc, by_room, room, sid);

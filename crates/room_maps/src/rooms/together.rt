@@ -85,9 +85,11 @@ impl Rooms {
         room: Room,
     ) -> Result<Vec<Sid>, RoomError>
         ensures refused { IfSome (join_all_refusal self.old sids.now room) (λ e. result ≡ Err e) }
-        ensures memory_alone { join_all_refusal self.old sids.now room ≡ None → IfErr result (λ e. e ≡ RoomError.Memory) }
+        ensures memory_alone { join_all_refusal self.old sids.now room ≡ None
+            → IfErr result (λ e. e ≡ RoomError.Memory) }
         ensures joined { OnOk result (self.new ≡ with_members self.old sids.now room) }
-        ensures changed { IfOk result (λ changed. ListsRising nat_cmp (λ sid. is_named sids.now sid && not (is_in self.old sid room)) changed.items) }
+        ensures changed { IfOk result (λ changed. ListsRising nat_cmp
+            (λ sid. is_named sids.now sid && not (is_in self.old sid room)) changed.items) }
         ensures unchanged { OnErr result (self.new ≡ self.old) }
     {
         if let Some(refusal) = self.join_all_refusal(sids, room) {
@@ -111,9 +113,11 @@ impl Rooms {
         room: Room,
     ) -> Result<Vec<Sid>, RoomError>
         ensures refused { IfSome (leave_all_refusal self.old sids.now room) (λ e. result ≡ Err e) }
-        ensures memory_alone { leave_all_refusal self.old sids.now room ≡ None → IfErr result (λ e. e ≡ RoomError.Memory) }
+        ensures memory_alone { leave_all_refusal self.old sids.now room ≡ None
+            → IfErr result (λ e. e ≡ RoomError.Memory) }
         ensures left { OnOk result (self.new ≡ without_members self.old sids.now room) }
-        ensures changed { IfOk result (λ changed. ListsRising nat_cmp (λ sid. is_named sids.now sid && is_in self.old sid room) changed.items) }
+        ensures changed { IfOk result (λ changed. ListsRising nat_cmp
+            (λ sid. is_named sids.now sid && is_in self.old sid room) changed.items) }
         ensures unchanged { OnErr result (self.new ≡ self.old) }
     {
         if let Some(refusal) = self.leave_all_refusal(sids, room) {
@@ -127,7 +131,8 @@ impl Rooms {
 
     /// Those of the sockets that aren't in the room, rising.
     fn outsiders(&self, alloc: Global, sids: &[Sid], room: Room) -> Result<Vec<Sid>, AllocError>
-        ensures { IfOk result (λ outside. ListsRising nat_cmp (λ sid. is_named sids.now sid && not (is_in self.now sid room)) outside.items) }
+        ensures { IfOk result (λ outside. ListsRising nat_cmp
+            (λ sid. is_named sids.now sid && not (is_in self.now sid room)) outside.items) }
     {
         let outside = sids
             .iter()
@@ -139,7 +144,8 @@ impl Rooms {
 
     /// Those of the sockets that are in the room, rising.
     fn insiders(&self, alloc: Global, sids: &[Sid], room: Room) -> Result<Vec<Sid>, AllocError>
-        ensures { IfOk result (λ inside. ListsRising nat_cmp (λ sid. is_named sids.now sid && is_in self.now sid room) inside.items) }
+        ensures { IfOk result (λ inside. ListsRising nat_cmp
+            (λ sid. is_named sids.now sid && is_in self.now sid room) inside.items) }
     {
         let inside = sids
             .iter()
@@ -158,7 +164,8 @@ impl Rooms {
     ) -> Result<Vec<Sid>, AllocError>
         requires { join_all_refusal self.old sids.now room ≡ None }
         ensures ok { OnOk result (self.new ≡ with_members self.old sids.now room) }
-        ensures changed { IfOk result (λ changed. ListsRising nat_cmp (λ sid. is_named sids.now sid && not (is_in self.old sid room)) changed.items) }
+        ensures changed { IfOk result (λ changed. ListsRising nat_cmp
+            (λ sid. is_named sids.now sid && not (is_in self.old sid room)) changed.items) }
         ensures err { OnErr result (self.new ≡ self.old) }
     {
         let outside = self.outsiders(alloc, sids, room)?;
@@ -175,7 +182,8 @@ impl Rooms {
     ) -> Result<Vec<Sid>, AllocError>
         requires { leave_all_refusal self.old sids.now room ≡ None }
         ensures ok { OnOk result (self.new ≡ without_members self.old sids.now room) }
-        ensures changed { IfOk result (λ changed. ListsRising nat_cmp (λ sid. is_named sids.now sid && is_in self.old sid room) changed.items) }
+        ensures changed { IfOk result (λ changed. ListsRising nat_cmp
+            (λ sid. is_named sids.now sid && is_in self.old sid room) changed.items) }
         ensures err { OnErr result (self.new ≡ self.old) }
     {
         let inside = self.insiders(alloc, sids, room)?;
@@ -187,7 +195,8 @@ impl Rooms {
     /// which takes no memory.
     fn add_members(&mut self, alloc: Global, sids: &[Sid], room: Room) -> Result<(), AllocError>
         requires known { (sid : ℕ) → is_named sids.now sid ≡ true → is_socket self.old sid ≡ true }
-        requires absent { (sid : ℕ) → is_named sids.now sid ≡ true → is_in self.old sid room ≡ false }
+        requires absent { (sid : ℕ)
+            → is_named sids.now sid ≡ true → is_in self.old sid room ≡ false }
         requires few { (sid : ℕ) → is_named sids.now sid ≡ true → is_full self.old sid ≡ false }
         ensures ok { OnOk result (self.new ≡ with_members self.old sids.now room) }
         ensures err { OnErr result (self.new ≡ self.old) }
@@ -207,7 +216,8 @@ impl Rooms {
         requires known { (sid : ℕ) → is_named sids.now sid ≡ true → is_socket self.old sid ≡ true }
         requires few { (sid : ℕ) → is_named sids.now sid ≡ true → is_full self.old sid ≡ false }
         ensures ok { OnOk result (self.new ≡ with_members self.old sids.now room) }
-        ensures others { without_members self.new sids.now room ≡ without_members self.old sids.now room }
+        ensures others { without_members self.new sids.now room
+            ≡ without_members self.old sids.now room }
     {
         for sid in sids {
             self.add_missing(alloc, *sid, room)?;
@@ -217,7 +227,8 @@ impl Rooms {
 
     /// Takes the sockets out of the room, which takes no memory.
     fn take_members(&mut self, sids: &[Sid], room: Room)
-        requires { (sid : ℕ) → is_named sids.now sid ≡ true → same_room (own_room sid) room ≡ false }
+        requires { (sid : ℕ)
+            → is_named sids.now sid ≡ true → same_room (own_room sid) room ≡ false }
         ensures { self.new ≡ without_members self.old sids.now room }
     {
         links::unlink_keys(&mut self.by_socket, sids, &room);

@@ -23,12 +23,12 @@ invariant_of-self-2 c =
     let h = c.in_ok-add_pair.ensures in
     let known = ap (λ v. is_socket v c.args.sid) c.self.view_is ∙ c.requires.known in (
       mirror_with_pair c.self.inside.by_socket c.add_pair.new.by_socket c.self.inside.by_room c.add_pair.new.by_room c.args.sid c.args.room c.self.invariant.0
-          h.socket_side h.room_side known (c.add_pair.ensures.filled c.self.invariant.0.no_empty_room),
-      subst HasFewRooms (sym (sets_with_pair c.self.inside.by_socket c.add_pair.new.by_socket c.args.sid c.args.room h.socket_side known))
+          h.added.0 h.added.1 known (c.add_pair.ensures.filled c.self.invariant.0.no_empty_room),
+      subst HasFewRooms (sym (sets_with_pair c.self.inside.by_socket c.add_pair.new.by_socket c.args.sid c.args.room h.added.0 known))
           (few_with_pair (sets_of c.self.inside.by_socket) c.args.sid c.args.room c.self.invariant.1 (ap (λ v. is_full v c.args.sid) c.self.view_is ∙ c.requires.few)),
     )
 
 pub returns-clause-ok : goal.returns-clause-ok
 returns-clause-ok c =
-    sets_with_pair c.self.inside.by_socket c.add_pair.new.by_socket c.args.sid c.args.room c.in_ok-add_pair.ensures.socket_side (ap (λ v. is_socket v c.args.sid) c.self.view_is ∙ c.requires.known)
+    sets_with_pair c.self.inside.by_socket c.add_pair.new.by_socket c.args.sid c.args.room c.in_ok-add_pair.ensures.added.0 (ap (λ v. is_socket v c.args.sid) c.self.view_is ∙ c.requires.known)
     ∙ ap (λ v. with_pair v c.args.sid c.args.room) c.self.view_is

@@ -29,8 +29,8 @@ invariant_of-self-2 c =
     let a = c.self.inside.by_socket in
     let n = c.add_pair.new.by_socket in
     let s = c.args.sid in
-    let socket_side = subst (λ r. AddsLink nat_cmp room_cmp a n s r) c.own.ensures h.socket_side in
-    let room_side = subst (λ r. AddsLink room_cmp nat_cmp c.self.inside.by_room c.add_pair.new.by_room r s) c.own.ensures h.room_side in (
+    let socket_side = subst (λ r. AddsLink nat_cmp room_cmp a n s r) c.own.ensures h.added.0 in
+    let room_side = subst (λ r. AddsLink room_cmp nat_cmp c.self.inside.by_room c.add_pair.new.by_room r s) c.own.ensures h.added.1 in (
       mirror_with_socket a n c.self.inside.by_room c.add_pair.new.by_room s c.self.invariant.0 socket_side room_side (c.add_pair.ensures.filled c.self.invariant.0.no_empty_room),
       subst HasFewRooms (sym (sets_with_socket a n s socket_side))
           (few_with_socket (sets_of a) s (known_of a) (ap (λ v. is_socket v s) c.self.view_is ∙ c.requires) c.self.invariant.1),
@@ -40,5 +40,5 @@ pub returns-clause-ok : goal.returns-clause-ok
 returns-clause-ok c =
     let a = c.self.inside.by_socket in
     let n = c.add_pair.new.by_socket in
-    sets_with_socket a n c.args.sid (subst (λ r. AddsLink nat_cmp room_cmp a n c.args.sid r) c.own.ensures c.in_ok-add_pair.ensures.socket_side)
+    sets_with_socket a n c.args.sid (subst (λ r. AddsLink nat_cmp room_cmp a n c.args.sid r) c.own.ensures c.in_ok-add_pair.ensures.added.0)
     ∙ ap (λ v. with_socket v c.args.sid) c.self.view_is
