@@ -18,7 +18,8 @@ is_for space rooms e = e.space == space && addressed.is_for e.rooms e.excepted (
 
 -- the offsets of the broadcasts past this one that a session in these rooms should have had
 abbrev pub missed : (offset space : ℕ) (rooms : List (List ℕ)) → List PlainLogged → List ℕ
-missed offset space rooms entries = map (λ e. e.offset) (filter (is_for space rooms) (later_than offset entries))
+missed offset space rooms entries =
+    map (λ e. e.offset) (filter (is_for space rooms) (later_than offset entries))
 
 -- why nobody can say what was missed
 abbrev pub missed_refusal : LogContents → ℕ → Option RecoveryError

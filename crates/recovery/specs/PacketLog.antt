@@ -55,7 +55,8 @@ unfoldable pub IsRun : ℕ → List PlainLogged → Type 0
 IsRun n [] = Unit {0}
 IsRun n (e ∷ es) = (e.offset + length (e ∷ es) ≡ n) × IsRun n es
 
--- the entry with this offset stands at this place, and those after it are all that have a greater one
+-- the entry with this offset stands at this place, and those after it are all
+-- that have a greater one
 pub record IsPlace (offset : ℕ) (entries : List PlainLogged) (i : ℕ) : Type 0 where
   pub within : i < length entries
   pub stands : stands offset entries ≡ true
@@ -79,15 +80,41 @@ is_fresh keep now e = not (is_outdated keep now e.at)
 
 -- the log with one entry more
 abbrev pub with_entry : LogContents → PlainLogged → LogContents
-with_entry log e = record { limit = log.limit; next = next_after e.offset; last = e.at; entries = newest log.limit (log.entries ++ e ∷ []) }
+with_entry log e =
+    record {
+      limit = log.limit;
+      next = next_after e.offset;
+      last = e.at;
+      entries = newest log.limit (log.entries ++ e ∷ []);
+    }
 
 -- the log after a sweep at this moment
 abbrev pub swept : LogContents → (keep now : ℕ) → LogContents
-swept log keep now = record { limit = log.limit; next = log.next; last = now; entries = filter (is_fresh keep now) log.entries }
+swept log keep now =
+    record {
+      limit = log.limit;
+      next = log.next;
+      last = now;
+      entries = filter (is_fresh keep now) log.entries;
+    }
+
+-- the broadcast, logged with this offset at this moment, or at the log's last where that is later
+abbrev pub logged_as :
+    LogContents → (offset at space : ℕ) → (rooms excepted : List (List ℕ)) → Entry → PlainLogged
+logged_as log offset at space rooms excepted entry =
+    record {
+      offset = offset;
+      at = max log.last at;
+      space = space;
+      rooms = rooms;
+      excepted = excepted;
+      entry = entry;
+    }
 
 -- ---- all calls so far
 
--- an accepted call: a broadcast was pushed, or the log was swept, keeping what is at most so old at a moment
+-- an accepted call: a broadcast was pushed, or the log was swept, keeping what is at
+-- most so old at a moment
 pub data LogCall : Type 0 where
   Pushed : PlainLogged → LogCall
   Swept : (keep now : ℕ) → LogCall
@@ -122,7 +149,8 @@ survives limit later e = nat_lt (pushes later) limit && not (list_any (drops e.a
 -- the broadcasts of a history that survive it and the calls after it
 unfoldable pub kept : ℕ → (later : List LogCall) → List LogCall → List PlainLogged
 kept limit later [] = []
-kept limit later (Pushed e ∷ before) = kept limit (Pushed e ∷ later) before ++ (if survives limit later e then e ∷ [] else [])
+kept limit later (Pushed e ∷ before) =
+    kept limit (Pushed e ∷ later) before ++ (if survives limit later e then e ∷ [] else [])
 kept limit later (Swept keep now ∷ before) = kept limit (Swept keep now ∷ later) before
 
 -- moments never fall

@@ -48,17 +48,26 @@ saved table s = record { limit = table.limit; sessions = with_session s table.se
 
 -- the table without the session that has this private id
 abbrev pub removed : TableContents → ℕ → TableContents
-removed table pid = record { limit = table.limit; sessions = filter (λ (s : PlainSaved). not (s.pid == pid)) table.sessions }
+removed table pid =
+    record {
+      limit = table.limit;
+      sessions = filter (λ (s : PlainSaved). not (s.pid == pid)) table.sessions;
+    }
 
 -- the table after a sweep at this moment
 abbrev pub table_swept : TableContents → (keep now : ℕ) → TableContents
-table_swept table keep now = record { limit = table.limit; sessions = filter (is_alive keep now) table.sessions }
+table_swept table keep now =
+    record { limit = table.limit; sessions = filter (is_alive keep now) table.sessions }
 
 -- ---- refusals
 
 -- why a session is not saved
 abbrev pub save_refusal : TableContents → ℕ → Option RecoveryError
-save_refusal table pid = first_refusal ((is_some (session table pid), PidTaken) ∷ (nat_le table.limit (length table.sessions), TableFull) ∷ [])
+save_refusal table pid =
+    first_refusal
+    ((is_some (session table pid), PidTaken)
+    ∷ (nat_le table.limit (length table.sessions), TableFull)
+    ∷ [])
 
 -- why what was looked up is not handed out
 abbrev pub refusal_of : Option PlainSaved → (keep now : ℕ) → Option RecoveryError
@@ -91,7 +100,9 @@ has_number number n (Some s) = number s == n
 
 -- the pairs are those of this number and the private id of each session
 abbrev pub IsIndex : (PlainSaved → ℕ) → List (ℕ × PlainSaved) → List (ℕ × ℕ) → Type 0
-IsIndex number by_pid pairs = (n pid : ℕ) → list_any (is_at (pair_cmp (n, pid))) pairs ≡ has_number number n (lookup (is_at (nat_cmp pid)) by_pid)
+IsIndex number by_pid pairs = (n pid : ℕ)
+    → list_any (is_at (pair_cmp (n, pid))) pairs
+    ≡ has_number number n (lookup (is_at (nat_cmp pid)) by_pid)
 
 -- all indexes have the same sessions
 pub record IsTable (by_pid : List (ℕ × PlainSaved)) (by_loss by_sid : List (ℕ × ℕ)) : Type 0 where

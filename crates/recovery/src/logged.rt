@@ -35,7 +35,14 @@ impl Model for Logged {
 
     ghost Value = { PlainLogged };
 
-    ghost view = { λ l. record { offset = l.offset; at = l.at; space = l.space; rooms = l.rooms.items; excepted = l.excepted.items; entry = arc_value l.entry } };
+    ghost view = { λ l. record {
+      offset = l.offset;
+      at = l.at;
+      space = l.space;
+      rooms = l.rooms.items;
+      excepted = l.excepted.items;
+      entry = arc_value l.entry;
+    } };
 }
 
 impl Logged {

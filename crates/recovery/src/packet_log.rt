@@ -4,7 +4,7 @@ ghost use Rattle.std.specs.Prelude.{◌≡◌, ◌≢◌, ℕ, ◌+◌, ◌^◌,
 ghost use Rattle.std.specs.List.{find, take_while};
 ghost use Rattle.recovery.specs.Expiry as expiry;
 ghost use Rattle.std.specs.Arc.{arc_value};
-ghost use Rattle.recovery.specs.PacketLog.{LogCall, LogContents, Pushed, Swept, IsLogOf, IsRun, IsPlace, HasNone, offset_or_spent, pushed, stands, later_than, latest, number_of, with_entry, swept};
+ghost use Rattle.recovery.specs.PacketLog.{LogCall, LogContents, Pushed, Swept, IsLogOf, IsRun, IsPlace, HasNone, offset_or_spent, pushed, stands, later_than, latest, number_of, with_entry, swept, logged_as};
 ghost use Rattle.recovery.specs.Missed.{missed, missed_refusal, is_for};
 
 use crate::error::RecoveryError;
@@ -34,9 +34,19 @@ impl Model for PacketLog {
 
     ghost Value = { LogContents };
 
-    ghost view = { λ l. record { limit = l.ring.capacity; next = l.next; last = l.last; entries = l.ring.items } };
+    ghost view = { λ l. record {
+      limit = l.ring.capacity;
+      next = l.next;
+      last = l.last;
+      entries = l.ring.items;
+    } };
 
-    ghost invariant = { λ l. IsLog (record { limit = l.ring.capacity; next = l.next; last = l.last; entries = l.ring.items }) };
+    ghost invariant = { λ l. IsLog (record {
+      limit = l.ring.capacity;
+      next = l.next;
+      last = l.last;
+      entries = l.ring.items;
+    }) };
 }
 
 impl PacketLog {
@@ -44,7 +54,8 @@ impl PacketLog {
     pub fn new(alloc: Global, limit: usize, first: u64) -> Result<PacketLog, RecoveryError>
         requires limit { 1 ≤ limit }
         requires first { 1 ≤ first }
-        ensures empty { IfOk result (λ log. log ≡ record { limit = limit; next = Some first; last = 0; entries = [] }) }
+        ensures empty { IfOk result
+            (λ log. log ≡ record { limit = limit; next = Some first; last = 0; entries = [] }) }
         ensures leads { IfOk result (λ log. IsLogOf first [] log) }
         ensures memory { IfErr result (λ error. error ≡ RecoveryError.Memory) }
     {
@@ -82,11 +93,15 @@ impl PacketLog {
         entry: Arc<Entry>,
     ) -> Result<u64, RecoveryError>
         ensures offset { result ≡ offset_or_spent self.old.next }
-        ensures entry { IfOk result (λ offset. self.new ≡ with_entry self.old (record { offset = offset; at = max self.old.last at; space = space; rooms = rooms.items; excepted = excepted.items; entry = arc_value entry })) }
+        ensures entry { IfOk result (λ offset. self.new ≡ with_entry self.old
+            (logged_as self.old offset at space rooms.items excepted.items (arc_value entry))) }
         ensures unchanged { OnErr result (self.new ≡ self.old) }
 
         // The history with this call leads to the new contents.
-        ensures leads { IfOk result (λ offset. (first : ℕ) (history : List LogCall) → IsLogOf first history self.old → IsLogOf first (Pushed (record { offset = offset; at = max self.old.last at; space = space; rooms = rooms.items; excepted = excepted.items; entry = arc_value entry }) ∷ history) self.new) }
+        ensures leads { IfOk result (λ offset. (first : ℕ) (history : List LogCall)
+            → IsLogOf first history self.old → IsLogOf first (Pushed
+            (logged_as self.old offset at space rooms.items excepted.items (arc_value entry))
+            ∷ history) self.new) }
     {
         let Some(offset) = self.next else {
             return Err(RecoveryError::Spent);
@@ -109,7 +124,8 @@ impl PacketLog {
         requires small { entry.offset < 2 ^ 64 }
         requires late { self.old.last ≤ entry.at }
         ensures entry { self.new ≡ with_entry self.old entry }
-        ensures leads { (first : ℕ) (history : List LogCall) → IsLogOf first history self.old → IsLogOf first (Pushed entry ∷ history) self.new }
+        ensures leads { (first : ℕ) (history : List LogCall)
+            → IsLogOf first history self.old → IsLogOf first (Pushed entry ∷ history) self.new }
     {
         self.next = entry.offset.checked_add(1);
         self.last = entry.at;
@@ -123,7 +139,8 @@ impl PacketLog {
         ensures swept { self.new ≡ swept self.old keep (max self.old.last now) }
 
         // The history with this call leads to the new contents.
-        ensures leads { (first : ℕ) (history : List LogCall) → IsLogOf first history self.old → IsLogOf first (Swept keep (max self.old.last now) ∷ history) self.new }
+        ensures leads { (first : ℕ) (history : List LogCall) → IsLogOf first history self.old
+            → IsLogOf first (Swept keep (max self.old.last now) ∷ history) self.new }
     {
         let now = self.last.max(now);
         let outdated = count_outdated(&self.ring, keep, now);
@@ -164,7 +181,8 @@ impl PacketLog {
     /// no such offset. It looks at no entry but the first.
     pub fn later(&self, offset: u64) -> Option<(&[Logged], &[Logged])>
         ensures stands { is_some result ≡ stands offset self.now.entries }
-        ensures later { IfSome result (λ pieces. pieces.0.now ++ pieces.1.now ≡ later_than offset self.now.entries) }
+        ensures later { IfSome result
+            (λ pieces. pieces.0.now ++ pieces.1.now ≡ later_than offset self.now.entries) }
     {
         let place = self.place_of(offset)?;
         Some(pieces_after(&self.ring, place))
@@ -180,11 +198,15 @@ impl PacketLog {
         rooms: &[Room],
     ) -> Result<Vec<u64>, RecoveryError>
         ensures refused { IfSome (missed_refusal self.now offset) (λ error. result ≡ Err error) }
-        ensures memory { IfNone (missed_refusal self.now offset) (IfErr result (λ error. error ≡ RecoveryError.Memory)) }
-        ensures missed { IfOk result (λ offsets. offsets.items ≡ missed offset space rooms.now self.now.entries) }
+        ensures memory { IfNone (missed_refusal self.now offset)
+            (IfErr result (λ error. error ≡ RecoveryError.Memory)) }
+        ensures missed { IfOk result
+            (λ offsets. offsets.items ≡ missed offset space rooms.now self.now.entries) }
 
         // Nothing is left out: they are those of all broadcasts that were ever pushed.
-        ensures whole { IfOk result (λ offsets. (first : ℕ) (history : List LogCall) → IsLogOf first history self.now → offsets.items ≡ missed offset space rooms.now (pushed history)) }
+        ensures whole { IfOk result (λ offsets. (first : ℕ) (history : List LogCall)
+            → IsLogOf first history self.now
+            → offsets.items ≡ missed offset space rooms.now (pushed history)) }
     {
         let Some(place) = self.place_of(offset) else {
             return Err(RecoveryError::OffsetGone);
@@ -211,7 +233,8 @@ impl PacketLog {
 
 /// How many entries from the oldest on are outdated.
 fn count_outdated(ring: &HeapCircularBuffer<Logged>, keep: u64, now: u64) -> usize
-    ensures { result ≡ length (take_while (λ entry. expiry.is_outdated keep now entry.at) ring.now.items) }
+    ensures { result
+        ≡ length (take_while (λ entry. expiry.is_outdated keep now entry.at) ring.now.items) }
 {
     ring.iter()
         .take_while(|entry| is_outdated(entry.at, keep, now))
@@ -240,7 +263,8 @@ fn missed_after(
 ) -> Result<Vec<u64>, AllocError>
     requires within { place < length ring.now.items }
     requires small { place + 1 < 2 ^ 64 }
-    ensures { IfOk result (λ offsets. offsets.items ≡ map (λ entry. entry.offset) (filter (is_for space rooms.now) (drop (place + 1) ring.now.items))) }
+    ensures { IfOk result (λ offsets. offsets.items ≡ map (λ entry. entry.offset)
+        (filter (is_for space rooms.now) (drop (place + 1) ring.now.items))) }
 {
     let start = place + 1;
     let (front, back) = ring.as_slices();
@@ -258,7 +282,8 @@ fn add_offsets(
     rooms: &[Room],
     offsets: &mut Vec<u64>,
 ) -> Result<(), AllocError>
-    ensures { OnOk result (offsets.new.items ≡ offsets.old.items ++ map (λ entry. entry.offset) (filter (is_for space rooms.now) entries.now)) }
+    ensures { OnOk result (offsets.new.items ≡ offsets.old.items
+        ++ map (λ entry. entry.offset) (filter (is_for space rooms.now) entries.now)) }
 {
     for entry in entries {
         if entry.is_for(space, rooms) {

@@ -60,7 +60,13 @@ impl Model for Saved {
 
     ghost Value = { PlainSaved };
 
-    ghost view = { λ s. record { sid = s.sid; pid = s.pid; space = s.space; rooms = s.rooms.items; lost_at = s.lost_at } };
+    ghost view = { λ s. record {
+      sid = s.sid;
+      pid = s.pid;
+      space = s.space;
+      rooms = s.rooms.items;
+      lost_at = s.lost_at;
+    } };
 }
 
 impl Saved {

@@ -45,7 +45,8 @@ impl Model for SavedTable {
 
     ghost view = { λ t. record { limit = t.limit; sessions = values_of t.indexes.by_pid.entries } };
 
-    ghost invariant = { λ t. IsTable t.indexes.by_pid.entries t.indexes.by_loss.keys t.indexes.by_sid.keys };
+    ghost invariant = { λ t. IsTable
+        t.indexes.by_pid.entries t.indexes.by_loss.keys t.indexes.by_sid.keys };
 }
 
 impl SavedTable {
@@ -110,9 +111,11 @@ impl SavedTable {
     /// it is dropped.
     pub fn save(&mut self, _alloc: Global, saved: Saved) -> Result<(), RecoveryError>
         ensures refused { IfSome (save_refusal self.old saved.pid) (λ error. result ≡ Err error) }
-        ensures memory { IfNone (save_refusal self.old saved.pid) (IfErr result (λ error. error ≡ RecoveryError.Memory)) }
+        ensures memory { IfNone (save_refusal self.old saved.pid)
+            (IfErr result (λ error. error ≡ RecoveryError.Memory)) }
         ensures saved { OnOk result (self.new ≡ table.saved self.old saved) }
-        ensures map { OnOk result ((pid : ℕ) → session self.new pid ≡ (if saved.pid == pid then Some saved else session self.old pid)) }
+        ensures map { OnOk result ((pid : ℕ) → session self.new pid
+            ≡ (if saved.pid == pid then Some saved else session self.old pid)) }
         ensures unchanged { OnErr result (self.new ≡ self.old) }
     {
         if let Some(refusal) = self.save_refusal(saved.pid) {
@@ -128,7 +131,8 @@ impl SavedTable {
     fn add(&mut self, saved: Saved) -> Result<(), AllocError>
         requires free { session self.old saved.pid ≡ None }
         ensures saved { OnOk result (self.new ≡ table.saved self.old saved) }
-        ensures map { OnOk result ((pid : ℕ) → session self.new pid ≡ (if saved.pid == pid then Some saved else session self.old pid)) }
+        ensures map { OnOk result ((pid : ℕ) → session self.new pid
+            ≡ (if saved.pid == pid then Some saved else session self.old pid)) }
         ensures unchanged { OnErr result (self.new ≡ self.old) }
     {
         self.indexes.put(saved)?;
@@ -137,8 +141,10 @@ impl SavedTable {
 
     /// The session with this private id. Refused in this order: there is none; it is outdated.
     pub fn find(&self, pid: Pid, now: u64, keep: u64) -> Result<&Saved, RecoveryError>
-        ensures refused { IfSome (find_refusal self.now pid keep now) (λ error. result ≡ Err error) }
-        ensures found { IfNone (find_refusal self.now pid keep now) (IsOkAnd result (λ saved. session self.now pid ≡ Some saved.now)) }
+        ensures refused { IfSome (find_refusal self.now pid keep now)
+            (λ error. result ≡ Err error) }
+        ensures found { IfNone (find_refusal self.now pid keep now)
+            (IsOkAnd result (λ saved. session self.now pid ≡ Some saved.now)) }
     {
         let Some(saved) = self.look_up(pid) else {
             return Err(RecoveryError::UnknownPid);
@@ -192,7 +198,8 @@ impl SavedTable {
     /// Copies of all sessions, their private ids rising.
     pub fn list(&self, alloc: Global) -> Result<Vec<Saved>, RecoveryError>
         ensures sessions { IfOk result (λ list. list.items ≡ self.now.sessions) }
-        ensures rises { IsStrictlySortedBy nat_cmp (map (λ (saved : PlainSaved). saved.pid) self.now.sessions) }
+        ensures rises { IsStrictlySortedBy nat_cmp
+            (map (λ (saved : PlainSaved). saved.pid) self.now.sessions) }
         ensures memory { IfErr result (λ error. error ≡ RecoveryError.Memory) }
     {
         match copy_all(alloc, &self.indexes.by_pid) {
@@ -205,10 +212,13 @@ impl SavedTable {
 impl Indexes {
     /// Whether a session has this session id.
     fn has_sid(&self, sid: Sid) -> bool
-        requires mirrors { IsTable self.now.by_pid.entries self.now.by_loss.keys self.now.by_sid.keys }
-        ensures { result ≡ list_any (λ (saved : PlainSaved). saved.sid == sid) (values_of self.now.by_pid.entries) }
+        requires mirrors { IsTable
+            self.now.by_pid.entries self.now.by_loss.keys self.now.by_sid.keys }
+        ensures { result ≡ list_any
+            (λ (saved : PlainSaved). saved.sid == sid) (values_of self.now.by_pid.entries) }
     {
-        // No private id comes before 0, so the first pair from here on has the session id if any has.
+        // No private id comes before 0, so the first pair from here on has the session id if any
+        // has.
         match self.by_sid.range((sid, Pid::new(0))..).next() {
             Some((first, _)) => *first == sid,
             None => false,
@@ -218,10 +228,15 @@ impl Indexes {
     /// Puts a session in. Where a growth is refused, those before it are taken back.
     fn put(&mut self, saved: Saved) -> Result<(), AllocError>
         requires free { lookup (is_at (nat_cmp saved.pid)) self.old.by_pid.entries ≡ None }
-        requires mirrors { IsTable self.old.by_pid.entries self.old.by_loss.keys self.old.by_sid.keys }
-        ensures entries { OnOk result (self.new.by_pid.entries ≡ insert_entry nat_cmp self.old.by_pid.entries saved.pid saved) }
-        ensures map { OnOk result ((pid : ℕ) → lookup (is_at (nat_cmp pid)) self.new.by_pid.entries ≡ (if is_at (nat_cmp saved.pid) pid then Some saved else lookup (is_at (nat_cmp pid)) self.old.by_pid.entries)) }
-        ensures mirrors { IsTable self.new.by_pid.entries self.new.by_loss.keys self.new.by_sid.keys }
+        requires mirrors { IsTable
+            self.old.by_pid.entries self.old.by_loss.keys self.old.by_sid.keys }
+        ensures entries { OnOk result (self.new.by_pid.entries
+            ≡ insert_entry nat_cmp self.old.by_pid.entries saved.pid saved) }
+        ensures map { OnOk result ((pid : ℕ) → lookup (is_at (nat_cmp pid)) self.new.by_pid.entries
+            ≡ (if is_at (nat_cmp saved.pid) pid then Some saved
+            else lookup (is_at (nat_cmp pid)) self.old.by_pid.entries)) }
+        ensures mirrors { IsTable
+            self.new.by_pid.entries self.new.by_loss.keys self.new.by_sid.keys }
         ensures unchanged { OnErr result (self.new.by_pid.entries ≡ self.old.by_pid.entries) }
     {
         let (sid, pid, lost_at) = (saved.sid, saved.pid, saved.lost_at);
@@ -240,12 +255,16 @@ impl Indexes {
 
     /// Takes a session out.
     fn take(&mut self, pid: Pid) -> Option<Saved>
-        requires mirrors { IsTable self.old.by_pid.entries self.old.by_loss.keys self.old.by_sid.keys }
+        requires mirrors { IsTable
+            self.old.by_pid.entries self.old.by_loss.keys self.old.by_sid.keys }
         ensures answer { result ≡ lookup (is_at (nat_cmp pid)) self.old.by_pid.entries }
-        ensures entries { self.new.by_pid.entries ≡ remove_entry (is_at (nat_cmp pid)) self.old.by_pid.entries }
+        ensures entries { self.new.by_pid.entries
+            ≡ remove_entry (is_at (nat_cmp pid)) self.old.by_pid.entries }
         ensures unchanged { IfNone result (self.new.by_pid.entries ≡ self.old.by_pid.entries) }
-        ensures fewer { OnSome result (btree_map_len self.new.by_pid < btree_map_len self.old.by_pid) }
-        ensures mirrors { IsTable self.new.by_pid.entries self.new.by_loss.keys self.new.by_sid.keys }
+        ensures fewer { OnSome result
+            (btree_map_len self.new.by_pid < btree_map_len self.old.by_pid) }
+        ensures mirrors { IsTable
+            self.new.by_pid.entries self.new.by_loss.keys self.new.by_sid.keys }
     {
         let Some(saved) = self.by_pid.remove(&pid) else {
             return None;
@@ -257,11 +276,16 @@ impl Indexes {
 
     /// Takes the session that was lost first, if it is outdated, and says whether it was.
     fn take_first_outdated(&mut self, keep: u64, now: u64) -> bool
-        requires mirrors { IsTable self.old.by_pid.entries self.old.by_loss.keys self.old.by_sid.keys }
-        ensures alive { filter (is_alive keep now) (values_of self.new.by_pid.entries) ≡ filter (is_alive keep now) (values_of self.old.by_pid.entries) }
-        ensures fewer { OnTrue result (btree_map_len self.new.by_pid < btree_map_len self.old.by_pid) }
-        ensures none_left { OnFalse result (filter (is_alive keep now) (values_of self.new.by_pid.entries) ≡ values_of self.new.by_pid.entries) }
-        ensures mirrors { IsTable self.new.by_pid.entries self.new.by_loss.keys self.new.by_sid.keys }
+        requires mirrors { IsTable
+            self.old.by_pid.entries self.old.by_loss.keys self.old.by_sid.keys }
+        ensures alive { filter (is_alive keep now) (values_of self.new.by_pid.entries)
+            ≡ filter (is_alive keep now) (values_of self.old.by_pid.entries) }
+        ensures fewer { OnTrue result
+            (btree_map_len self.new.by_pid < btree_map_len self.old.by_pid) }
+        ensures none_left { let left = values_of self.new.by_pid.entries
+            in OnFalse result (filter (is_alive keep now) left ≡ left) }
+        ensures mirrors { IsTable
+            self.new.by_pid.entries self.new.by_loss.keys self.new.by_sid.keys }
     {
         let Some(first) = self.by_loss.first() else {
             return false;
@@ -276,9 +300,12 @@ impl Indexes {
 
     /// Takes all outdated sessions, those lost first before the others.
     fn take_outdated(&mut self, keep: u64, now: u64)
-        requires mirrors { IsTable self.old.by_pid.entries self.old.by_loss.keys self.old.by_sid.keys }
-        ensures alive { values_of self.new.by_pid.entries ≡ filter (is_alive keep now) (values_of self.old.by_pid.entries) }
-        ensures mirrors { IsTable self.new.by_pid.entries self.new.by_loss.keys self.new.by_sid.keys }
+        requires mirrors { IsTable
+            self.old.by_pid.entries self.old.by_loss.keys self.old.by_sid.keys }
+        ensures alive { values_of self.new.by_pid.entries
+            ≡ filter (is_alive keep now) (values_of self.old.by_pid.entries) }
+        ensures mirrors { IsTable
+            self.new.by_pid.entries self.new.by_loss.keys self.new.by_sid.keys }
     {
         'first: while self.take_first_outdated(keep, now) {}
     }
