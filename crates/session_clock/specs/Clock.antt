@@ -38,4 +38,10 @@ pub record HasHistory (c : Contents) : Type 0 where
 
 -- what a clock shows after a history
 abbrev pub state_after : Opening → List Call → ClockState
-state_after o h = record { transport = transport o h; awaiting = is_some (awaited_ping o h); joined = was_joined h; last = moment o h }
+state_after o h =
+    record {
+      transport = transport o h;
+      awaiting = is_some (awaited_ping o h);
+      joined = was_joined h;
+      last = moment o h;
+    }

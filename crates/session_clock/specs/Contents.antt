@@ -3,7 +3,8 @@ use Rattle.std.specs.Prelude.{ℕ, Bool, Option}
 use Rattle.session_clock.specs.declared.timing.Timing.{Timing}
 use Rattle.session_clock.specs.declared.transport.Transport.{Transport}
 
--- the moments of the opening, of the newest call, of the ping that is awaited, and from which the ping interval counts
+-- the moments of the opening, of the newest call, of the ping that is awaited, and from which
+-- the ping interval counts
 pub record Contents : Type 0 where
   pub timing : Timing
   pub opened : ℕ

@@ -12,15 +12,18 @@ awaited_ping o (Ticked now SendPing ∷ h) = Some (max (moment o h) now)
 awaited_ping o (Ponged now ∷ h) = None
 awaited_ping o (_ ∷ h) = awaited_ping o h
 
--- the moment from which the ping interval counts: the last awaited pong or, without one, the opening
+-- the moment from which the ping interval counts: the last awaited pong or,
+-- without one, the opening
 unfoldable pub interval_start : Opening → List Call → ℕ
 interval_start o [] = o.now
-interval_start o (Ponged now ∷ h) = if is_some (awaited_ping o h) then max (moment o h) now else interval_start o h
+interval_start o (Ponged now ∷ h) =
+    if is_some (awaited_ping o h) then max (moment o h) now else interval_start o h
 interval_start o (_ ∷ h) = interval_start o h
 
 -- the pong to the awaited ping took at least the ping timeout
 abbrev pub is_ping_overdue : Opening → List Call → ℕ → Bool
-is_ping_overdue o h now = option_map_or (λ ping. nat_le o.timing.ping_timeout (now - ping)) (awaited_ping o h) false
+is_ping_overdue o h now =
+    option_map_or (λ ping. nat_le o.timing.ping_timeout (now - ping)) (awaited_ping o h) false
 
 -- nothing was joined, and at least the connection timeout passed since the opening
 abbrev pub is_joining_overdue : Opening → List Call → ℕ → Bool
@@ -28,7 +31,8 @@ is_joining_overdue o h now = not (was_joined h) && nat_le o.timing.connect_timeo
 
 -- no pong is awaited, and at least the ping interval passed
 abbrev pub is_ping_due : Opening → List Call → ℕ → Bool
-is_ping_due o h now = is_none (awaited_ping o h) && nat_le o.timing.ping_interval (now - interval_start o h)
+is_ping_due o h now =
+    is_none (awaited_ping o h) && nat_le o.timing.ping_interval (now - interval_start o h)
 
 -- what is due at a moment that is no earlier than the history's: the first of these that holds
 unfoldable pub due_at : Opening → List Call → ℕ → Due

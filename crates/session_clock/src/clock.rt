@@ -70,7 +70,8 @@ impl Clock {
     /// last moment, so it is answered again at the next tick.
     pub fn tick(&mut self, now: u64) -> Due
         ensures due { ForEachHistory self.old (λ o h. result ≡ due o h now) }
-        ensures leads { ForEachHistory self.old (λ o h. LeadsTo o (Ticked now result ∷ h) self.new) }
+        ensures leads { ForEachHistory self.old
+            (λ o h. LeadsTo o (Ticked now result ∷ h) self.new) }
     {
         let now = self.last.max(now);
         let due = self.due_at(now);
@@ -120,8 +121,10 @@ impl Clock {
 
     /// A probe over a WebSocket begins. Refused while one runs and after an upgrade.
     pub fn probe(&mut self) -> Result<(), ClockError>
-        ensures answer { ForEachHistory self.old (λ o h. result ≡ ok_unless (probe_refusal (transport o h))) }
-        ensures leads { OnOk result (ForEachHistory self.old (λ o h. LeadsTo o (Probed ∷ h) self.new)) }
+        ensures answer { ForEachHistory self.old
+            (λ o h. result ≡ ok_unless (probe_refusal (transport o h))) }
+        ensures leads { OnOk result
+            (ForEachHistory self.old (λ o h. LeadsTo o (Probed ∷ h) self.new)) }
         ensures unchanged { OnErr result (self.new ≡ self.old) }
     {
         match self.transport {
@@ -137,8 +140,10 @@ impl Clock {
     /// The probe succeeded, and the client speaks over the WebSocket from now on. Refused unless a
     /// probe runs.
     pub fn upgrade(&mut self) -> Result<(), ClockError>
-        ensures answer { ForEachHistory self.old (λ o h. result ≡ ok_unless (unprobed_refusal (transport o h))) }
-        ensures leads { OnOk result (ForEachHistory self.old (λ o h. LeadsTo o (Upgraded ∷ h) self.new)) }
+        ensures answer { ForEachHistory self.old
+            (λ o h. result ≡ ok_unless (unprobed_refusal (transport o h))) }
+        ensures leads { OnOk result
+            (ForEachHistory self.old (λ o h. LeadsTo o (Upgraded ∷ h) self.new)) }
         ensures unchanged { OnErr result (self.new ≡ self.old) }
     {
         match self.transport {
@@ -153,8 +158,10 @@ impl Clock {
 
     /// The probe failed, and the client goes on polling. Refused unless a probe runs.
     pub fn probe_lost(&mut self) -> Result<(), ClockError>
-        ensures answer { ForEachHistory self.old (λ o h. result ≡ ok_unless (unprobed_refusal (transport o h))) }
-        ensures leads { OnOk result (ForEachHistory self.old (λ o h. LeadsTo o (ProbeLost ∷ h) self.new)) }
+        ensures answer { ForEachHistory self.old
+            (λ o h. result ≡ ok_unless (unprobed_refusal (transport o h))) }
+        ensures leads { OnOk result
+            (ForEachHistory self.old (λ o h. LeadsTo o (ProbeLost ∷ h) self.new)) }
         ensures unchanged { OnErr result (self.new ≡ self.old) }
     {
         match self.transport {
