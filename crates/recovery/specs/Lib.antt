@@ -2,3 +2,4 @@ pub mod Expiry
 pub mod PacketLog
 pub mod Missed
 pub mod SavedTable
+pub mod Mirrors

@@ -8,7 +8,8 @@ ghost use Rattle.std.specs.List.{list_any};
 ghost use Rattle.std.specs.List.Sorted.{IsStrictlySortedBy};
 ghost use Rattle.std.specs.Map.{lookup, values_of, remove_entry};
 ghost use Rattle.std.specs.BTreeMap.{is_at, insert_entry, btree_map_len};
-ghost use Rattle.recovery.specs.SavedTable.{PlainSaved, IsTable, session, save_refusal, find_refusal, or_unknown, table_swept, is_alive};
+ghost use Rattle.recovery.specs.Mirrors.{HaveSameSessions};
+ghost use Rattle.recovery.specs.SavedTable.{PlainSaved, session, save_refusal, find_refusal, or_unknown, table_swept, is_alive};
 ghost use Rattle.recovery.specs.SavedTable as table;
 
 use crate::error::RecoveryError;
@@ -212,8 +213,7 @@ impl SavedTable {
 impl Indexes {
     /// Whether a session has this session id.
     fn has_sid(&self, sid: Sid) -> bool
-        requires mirrors { IsTable
-            self.now.by_pid.entries self.now.by_loss.keys self.now.by_sid.keys }
+        requires mirrors { HaveSameSessions self.now }
         ensures { result ≡ list_any
             (λ (saved : PlainSaved). saved.sid == sid) (values_of self.now.by_pid.entries) }
     {
@@ -228,15 +228,13 @@ impl Indexes {
     /// Puts a session in. Where a growth is refused, those before it are taken back.
     fn put(&mut self, saved: Saved) -> Result<(), AllocError>
         requires free { lookup (is_at (nat_cmp saved.pid)) self.old.by_pid.entries ≡ None }
-        requires mirrors { IsTable
-            self.old.by_pid.entries self.old.by_loss.keys self.old.by_sid.keys }
+        requires mirrors { HaveSameSessions self.old }
         ensures entries { OnOk result (self.new.by_pid.entries
             ≡ insert_entry nat_cmp self.old.by_pid.entries saved.pid saved) }
         ensures map { OnOk result ((pid : ℕ) → lookup (is_at (nat_cmp pid)) self.new.by_pid.entries
             ≡ (if is_at (nat_cmp saved.pid) pid then Some saved
             else lookup (is_at (nat_cmp pid)) self.old.by_pid.entries)) }
-        ensures mirrors { IsTable
-            self.new.by_pid.entries self.new.by_loss.keys self.new.by_sid.keys }
+        ensures mirrors { HaveSameSessions self.new }
         ensures unchanged { OnErr result (self.new.by_pid.entries ≡ self.old.by_pid.entries) }
     {
         let (sid, pid, lost_at) = (saved.sid, saved.pid, saved.lost_at);
@@ -255,16 +253,14 @@ impl Indexes {
 
     /// Takes a session out.
     fn take(&mut self, pid: Pid) -> Option<Saved>
-        requires mirrors { IsTable
-            self.old.by_pid.entries self.old.by_loss.keys self.old.by_sid.keys }
+        requires mirrors { HaveSameSessions self.old }
         ensures answer { result ≡ lookup (is_at (nat_cmp pid)) self.old.by_pid.entries }
         ensures entries { self.new.by_pid.entries
             ≡ remove_entry (is_at (nat_cmp pid)) self.old.by_pid.entries }
         ensures unchanged { IfNone result (self.new.by_pid.entries ≡ self.old.by_pid.entries) }
         ensures fewer { OnSome result
             (btree_map_len self.new.by_pid < btree_map_len self.old.by_pid) }
-        ensures mirrors { IsTable
-            self.new.by_pid.entries self.new.by_loss.keys self.new.by_sid.keys }
+        ensures mirrors { HaveSameSessions self.new }
     {
         let Some(saved) = self.by_pid.remove(&pid) else {
             return None;
@@ -276,16 +272,14 @@ impl Indexes {
 
     /// Takes the session that was lost first, if it is outdated, and says whether it was.
     fn take_first_outdated(&mut self, keep: u64, now: u64) -> bool
-        requires mirrors { IsTable
-            self.old.by_pid.entries self.old.by_loss.keys self.old.by_sid.keys }
+        requires mirrors { HaveSameSessions self.old }
         ensures alive { filter (is_alive keep now) (values_of self.new.by_pid.entries)
             ≡ filter (is_alive keep now) (values_of self.old.by_pid.entries) }
         ensures fewer { OnTrue result
             (btree_map_len self.new.by_pid < btree_map_len self.old.by_pid) }
         ensures none_left { let left = values_of self.new.by_pid.entries
             in OnFalse result (filter (is_alive keep now) left ≡ left) }
-        ensures mirrors { IsTable
-            self.new.by_pid.entries self.new.by_loss.keys self.new.by_sid.keys }
+        ensures mirrors { HaveSameSessions self.new }
     {
         let Some(first) = self.by_loss.first() else {
             return false;
@@ -300,12 +294,10 @@ impl Indexes {
 
     /// Takes all outdated sessions, those lost first before the others.
     fn take_outdated(&mut self, keep: u64, now: u64)
-        requires mirrors { IsTable
-            self.old.by_pid.entries self.old.by_loss.keys self.old.by_sid.keys }
+        requires mirrors { HaveSameSessions self.old }
         ensures alive { values_of self.new.by_pid.entries
             ≡ filter (is_alive keep now) (values_of self.old.by_pid.entries) }
-        ensures mirrors { IsTable
-            self.new.by_pid.entries self.new.by_loss.keys self.new.by_sid.keys }
+        ensures mirrors { HaveSameSessions self.new }
     {
         'first: while self.take_first_outdated(keep, now) {}
     }
