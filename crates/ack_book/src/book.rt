@@ -40,7 +40,8 @@ impl Model for AckBook {
 
     ghost view = { λ b. record { next = b.next; questions = b.questions.entries } };
 
-    ghost invariant = { λ b. HasHistory (record { next = b.next; questions = b.questions.entries }) };
+    ghost invariant = { λ b.
+        HasHistory (record { next = b.next; questions = b.questions.entries }) };
 }
 
 impl AckBook {
@@ -56,11 +57,15 @@ impl AckBook {
 
     /// Asks a question that runs out at a moment, and answers its id. Refused, it used no id.
     pub fn ask(&mut self, _alloc: Global, tag: u64, until: u64) -> Result<u64, AckError>
-        ensures refused { ForEachHistory self.old (λ first h. IfSome (ask_refusal first h) (λ e. result ≡ Err e)) }
-        ensures memory_alone { ForEachHistory self.old (λ first h. ask_refusal first h ≡ None → IfErr result (λ e. e ≡ AckError.Memory)) }
+        ensures refused { ForEachHistory self.old
+            (λ first h. IfSome (ask_refusal first h) (λ e. result ≡ Err e)) }
+        ensures memory_alone { ForEachHistory self.old
+            (λ first h. ask_refusal first h ≡ None → IfErr result (λ e. e ≡ AckError.Memory)) }
         ensures id { IfOk result (λ id. ForEachHistory self.old (λ first h. id ≡ next_id first h)) }
-        ensures leads { OnOk result (ForEachHistory self.old (λ first h. LeadsTo first (Asked tag until ∷ h) self.new)) }
-        ensures asked { IfOk result (λ id. ForEachHistory self.new (λ first h. question_at first h id ≡ Some (record { tag = tag; until = until }))) }
+        ensures leads { OnOk result
+            (ForEachHistory self.old (λ first h. LeadsTo first (Asked tag until ∷ h) self.new)) }
+        ensures asked { IfOk result (λ id. ForEachHistory self.new
+            (λ first h. question_at first h id ≡ Some (record { tag = tag; until = until }))) }
         ensures unchanged { OnErr result (self.new ≡ self.old) }
     {
         if self.next > LAST_ID {
@@ -78,9 +83,11 @@ impl AckBook {
 
     /// Takes the answer to a question: gives its tag and forgets its id.
     pub fn answer(&mut self, id: u64) -> Result<u64, AckError>
-        ensures answer { ForEachHistory self.old (λ first h. result ≡ answer_of (question_at first h id)) }
+        ensures answer { ForEachHistory self.old
+            (λ first h. result ≡ answer_of (question_at first h id)) }
         ensures once { OnOk result (ForEachHistory self.old (λ first h. IsUnanswered h id)) }
-        ensures leads { OnOk result (ForEachHistory self.old (λ first h. LeadsTo first (Answered id ∷ h) self.new)) }
+        ensures leads { OnOk result
+            (ForEachHistory self.old (λ first h. LeadsTo first (Answered id ∷ h) self.new)) }
         ensures unchanged { OnErr result (self.new ≡ self.old) }
     {
         let Some(question) = self.questions.remove(&id) else {
@@ -91,8 +98,10 @@ impl AckBook {
 
     /// Forgets each question that has run out at this moment, and counts them.
     pub fn expire(&mut self, now: u64) -> usize
-        ensures counts { ForEachHistory self.old (λ first h. result ≡ count_by (λ entry. nat_le entry.1.until now) (open_questions first h)) }
-        ensures leads { ForEachHistory self.old (λ first h. LeadsTo first (Expired now ∷ h) self.new) }
+        ensures counts { ForEachHistory self.old (λ first h. result
+            ≡ count_by (λ entry. nat_le entry.1.until now) (open_questions first h)) }
+        ensures leads { ForEachHistory self.old
+            (λ first h. LeadsTo first (Expired now ∷ h) self.new) }
     {
         let before = self.questions.len();
         self.questions.retain(|_, question| question.until > now);
@@ -101,7 +110,8 @@ impl AckBook {
 
     /// How many questions are open.
     pub fn len(&self) -> usize
-        ensures counts { ForEachHistory self.now (λ first h. result ≡ length (open_questions first h)) }
+        ensures counts { ForEachHistory self.now
+            (λ first h. result ≡ length (open_questions first h)) }
         ensures reached { HasHistory self.now }
     {
         self.questions.len()
