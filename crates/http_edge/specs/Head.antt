@@ -14,17 +14,20 @@ pub record IsHeadOf (head : Head) (h : RequestHead) : Type 0 where
   pub method : string_bytes head.method ≡ h.method
   pub target : IsTargetOf h.target (string_bytes head.path) (string_bytes head.query)
   pub upgrade : head.upgrade ≡ list_any is_upgrade (fields_of h)
-  pub origin : IsOnlyText (values (codes "origin") (fields_of h)) (option_map string_bytes head.origin)
+  pub origin : IsOnlyText
+      (values (codes "origin") (fields_of h)) (option_map string_bytes head.origin)
   pub len : head.len ≡ length (print_request h)
   pub body : HasBodyOf h head.body_len
 
 -- the bytes begin with that head, and its body isn't whole
 abbrev pub Awaits : Head → List ℕ → Type 0
-Awaits head bytes = (h : RequestHead) × (rest : List ℕ) × StartsWith bytes h rest × IsHeadOf head h × (length rest < head.body_len)
+Awaits head bytes = (h : RequestHead) × (rest : List ℕ)
+    × StartsWith bytes h rest × IsHeadOf head h × (length rest < head.body_len)
 
 -- a head with at most 100 fields, of which P holds, is at the front of the bytes
 abbrev pub HasParsed : List ℕ → (RequestHead → Type 0) → Type 0
-HasParsed bytes P = (h : RequestHead) × (rest : List ℕ) × ReadsRequest bytes h rest × (length h.fields ≤ 100) × P h
+HasParsed bytes P = (h : RequestHead) × (rest : List ℕ)
+    × ReadsRequest bytes h rest × (length h.fields ≤ 100) × P h
 
 -- the bytes begin with that head
 abbrev pub Begins : Head → List ℕ → Type 0
@@ -37,9 +40,12 @@ pub record IsOpening (line : Line) (bytes : List ℕ) : Type 0 where
   pub short : length bytes < 16384
   pub may : HasBegun bytes → MayBegin bytes
 
--- where this piece leaves the start line unbegun, or ends no line of a head that has begun, nothing is judged
-abbrev pub IsJudged : (before : Line) → (piece : List ℕ) → (after : Line) → (bytes : List ℕ) → Type 0
-IsJudged before piece after bytes = (after ≡ Blank) ⊎ ((before ≢ Blank) × EndsNoLine piece) ⊎ MayBecomeRequest bytes
+-- where this piece leaves the start line unbegun, or ends no line of a head that has
+-- begun, nothing is judged
+abbrev pub IsJudged :
+    (before : Line) → (piece : List ℕ) → (after : Line) → (bytes : List ℕ) → Type 0
+IsJudged before piece after bytes =
+    (after ≡ Blank) ⊎ ((before ≢ Blank) × EndsNoLine piece) ⊎ MayBecomeRequest bytes
 
 -- the head has ended; or it hasn't, and too many bytes came
 abbrev pub Decided : Bool → List ℕ → Type 0

@@ -1,4 +1,5 @@
--- What the bytes are that came so far: a request, a first part of one, or none for a reason (RFC 9112).
+-- What the bytes are that came so far: a request, a first part of one, or none
+-- for a reason (RFC 9112).
 use Rattle.std.specs.Prelude.{◌≡◌, ◌⊎◌, ◌<◌, ◌≤◌, ◌==◌, ◌||◌, ◌++◌, ℕ, Bool, true, false, not, List, ◌∷◌, Option, None, Some, Result, Ok, Err, length, take, IsUtf8, string_bytes, ⊤}
 use Rattle.std.specs.List.{list_any}
 use Rattle.httparse.specs.Grammar.{RequestHead, ReadsRequest, MayBecomeRequest, LineEnd, print_end, print_request}
@@ -18,11 +19,12 @@ front bytes = take 16384 bytes
 abbrev pub is_text : ℕ → Bool
 is_text b = not (b == 13 || b == 10)
 
--- an empty line follows a line that isn't empty: the head has ended, be it one or not (section 2.1; empty lines
--- before the start line are passed over, section 2.2)
+-- an empty line follows a line that isn't empty: the head has ended, be it one or not (section 2.1;
+-- empty lines before the start line are passed over, section 2.2)
 abbrev pub HasEmptyLine : List ℕ → Type 0
 HasEmptyLine bytes =
-    (lines : List ℕ) × (end : LineEnd) × (rest : List ℕ) × (bytes ≡ lines ++ ((10 ∷ print_end end) ++ rest)) × (list_any is_text lines ≡ true)
+    (lines : List ℕ) × (end : LineEnd) × (rest : List ℕ)
+    × (bytes ≡ lines ++ ((10 ∷ print_end end) ++ rest)) × (list_any is_text lines ≡ true)
 
 -- the bytes begin with this head, and rest follows it
 pub record StartsWith (bytes : List ℕ) (h : RequestHead) (rest : List ℕ) : Type 0 where
@@ -32,7 +34,8 @@ pub record StartsWith (bytes : List ℕ) (h : RequestHead) (rest : List ℕ) : T
 
 -- no head of at most 100 fields is at their front
 abbrev pub HasNoHead : List ℕ → Type 0
-HasNoHead bytes = (h : RequestHead) (rest : List ℕ) → ReadsRequest bytes h rest → 100 < length h.fields
+HasNoHead bytes =
+    (h : RequestHead) (rest : List ℕ) → ReadsRequest bytes h rest → 100 < length h.fields
 
 -- the start line has begun
 abbrev pub HasBegun : List ℕ → Type 0
@@ -42,7 +45,8 @@ HasBegun bytes = list_any is_text bytes ≡ true
 abbrev pub EndsNoLine : List ℕ → Type 0
 EndsNoLine bytes = list_any (λ b. b == 10) bytes ≡ false
 
--- what came up to the last line end, and of the start line its first byte at least, may become a head
+-- what came up to the last line end, and of the start line its first byte at
+-- least, may become a head
 pub record MayBegin (bytes : List ℕ) : Type 0 where
   pub judged : List ℕ
   pub rest : List ℕ
@@ -55,11 +59,13 @@ pub record MayBegin (bytes : List ℕ) : Type 0 where
 
 -- the head has ended and is none; or nothing that follows makes the bytes one
 abbrev pub IsBadHead : List ℕ → Type 0
-IsBadHead bytes = HasNoHead (front bytes) × (HasEmptyLine (front bytes) ⊎ RequestOverflows 100 (front bytes))
+IsBadHead bytes =
+    HasNoHead (front bytes) × (HasEmptyLine (front bytes) ⊎ RequestOverflows 100 (front bytes))
 
 -- too many bytes came, and it could still become a head
 abbrev pub IsHeadTooLong : List ℕ → Type 0
-IsHeadTooLong bytes = (16384 ≤ length bytes) × (¬ HasEmptyLine (front bytes)) × MayBecomeRequest (front bytes)
+IsHeadTooLong bytes =
+    (16384 ≤ length bytes) × (¬ HasEmptyLine (front bytes)) × MayBecomeRequest (front bytes)
 
 -- a POST that doesn't name the length of its body
 abbrev pub LacksLength : RequestHead → Type 0
@@ -97,7 +103,9 @@ IsFault TurnsSpent bytes = ⊥
 
 -- a first part of a request, of which no fault is known
 abbrev pub IsUnfinished : List ℕ → Type 0
-IsUnfinished bytes = ((length bytes < 16384) × (¬ HasEmptyLine bytes) × (HasBegun bytes → MayBegin bytes)) ⊎ HasHead LacksBody bytes
+IsUnfinished bytes =
+    ((length bytes < 16384) × (¬ HasEmptyLine bytes) × (HasBegun bytes → MayBegin bytes))
+    ⊎ HasHead LacksBody bytes
 
 -- the request and what follows it are these bytes
 abbrev pub request_bytes : Request → List ℕ
@@ -106,7 +114,8 @@ request_bytes q = q.head.items ++ string_bytes q.body
 abbrev pub IsRequestIn : Request → List ℕ → Type 0
 IsRequestIn q bytes = Asked q (request_bytes q) × (bytes ≡ request_bytes q ++ q.rest.items)
 
--- what is answered to the bytes so far, in whatever pieces they came: a request, that more is needed, or the fault
+-- what is answered to the bytes so far, in whatever pieces they came: a request, that more
+-- is needed, or the fault
 abbrev pub Answers : List ℕ → Result (Option Request) EdgeError → Type 0
 Answers bytes (Ok None) = IsUnfinished bytes
 Answers bytes (Ok (Some q)) = IsRequestIn q bytes

@@ -1,4 +1,5 @@
--- A request (RFC 9112): a head, of which `httparse` has the grammar, and the body that belongs to it.
+-- A request (RFC 9112): a head, of which `httparse` has the grammar, and the
+-- body that belongs to it.
 use Rattle.std.specs.Prelude.{◌≡◌, ◌<◌, ◌≤◌, ◌==◌, ℕ, Bool, true, false, cond, List, [], ◌∷◌, Option, None, Some, length, map, filter, option_map, All, IsTrue, IsUtf8, codes, bytes_eq, string_bytes}
 use Rattle.std.specs.List.{list_any, before_first, after_first}
 use Rattle.std.specs.Char.{is_ascii_digit}
@@ -19,7 +20,8 @@ fields_of h = map name_and_value h.fields
 
 -- the values under this name, in any case
 abbrev pub values : List ℕ → Fields → List (List ℕ)
-values name fields = map (λ field. field.1) (filter (λ field. str_eq_ignore_ascii_case field.0 name) fields)
+values name fields =
+    map (λ field. field.1) (filter (λ field. str_eq_ignore_ascii_case field.0 name) fields)
 
 -- the one value of a name, where it is text
 abbrev pub IsOnlyText : List (List ℕ) → Option (List ℕ) → Type 0
@@ -28,7 +30,10 @@ IsOnlyText found (Some text) = (found ≡ text ∷ []) × IsUtf8 text
 
 -- an Upgrade field that is `websocket`, in any case (RFC 6455, section 4.2.1)
 abbrev pub is_upgrade : List ℕ × List ℕ → Bool
-is_upgrade field = cond (str_eq_ignore_ascii_case field.0 (codes "upgrade")) (str_eq_ignore_ascii_case field.1 (codes "websocket")) false
+is_upgrade field =
+    cond (str_eq_ignore_ascii_case field.0 (codes "upgrade"))
+    (str_eq_ignore_ascii_case field.1 (codes "websocket"))
+    false
 
 -- ---- the length of a body (section 6)
 
@@ -39,7 +44,8 @@ IsLength text = (0 < length text) × (length text ≤ 9) × All (λ b. IsTrue (i
 -- the fields name this length: one Content-Length, and no Transfer-Encoding
 abbrev pub NamesLength : Fields → ℕ → Type 0
 NamesLength fields n =
-    (text : List ℕ) × (values (codes "content-length") fields ≡ text ∷ []) × IsLength text × (n ≡ digits_value 10 text)
+    (text : List ℕ) × (values (codes "content-length") fields ≡ text ∷ [])
+    × IsLength text × (n ≡ digits_value 10 text)
     × (values (codes "transfer-encoding") fields ≡ [])
 
 abbrev pub is_post : RequestHead → Bool
@@ -61,7 +67,8 @@ is_question b = b == 63
 
 -- the path stands before the target's first `?`, and the query behind it (section 3.2)
 abbrev pub IsTargetOf : List ℕ → List ℕ → List ℕ → Type 0
-IsTargetOf target path query = (path ≡ before_first is_question target) × (query ≡ after_first is_question target)
+IsTargetOf target path query =
+    (path ≡ before_first is_question target) × (query ≡ after_first is_question target)
 
 -- the bytes are one request, and q holds its parts
 pub record Asked (q : Request) (bytes : List ℕ) : Type 0 where
@@ -73,5 +80,6 @@ pub record Asked (q : Request) (bytes : List ℕ) : Type 0 where
   pub method : string_bytes q.method ≡ parsed.method
   pub target : IsTargetOf parsed.target (string_bytes q.path) (string_bytes q.query)
   pub upgrade : q.upgrade ≡ list_any is_upgrade (fields_of parsed)
-  pub origin : IsOnlyText (values (codes "origin") (fields_of parsed)) (option_map string_bytes q.origin)
+  pub origin : IsOnlyText
+      (values (codes "origin") (fields_of parsed)) (option_map string_bytes q.origin)
   pub head : q.head.items ≡ print_request parsed

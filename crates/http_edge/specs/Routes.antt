@@ -1,5 +1,5 @@
--- What a request asks for (Engine.IO protocol 4, "HTTP long-polling", "WebSocket" and "Upgrade"): the table of the
--- server's one path.
+-- What a request asks for (Engine.IO protocol 4, "HTTP long-polling", "WebSocket" and "Upgrade"):
+-- the table of the server's one path.
 use Rattle.std.specs.Prelude.{◌≡◌, ◌≢◌, ◌||◌, ◌&&◌, ℕ, Bool, not, false, List, [], ◌∷◌, Option, None, Some, is_some, is_none, bytes_eq, codes, cond, string_bytes}
 use Rattle.std.specs.Option.{option_or}
 use Rattle.std.specs.Str.Lossy.{utf8_lossy}
@@ -21,7 +21,8 @@ under key name value = cond (bytes_eq name key) (Some value) None
 -- the value of the first pair with this key
 unfoldable pub first_among : List ℕ → List (List ℕ × List ℕ) → Option (List ℕ)
 first_among key [] = None
-first_among key (pair ∷ pairs) = option_or (under key (decoded pair.0) (decoded pair.1)) (first_among key pairs)
+first_among key (pair ∷ pairs) =
+    option_or (under key (decoded pair.0) (decoded pair.1)) (first_among key pairs)
 
 -- the value of a query's key: a key that comes again counts by its first
 abbrev pub value_of : List ℕ → List ℕ → Option (List ℕ)
@@ -48,29 +49,35 @@ abbrev pub first_row : List (Bool × Target) → Target → Target
 first_row [] last = last
 first_row (row ∷ rows) last = cond row.0 row.1 (first_row rows last)
 
--- which end is asked for, where no row refuses: without a `sid` a new client, else the one with this id
+-- which end is asked for, where no row refuses: without a `sid` a new client,
+-- else the one with this id
 abbrev pub wanted : Bool → Bool → Option (Option ℕ) → Target
 wanted socket get None = cond socket Target.OpenSocket Target.OpenPoll
 wanted socket get (Some None) = Target.Refuse UnknownSession
-wanted socket get (Some (Some id)) = cond socket (Target.ProbeSocket id) (cond get (Target.Poll id) (Target.Post id))
+wanted socket get (Some (Some id)) =
+    cond socket (Target.ProbeSocket id) (cond get (Target.Poll id) (Target.Post id))
 
 -- a `sid` is given, and it is no id
 abbrev pub is_no_id : Option (Option ℕ) → Bool
 is_no_id None = false
 is_no_id (Some id) = is_none id
 
--- the table, row by row, for a path, a method, whether an upgrade is asked for, and three keys of the query
-unfoldable pub table : List ℕ → List ℕ → Bool → Option (List ℕ) → Option (Option ℕ) → Option (List ℕ) → Target
+-- the table, row by row, for a path, a method, whether an upgrade is asked for, and
+-- three keys of the query
+unfoldable pub table :
+    List ℕ → List ℕ → Bool → Option (List ℕ) → Option (Option ℕ) → Option (List ℕ) → Target
 table path method upgrade transport sid version =
     let get = bytes_eq method (codes "GET") in
     let post = bytes_eq method (codes "POST") in
     let socket = is_value (codes "websocket") transport in
     let polling = is_value (codes "polling") transport in
+    let served = bytes_eq path (codes "/socket.io/") || bytes_eq path (codes "/socket.io") in
+    let misused = (socket && not (get && upgrade)) || (is_some sid && not (get || post)) in
     first_row
-    ((not (bytes_eq path (codes "/socket.io/") || bytes_eq path (codes "/socket.io")), Target.NotFound)
+    ((not served, Target.NotFound)
     ∷ (not (polling || socket), Target.Refuse UnknownTransport)
     ∷ (is_no_id sid, Target.Refuse UnknownSession)
-    ∷ ((socket && not (get && upgrade)) || (is_some sid && not (get || post)), Target.Refuse BadRequest)
+    ∷ (misused, Target.Refuse BadRequest)
     ∷ (is_none sid && not get, Target.Refuse BadMethod)
     ∷ (is_none sid && not (is_value (codes "4") version), Target.Refuse UnsupportedVersion)
     ∷ [])
@@ -83,9 +90,12 @@ pub record IsRouted (q : Request) (target : Target) : Type 0 where
   pub gives : GivesId (value_of (codes "sid") (string_bytes q.query)) sid
   -- the row of the table
   pub row : target ≡ table (string_bytes q.path) (string_bytes q.method) q.upgrade
-      (value_of (codes "transport") (string_bytes q.query)) sid (value_of (codes "EIO") (string_bytes q.query))
+      (value_of (codes "transport") (string_bytes q.query))
+      sid
+      (value_of (codes "EIO") (string_bytes q.query))
 
--- the body of status 400 (Engine.IO's server documentation, "connection_error": its codes and messages)
+-- the body of status 400 (Engine.IO's server documentation, "connection_error":
+-- its codes and messages)
 abbrev pub refusal_text : Refusal → List ℕ
 refusal_text UnknownTransport = codes "{\"code\":0,\"message\":\"Transport unknown\"}"
 refusal_text UnknownSession = codes "{\"code\":1,\"message\":\"Session ID unknown\"}"

@@ -7,7 +7,8 @@ use Rattle.http_edge.specs.declared.request.Request.{Request}
 use Rattle.http_edge.specs.declared.error.EdgeError.{EdgeError}
 use Rattle.http_edge.specs.declared.error.EdgeError.TheVariants.{Memory, Device, EarlyEnd, BadHead, HeadTooLong, BodyTooLong, NoLength, NotUtf8, TurnsSpent}
 
--- why no request was read, when just these bytes came: they have a fault, or they are unfinished and no more came
+-- why no request was read, when just these bytes came: they have a fault, or they are
+-- unfinished and no more came
 abbrev pub IsReadFault : EdgeError → List ℕ → Type 0
 IsReadFault Memory bytes = IsFault Memory bytes
 IsReadFault Device bytes = IsUnfinished bytes
@@ -25,7 +26,8 @@ TakesFault before after e = (bytes : List ℕ) × Consumes before after bytes ×
 
 -- the request and the bytes behind it, which came with it, were taken
 abbrev pub TakesRequest : Option (List ℕ) → Option (List ℕ) → Request → Type 0
-TakesRequest before after q = Asked q (request_bytes q) × Consumes before after (request_bytes q ++ q.rest.items)
+TakesRequest before after q =
+    Asked q (request_bytes q) × Consumes before after (request_bytes q ++ q.rest.items)
 
 -- a first part of a request was taken, which is what was gathered
 abbrev pub TakesPart : Option (List ℕ) → Option (List ℕ) → Result (List ℕ) EdgeError → Type 0
@@ -33,7 +35,9 @@ TakesPart before after (Ok bytes) = Consumes before after bytes × IsUnfinished 
 TakesPart before after (Err e) = ⊥
 
 -- what one read has led to
-abbrev pub TakesOn : Option (List ℕ) → Option (List ℕ) → Result (List ℕ) EdgeError → Result (Option Request) EdgeError → Type 0
+abbrev pub TakesOn :
+    Option (List ℕ) → Option (List ℕ) → Result (List ℕ) EdgeError
+    → Result (Option Request) EdgeError → Type 0
 TakesOn before after gathered (Ok None) = TakesPart before after gathered
 TakesOn before after gathered (Ok (Some q)) = TakesRequest before after q
 TakesOn before after gathered (Err e) = TakesFault before after e

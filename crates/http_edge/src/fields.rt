@@ -71,9 +71,12 @@ fn read_length(text: &[u8]) -> Option<usize>
 // The length of a body that the fields name.
 pub(crate) fn body_length(bytes: &[u8], fields: &[HeaderSpan]) -> Result<usize, EdgeError>
     requires { All (IsHeaderWithin (length bytes.now)) fields.now }
-    ensures named { IfOk result (λ n. NamesLength (map (header_bytes bytes.now) fields.now) n × (n ≤ 1000000)) }
-    ensures unnamed { IfErr result (λ e. e ≡ NoLength → (n : ℕ) → ¬ NamesLength (map (header_bytes bytes.now) fields.now) n) }
-    ensures too_long { IfErr result (λ e. e ≡ BodyTooLong → (n : ℕ) × NamesLength (map (header_bytes bytes.now) fields.now) n × (1000000 < n)) }
+    ensures named { IfOk result
+        (λ n. NamesLength (map (header_bytes bytes.now) fields.now) n × (n ≤ 1000000)) }
+    ensures unnamed { IfErr result
+        (λ e. e ≡ NoLength → (n : ℕ) → ¬ NamesLength (map (header_bytes bytes.now) fields.now) n) }
+    ensures too_long { IfErr result (λ e. e ≡ BodyTooLong
+        → (n : ℕ) × NamesLength (map (header_bytes bytes.now) fields.now) n × (1000000 < n)) }
     ensures kinds { IfErr result (λ e. (e ≡ NoLength) ⊎ (e ≡ BodyTooLong)) }
 {
     let Values::Nothing = values_under(bytes, fields, b"transfer-encoding") else {
@@ -96,7 +99,9 @@ pub(crate) fn origin_of(
     fields: &[HeaderSpan],
 ) -> Result<Option<String>, AllocError>
     requires { All (IsHeaderWithin (length bytes.now)) fields.now }
-    ensures { IfOk result (λ origin. IsOnlyText (values (codes "origin") (map (header_bytes bytes.now) fields.now)) (option_map string_bytes origin)) }
+    ensures { IfOk result (λ origin. IsOnlyText
+        (values (codes "origin") (map (header_bytes bytes.now) fields.now))
+        (option_map string_bytes origin)) }
 {
     match values_under(bytes, fields, b"origin") {
         Values::One(value) => text_of(alloc, value),

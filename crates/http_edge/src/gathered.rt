@@ -44,7 +44,8 @@ impl Gathered {
     /// and after a fault it answers that fault for ever. An allocation that was refused is one too.
     pub fn feed(&mut self, alloc: Global, piece: &[u8]) -> Result<Option<Request>, EdgeError>
         // The pieces don't matter: what is answered is said of all bytes so far.
-        ensures answer { (bytes : List ℕ) → self.old ≡ Ok bytes → Answers (bytes ++ piece.now) result }
+        ensures answer { (bytes : List ℕ)
+            → self.old ≡ Ok bytes → Answers (bytes ++ piece.now) result }
         ensures failed { (fault : EdgeError) → self.old ≡ Err fault → result ≡ Err fault }
 
         // What it stands for then.

@@ -40,7 +40,8 @@ fn text_from(alloc: Global, bytes: &[u8]) -> Result<String, AllocError>
 
 // A target's path and query.
 fn split_target(alloc: Global, target: &str) -> Result<(String, String), AllocError>
-    ensures { IfOk result (λ parts. IsTargetOf target.now (string_bytes parts.0) (string_bytes parts.1)) }
+    ensures { IfOk result
+        (λ parts. IsTargetOf target.now (string_bytes parts.0) (string_bytes parts.1)) }
 {
     match target.split_once('?') {
         Some((path, query)) => Ok((
@@ -54,12 +55,14 @@ fn split_target(alloc: Global, target: &str) -> Result<(String, String), AllocEr
 // The length of the body that belongs to a head.
 fn length_for(method: &str, bytes: &[u8], fields: &[HeaderSpan]) -> Result<usize, EdgeError>
     requires { All (IsHeaderWithin (length bytes.now)) fields.now }
-    ensures posted { bytes_eq method.now (codes "POST") ≡ true →
-        IfOk result (λ n. NamesLength (map (header_bytes bytes.now) fields.now) n × (n ≤ 1000000)) }
-    ensures other { bytes_eq method.now (codes "POST") ≡ false → IfOk result (λ n. n ≡ 0) }
-    ensures unnamed { IfErr result (λ e. e ≡ NoLength → (n : ℕ) → ¬ NamesLength (map (header_bytes bytes.now) fields.now) n) }
-    ensures too_long { IfErr result (λ e. e ≡ BodyTooLong → (n : ℕ) × NamesLength (map (header_bytes bytes.now) fields.now) n × (1000000 < n)) }
-    ensures only_posted { OnErr result (bytes_eq method.now (codes "POST") ≡ true) }
+    ensures posted { bytes_eq method.now (codes "POST") ≡ true → IfOk result
+        (λ n. NamesLength (map (header_bytes bytes.now) fields.now) n × (n ≤ 1000000)) }
+    ensures other { let posts = bytes_eq method.now (codes "POST")
+        in (posts ≡ false → IfOk result (λ n. n ≡ 0)) × OnErr result (posts ≡ true) }
+    ensures unnamed { IfErr result
+        (λ e. e ≡ NoLength → (n : ℕ) → ¬ NamesLength (map (header_bytes bytes.now) fields.now) n) }
+    ensures too_long { IfErr result (λ e. e ≡ BodyTooLong
+        → (n : ℕ) × NamesLength (map (header_bytes bytes.now) fields.now) n × (1000000 < n)) }
     ensures kinds { IfErr result (λ e. (e ≡ NoLength) ⊎ (e ≡ BodyTooLong)) }
 {
     if method == "POST" {
@@ -78,9 +81,12 @@ fn head_of(
 ) -> Result<Head, EdgeError>
     requires within { IsRequestWithin bytes.now spans.now found.now }
     requires shown { IsRequestOf bytes.now spans.now found.now }
-    ensures head { (h : RequestHead) → IsRequestAt bytes.now spans.now found.now h → IfOk result (λ head. IsHeadOf head h) }
-    ensures unnamed { (h : RequestHead) → IsRequestAt bytes.now spans.now found.now h → IfErr result (λ e. e ≡ NoLength → LacksLength h) }
-    ensures too_long { (h : RequestHead) → IsRequestAt bytes.now spans.now found.now h → IfErr result (λ e. e ≡ BodyTooLong → NamesTooMuch h) }
+    ensures head { (h : RequestHead)
+        → IsRequestAt bytes.now spans.now found.now h → IfOk result (λ head. IsHeadOf head h) }
+    ensures unnamed { (h : RequestHead) → IsRequestAt bytes.now spans.now found.now h
+        → IfErr result (λ e. e ≡ NoLength → LacksLength h) }
+    ensures too_long { (h : RequestHead) → IsRequestAt bytes.now spans.now found.now h
+        → IfErr result (λ e. e ≡ BodyTooLong → NamesTooMuch h) }
     ensures kinds { IfErr result (λ e. (e ≡ Memory) ⊎ (e ≡ NoLength) ⊎ (e ≡ BodyTooLong)) }
 {
     let fields = &spans[..found.headers];
@@ -118,11 +124,14 @@ pub(crate) fn judge(bytes: &[u8]) -> Result<(), EdgeError>
 /// The head at the front of the bytes. Where it has ended, none that is found is a bad one.
 pub(crate) fn find_head(alloc: Global, bytes: &[u8], ended: bool) -> Result<Head, EdgeError>
     ensures head { IfOk result (λ head. HasParsed bytes.now (λ h. IsHeadOf head h)) }
-    ensures bad { IfErr result (λ e. e ≡ BadHead → HasNoHead bytes.now × (ended ≡ false → RequestOverflows 100 bytes.now)) }
-    ensures long { IfErr result (λ e. e ≡ HeadTooLong → (ended ≡ false) × MayBecomeRequest bytes.now) }
+    ensures bad { IfErr result (λ e. e ≡ BadHead
+        → HasNoHead bytes.now × (ended ≡ false → RequestOverflows 100 bytes.now)) }
+    ensures long { IfErr result
+        (λ e. e ≡ HeadTooLong → (ended ≡ false) × MayBecomeRequest bytes.now) }
     ensures unnamed { IfErr result (λ e. e ≡ NoLength → HasParsed bytes.now LacksLength) }
     ensures too_long { IfErr result (λ e. e ≡ BodyTooLong → HasParsed bytes.now NamesTooMuch) }
-    ensures kinds { IfErr result (λ e. (e ≡ Memory) ⊎ (e ≡ BadHead) ⊎ (e ≡ HeadTooLong) ⊎ (e ≡ NoLength) ⊎ (e ≡ BodyTooLong)) }
+    ensures kinds { IfErr result (λ e. (e ≡ Memory)
+        ⊎ (e ≡ BadHead) ⊎ (e ≡ HeadTooLong) ⊎ (e ≡ NoLength) ⊎ (e ≡ BodyTooLong)) }
 {
     let mut spans = [EMPTY_HEADER_SPAN; FIELDS];
     match parse_request(bytes, &mut spans) {

@@ -7,5 +7,6 @@ ghost use Rattle.http_edge.specs.Reading.{HasEmptyLine};
 /// Bytes that begin with a head have an empty line: so where none has come, there is no head yet.
 /// It has no effect.
 pub fn heads_end()
-    ensures { (bytes rest : List ℕ) (h : RequestHead) → ReadsRequest bytes h rest → HasEmptyLine bytes }
+    ensures { (bytes rest : List ℕ) (h : RequestHead)
+        → ReadsRequest bytes h rest → HasEmptyLine bytes }
 {}

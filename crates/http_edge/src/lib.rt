@@ -1,5 +1,5 @@
-//! HTTP at the server's edge (RFC 9112): a request is read, its target looked up among the routes of
-//! Engine.IO, and an answer written.
+//! HTTP at the server's edge (RFC 9112): a request is read, its target looked up among the routes
+//! of Engine.IO, and an answer written.
 #![tactic(auto)]
 
 mod error;

@@ -48,7 +48,8 @@ impl Line {
     /// Has the start line begun in this piece, or has a line ended in it since?
     pub(crate) fn is_due(self, before: Line, piece: &[u8]) -> bool
         ensures due { result ≡ true → self ≢ Blank }
-        ensures rests { result ≡ false → (self ≡ Blank) ⊎ ((before ≢ Blank) × EndsNoLine piece.now) }
+        ensures rests { result ≡ false
+            → (self ≡ Blank) ⊎ ((before ≢ Blank) × EndsNoLine piece.now) }
     {
         self != Line::Blank && (before == Line::Blank || piece.contains(&b'\n'))
     }

@@ -20,8 +20,10 @@ pub fn read_request<W: Wire>(alloc: Global, wire: &mut W, turns: u64) -> Result<
     ensures fault { IfErr result (λ e. TakesFault (W.left wire.old) (W.left wire.new) e) }
     ensures broken { IfErr result (λ e. e ≡ Device → W.is_broken wire.new ≡ true) }
     ensures ended { IfErr result (λ e. e ≡ EarlyEnd → IsAtEnd (W.left wire.new)) }
-    ensures counted { (count : ℕ) × (count ≤ turns) × ReadsMore (W.reads wire.old) (W.reads wire.new) count }
-    ensures spent { IfErr result (λ e. e ≡ TurnsSpent → ReadsMore (W.reads wire.old) (W.reads wire.new) turns) }
+    ensures counted { (count : ℕ) × (count ≤ turns)
+        × ReadsMore (W.reads wire.old) (W.reads wire.new) count }
+    ensures spent { IfErr result
+        (λ e. e ≡ TurnsSpent → ReadsMore (W.reads wire.old) (W.reads wire.new) turns) }
 {
     let mut gathered = Gathered::new(alloc);
     read_on(alloc, wire, &mut gathered, turns)
@@ -35,12 +37,16 @@ fn read_on<W: Wire>(
     turns: u64,
 ) -> Result<Request, EdgeError>
     requires { IsOk gathered.old }
-    ensures request { (start : Option (List ℕ)) → TakesPart start (W.left wire.old) gathered.old → IfOk result (λ q. TakesRequest start (W.left wire.new) q) }
-    ensures fault { (start : Option (List ℕ)) → TakesPart start (W.left wire.old) gathered.old → IfErr result (λ e. TakesFault start (W.left wire.new) e) }
-    ensures broken { IfErr result (λ e. e ≡ Device → W.is_broken wire.new ≡ true) }
-    ensures ended { IfErr result (λ e. e ≡ EarlyEnd → IsAtEnd (W.left wire.new)) }
-    ensures counted { (count : ℕ) × (count ≤ turns) × ReadsMore (W.reads wire.old) (W.reads wire.new) count }
-    ensures spent { IfErr result (λ e. e ≡ TurnsSpent → ReadsMore (W.reads wire.old) (W.reads wire.new) turns) }
+    ensures request { (start : Option (List ℕ)) → TakesPart start (W.left wire.old) gathered.old
+        → IfOk result (λ q. TakesRequest start (W.left wire.new) q) }
+    ensures fault { (start : Option (List ℕ)) → TakesPart start (W.left wire.old) gathered.old
+        → IfErr result (λ e. TakesFault start (W.left wire.new) e) }
+    ensures stopped { IfErr result (λ e. (e ≡ Device → W.is_broken wire.new ≡ true)
+        × (e ≡ EarlyEnd → IsAtEnd (W.left wire.new))) }
+    ensures counted { (count : ℕ) × (count ≤ turns)
+        × ReadsMore (W.reads wire.old) (W.reads wire.new) count }
+    ensures spent { IfErr result
+        (λ e. e ≡ TurnsSpent → ReadsMore (W.reads wire.old) (W.reads wire.new) turns) }
 {
     for _turn in 0..turns {
         if let Some(request) = one_read(alloc, wire, gathered)? {
@@ -60,8 +66,8 @@ fn one_read<W: Wire>(
     ensures goes_on { IfOk result (λ answer. answer ≡ None → IsOk gathered.new) }
     ensures takes { (start : Option (List ℕ)) → TakesPart start (W.left wire.old) gathered.old
         → TakesOn start (W.left wire.new) gathered.new result }
-    ensures broken { IfErr result (λ e. e ≡ Device → W.is_broken wire.new ≡ true) }
-    ensures ended { IfErr result (λ e. e ≡ EarlyEnd → IsAtEnd (W.left wire.new)) }
+    ensures stopped { IfErr result (λ e. (e ≡ Device → W.is_broken wire.new ≡ true)
+        × (e ≡ EarlyEnd → IsAtEnd (W.left wire.new))) }
     ensures unspent { IfErr result (λ e. e ≢ TurnsSpent) }
     ensures counted { W.reads wire.new ≡ min (W.reads wire.old + 1) (2 ^ 64 - 1) }
 {

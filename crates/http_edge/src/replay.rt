@@ -42,7 +42,8 @@ impl<S> Replay<S> {
 
     /// The stream behind the bytes.
     pub fn get_mut(&mut self) -> &mut S
-        ensures* writes_back { sem 𝓛 (Lends (the_row S.row) S.row self.entry result (λ stream. record self.old { stream = stream })) }
+        ensures* writes_back { sem 𝓛 (Lends (the_row S.row) S.row self.entry result
+            (λ stream. record self.old { stream = stream })) }
         ensures value { result.now ≡ self.old.stream }
     {
         &mut self.stream

@@ -71,14 +71,16 @@ pub fn write_response<W: Wire>(
     status: Status,
     body: &str,
 ) -> Result<(), EdgeError>
-    ensures whole { OnOk result (Appends (W.written wire.old) (W.written wire.new) (http.answer status body.now)) }
+    ensures whole { OnOk result
+        (Appends (W.written wire.old) (W.written wire.new) (http.answer status body.now)) }
     ensures kinds { IfErr result (λ e. (e ≡ Memory) ⊎ (e ≡ Device)) }
 
     // Where memory was refused, nothing was asked of the wire.
     ensures unwritten { IfErr result (λ e. e ≡ Memory → wire.new ≡ wire.old) }
 
     // Where the wire broke, a first part of the answer was written.
-    ensures front { IfErr result (λ e. e ≡ Device → AppendsFront (W.written wire.old) (W.written wire.new) (http.answer status body.now)) }
+    ensures front { IfErr result (λ e. e ≡ Device
+        → AppendsFront (W.written wire.old) (W.written wire.new) (http.answer status body.now)) }
     ensures broken { IfErr result (λ e. e ≡ Device → W.is_broken wire.new ≡ true) }
 {
     let Ok(text) = answer_text(alloc, status, body) else {
@@ -106,13 +108,15 @@ fn answer_text(alloc: Global, status: Status, body: &str) -> Result<String, Allo
 }
 
 fn push_status_line(text: &mut String, code: u16, reason: &str) -> Result<(), AllocError>
-    ensures { OnOk result (string_bytes text.new ≡ string_bytes text.old ++ http.status_line code reason.now) }
+    ensures { OnOk result
+        (string_bytes text.new ≡ string_bytes text.old ++ http.status_line code reason.now) }
 {
     write!(text, "HTTP/1.1 {code} {reason}\r\n")
 }
 
 fn push_field(text: &mut String, name: &str, value: &str) -> Result<(), AllocError>
-    ensures { OnOk result (string_bytes text.new ≡ string_bytes text.old ++ http.field name.now value.now) }
+    ensures { OnOk result
+        (string_bytes text.new ≡ string_bytes text.old ++ http.field name.now value.now) }
 {
     text.push_str(name)?;
     text.push_str(": ")?;
@@ -121,7 +125,8 @@ fn push_field(text: &mut String, name: &str, value: &str) -> Result<(), AllocErr
 }
 
 fn push_length(text: &mut String, length: usize) -> Result<(), AllocError>
-    ensures { OnOk result (string_bytes text.new ≡ string_bytes text.old ++ http.field (codes "Content-Length") (decimal length)) }
+    ensures { OnOk result (string_bytes text.new
+        ≡ string_bytes text.old ++ http.field (codes "Content-Length") (decimal length)) }
 {
     write!(text, "Content-Length: {length}\r\n")
 }
@@ -129,7 +134,8 @@ fn push_length(text: &mut String, length: usize) -> Result<(), AllocError>
 // Writes all of the bytes, by as many writes as it takes.
 fn write_all<W: Wire>(wire: &mut W, bytes: &[u8]) -> Result<(), Broken>
     ensures whole { OnOk result (Appends (W.written wire.old) (W.written wire.new) bytes.now) }
-    ensures front { OnErr result (AppendsFront (W.written wire.old) (W.written wire.new) bytes.now) }
+    ensures front { OnErr result
+        (AppendsFront (W.written wire.old) (W.written wire.new) bytes.now) }
     ensures broken { OnErr result (W.is_broken wire.new ≡ true) }
 {
     let mut start = 0;

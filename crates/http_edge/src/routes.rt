@@ -91,7 +91,8 @@ fn choose(
     sid: Option<Option<u128>>,
     version: &Option<String>,
 ) -> Target
-    ensures { result ≡ routes.table (string_bytes request.now.path) (string_bytes request.now.method) request.now.upgrade
+    ensures { result ≡ routes.table
+        (string_bytes request.now.path) (string_bytes request.now.method) request.now.upgrade
         (option_map string_bytes transport.now) sid (option_map string_bytes version.now) }
 {
     let path = request.path.as_str();
@@ -130,7 +131,8 @@ fn is_text(value: &Option<String>, text: &str) -> bool
 
 // The value of the query's first pair with this key.
 fn first_value(alloc: Global, query: &[u8], key: &str) -> Result<Option<String>, EdgeError>
-    ensures value { IfOk result (λ value. option_map string_bytes value ≡ value_of key.now query.now) }
+    ensures value { IfOk result
+        (λ value. option_map string_bytes value ≡ value_of key.now query.now) }
     ensures kinds { IfErr result (λ e. e ≡ Memory) }
 {
     for pair in form_urlencoded::parse(alloc, query) {
@@ -148,7 +150,8 @@ fn value_under(
     pair: (CowStr<'_>, CowStr<'_>),
     key: &str,
 ) -> Result<Option<String>, AllocError>
-    ensures { IfOk result (λ value. option_map string_bytes value ≡ under key.now (cow_str_bytes pair.entry.0) (cow_str_bytes pair.entry.1)) }
+    ensures { IfOk result (λ value. option_map string_bytes value
+        ≡ under key.now (cow_str_bytes pair.entry.0) (cow_str_bytes pair.entry.1)) }
 {
     let (name, value) = pair;
     if name.as_str() == key {

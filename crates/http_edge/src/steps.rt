@@ -28,7 +28,8 @@ pub(crate) fn first_stage(alloc: Global) -> Stage
 
 /// What these bytes, after those so far, lead to.
 pub(crate) fn step_of(alloc: Global, stage: Stage, piece: &[u8]) -> Result<Step, EdgeError>
-    ensures step { (bytes : List ℕ) → so_far stage ≡ Ok bytes → StepsTo (bytes ++ piece.now) result }
+    ensures step { (bytes : List ℕ)
+        → so_far stage ≡ Ok bytes → StepsTo (bytes ++ piece.now) result }
     ensures failed { (fault : EdgeError) → so_far stage ≡ Err fault → result ≡ Err fault }
 {
     match stage {
@@ -56,8 +57,8 @@ impl Opening {
     }
 }
 
-// Judges the bytes, the last of which are this piece, where the start line has begun in it or a line
-// has ended. So a head has at most 102 looks, in whatever pieces it comes.
+// Judges the bytes, the last of which are this piece, where the start line has begun in it or a
+// line has ended. So a head has at most 102 looks, in whatever pieces it comes.
 fn judge_due(bytes: &[u8], before: Line, piece: &[u8], after: Line) -> Result<(), EdgeError>
     requires short { length bytes.now < 16384 }
     requires unended { ¬ HasEmptyLine bytes.now }

@@ -71,7 +71,8 @@ impl<S> OnStream<S> {
 
     /// The stream. What is done with it counts as no read, and breaks nothing.
     pub fn get_mut(&mut self) -> &mut S
-        ensures* writes_back { sem 𝓛 (Lends (the_row S.row) S.row self.entry result (λ stream. record self.old { stream = stream })) }
+        ensures* writes_back { sem 𝓛 (Lends (the_row S.row) S.row self.entry result
+            (λ stream. record self.old { stream = stream })) }
         ensures value { result.now ≡ self.old.stream }
     {
         &mut self.stream

@@ -11,12 +11,12 @@ pub returns-in_err-body_len-clause-unnamed : goal.returns-in_err-body_len-clause
 returns-in_err-body_len-clause-unnamed c = λ h at.
     let m : c.as_str.result.now ≡ h.method = c.as_str.ensures.value ∙ c.in_ok-method.ensures ∙ c.of.ensures ∙ at.method in
     let have : c.in_err-body_len.field-0.0 ≡ NoLength → LacksLength h =
-    λ is. lacks_length h _ _ m at.fields c.in_err-body_len.ensures.only_posted (c.in_err-body_len.ensures.unnamed is) in
+    λ is. lacks_length h _ _ m at.fields c.in_err-body_len.ensures.other.1 (c.in_err-body_len.ensures.unnamed is) in
     search (rules, have)
 
 pub returns-in_err-body_len-clause-too_long : goal.returns-in_err-body_len-clause-too_long
 returns-in_err-body_len-clause-too_long c = λ h at.
     let m : c.as_str.result.now ≡ h.method = c.as_str.ensures.value ∙ c.in_ok-method.ensures ∙ c.of.ensures ∙ at.method in
     let have : c.in_err-body_len.field-0.0 ≡ BodyTooLong → NamesTooMuch h =
-    λ is. names_too_much h _ _ m at.fields c.in_err-body_len.ensures.only_posted (c.in_err-body_len.ensures.too_long is) in
+    λ is. names_too_much h _ _ m at.fields c.in_err-body_len.ensures.other.1 (c.in_err-body_len.ensures.too_long is) in
     search (rules, have)
