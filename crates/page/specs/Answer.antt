@@ -1,4 +1,5 @@
--- The head of an answer that is a file (RFC 9112, sections 4 and 5), after which the connection closes.
+-- The head of an answer that is a file (RFC 9112, sections 4 and 5), after which
+-- the connection closes.
 use Rattle.std.specs.Prelude.{ℕ, List, [], ◌∷◌, ◌++◌, codes}
 use Rattle.std.specs.Fmt.{decimal}
 use Rattle.page.specs.Media.{media_type}

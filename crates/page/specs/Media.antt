@@ -1,4 +1,5 @@
--- What a file is, by the end of its name (RFC 9110, section 8.3.1; the types are registered with IANA).
+-- What a file is, by the end of its name (RFC 9110, section 8.3.1; the types are
+-- registered with IANA).
 use Rattle.std.specs.Prelude.{ℕ, Bool, cond, List, codes, nat_eq}
 use Rattle.std.specs.List.{ends_with}
 

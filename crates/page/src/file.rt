@@ -18,11 +18,12 @@ pub struct File {
 }
 
 impl File {
-    /// What stands before the file's bytes in the answer to a GET, and is all of the answer to a HEAD
-    /// (RFC 9110, sections 9.3.1 and 9.3.2).
+    /// What stands before the file's bytes in the answer to a GET, and is all of the answer to a
+    /// HEAD (RFC 9110, sections 9.3.1 and 9.3.2).
     #[tactic(auto, unfolding(crate::specs::Answer::head_of))]
     pub fn head(&self, alloc: Global) -> Result<String, AllocError>
-        ensures { IfOk result (λ text. string_bytes text ≡ head_of self.now.name (length self.now.bytes)) }
+        ensures { IfOk result
+            (λ text. string_bytes text ≡ head_of self.now.name (length self.now.bytes)) }
     {
         let mut text = String::new(alloc);
         text.push_str("HTTP/1.1 200 OK\r\n")?;
@@ -37,7 +38,8 @@ impl File {
 }
 
 fn push_field(text: &mut String, name: &str, value: &str) -> Result<(), AllocError>
-    ensures { OnOk result (string_bytes text.new ≡ string_bytes text.old ++ field name.now value.now) }
+    ensures { OnOk result
+        (string_bytes text.new ≡ string_bytes text.old ++ field name.now value.now) }
 {
     text.push_str(name)?;
     text.push_str(": ")?;
@@ -46,7 +48,8 @@ fn push_field(text: &mut String, name: &str, value: &str) -> Result<(), AllocErr
 }
 
 fn push_length(text: &mut String, length: usize) -> Result<(), AllocError>
-    ensures { OnOk result (string_bytes text.new ≡ string_bytes text.old ++ field (codes "Content-Length") (decimal length)) }
+    ensures { OnOk result (string_bytes text.new
+        ≡ string_bytes text.old ++ field (codes "Content-Length") (decimal length)) }
 {
     write!(text, "Content-Length: {length}\r\n")
 }

@@ -1,4 +1,5 @@
-//! The files of one folder as answers over HTTP: which one a path asks for, and what stands before it.
+//! The files of one folder as answers over HTTP: which one a path asks for, and what stands
+//! before it.
 #![tactic(auto)]
 
 mod error;

@@ -11,8 +11,8 @@ fn ends(name: &str, ending: &str) -> bool
     name.as_bytes().ends_with(ending.as_bytes())
 }
 
-/// The media type of the file with this name (RFC 9110, section 8.3.1). Names of which nothing is known
-/// are bytes.
+/// The media type of the file with this name (RFC 9110, section 8.3.1). Names of which nothing is
+/// known are bytes.
 pub fn media_type(name: &str) -> &'static str
     ensures { result.now ≡ media.media_type name.now }
 {

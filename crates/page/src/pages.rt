@@ -34,7 +34,8 @@ impl Model for Page {
 
     ghost view = { λ p. p.files.items };
 
-    ghost invariant = { λ p. (p.size ≡ size_of p.files.items) × (p.size ≤ 16777216) × (length p.files.items ≤ 1000) };
+    ghost invariant = { λ p. (p.size ≡ size_of p.files.items)
+        × (p.size ≤ 16777216) × (length p.files.items ≤ 1000) };
 }
 
 impl Page {
