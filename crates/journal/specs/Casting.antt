@@ -32,18 +32,25 @@ in_space space (Some k) = if k.space == space then k ∷ [] else []
 abbrev pub is_here : ℕ → Option Socket → Bool
 is_here space found = option_map_or (λ (k : Socket). k.space == space) found false
 
--- the list rises, and of the ids that are inside it has just those that pass the test; it may have others
+-- the list rises, and of the ids that are inside it has just those that pass the
+-- test; it may have others
 pub record ListsInside (inside test : ℕ → Bool) (ids : List ℕ) : Type 0 where
   pub rises : IsStrictlySortedBy nat_cmp ids
   pub exactly : (id : ℕ) → inside id ≡ true → list_any (eq_by_cmp nat_cmp id) ids ≡ test id
 
 -- what is held of the client has no place for the entry
 abbrev pub is_full_in : (ℕ → Option PlainClient) → Entry → ℕ → Bool
-is_full_in find entry c = option_map_or (λ (known : PlainClient). has_no_place known.outbox.capacity known.outbox.bytes known.outbox.waiting entry) (find c) false
+is_full_in find entry c =
+    option_map_or
+    (λ (known : PlainClient).
+    has_no_place known.outbox.capacity known.outbox.bytes known.outbox.waiting entry)
+    (find c)
+    false
 
 -- the message for a client that has a place
 abbrev pub message_for : (ℕ → Option PlainClient) → Entry → ℕ → List PlainMessage
-message_for find entry c = if is_full_in find entry c then [] else record { client = c; entry = entry } ∷ []
+message_for find entry c =
+    if is_full_in find entry c then [] else record { client = c; entry = entry } ∷ []
 
 -- one for each socket whose client has a place
 abbrev pub messages_for : (ℕ → Option PlainClient) → Entry → List Socket → List PlainMessage
@@ -71,7 +78,8 @@ pair_of m = (m.client, m.entry)
 
 -- a client with these entries more that wait for it
 abbrev pub with_entries : List Entry → PlainClient → PlainClient
-with_entries entries known = record known { outbox = record known.outbox { waiting = known.outbox.waiting ++ entries } }
+with_entries entries known =
+    record known { outbox = record known.outbox { waiting = known.outbox.waiting ++ entries } }
 
 -- ---- the step
 
@@ -80,21 +88,28 @@ abbrev pub with_logged : LogContents → Option PlainLogged → LogContents
 with_logged log None = log
 with_logged log (Some e) = with_entry log e
 
--- these messages tell the broadcast: they put what it puts, no two of them are for one client, and each client has a
--- place; and the broadcast drops just those that it should
-pub record Tells (base : PlainBase) (limits : Limits) (before : List Step) (b : PlainBroadcast) (messages : List PlainMessage) : Type 0 where
+-- these messages tell the broadcast: they put what it puts, no two of them are for one client, and
+-- each client has a place; and the broadcast drops just those that it should
+pub record Tells (base : PlainBase) (limits : Limits) (before : List Step) (b : PlainBroadcast)
+    (messages : List PlainMessage) : Type 0 where
   pub right : (at : ℕ) → RightCast base limits before (record { at = at; what = Cast b }) b
   pub apart : IsDistinct nat_eq (map receiver_of messages)
-  pub places : AllByRecursion (λ (m : PlainMessage). is_full_in (client_at base limits before) m.entry m.client ≡ false) messages
-  pub entries : (q : ℕ) → entries_for q (map pair_of messages) ≡ entries_for q (put base limits before (Cast b))
+  pub places : AllByRecursion
+      (λ (m : PlainMessage). is_full_in (client_at base limits before) m.entry m.client ≡ false)
+      messages
+  pub entries : (q : ℕ)
+      → entries_for q (map pair_of messages) ≡ entries_for q (put base limits before (Cast b))
   pub number : length messages ≡ length (put base limits before (Cast b))
-  pub receivers : (c : ℕ) → list_any (λ d. d == c) (map receiver_of messages) ≡ reaches base before b c
+  pub receivers : (c : ℕ)
+      → list_any (λ d. d == c) (map receiver_of messages) ≡ reaches base before b c
 
 -- ---- the command
 
 -- the broadcast is an event with a payload that isn't refused
 abbrev pub IsEvent : Limits → PlainBroadcast → Type 0
-IsEvent limits b = (payload : List ℕ) × (cast_refusal limits b.space payload (length b.entry.attachments) ≡ None) × SpellsEvent limits b payload
+IsEvent limits b = (payload : List ℕ)
+    × (cast_refusal limits b.space payload (length b.entry.attachments) ≡ None)
+    × SpellsEvent limits b payload
 
 -- why the cast is refused
 abbrev pub refusal_of : History → PlainCast → Option HubError
@@ -121,34 +136,44 @@ pub record IsCastOf (h : History) (c : PlainCast) (b : PlainBroadcast) : Type 0 
 abbrev pub IsSpentBy : History → PlainCast → Type 0
 IsSpentBy h c =
     (has_no_offset h c.logged ≡ true)
-    ⊎ ((b : PlainBroadcast) × IsCastOf h c b × ((at : ℕ) → RightCast h.base h.limits h.journal (record { at = at; what = Cast b }) b) × (is_spent h.base h.limits h.journal (Cast b) ≡ true))
+    ⊎ ((b : PlainBroadcast) × IsCastOf h c b
+    × ((at : ℕ) → RightCast h.base h.limits h.journal (record { at = at; what = Cast b }) b)
+    × (is_spent h.base h.limits h.journal (Cast b) ≡ true))
 
 -- want of memory may come in place of a count that would pass the greatest u64
 abbrev pub IsShortOf : History → PlainCast → HubError → Type 0
 IsShortOf h c e = (e ≡ Memory) ⊎ ((e ≡ Spent) × IsSpentBy h c)
 
--- the cast was done: the journal has one step more, a broadcast that is what the cast asks for and reaches whom it is
--- for, by which no count passes the greatest u64; the answer has its offset, how many entries it put, how many sockets
--- miss it, and just the clients that got it
-pub record IsCast (before after : History) (now : ℕ) (c : PlainCast) (done : PlainCastDone) : Type 0 where
+-- the cast was done: the journal has one step more, a broadcast that is what the cast asks for and
+-- reaches whom it is for, by which no count passes the greatest u64; the answer has its offset, how
+-- many entries it put, how many sockets miss it, and just the clients that got it
+pub record IsCast (before after : History) (now : ℕ) (c : PlainCast) (done : PlainCastDone)
+    : Type 0 where
   pub b : PlainBroadcast
   pub asked : IsCastOf before c b
   pub numbered : has_no_offset before c.logged ≡ false
-  pub right : (at : ℕ) → RightCast before.base before.limits before.journal (record { at = at; what = Cast b }) b
+  pub right : (at : ℕ)
+      → RightCast before.base before.limits before.journal (record { at = at; what = Cast b }) b
   pub unspent : is_spent before.base before.limits before.journal (Cast b) ≡ false
   pub step : after ≡ with_step before now (Cast b)
   pub offset : done.offset ≡ b.offset
   pub placed : done.placed ≡ length (put before.base before.limits before.journal (Cast b))
   pub dropped : done.dropped ≡ length b.dropped
   pub clients_once : IsDistinct nat_eq done.clients
-  pub clients_are : (c : ℕ) → list_any (λ d. d == c) done.clients ≡ reaches before.base before.journal b c
+  pub clients_are : (c : ℕ)
+      → list_any (λ d. d == c) done.clients ≡ reaches before.base before.journal b c
 
--- the cast wasn't done: the error is its refusal, and where there is none want of memory or of a count
+-- the cast wasn't done: the error is its refusal, and where there is none want
+-- of memory or of a count
 abbrev pub IsCastError : History → PlainCast → Option HubError → HubError → Type 0
 IsCastError h c (Some refusal) e = e ≡ refusal
 IsCastError h c None e = IsShortOf h c e
 
--- the cast was answered: where it was accepted, nothing spoke against it, and it was done; else nothing changed
-abbrev pub CastDoes : (before after : History) → ℕ → PlainCast → Result PlainCastDone HubError → Type 0
-CastDoes before after now c (Ok done) = (refusal_of before c ≡ None) × IsCast before after now c done
-CastDoes before after now c (Err e) = IsCastError before c (refusal_of before c) e × (after ≡ before)
+-- the cast was answered: where it was accepted, nothing spoke against it, and it was
+-- done; else nothing changed
+abbrev pub CastDoes :
+    (before after : History) → ℕ → PlainCast → Result PlainCastDone HubError → Type 0
+CastDoes before after now c (Ok done) =
+    (refusal_of before c ≡ None) × IsCast before after now c done
+CastDoes before after now c (Err e) =
+    IsCastError before c (refusal_of before c) e × (after ≡ before)

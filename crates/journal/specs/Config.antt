@@ -15,11 +15,12 @@ abbrev pub has_repeat : List (List ℕ) → Bool
 has_repeat [] = false
 has_repeat (name ∷ names) = list_any (bytes_eq name) names || has_repeat names
 
--- a limit that must be at least 1 is 0, the capacity is over 65,536, or the list of namespaces is empty, longer than
--- 65,536, names one twice or one that is none
+-- a limit that must be at least 1 is 0, the capacity is over 65,536, or the list of namespaces is
+-- empty, longer than 65,536, names one twice or one that is none
 abbrev pub is_bad_config : Limits → Bool
 is_bad_config limits =
-    limits.clients == 0 || limits.capacity == 0 || limits.bytes == 0 || limits.log == 0 || limits.first_offset == 0
+    limits.clients == 0
+    || limits.capacity == 0 || limits.bytes == 0 || limits.log == 0 || limits.first_offset == 0
     || nat_lt 65536 limits.capacity
     || length limits.spaces == 0 || nat_lt 65536 (length limits.spaces)
     || has_repeat limits.spaces || list_any (λ name. not (is_namespace name)) limits.spaces
@@ -37,5 +38,6 @@ empty_base first =
       pairs = [];
       log = [];
       saved = [];
-      totals = record { commands = 0; placed = 0; dropped = 0; taken = 0; discarded = 0; waiting = 0 };
+      totals =
+          record { commands = 0; placed = 0; dropped = 0; taken = 0; discarded = 0; waiting = 0 };
     }

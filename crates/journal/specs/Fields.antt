@@ -20,24 +20,42 @@ use Rattle.journal.specs.declared.totals.Counts.{Counts}
 abbrev pub client_at : PlainBase → Limits → List Step → ℕ → Option PlainClient
 client_at base limits journal c =
     if is_open base journal c
-    then Some (record { sockets = sockets_of base journal c; outbox = record { waiting = waiting base limits journal c; capacity = limits.capacity; bytes = limits.bytes } })
+    then Some (record {
+      sockets = sockets_of base journal c;
+      outbox =
+          record {
+            waiting = waiting base limits journal c;
+            capacity = limits.capacity;
+            bytes = limits.bytes;
+          };
+    })
     else None
 
 -- a client that has just been opened
 abbrev pub new_client : Limits → PlainClient
-new_client limits = record { sockets = []; outbox = record { waiting = []; capacity = limits.capacity; bytes = limits.bytes } }
+new_client limits =
+    record {
+      sockets = [];
+      outbox = record { waiting = []; capacity = limits.capacity; bytes = limits.bytes };
+    }
 
 -- a client without the first entries that wait for it
 abbrev pub without_first : ℕ → PlainClient → PlainClient
-without_first n known = record known { outbox = record known.outbox { waiting = drop n known.outbox.waiting } }
+without_first n known =
+    record known { outbox = record known.outbox { waiting = drop n known.outbox.waiting } }
 
 -- a client with one entry more that waits for it
 abbrev pub with_entry : Entry → PlainClient → PlainClient
-with_entry entry known = record known { outbox = record known.outbox { waiting = known.outbox.waiting ++ entry ∷ [] } }
+with_entry entry known =
+    record known { outbox = record known.outbox { waiting = known.outbox.waiting ++ entry ∷ [] } }
 
 -- a client with one socket more and the answer to its CONNECT
 abbrev pub with_socket : Socket → Entry → PlainClient → PlainClient
-with_socket socket entry known = record { sockets = known.sockets ++ socket ∷ []; outbox = record known.outbox { waiting = known.outbox.waiting ++ entry ∷ [] } }
+with_socket socket entry known =
+    record {
+      sockets = known.sockets ++ socket ∷ [];
+      outbox = record known.outbox { waiting = known.outbox.waiting ++ entry ∷ [] };
+    }
 
 -- a client with one socket more
 abbrev pub plus_socket : Socket → PlainClient → PlainClient
@@ -48,18 +66,28 @@ abbrev pub without_last : PlainClient → PlainClient
 without_last known = record known { sockets = take (length known.sockets - 1) known.sockets }
 
 -- the maps, the saved sessions, the log and the last moment are what the history says
-pub record Fields (base : PlainBase) (limits : Limits) (find : ℕ → Option PlainClient) (seat : ℕ → Option Socket) (is_pid : ℕ → Bool) (sets : RoomSets) (table : TableContents) (packets : LogContents) (newest : ℕ) (journal : List Step) : Type 0 where
+pub record Fields (base : PlainBase) (limits : Limits)
+    (find : ℕ → Option PlainClient) (seat : ℕ → Option Socket) (is_pid : ℕ → Bool)
+    (sets : RoomSets) (table : TableContents) (packets : LogContents) (newest : ℕ)
+    (journal : List Step) : Type 0 where
   pub clients : (c : ℕ) → find c ≡ client_at base limits journal c
   pub seats : (s : ℕ) → seat s ≡ socket_with sid_of base journal s
   pub pids : (p : ℕ) → is_pid p ≡ is_connected pid_of base journal p
   pub rooms_are : sets ≡ rooms base journal
   pub saved_is : table ≡ record { limit = limits.saved; sessions = sessions base limits journal }
-  pub log_is : packets ≡ record { limit = limits.log; next = next base journal; last = packets.last; entries = log base limits journal }
+  pub log_is : packets
+      ≡ record {
+        limit = limits.log;
+        next = next base journal;
+        last = packets.last;
+        entries = log base limits journal;
+      }
   pub log_last : packets.last ≤ newest
   pub last : newest ≡ moment base journal
 
 -- the counts are what the history counts
-pub record Counted (base : PlainBase) (limits : Limits) (counts : Counts) (journal : List Step) : Type 0 where
+pub record Counted (base : PlainBase) (limits : Limits) (counts : Counts) (journal : List Step)
+    : Type 0 where
   pub commands : counts.commands ≡ totals.commands base journal
   pub placed : counts.placed ≡ totals.placed base limits journal
   pub dropped : counts.dropped ≡ totals.dropped base journal
@@ -77,7 +105,8 @@ CanCount counts puts drops takes discards =
 
 -- a client without the socket in the namespace at this place
 abbrev pub without_place : ℕ → PlainClient → PlainClient
-without_place p known = record known { sockets = filter (λ (k : Socket). not (k.space == p)) known.sockets }
+without_place p known =
+    record known { sockets = filter (λ (k : Socket). not (k.space == p)) known.sockets }
 
 -- what is held of a client's sockets, and what waits for it, if anything is held of it
 abbrev pub held_sockets : Option PlainClient → List Socket

@@ -1,10 +1,12 @@
--- A journal stands here with its newest step first, so that what follows a step in the list is what came before it.
+-- A journal stands here with its newest step first, so that what follows a step in the list
+-- is what came before it.
 use Rattle.std.specs.Prelude.{ℕ, ◌+◌, max, List, [], ◌∷◌}
 use Rattle.journal.specs.declared.step.Step.{Step}
 use Rattle.journal.specs.declared.step.What.{What}
 use Rattle.journal.specs.Plain.{Limits, PlainBase}
 
--- a base, the steps since then, and what the hub was made with: all that is said of a hub is read from these
+-- a base, the steps since then, and what the hub was made with: all that is said of a
+-- hub is read from these
 pub record History : Type 0 where
   pub base : PlainBase
   pub limits : Limits
@@ -29,4 +31,9 @@ moment_at h now = max now (moment h.base h.journal)
 
 -- the history with one step more
 abbrev pub with_step : History → ℕ → What → History
-with_step h now what = record { base = h.base; limits = h.limits; journal = record { at = moment_at h now; what = what } ∷ h.journal }
+with_step h now what =
+    record {
+      base = h.base;
+      limits = h.limits;
+      journal = record { at = moment_at h now; what = what } ∷ h.journal;
+    }

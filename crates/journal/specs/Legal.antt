@@ -21,14 +21,25 @@ use Rattle.journal.specs.ManySockets.{RightJoining, RightLeaving, RightDismissal
 use Rattle.journal.specs.Refusals.{cast_refusal}
 use Rattle.journal.specs.Command.{refusal}
 
--- a recovery brings back what was saved: the socket's ids and rooms, and the offsets of what it missed
-pub record RightRecovery (base : PlainBase) (limits : Limits) (before : List Step) (r : PlainRecovery) : Type 0 where
+-- a recovery brings back what was saved: the socket's ids and rooms, and the
+-- offsets of what it missed
+pub record RightRecovery (base : PlainBase) (limits : Limits) (before : List Step)
+    (r : PlainRecovery) : Type 0 where
   pub lost_at : ℕ
-  pub session : session_with r.socket.pid (sessions base limits before) ≡ Some (record { sid = r.socket.sid; pid = r.socket.pid; space = r.socket.space; rooms = r.rooms; lost_at = lost_at })
+  pub session : session_with r.socket.pid (sessions base limits before)
+      ≡ Some (record {
+        sid = r.socket.sid;
+        pid = r.socket.pid;
+        space = r.socket.space;
+        rooms = r.rooms;
+        lost_at = lost_at;
+      })
   pub missed_is : r.missed ≡ missed r.offset r.socket.space r.rooms (log base limits before)
 
--- a broadcast is the text of an event, has the next offset where it has one, and reaches whom it is for
-pub record RightBroadcast (base : PlainBase) (limits : Limits) (before : List Step) (step : Step) (b : PlainBroadcast) : Type 0 where
+-- a broadcast is the text of an event, has the next offset where it has one, and
+-- reaches whom it is for
+pub record RightBroadcast (base : PlainBase) (limits : Limits) (before : List Step)
+    (step : Step) (b : PlainBroadcast) : Type 0 where
   pub payload : List ℕ
   pub refusal : cast_refusal limits b.space payload (length b.entry.attachments) ≡ None
   pub text : SpellsEvent limits b payload
@@ -41,13 +52,16 @@ IsRight base limits before step (Recovered r) = RightRecovery base limits before
 IsRight base limits before step (AllJoined m) = RightJoining base before m
 IsRight base limits before step (AllLeft m) = RightLeaving base before m
 IsRight base limits before step (Cast b) = RightBroadcast base limits before step b
-IsRight base limits before step (Took c most n) = n ≡ min most (length (waiting base limits before c))
+IsRight base limits before step (Took c most n) =
+    n ≡ min most (length (waiting base limits before c))
 IsRight base limits before step (AllEnded d) = RightDismissal base limits before d
 IsRight base limits before step _ = Unit {0}
 
 -- what must hold before a step: its command isn't refused, and what it tells is right
 abbrev pub IsAllowed : PlainBase → Limits → List Step → Step → What → Type 0
-IsAllowed base limits before step what = (refusal (history base limits before) step.at what ≡ None) × IsRight base limits before step what
+IsAllowed base limits before step what =
+    (refusal (history base limits before) step.at what ≡ None)
+    × IsRight base limits before step what
 
 -- ---- what is so in every legal journal
 
@@ -57,7 +71,9 @@ AreApart k l = (k.sid ≢ l.sid) × (k.pid ≢ l.pid) × ((k.client ≡ l.client
 
 -- no saved session has an id of a connected socket
 abbrev pub IsAway : List Socket → PlainSaved → Type 0
-IsAway connected s = (list_any (λ (k : Socket). k.sid == s.sid) connected ≡ false) × (list_any (λ (k : Socket). k.pid == s.pid) connected ≡ false)
+IsAway connected s =
+    (list_any (λ (k : Socket). k.sid == s.sid) connected ≡ false)
+    × (list_any (λ (k : Socket). k.pid == s.pid) connected ≡ false)
 
 -- no two saved sessions have an id together
 abbrev pub DifferInIds : PlainSaved → PlainSaved → Type 0
@@ -68,20 +84,24 @@ unfoldable pub EachTwo : {X : Type 0} → (X → X → Type 0) → List X → Ty
 EachTwo R [] = Unit {0}
 EachTwo R (x ∷ xs) = AllByRecursion (R x) xs × EachTwo R xs
 
--- clients are open once; sockets are apart, in a namespace of the hub and of open clients, and just they are in rooms,
--- each in its own; no session is both saved and connected, and saved ones have different ids and at most 256 rooms;
--- offsets of the log rise by one and end below the next, and its moments never fall
+-- clients are open once; sockets are apart, in a namespace of the hub and of open clients, and just
+-- they are in rooms, each in its own; no session is both saved and connected, and saved ones have
+-- different ids and at most 256 rooms; offsets of the log rise by one and end below the next, and
+-- its moments never fall
 pub record IsSound (base : PlainBase) (limits : Limits) (journal : List Step) : Type 0 where
   pub few_spaces : length limits.spaces ≤ 65536
   pub clients_once : IsDistinct nat_eq (open_clients base journal)
   pub sockets_apart : EachTwo AreApart (sockets base journal)
-  pub of_open_clients : AllByRecursion (λ (k : Socket). is_open base journal k.client ≡ true) (sockets base journal)
-  pub in_spaces : AllByRecursion (λ (k : Socket). is_space limits k.space ≡ true) (sockets base journal)
+  pub of_open_clients : AllByRecursion
+      (λ (k : Socket). is_open base journal k.client ≡ true) (sockets base journal)
+  pub in_spaces : AllByRecursion
+      (λ (k : Socket). is_space limits k.space ≡ true) (sockets base journal)
   pub seated : (s : ℕ) → is_socket (rooms base journal) s ≡ is_connected sid_of base journal s
   pub rooms_agree : AreConsistent (rooms base journal)
   pub apart : AllByRecursion (IsAway (sockets base journal)) (sessions base limits journal)
   pub sessions_differ : EachTwo DifferInIds (sessions base limits journal)
-  pub few_rooms : AllByRecursion (λ (s : PlainSaved). are_too_many s.sid s.rooms ≡ false) (sessions base limits journal)
+  pub few_rooms : AllByRecursion
+      (λ (s : PlainSaved). are_too_many s.sid s.rooms ≡ false) (sessions base limits journal)
   pub offsets_rise : IsRun (next_number base journal) (log base limits journal)
   pub log_rises : Rises (log_calls base limits journal)
   pub log_late : latest (log_calls base limits journal) ≤ moment base journal
@@ -91,4 +111,5 @@ pub record IsSound (base : PlainBase) (limits : Limits) (journal : List Step) : 
 unfoldable pub IsLegal : PlainBase → Limits → List Step → Type 0
 IsLegal base limits [] = IsSound base limits []
 IsLegal base limits (step ∷ before) =
-    IsAllowed base limits before step step.what × (moment base before ≤ step.at) × IsLegal base limits before
+    IsAllowed base limits before step step.what
+    × (moment base before ≤ step.at) × IsLegal base limits before

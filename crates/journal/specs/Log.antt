@@ -1,4 +1,5 @@
--- The log of broadcasts and their offsets (Socket.IO server documentation, "Connection state recovery").
+-- The log of broadcasts and their offsets (Socket.IO server documentation,
+-- "Connection state recovery").
 use Rattle.std.specs.Prelude.{ℕ, List, [], ◌∷◌, map, reverse, Option, None, Some}
 use Rattle.std.specs.Option.{option_map, option_map_or}
 use Rattle.journal.specs.declared.step.Step.{Step}
@@ -11,7 +12,15 @@ use Rattle.journal.specs.Journal.{total}
 
 -- a logged broadcast as the log has it
 abbrev pub logged : ℕ → PlainBroadcast → ℕ → PlainLogged
-logged at b offset = record { offset = offset; at = at; space = b.space; rooms = b.rooms; excepted = b.excepted; entry = b.entry }
+logged at b offset =
+    record {
+      offset = offset;
+      at = at;
+      space = b.space;
+      rooms = b.rooms;
+      excepted = b.excepted;
+      entry = b.entry;
+    }
 
 -- what a step does to the log: a logged broadcast is pushed, a sweep drops what is outdated
 abbrev pub log_call : Limits → ℕ → What → Option LogCall
@@ -26,7 +35,8 @@ with_call None calls = calls
 -- all that was done to the log, the newest call first; the base's log counts as pushes
 unfoldable pub log_calls : PlainBase → Limits → List Step → List LogCall
 log_calls base limits [] = reverse (map packets.Pushed base.log)
-log_calls base limits (step ∷ before) = with_call (log_call limits step.at step.what) (log_calls base limits before)
+log_calls base limits (step ∷ before) =
+    with_call (log_call limits step.at step.what) (log_calls base limits before)
 
 -- the log: the newest broadcasts that no later sweep dropped
 unfoldable pub log : PlainBase → Limits → List Step → List PlainLogged

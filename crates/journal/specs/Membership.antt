@@ -1,4 +1,5 @@
--- Clients, their sockets, and the rooms that these are in (Socket.IO server documentation, "Rooms" and "Adapter").
+-- Clients, their sockets, and the rooms that these are in (Socket.IO server documentation,
+-- "Rooms" and "Adapter").
 use Rattle.std.specs.Prelude.{ℕ, ◌==◌, Bool, false, not, ◌&&◌, List, [], ◌∷◌, ◌++◌, map, filter, is_some, length, nat_eq, nat_lt, Option, bytes_eq, position, unwrap_or}
 use Rattle.std.specs.List.{list_any, find, flat_map}
 use Rattle.std.specs.Set.{is_member}
@@ -34,10 +35,12 @@ closes (Parked d) c = d == c
 closes (Closed d) c = d == c
 closes _ c = false
 
--- the clients that were opened and not parked or closed since, in the order in which they were opened
+-- the clients that were opened and not parked or closed since, in the order in
+-- which they were opened
 unfoldable pub open_clients : PlainBase → List Step → List ℕ
 open_clients base [] = map (λ (b : PlainBaseClient). b.client) base.clients
-open_clients base (step ∷ before) = filter (λ c. not (closes step.what c)) (open_clients base before) ++ opens step.what
+open_clients base (step ∷ before) =
+    filter (λ c. not (closes step.what c)) (open_clients base before) ++ opens step.what
 
 -- the client is open
 unfoldable pub is_open : PlainBase → List Step → ℕ → Bool
@@ -61,12 +64,16 @@ ends _ k = false
 
 -- the sockets of a client of the base
 abbrev pub base_sockets : PlainBaseClient → List Socket
-base_sockets b = map (λ (t : ℕ × ℕ × ℕ). record { client = b.client; space = t.0; sid = t.1; pid = t.2 }) b.sockets
+base_sockets b =
+    map
+    (λ (t : ℕ × ℕ × ℕ). record { client = b.client; space = t.0; sid = t.1; pid = t.2 })
+    b.sockets
 
 -- the sockets that were connected and not ended since, in the order in which they were connected
 unfoldable pub sockets : PlainBase → List Step → List Socket
 sockets base [] = flat_map base_sockets base.clients
-sockets base (step ∷ before) = filter (λ k. not (ends step.what k)) (sockets base before) ++ connects step.what
+sockets base (step ∷ before) =
+    filter (λ k. not (ends step.what k)) (sockets base before) ++ connects step.what
 
 -- the ids by which a socket is known
 abbrev pub sid_of : Socket → ℕ
@@ -97,7 +104,8 @@ socket_of base journal c space = find (λ k. k.space == space) (sockets_of base 
 
 -- the connected socket with this session id is in the namespace
 abbrev pub is_in_space : PlainBase → List Step → ℕ → ℕ → Bool
-is_in_space base journal space s = list_any (λ k. k.sid == s && k.space == space) (sockets base journal)
+is_in_space base journal space s =
+    list_any (λ k. k.sid == s && k.space == space) (sockets base journal)
 
 -- ---- rooms
 
@@ -106,8 +114,8 @@ unfoldable pub without_sockets : RoomSets → List Socket → RoomSets
 without_sockets sets [] = sets
 without_sockets sets (k ∷ ks) = without_sockets (without_socket sets k.sid) ks
 
--- what a step changes: a new socket is in its own room, or in those that come back with it; a socket that ends
--- leaves all its rooms
+-- what a step changes: a new socket is in its own room, or in those that come back with it; a
+-- socket that ends leaves all its rooms
 abbrev pub rooms_after : PlainBase → List Step → RoomSets → What → RoomSets
 rooms_after base before sets (Attached k) = with_socket sets k.sid
 rooms_after base before sets (Recovered r) = with_socket_in sets r.socket.sid r.rooms
@@ -115,7 +123,8 @@ rooms_after base before sets (Joined s r) = with_pair sets s r
 rooms_after base before sets (Left s r) = without_pair sets s r
 rooms_after base before sets (AllJoined m) = with_members sets m.changed m.room
 rooms_after base before sets (AllLeft m) = without_members sets m.changed m.room
-rooms_after base before sets (AllEnded d) = without_sockets sets (filter (ends (AllEnded d)) (sockets base before))
+rooms_after base before sets (AllEnded d) =
+    without_sockets sets (filter (ends (AllEnded d)) (sockets base before))
 rooms_after base before sets (Ended s) = without_socket sets s
 rooms_after base before sets (Parked c) = without_sockets sets (sockets_of base before c)
 rooms_after base before sets (Closed c) = without_sockets sets (sockets_of base before c)
@@ -123,11 +132,18 @@ rooms_after base before sets _ = sets
 
 -- the connected sockets, and which rooms each is in
 unfoldable pub rooms : PlainBase → List Step → RoomSets
-rooms base [] = record { sockets = set.from_list (map sid_of (sockets base [])); pairs = set.from_list base.pairs }
+rooms base [] =
+    record {
+      sockets = set.from_list (map sid_of (sockets base []));
+      pairs = set.from_list base.pairs;
+    }
 rooms base (step ∷ before) = rooms_after base before (rooms base before) step.what
 
 -- ---- sockets that match
 
--- the socket is in the namespace, in one of the rooms, where some are named, and in none of the excepted rooms
-abbrev pub matches : PlainBase → List Step → (space : ℕ) → (named excepted : List (List ℕ)) → Socket → Bool
-matches base journal space named excepted k = k.space == space && broadcast.is_addressed (rooms base journal) named excepted k.sid
+-- the socket is in the namespace, in one of the rooms, where some are named, and in
+-- none of the excepted rooms
+abbrev pub matches :
+    PlainBase → List Step → (space : ℕ) → (named excepted : List (List ℕ)) → Socket → Bool
+matches base journal space named excepted k =
+    k.space == space && broadcast.is_addressed (rooms base journal) named excepted k.sid

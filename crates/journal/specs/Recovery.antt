@@ -1,5 +1,5 @@
--- What a session that comes back brings with it, and what it gets (Socket.IO server documentation, "Connection state
--- recovery").
+-- What a session that comes back brings with it, and what it gets (Socket.IO server documentation,
+-- "Connection state recovery").
 use Rattle.std.specs.Prelude.{ℕ, List, [], ◌++◌, map, filter, unwrap_or}
 use Rattle.sio_wire.specs.declared.entry.Entry.{Entry}
 use Rattle.recovery.specs.PacketLog.{PlainLogged}
@@ -10,8 +10,10 @@ use Rattle.journal.specs.Plain.{Limits, PlainBase, PlainRecovery, PlainClient}
 use Rattle.journal.specs.Sessions.{sessions, session_with}
 use Rattle.journal.specs.Log.{log}
 
--- a session comes back at a client with the ids and rooms that were saved, and has missed these of the log
-abbrev pub brought_back : (client space pid offset : ℕ) → List PlainLogged → PlainSaved → PlainRecovery
+-- a session comes back at a client with the ids and rooms that were saved, and has
+-- missed these of the log
+abbrev pub brought_back :
+    (client space pid offset : ℕ) → List PlainLogged → PlainSaved → PlainRecovery
 brought_back c space p offset entries s =
     record {
       socket = record { client = c; space = space; sid = s.sid; pid = p };
@@ -25,9 +27,11 @@ abbrev pub no_session : (space pid : ℕ) → PlainSaved
 no_session space p = record { sid = 0; pid = p; space = space; rooms = []; lost_at = 0 }
 
 -- the recovery of the saved session that has this private id
-abbrev pub recovery_of : PlainBase → Limits → List Step → (client space pid offset : ℕ) → PlainRecovery
+abbrev pub recovery_of :
+    PlainBase → Limits → List Step → (client space pid offset : ℕ) → PlainRecovery
 recovery_of base limits journal c space p offset =
-    brought_back c space p offset (log base limits journal) (unwrap_or (session_with p (sessions base limits journal)) (no_session space p))
+    brought_back c space p offset (log base limits journal)
+    (unwrap_or (session_with p (sessions base limits journal)) (no_session space p))
 
 -- what a socket of the namespace, in these rooms, gets of these broadcasts
 abbrev pub gets : (space : ℕ) → (rooms : List (List ℕ)) → List PlainLogged → List Entry
@@ -35,4 +39,5 @@ gets space rooms entries = map (λ (e : PlainLogged). e.entry) (filter (is_for s
 
 -- a client with these entries at the end of what waits for it
 abbrev pub with_entries : List Entry → PlainClient → PlainClient
-with_entries entries known = record known { outbox = record known.outbox { waiting = known.outbox.waiting ++ entries } }
+with_entries entries known =
+    record known { outbox = record known.outbox { waiting = known.outbox.waiting ++ entries } }

@@ -34,7 +34,10 @@ or_spent None spent = if spent then Some Spent else None
 
 abbrev pub open_refusal : PlainBase → Limits → List Step → ℕ → Option HubError
 open_refusal base limits journal c =
-    first_refusal ((is_open base journal c, IdTaken) ∷ (nat_le limits.clients (length (open_clients base journal)), TooManyClients) ∷ [])
+    first_refusal
+    ((is_open base journal c, IdTaken)
+    ∷ (nat_le limits.clients (length (open_clients base journal)), TooManyClients)
+    ∷ [])
 
 -- of `take` and of `close`
 abbrev pub client_refusal : PlainBase → List Step → ℕ → Option HubError
@@ -42,13 +45,20 @@ client_refusal base journal c = first_refusal ((not (is_open base journal c), Un
 
 abbrev pub tell_refusal : PlainBase → Limits → List Step → ℕ → Entry → Option HubError
 tell_refusal base limits journal c entry =
-    first_refusal ((not (is_open base journal c), UnknownClient) ∷ (is_full base limits journal c entry, OutboxFull) ∷ [])
+    first_refusal
+    ((not (is_open base journal c), UnknownClient)
+    ∷ (is_full base limits journal c entry, OutboxFull)
+    ∷ [])
 
 abbrev pub park_refusal : PlainBase → Limits → List Step → ℕ → Option HubError
 park_refusal base limits journal c =
     first_refusal (
     (not (is_open base journal c), UnknownClient)
-    ∷ (nat_lt (limits.saved - length (sessions base limits journal)) (length (sockets_of base journal c)), SavedFull)
+    ∷ (
+      nat_lt (limits.saved - length (sessions base limits journal))
+          (length (sockets_of base journal c)),
+      SavedFull,
+    )
     ∷ [])
 
 -- ---- of one socket
@@ -70,17 +80,24 @@ attach_refusal base limits journal k =
     ∷ [])
 
 abbrev pub end_refusal : PlainBase → List Step → ℕ → Option HubError
-end_refusal base journal s = first_refusal ((not (is_connected sid_of base journal s), UnknownSocket) ∷ [])
+end_refusal base journal s =
+    first_refusal ((not (is_connected sid_of base journal s), UnknownSocket) ∷ [])
 
 -- the rooms' own refusal comes after that of a socket that isn't connected
 abbrev pub room_refusal : Bool → Option RoomError → Option HubError
 room_refusal known refusal = if known then option_map RoomRefused refusal else Some UnknownSocket
 
 abbrev pub join_refusal : PlainBase → List Step → ℕ → List ℕ → Option HubError
-join_refusal base journal s room = room_refusal (is_connected sid_of base journal s) (room_maps.join_refusal (rooms base journal) s room)
+join_refusal base journal s room =
+    room_refusal
+    (is_connected sid_of base journal s)
+    (room_maps.join_refusal (rooms base journal) s room)
 
 abbrev pub leave_refusal : PlainBase → List Step → ℕ → List ℕ → Option HubError
-leave_refusal base journal s room = room_refusal (is_connected sid_of base journal s) (room_maps.leave_refusal (rooms base journal) s room)
+leave_refusal base journal s room =
+    room_refusal
+    (is_connected sid_of base journal s)
+    (room_maps.leave_refusal (rooms base journal) s room)
 
 -- ---- of many sockets
 
@@ -91,7 +108,8 @@ space_refusal limits space = first_refusal ((not (is_space limits space), Unknow
 -- a socket that matches isn't in the room and is in as many as it may be
 abbrev pub joining_refusal : PlainBase → Limits → List Step → PlainRoomChange → Option HubError
 joining_refusal base limits journal m =
-    let is_stuck = λ (k : Socket). may_enter base journal m.space m.rooms m.excepted m.room k && room_maps.is_full (rooms base journal) k.sid in
+    let is_stuck = λ (k : Socket). may_enter base journal m.space m.rooms m.excepted m.room k
+    && room_maps.is_full (rooms base journal) k.sid in
     first_refusal (
     (not (is_space limits m.space), UnknownNamespace)
     ∷ (list_any is_stuck (sockets base journal), RoomRefused TooManyRooms)
@@ -100,7 +118,8 @@ joining_refusal base limits journal m =
 -- the room is the own one of a socket that matches
 abbrev pub leaving_refusal : PlainBase → Limits → List Step → PlainRoomChange → Option HubError
 leaving_refusal base limits journal m =
-    let is_owner = λ (k : Socket). matches base journal m.space m.rooms m.excepted k && same_room (own_room k.sid) m.room in
+    let is_owner = λ (k : Socket). matches base journal m.space m.rooms m.excepted k
+    && same_room (own_room k.sid) m.room in
     first_refusal (
     (not (is_space limits m.space), UnknownNamespace)
     ∷ (list_any is_owner (sockets base journal), RoomRefused OwnRoom)
@@ -109,7 +128,8 @@ leaving_refusal base limits journal m =
 -- ---- of a recovery
 
 -- why the session can't come back in this namespace with this offset
-abbrev pub session_refusal : Limits → List PlainLogged → Option PlainSaved → (space offset at : ℕ) → Option HubError
+abbrev pub session_refusal :
+    Limits → List PlainLogged → Option PlainSaved → (space offset at : ℕ) → Option HubError
 session_refusal limits entries None space offset at = Some (NotRecoverable UnknownPid)
 session_refusal limits entries (Some session) space offset at =
     first_refusal (
@@ -121,18 +141,25 @@ session_refusal limits entries (Some session) space offset at =
 -- there is no place for all of these entries after those that wait
 abbrev pub have_no_place : Limits → List Entry → List Entry → Bool
 have_no_place limits waits entries =
-    nat_lt limits.capacity (length waits + length entries) || nat_lt limits.bytes (total_size waits + total_size entries)
+    nat_lt limits.capacity (length waits + length entries)
+    || nat_lt limits.bytes (total_size waits + total_size entries)
 
 -- what a recovery of the session puts
-abbrev pub recovered_entries : PlainBase → Limits → List Step → Socket → (offset : ℕ) → (inside : List (List ℕ)) → List Entry
+abbrev pub recovered_entries :
+    PlainBase → Limits → List Step → Socket → (offset : ℕ) → (inside : List (List ℕ)) → List Entry
 recovered_entries base limits journal k offset inside =
-    answer limits k ∷ entries_of (log base limits journal) (missed offset k.space inside (log base limits journal))
+    answer limits k ∷ entries_of
+    (log base limits journal) (missed offset k.space inside (log base limits journal))
 
-abbrev pub recover_refusal : PlainBase → Limits → List Step → (client space pid offset at : ℕ) → Option HubError
+abbrev pub recover_refusal :
+    PlainBase → Limits → List Step → (client space pid offset at : ℕ) → Option HubError
 recover_refusal base limits journal c space p offset at =
     let saved = session_with p (sessions base limits journal) in
     let refused = session_refusal limits (log base limits journal) saved space offset at in
-    let crowded = λ (s : PlainSaved). have_no_place limits (waiting base limits journal c) (recovered_entries base limits journal (record { client = c; space = space; sid = s.sid; pid = p }) offset s.rooms) in
+    let crowded = λ (s : PlainSaved).
+    have_no_place limits (waiting base limits journal c)
+    (recovered_entries base limits journal
+    (record { client = c; space = space; sid = s.sid; pid = p }) offset s.rooms) in
     first_refusal (
     (not (is_open base journal c), UnknownClient)
     ∷ (not (is_space limits space), UnknownNamespace)
@@ -143,7 +170,8 @@ recover_refusal base limits journal c space p offset at =
 
 -- ---- of a broadcast
 
-abbrev pub cast_refusal : Limits → (space : ℕ) → (payload : List ℕ) → (attachments : ℕ) → Option HubError
+abbrev pub cast_refusal :
+    Limits → (space : ℕ) → (payload : List ℕ) → (attachments : ℕ) → Option HubError
 cast_refusal limits space payload attachments =
     first_refusal (
     (not (is_space limits space), UnknownNamespace)
@@ -153,4 +181,7 @@ cast_refusal limits space payload attachments =
 -- of a broadcast as its step holds it
 abbrev pub broadcast_refusal : Limits → PlainBroadcast → Option HubError
 broadcast_refusal limits b =
-    first_refusal ((not (is_space limits b.space), UnknownNamespace) ∷ (nat_lt 32 (length b.entry.attachments), BadPayload) ∷ [])
+    first_refusal
+    ((not (is_space limits b.space), UnknownNamespace)
+    ∷ (nat_lt 32 (length b.entry.attachments), BadPayload)
+    ∷ [])

@@ -16,28 +16,42 @@ use Rattle.journal.specs.Membership.{sockets_of, rooms}
 
 -- the rooms that a socket is in, each once, rising by their bytes
 abbrev pub rooms_rising : RoomSets → ℕ → List (List ℕ)
-rooms_rising sets sid = keys (from_entries {R = room_cmp} (map (λ room. (room, tt {0})) (set.items (rooms_in sets sid))))
+rooms_rising sets sid = keys
+    (from_entries {R = room_cmp} (map (λ room. (room, tt {0})) (set.items (rooms_in sets sid))))
 
 -- the session of a socket that is lost at a moment, with the rooms that it is in
 abbrev pub lost_session : PlainBase → List Step → ℕ → Socket → PlainSaved
-lost_session base before at k = record { sid = k.sid; pid = k.pid; space = k.space; rooms = rooms_rising (rooms base before) k.sid; lost_at = at }
+lost_session base before at k =
+    record {
+      sid = k.sid;
+      pid = k.pid;
+      space = k.space;
+      rooms = rooms_rising (rooms base before) k.sid;
+      lost_at = at;
+    }
 
 -- these sessions and more, each at its place by private ids
 abbrev pub with_sessions : List PlainSaved → List PlainSaved → List PlainSaved
 with_sessions [] saved = saved
 with_sessions (s ∷ ss) saved = with_sessions ss (with_session s saved)
 
--- a parked client leaves the sessions of its sockets, a recovery takes its own, a sweep those that are outdated
-abbrev pub sessions_after : PlainBase → Limits → List Step → ℕ → List PlainSaved → What → List PlainSaved
-sessions_after base limits before at saved (Parked c) = with_sessions (map (lost_session base before at) (sockets_of base before c)) saved
-sessions_after base limits before at saved (Recovered r) = filter (λ (s : PlainSaved). not (s.pid == r.socket.pid)) saved
-sessions_after base limits before at saved Swept = filter (λ (s : PlainSaved). not (is_outdated limits.keep at s.lost_at)) saved
+-- a parked client leaves the sessions of its sockets, a recovery takes its own, a sweep
+-- those that are outdated
+abbrev pub sessions_after :
+    PlainBase → Limits → List Step → ℕ → List PlainSaved → What → List PlainSaved
+sessions_after base limits before at saved (Parked c) =
+    with_sessions (map (lost_session base before at) (sockets_of base before c)) saved
+sessions_after base limits before at saved (Recovered r) =
+    filter (λ (s : PlainSaved). not (s.pid == r.socket.pid)) saved
+sessions_after base limits before at saved Swept =
+    filter (λ (s : PlainSaved). not (is_outdated limits.keep at s.lost_at)) saved
 sessions_after base limits before at saved _ = saved
 
 -- the saved sessions, rising by private id
 unfoldable pub sessions : PlainBase → Limits → List Step → List PlainSaved
 sessions base limits [] = base.saved
-sessions base limits (step ∷ before) = sessions_after base limits before step.at (sessions base limits before) step.what
+sessions base limits (step ∷ before) =
+    sessions_after base limits before step.at (sessions base limits before) step.what
 
 -- the saved session with this private id
 abbrev pub session_with : ℕ → List PlainSaved → Option PlainSaved

@@ -50,7 +50,8 @@ discarded base limits journal = total (discarded_by base limits) base.totals.dis
 
 -- the entries that wait for the open clients
 unfoldable pub waiting_in_all : PlainBase → Limits → List Step → ℕ
-waiting_in_all base limits journal = sum_by (λ c. length (waiting base limits journal c)) (open_clients base journal)
+waiting_in_all base limits journal =
+    sum_by (λ c. length (waiting base limits journal c)) (open_clients base journal)
 
 abbrev pub totals : PlainBase → Limits → List Step → Totals
 totals base limits journal =
@@ -75,7 +76,8 @@ held journal = total (λ _ what. held_by what) 0 journal
 
 -- what was put was handed out, was discarded or waits
 abbrev pub IsConserved : PlainBase → Limits → List Step → Type 0
-IsConserved base limits journal = placed base limits journal ≡ handed_out base journal + discarded base limits journal + waiting_in_all base limits journal
+IsConserved base limits journal = placed base limits journal
+    ≡ handed_out base journal + discarded base limits journal + waiting_in_all base limits journal
 
 -- the number is past the greatest u64
 abbrev pub is_past : ℕ → Bool

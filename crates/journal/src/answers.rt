@@ -21,7 +21,12 @@ impl Model for CastDone {
 
     ghost Value = { PlainCastDone };
 
-    ghost view = { λ d. record { offset = d.offset; placed = d.placed; dropped = d.dropped; clients = d.clients.items } };
+    ghost view = { λ d. record {
+      offset = d.offset;
+      placed = d.placed;
+      dropped = d.dropped;
+      clients = d.clients.items;
+    } };
 }
 
 /// How much a sweep dropped.

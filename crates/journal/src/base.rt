@@ -30,7 +30,15 @@ impl Model for Base {
 
     ghost Value = { PlainBase };
 
-    ghost view = { λ b. record { at = b.at; next = b.next; clients = b.clients.items; pairs = b.pairs.items; log = b.log.items; saved = b.saved.items; totals = b.totals } };
+    ghost view = { λ b. record {
+      at = b.at;
+      next = b.next;
+      clients = b.clients.items;
+      pairs = b.pairs.items;
+      log = b.log.items;
+      saved = b.saved.items;
+      totals = b.totals;
+    } };
 }
 
 /// A client of a base.
@@ -51,5 +59,9 @@ impl Model for BaseClient {
 
     ghost Value = { PlainBaseClient };
 
-    ghost view = { λ c. record { client = c.client; sockets = c.sockets.items; waiting = map arc_value c.waiting.items } };
+    ghost view = { λ c. record {
+      client = c.client;
+      sockets = c.sockets.items;
+      waiting = map arc_value c.waiting.items;
+    } };
 }

@@ -27,5 +27,12 @@ impl Model for Cast {
 
     ghost Value = { PlainCast };
 
-    ghost view = { λ c. record { space = c.space; rooms = c.rooms.items; excepted = c.excepted.items; logged = c.logged; payload = c.payload; attachments = c.attachments } };
+    ghost view = { λ c. record {
+      space = c.space;
+      rooms = c.rooms.items;
+      excepted = c.excepted.items;
+      logged = c.logged;
+      payload = c.payload;
+      attachments = c.attachments;
+    } };
 }

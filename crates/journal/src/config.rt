@@ -34,7 +34,16 @@ impl Model for Config {
 
     ghost Value = { Limits };
 
-    ghost view = { λ c. record { clients = c.clients; capacity = c.capacity; bytes = c.bytes; log = c.log; saved = c.saved; keep = c.keep; first_offset = c.first_offset; spaces = c.spaces.items } };
+    ghost view = { λ c. record {
+      clients = c.clients;
+      capacity = c.capacity;
+      bytes = c.bytes;
+      log = c.log;
+      saved = c.saved;
+      keep = c.keep;
+      first_offset = c.first_offset;
+      spaces = c.spaces.items;
+    } };
 }
 
 impl Config {

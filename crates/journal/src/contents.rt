@@ -29,11 +29,18 @@ impl Model for Broadcast {
 
     ghost Value = { PlainBroadcast };
 
-    ghost view = { λ b. record { space = b.space; rooms = b.rooms.items; excepted = b.excepted.items; offset = b.offset; entry = arc_value b.entry; dropped = b.dropped.items } };
+    ghost view = { λ b. record {
+      space = b.space;
+      rooms = b.rooms.items;
+      excepted = b.excepted.items;
+      offset = b.offset;
+      entry = arc_value b.entry;
+      dropped = b.dropped.items;
+    } };
 }
 
-/// A change of one room for many sockets: all that match it joined the room, or left it. In a contract
-/// it is plain data, and so are those below.
+/// A change of one room for many sockets: all that match it joined the room, or left it. In a
+/// contract it is plain data, and so are those below.
 #[derive(Drop)]
 pub struct RoomChange {
     /// The place of the namespace in the hub's list.
@@ -53,7 +60,13 @@ impl Model for RoomChange {
 
     ghost Value = { PlainRoomChange };
 
-    ghost view = { λ m. record { space = m.space; rooms = m.rooms.items; excepted = m.excepted.items; room = m.room; changed = m.changed.items } };
+    ghost view = { λ m. record {
+      space = m.space;
+      rooms = m.rooms.items;
+      excepted = m.excepted.items;
+      room = m.room;
+      changed = m.changed.items;
+    } };
 }
 
 /// Many sockets that were ended together, and what they were told.
@@ -76,7 +89,13 @@ impl Model for Dismissal {
 
     ghost Value = { PlainDismissal };
 
-    ghost view = { λ d. record { space = d.space; rooms = d.rooms.items; excepted = d.excepted.items; ended = d.ended.items; told = d.told.items } };
+    ghost view = { λ d. record {
+      space = d.space;
+      rooms = d.rooms.items;
+      excepted = d.excepted.items;
+      ended = d.ended.items;
+      told = d.told.items;
+    } };
 }
 
 /// An entry for one client.
@@ -114,5 +133,10 @@ impl Model for Recovery {
 
     ghost Value = { PlainRecovery };
 
-    ghost view = { λ r. record { socket = r.socket; offset = r.offset; rooms = r.rooms.items; missed = r.missed.items } };
+    ghost view = { λ r. record {
+      socket = r.socket;
+      offset = r.offset;
+      rooms = r.rooms.items;
+      missed = r.missed.items;
+    } };
 }
