@@ -1,4 +1,5 @@
--- What a session has heard, and what it should have (Socket.IO server documentation, "Connection state recovery").
+-- What a session has heard, and what it should have (Socket.IO server documentation,
+-- "Connection state recovery").
 use Rattle.std.specs.Prelude.{ℕ, ◌==◌, Bool, false, List, [], ◌∷◌, ◌++◌, filter, if◌then◌else◌}
 use Rattle.std.specs.List.{list_any}
 use Rattle.std.specs.Option.{option_map_or, option_to_list}
@@ -44,24 +45,30 @@ begins p _ = false
 abbrev pub is_put_for : PlainBase → List Step → ℕ → PlainBroadcast → Bool
 is_put_for base before p b = list_any (has_id pid_of p) (receivers base before b)
 
--- what a client still counts as heard that names this offset: all up to it, or nothing where the log of the base has it
+-- what a client still counts as heard that names this offset: all up to it, or nothing where the
+-- log of the base has it
 abbrev pub heard_until : PlainBase → Limits → ℕ → List ℕ → List ℕ
 heard_until base limits o offsets = if stands o (log base limits []) then [] else up_to o offsets
 
--- what a step makes of the offsets that were heard. A logged broadcast that is put for the session is heard; one who
--- comes back has heard what he named, and then what he is sent of the journal's broadcasts
+-- what a step makes of the offsets that were heard. A logged broadcast that is put for the
+-- session is heard; one who comes back has heard what he named, and then what he is sent of
+-- the journal's broadcasts
 abbrev pub heard_after : PlainBase → Limits → List Step → ℕ → List ℕ → What → List ℕ
 heard_after base limits before p offsets (Attached k) = if k.pid == p then [] else offsets
-heard_after base limits before p offsets (Cast b) = if is_put_for base before p b then offsets ++ option_to_list b.offset else offsets
+heard_after base limits before p offsets (Cast b) =
+    if is_put_for base before p b then offsets ++ option_to_list b.offset else offsets
 heard_after base limits before p offsets (Recovered r) =
-    if r.socket.pid == p then heard_until base limits r.offset offsets ++ filter (has (all_given before)) r.missed else offsets
+    if r.socket.pid == p
+    then heard_until base limits r.offset offsets ++ filter (has (all_given before)) r.missed
+    else offsets
 heard_after base limits before p offsets _ = offsets
 
--- the offsets of the journal's broadcasts that the client of the session holds, in order, if it names truly what it got
--- last: since the session began, or since the base
+-- the offsets of the journal's broadcasts that the client of the session holds, in order, if it
+-- names truly what it got last: since the session began, or since the base
 unfoldable pub heard : PlainBase → Limits → List Step → ℕ → List ℕ
 heard base limits [] p = []
-heard base limits (step ∷ before) p = heard_after base limits before p (heard base limits before p) step.what
+heard base limits (step ∷ before) p =
+    heard_after base limits before p (heard base limits before p) step.what
 
 -- ---- due
 
@@ -71,11 +78,14 @@ is_due base limits before p b = option_map_or (is_for b) (kept base limits befor
 
 -- the offset of a logged broadcast that is due
 abbrev pub due_by : PlainBase → Limits → List Step → ℕ → What → List ℕ
-due_by base limits before p (Cast b) = if is_due base limits before p b then option_to_list b.offset else []
+due_by base limits before p (Cast b) =
+    if is_due base limits before p b then option_to_list b.offset else []
 due_by base limits before p _ = []
 
--- the offsets of the journal's broadcasts that the session should have, in order: since it began, or since the base
+-- the offsets of the journal's broadcasts that the session should have, in order: since it
+-- began, or since the base
 unfoldable pub due_casts : PlainBase → Limits → List Step → ℕ → List ℕ
 due_casts base limits [] p = []
 due_casts base limits (step ∷ before) p =
-    if begins p step.what then [] else due_casts base limits before p ++ due_by base limits before p step.what
+    if begins p step.what then []
+    else due_casts base limits before p ++ due_by base limits before p step.what

@@ -1,5 +1,5 @@
--- Which clients are open, which sockets are connected and which sessions are saved, asked of the last step that speaks of
--- them.
+-- Which clients are open, which sockets are connected and which sessions are saved, asked of the
+-- last step that speaks of them.
 use Rattle.std.specs.Prelude.{ℕ, ◌==◌, Bool, true, false, not, ◌&&◌, ◌||◌, List, [], ◌∷◌, Option, None, Some, unwrap_or, if◌then◌else◌}
 use Rattle.std.specs.List.{list_any}
 use Rattle.std.specs.Option.{option_map_or}
@@ -23,10 +23,12 @@ client_word c (Parked d) = if d == c then Some false else None
 client_word c (Closed d) = if d == c then Some false else None
 client_word c _ = None
 
--- the last step that speaks of the client says that it is open, or none speaks and it is open in the base
+-- the last step that speaks of the client says that it is open, or none speaks and
+-- it is open in the base
 unfoldable pub is_last_open : PlainBase → List Step → ℕ → Bool
 is_last_open base [] c = is_open base [] c
-is_last_open base (step ∷ before) c = unwrap_or (client_word c step.what) (is_last_open base before c)
+is_last_open base (step ∷ before) c =
+    unwrap_or (client_word c step.what) (is_last_open base before c)
 
 -- ---- sockets
 
@@ -44,14 +46,17 @@ socket_word base before s (Parked c) = if has_socket base before c s then Some N
 socket_word base before s (Closed c) = if has_socket base before c s then Some None else None
 socket_word base before s _ = None
 
--- the connected socket that the last step which speaks of the id names, if any, or the base's where none speaks
+-- the connected socket that the last step which speaks of the id names, if any, or the
+-- base's where none speaks
 unfoldable pub last_socket : PlainBase → List Step → ℕ → Option Socket
 last_socket base [] s = socket_with sid_of base [] s
-last_socket base (step ∷ before) s = unwrap_or (socket_word base before s step.what) (last_socket base before s)
+last_socket base (step ∷ before) s =
+    unwrap_or (socket_word base before s step.what) (last_socket base before s)
 
 -- ---- saved sessions
 
--- the step ends the session that was lost at a moment: it comes back, or it is swept since it is too old
+-- the step ends the session that was lost at a moment: it comes back, or it is
+-- swept since it is too old
 abbrev pub ends_saved : Limits → (p lost_at at : ℕ) → What → Bool
 ends_saved limits p lost_at at (Recovered r) = r.socket.pid == p
 ends_saved limits p lost_at at Swept = is_outdated limits.keep at lost_at
@@ -59,11 +64,17 @@ ends_saved limits p lost_at at _ = false
 
 -- none of these steps does
 abbrev pub stays_saved : Limits → (p lost_at : ℕ) → List Step → Bool
-stays_saved limits p lost_at later = not (list_any (λ (step : Step). ends_saved limits p lost_at step.at step.what) later)
+stays_saved limits p lost_at later =
+    not (list_any (λ (step : Step). ends_saved limits p lost_at step.at step.what) later)
 
--- some step of the journal lost the session's socket with its client, or the base has the session, and no step after that
--- one ended the session; `later` are the steps after the journal
+-- some step of the journal lost the session's socket with its client, or the base has the session,
+-- and no step after that one ended the session; `later` are the steps after the journal
 unfoldable pub is_lost : PlainBase → Limits → (later : List Step) → List Step → ℕ → Bool
-is_lost base limits later [] p = option_map_or (λ (s : PlainSaved). stays_saved limits p s.lost_at later) (session_with p base.saved) false
+is_lost base limits later [] p =
+    option_map_or
+    (λ (s : PlainSaved). stays_saved limits p s.lost_at later)
+    (session_with p base.saved)
+    false
 is_lost base limits later (step ∷ before) p =
-    (loses base before p step.what && stays_saved limits p step.at later) || is_lost base limits (step ∷ later) before p
+    (loses base before p step.what && stays_saved limits p step.at later)
+    || is_lost base limits (step ∷ later) before p
