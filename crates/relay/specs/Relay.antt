@@ -73,7 +73,14 @@ room_in place texts = room_of (slice_get texts place)
 
 -- the event as it came, for these rooms except those
 abbrev pub emit : (rooms excepted : List (List ℕ)) → (logged : Bool) → Message → Effect
-emit rooms excepted logged m = effect.Emit (record { rooms = rooms; excepted = excepted; logged = logged; payload = m.payload; attachments = m.attachments })
+emit rooms excepted logged m =
+    effect.Emit (record {
+      rooms = rooms;
+      excepted = excepted;
+      logged = logged;
+      payload = m.payload;
+      attachments = m.attachments;
+    })
 
 abbrev pub to_two : (own room : List ℕ) → Option (List ℕ) → Message → Option Effect
 to_two own r (Some q) m = Some (emit (r ∷ q ∷ []) (own ∷ []) true m)
@@ -85,7 +92,13 @@ to_one_but own r None m = None
 
 -- the event as it came, as a question to its socket; an answer is waited for ten seconds
 abbrev pub ask : Message → Effect
-ask m = effect.EmitAsk (record { payload = m.payload; attachments = m.attachments; tag = 0; wait = 10000 })
+ask m =
+    effect.EmitAsk (record {
+      payload = m.payload;
+      attachments = m.attachments;
+      tag = 0;
+      wait = 10000;
+    })
 
 -- the sockets of a room join a second one, or leave it
 abbrev pub pull : (room : List ℕ) → Option (List ℕ) → Option Effect
@@ -108,7 +121,8 @@ effect_for own word.All r q m = Some (emit [] [] true m)
 effect_for own word.Ask r q m = Some (ask m)
 effect_for own word.Pull (Some r) q m = pull r q
 effect_for own word.Push (Some r) q m = push r q
-effect_for own word.Kick (Some r) q m = Some (effect.AllEnd (record { rooms = r ∷ []; excepted = own ∷ [] }))
+effect_for own word.Kick (Some r) q m =
+    Some (effect.AllEnd (record { rooms = r ∷ []; excepted = own ∷ [] }))
 effect_for own _ r q m = None
 
 -- what an event does before it is acknowledged
@@ -132,7 +146,8 @@ abbrev pub farewell : Word → List Effect
 farewell word.Bye = effect.Disconnect ∷ []
 farewell _ = []
 
--- the effects of an event: where it was asked, the acknowledgement comes last but for the disconnection
+-- the effects of an event: where it was asked, the acknowledgement comes last
+-- but for the disconnection
 abbrev pub effects_of : (own : List ℕ) → Message → List Effect
 effects_of own m = listed (first_effect own (texts_of m.payload) m)
     ++ answer m.asked

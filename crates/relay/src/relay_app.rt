@@ -195,7 +195,8 @@ fn push(alloc: Global, room: Room, second: Option<Room>) -> Result<Option<Effect
 
 /// The sockets of these rooms except those.
 fn select(alloc: Global, rooms: &[Room], excepted: &[Room]) -> Result<Selection, AllocError>
-    ensures { IfOk result (λ selection. selection ≡ record { rooms = rooms.now; excepted = excepted.now }) }
+    ensures { IfOk result
+        (λ selection. selection ≡ record { rooms = rooms.now; excepted = excepted.now }) }
 {
     Ok(Selection {
         rooms: Vec::from_slice(alloc, rooms)?,
@@ -211,7 +212,8 @@ fn emit(
     logged: bool,
     message: &Message,
 ) -> Result<Effect, AllocError>
-    ensures { IfOk result (λ effect. effect ≡ table.emit rooms.now excepted.now logged message.now) }
+    ensures { IfOk result
+        (λ effect. effect ≡ table.emit rooms.now excepted.now logged message.now) }
 {
     Ok(Effect::Emit(Emission {
         rooms: Vec::from_slice(alloc, rooms)?,
