@@ -28,16 +28,32 @@ begins_with payload word = is_first_of (names_at payload) word
 
 -- the question, whose answer is waited for thirty seconds
 abbrev pub ask : Effect
-ask = effect.EmitAsk (record { payload = codes "[\"question\",\"How much is six times seven?\"]"; attachments = []; tag = 1; wait = 30000 })
+ask =
+    effect.EmitAsk (record {
+      payload = codes "[\"question\",\"How much is six times seven?\"]";
+      attachments = [];
+      tag = 1;
+      wait = 30000;
+    })
 
 -- everybody hears that it is solved
 abbrev pub tell : Effect
-tell = effect.Emit (record { rooms = []; excepted = []; logged = true; payload = codes "[\"solved\"]"; attachments = [] })
+tell =
+    effect.Emit (record {
+      rooms = [];
+      excepted = [];
+      logged = true;
+      payload = codes "[\"solved\"]";
+      attachments = [];
+    })
 
 abbrev pub reply : Effect
 reply = effect.Reply (record { payload = codes "[]"; attachments = [] })
 
--- who plays is asked, and asked again until the answer is right; what asks for an acknowledgement gets one
+-- who plays is asked, and asked again until the answer is right; what asks for an
+-- acknowledgement gets one
 abbrev pub decided : Arrived → List Effect
-decided (Event message) = (if begins_with message.payload (codes "play") then ask ∷ [] else []) ++ (if message.asked then reply ∷ [] else [])
+decided (Event message) =
+    (if begins_with message.payload (codes "play") then ask ∷ [] else [])
+    ++ (if message.asked then reply ∷ [] else [])
 decided (Answer answer) = (if begins_with answer.payload (codes "42") then tell else ask) ∷ []
