@@ -8,12 +8,18 @@ use Rattle.eio_wire.specs.declared.handshake.Numbers.{Numbers}
 abbrev pub upgrades_of : Bool → List ℕ
 upgrades_of polling = if polling then codes "[\"websocket\"]" else codes "[]"
 
--- the open packet for this session id, with the JSON fields in this order and no blanks
-unfoldable pub open_packet_text : ℕ → Bool → Numbers → List ℕ
-open_packet_text client polling numbers =
-    codes "0{\"sid\":\"" ++ id_digits client
-    ++ codes "\",\"upgrades\":" ++ upgrades_of polling
+-- the open packet with this id and this list of transports: the JSON fields in this order, and no
+-- blanks
+abbrev pub open_packet_with : (id upgrades : List ℕ) → Numbers → List ℕ
+open_packet_with id upgrades numbers =
+    codes "0{\"sid\":\"" ++ id
+    ++ codes "\",\"upgrades\":" ++ upgrades
     ++ codes ",\"pingInterval\":" ++ decimal numbers.ping_interval
     ++ codes ",\"pingTimeout\":" ++ decimal numbers.ping_timeout
     ++ codes ",\"maxPayload\":" ++ decimal numbers.max_payload
     ++ codes "}"
+
+-- the open packet of this client
+unfoldable pub open_packet_text : ℕ → Bool → Numbers → List ℕ
+open_packet_text client polling numbers =
+    open_packet_with (id_digits client) (upgrades_of polling) numbers

@@ -1,11 +1,10 @@
 //! The open packet, with which the server answers a new session (Engine.IO protocol 4,
 //! "Handshake").
 
-ghost use Rattle.std.specs.Prelude.{◌≡◌, IfOk, IfErr, string_bytes, codes, ◌++◌};
-ghost use Rattle.std.specs.Fmt.{decimal};
+ghost use Rattle.std.specs.Prelude.{◌≡◌, IfOk, IfErr, string_bytes};
 ghost use Rattle.std.specs.Str.{IsAscii};
 ghost use Rattle.eio_wire.specs.Ids.{id_digits};
-ghost use Rattle.eio_wire.specs.Handshake.{open_packet_text, upgrades_of};
+ghost use Rattle.eio_wire.specs.Handshake.{open_packet_text, open_packet_with, upgrades_of};
 
 use crate::error::WireError;
 use crate::ids::id_text;
@@ -53,13 +52,8 @@ fn open_with(
     upgrades: &str,
     numbers: &Numbers,
 ) -> Result<String, WireError>
-    ensures ok { IfOk result (λ text. string_bytes text ≡
-        codes "0{\"sid\":\"" ++ id.now
-        ++ codes "\",\"upgrades\":" ++ upgrades.now
-        ++ codes ",\"pingInterval\":" ++ decimal numbers.now.ping_interval
-        ++ codes ",\"pingTimeout\":" ++ decimal numbers.now.ping_timeout
-        ++ codes ",\"maxPayload\":" ++ decimal numbers.now.max_payload
-        ++ codes "}") }
+    ensures ok { IfOk result
+        (λ text. string_bytes text ≡ open_packet_with id.now upgrades.now numbers.now) }
     ensures err { IfErr result (λ error. error ≡ WireError.Memory) }
 {
     let interval = numbers.ping_interval;
