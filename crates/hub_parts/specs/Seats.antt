@@ -1,5 +1,5 @@
 -- The connected sockets by their session ids, and an index of their session ids by namespaces.
-use Rattle.std.specs.Prelude.{◌≡◌, ℕ}
+use Rattle.std.specs.Prelude.{◌≡◌, ℕ, ◌==◌, None, Some, if◌then◌else◌}
 use denote.RattleType.{RattleType}
 use Rattle.std.specs.Coded.{Coded}
 use Rattle.std.specs.declared.cmp.Ordering.{Ordering}
@@ -33,3 +33,15 @@ seat_cmp a b = ordering_then (nat_cmp a.0 b.0) (nat_cmp a.1 b.1)
 -- the index has a session id at a place exactly where the socket with this id is in the namespace at this place
 pub record IsIndex (by_sid : SeatMap) (by_space : BTreeSet (ℕ × ℕ)) : Type 0 where
   pub mirror : (space sid : ℕ) → sorted.contains seat_cmp by_space (space, sid) ≡ is_here space (get nat_cmp by_sid sid)
+
+-- the same sockets
+abbrev pub SameSeats : SeatMap → SeatMap → Type 0
+SameSeats old new = (s : ℕ) → get nat_cmp new s ≡ get nat_cmp old s
+
+-- one socket more, in place of one with its session id
+abbrev pub WithSeat : Socket → SeatMap → SeatMap → Type 0
+WithSeat socket old new = (s : ℕ) → get nat_cmp new s ≡ (if socket.sid == s then Some socket else get nat_cmp old s)
+
+-- without the socket of a session id, if there is one
+abbrev pub WithoutSeat : ℕ → SeatMap → SeatMap → Type 0
+WithoutSeat sid old new = (s : ℕ) → get nat_cmp new s ≡ (if sid == s then None else get nat_cmp old s)

@@ -2,7 +2,6 @@
 
 ghost use Rattle.std.specs.Prelude.{◌≡◌, List, ℕ, Some, bytes_eq, position, if◌then◌else◌, OnOk, IfOk, IfErr};
 ghost use Rattle.std.specs.BTreeMap.{get_by_text};
-ghost use Rattle.journal.specs.Membership.{place_of};
 
 use journal::{Config, HubError};
 use std::alloc::Global;
@@ -27,7 +26,8 @@ impl Model for Limits {
 
     ghost view = { λ l. l.config };
 
-    ghost invariant = { λ l. (name : List ℕ) → get_by_text l.places name ≡ position (bytes_eq name) l.config.spaces };
+    ghost invariant = { λ l. (name : List ℕ)
+        → get_by_text l.places name ≡ position (bytes_eq name) l.config.spaces };
 }
 
 /// Gives a name a place, instead of the one that it may have.
@@ -37,7 +37,8 @@ fn put_place(
     name: &str,
     place: usize,
 ) -> Result<(), HubError>
-    ensures ok { OnOk result ((other : List ℕ) → get_by_text places.new other ≡ (if bytes_eq other name.now then Some place else get_by_text places.old other)) }
+    ensures ok { OnOk result ((other : List ℕ) → get_by_text places.new other
+        ≡ (if bytes_eq other name.now then Some place else get_by_text places.old other)) }
     ensures memory { IfErr result (λ e. e ≡ HubError.Memory) }
 {
     let key = String::from_str(alloc, name)?;
@@ -48,7 +49,8 @@ fn put_place(
 /// The first place of each name in a list. It goes from the last name to the first, so that a name's
 /// first place is put last.
 fn first_places(alloc: Global, names: &[Text]) -> Result<BTreeMap<String, usize>, HubError>
-    ensures ok { IfOk result (λ places. (name : List ℕ) → get_by_text places name ≡ position (bytes_eq name) names.now) }
+    ensures ok { IfOk result (λ places. (name : List ℕ)
+        → get_by_text places name ≡ position (bytes_eq name) names.now) }
     ensures memory { IfErr result (λ e. e ≡ HubError.Memory) }
 {
     let mut places = BTreeMap::new(alloc);
@@ -77,21 +79,10 @@ impl Limits {
         &self.config
     }
 
-    /// The first place of a name among the namespaces.
-    fn position_of(&self, name: &str) -> Option<usize>
+    /// The first place of a name among the namespaces, or `None` where it isn't there.
+    pub fn place_of(&self, name: &str) -> Option<usize>
         ensures { result ≡ position (bytes_eq name.now) self.now.spaces }
     {
         self.places.get(name).copied()
-    }
-
-    /// The place of a namespace in the list, or the length of the list where it isn't there.
-    #[tactic(auto, unfolding(journal::specs::Membership::place_of))]
-    pub fn place_of(&self, name: &str) -> usize
-        ensures { result ≡ place_of self.now name.now }
-    {
-        match self.position_of(name) {
-            Some(place) => place,
-            None => self.config.spaces.len(),
-        }
     }
 }

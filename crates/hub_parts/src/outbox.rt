@@ -29,7 +29,11 @@ impl Model for Outbox {
 
     ghost Value = { PlainOutbox };
 
-    ghost view = { λ o. record { waiting = map arc_value o.ring.items; capacity = o.ring.capacity; bytes = o.bytes } };
+    ghost view = { λ o. record {
+      waiting = map arc_value o.ring.items;
+      capacity = o.ring.capacity;
+      bytes = o.bytes;
+    } };
 
     ghost invariant = { λ o. o.room + total_size (map arc_value o.ring.items) ≡ o.bytes };
 }
@@ -64,7 +68,8 @@ impl Outbox {
     /// An empty outbox.
     #[tactic(auto, unfolding(journal::specs::Outboxes::total_size))]
     pub fn new(alloc: Global, capacity: usize, bytes: usize) -> Result<Outbox, AllocError>
-        ensures { IfOk result (λ outbox. outbox ≡ record { waiting = []; capacity = capacity; bytes = bytes }) }
+        ensures { IfOk result (λ outbox.
+            outbox ≡ record { waiting = []; capacity = capacity; bytes = bytes }) }
     {
         let ring = HeapCircularBuffer::with_capacity(alloc, capacity)?;
         Ok(Outbox {
@@ -100,22 +105,26 @@ impl Outbox {
 
     /// Whether there is no place for an entry.
     pub fn has_no_place(&self, entry: &Entry) -> bool
-        ensures { result ≡ has_no_place self.now.capacity self.now.bytes self.now.waiting entry.now }
+        ensures { result
+            ≡ has_no_place self.now.capacity self.now.bytes self.now.waiting entry.now }
     {
         self.ring.len() >= self.ring.capacity() || room_after(self.room, entry).is_none()
     }
 
     /// Whether there is no place for an entry of this many bytes.
     pub fn lacks(&self, size: usize) -> bool
-        ensures { result ≡ (nat_le self.now.capacity (length self.now.waiting) || nat_lt self.now.bytes (total_size self.now.waiting + size)) }
+        ensures { result ≡ (nat_le self.now.capacity (length self.now.waiting)
+            || nat_lt self.now.bytes (total_size self.now.waiting + size)) }
     {
         self.ring.len() >= self.ring.capacity() || self.room < size
     }
 
     /// Puts an entry at the end, where there is a place for it.
     pub fn push(&mut self, entry: Arc<Entry>)
-        requires { has_no_place self.old.capacity self.old.bytes self.old.waiting (arc_value entry) ≡ false }
-        ensures { self.new ≡ record self.old { waiting = self.old.waiting ++ arc_value entry ∷ [] } }
+        requires { let o = self.old
+            in has_no_place o.capacity o.bytes o.waiting (arc_value entry) ≡ false }
+        ensures { self.new
+            ≡ record self.old { waiting = self.old.waiting ++ arc_value entry ∷ [] } }
     {
         let Some(left) = room_after(self.room, &entry) else {
             unreachable!()
@@ -174,7 +183,8 @@ impl Outbox {
 
 /// Puts shares of the entries at the end of the list.
 fn share_all(list: &mut Vec<Arc<Entry>>, entries: &[Arc<Entry>]) -> Result<(), AllocError>
-    ensures { OnOk result (map arc_value list.new.items ≡ map arc_value list.old.items ++ map arc_value entries.now) }
+    ensures { OnOk result (map arc_value list.new.items
+        ≡ map arc_value list.old.items ++ map arc_value entries.now) }
 {
     for entry in entries {
         list.push(Arc::try_clone(entry)?)?;

@@ -1,6 +1,6 @@
 //! The connected sockets by their session ids, and those of each namespace.
 
-ghost use Rattle.std.specs.Prelude.{◌≡◌, ℕ, ◌==◌, map, IfOk, OnOk, OnErr, None, Some, option_copied, is_some, if◌then◌else◌};
+ghost use Rattle.std.specs.Prelude.{◌≡◌, map, IfOk, OnOk, OnErr, None, option_copied, is_some};
 ghost use Rattle.std.specs.Ordering.{nat_cmp};
 ghost use Rattle.std.specs.BTreeMap.{get, IsEmpty};
 ghost use Rattle.std.specs.BTreeMap.Range.{IsLeBy};
@@ -8,7 +8,7 @@ ghost use Rattle.std.specs.BTreeSet as sorted;
 ghost use Rattle.terms.specs.Listing.{ListsRising};
 ghost use Rattle.std.specs.declared.ops.Bound.{Bound};
 ghost use Rattle.journal.specs.Casting.{is_here};
-ghost use Rattle.hub_parts.specs.Seats.{IsIndex, seat_cmp};
+ghost use Rattle.hub_parts.specs.Seats.{IsIndex, seat_cmp, SameSeats, WithSeat, WithoutSeat};
 
 use journal::Socket;
 use room_maps::Sid;
@@ -66,8 +66,8 @@ impl Seats {
     /// Adds a socket whose session id is free. It takes the logarithm.
     pub fn insert(&mut self, socket: Socket) -> Result<(), AllocError>
         requires free { get nat_cmp self.old socket.sid ≡ None }
-        ensures ok { OnOk result ((s : ℕ) → get nat_cmp self.new s ≡ (if socket.sid == s then Some socket else get nat_cmp self.old s)) }
-        ensures err { OnErr result ((s : ℕ) → get nat_cmp self.new s ≡ get nat_cmp self.old s) }
+        ensures ok { OnOk result (WithSeat socket self.old self.new) }
+        ensures err { OnErr result (SameSeats self.old self.new) }
     {
         put(&mut self.by_sid, &mut self.by_space, socket)?;
         Ok(())
@@ -76,7 +76,7 @@ impl Seats {
     /// Takes the socket with a session id out, if there is one. It takes the logarithm and no
     /// memory.
     pub fn remove(&mut self, sid: Sid)
-        ensures { (s : ℕ) → get nat_cmp self.new s ≡ (if sid == s then None else get nat_cmp self.old s) }
+        ensures { WithoutSeat sid self.old self.new }
     {
         take(&mut self.by_sid, &mut self.by_space, sid);
     }
@@ -84,7 +84,8 @@ impl Seats {
     /// The session ids of the sockets in the namespace at a place, rising. It takes the logarithm,
     /// and walks these sockets alone.
     pub fn sids_in(&self, alloc: Global, space: u16) -> Result<Vec<Sid>, AllocError>
-        ensures { IfOk result (λ sids. ListsRising nat_cmp (λ s. is_here space (get nat_cmp self.now s)) sids.items) }
+        ensures { IfOk result (λ sids.
+            ListsRising nat_cmp (λ s. is_here space (get nat_cmp self.now s)) sids.items) }
     {
         sids_at(alloc, &self.by_space, space)
     }
@@ -98,8 +99,8 @@ fn put(
 ) -> Result<(), AllocError>
     requires free { get nat_cmp by_sid.old socket.sid ≡ None }
     requires mirrors { IsIndex by_sid.old by_space.old }
-    ensures ok { OnOk result ((s : ℕ) → get nat_cmp by_sid.new s ≡ (if socket.sid == s then Some socket else get nat_cmp by_sid.old s)) }
-    ensures err { OnErr result ((s : ℕ) → get nat_cmp by_sid.new s ≡ get nat_cmp by_sid.old s) }
+    ensures ok { OnOk result (WithSeat socket by_sid.old by_sid.new) }
+    ensures err { OnErr result (SameSeats by_sid.old by_sid.new) }
     ensures mirrors { IsIndex by_sid.new by_space.new }
 {
     let sid = socket.sid;
@@ -117,7 +118,7 @@ fn put(
 /// Takes the socket with a session id out of both indexes.
 fn take(by_sid: &mut BTreeMap<Sid, Socket>, by_space: &mut BTreeSet<(u32, Sid)>, sid: Sid)
     requires { IsIndex by_sid.old by_space.old }
-    ensures seats { (s : ℕ) → get nat_cmp by_sid.new s ≡ (if sid == s then None else get nat_cmp by_sid.old s) }
+    ensures seats { WithoutSeat sid by_sid.old by_sid.new }
     ensures mirrors { IsIndex by_sid.new by_space.new }
 {
     if let Some(socket) = by_sid.remove(&sid) {
@@ -134,7 +135,9 @@ fn sids_between(
 ) -> Result<Vec<Sid>, AllocError>
     requires { IsLeBy seat_cmp from to }
     ensures ordered { sorted.IsOrdered seat_cmp by_space.now }
-    ensures items { IfOk result (λ sids. sids.items ≡ map (λ q. q.1) (sorted.keys_between seat_cmp (Bound.Included from) (Bound.Excluded to) by_space.now)) }
+    ensures items { IfOk result (λ sids.
+        let inside = sorted.keys_between seat_cmp (Bound.Included from) (Bound.Excluded to)
+        in sids.items ≡ map (λ q. q.1) (inside by_space.now)) }
 {
     by_space.range(from..to).map(|(_, sid)| *sid).collect(alloc)
 }
@@ -145,7 +148,8 @@ fn sids_at(
     by_space: &BTreeSet<(u32, Sid)>,
     space: u16,
 ) -> Result<Vec<Sid>, AllocError>
-    ensures { IfOk result (λ sids. ListsRising nat_cmp (λ s. sorted.contains seat_cmp by_space.now (space, s)) sids.items) }
+    ensures { IfOk result (λ sids.
+        ListsRising nat_cmp (λ s. sorted.contains seat_cmp by_space.now (space, s)) sids.items) }
 {
     let place = u32::from(space);
     let least = Sid::new(0);

@@ -99,7 +99,8 @@ impl Sockets {
 
 /// A serial past all others, or `None` where there is none.
 fn next_serial(by_serial: &BTreeMap<u64, Socket>) -> Option<u64>
-    ensures next { IfSome result (λ serial. All (λ other. other < serial) (keys_of by_serial.now.entries)) }
+    ensures next { IfSome result (λ serial.
+        All (λ other. other < serial) (keys_of by_serial.now.entries)) }
     ensures none { result ≡ None → IsSome (get nat_cmp by_serial.now u64.MAX) }
 {
     match by_serial.last_key_value() {
@@ -116,7 +117,8 @@ fn put(
 ) -> Result<(), AllocError>
     requires free { lookup (is_at (nat_cmp socket.space)) by_place.old.entries ≡ None }
     requires mirrors { IsIndex by_serial.old.entries by_place.old.entries }
-    ensures sockets { OnOk result (values_of by_serial.new.entries ≡ values_of by_serial.old.entries ++ socket ∷ []) }
+    ensures sockets { OnOk result (values_of by_serial.new.entries
+        ≡ values_of by_serial.old.entries ++ socket ∷ []) }
     ensures mirrors { IsIndex by_serial.new.entries by_place.new.entries }
     ensures unchanged { OnErr result (by_serial.new.entries ≡ by_serial.old.entries) }
 {
@@ -137,7 +139,8 @@ fn put(
 /// Takes the socket with the greatest serial out of both maps.
 fn take_newest(by_serial: &mut BTreeMap<u64, Socket>, by_place: &mut BTreeMap<usize, u64>)
     requires mirrors { IsIndex by_serial.old.entries by_place.old.entries }
-    ensures sockets { values_of by_serial.new.entries ≡ take (length (values_of by_serial.old.entries) - 1) (values_of by_serial.old.entries) }
+    ensures sockets { let old = values_of by_serial.old.entries
+        in values_of by_serial.new.entries ≡ take (length old - 1) old }
     ensures mirrors { IsIndex by_serial.new.entries by_place.new.entries }
 {
     if let Some((_, socket)) = by_serial.pop_last() {
@@ -148,7 +151,8 @@ fn take_newest(by_serial: &mut BTreeMap<u64, Socket>, by_place: &mut BTreeMap<us
 /// Takes the socket at a place out of both maps.
 fn take_at(by_serial: &mut BTreeMap<u64, Socket>, by_place: &mut BTreeMap<usize, u64>, place: usize)
     requires mirrors { IsIndex by_serial.old.entries by_place.old.entries }
-    ensures sockets { values_of by_serial.new.entries ≡ filter (λ (k : Socket). not (k.space == place)) (values_of by_serial.old.entries) }
+    ensures sockets { values_of by_serial.new.entries
+        ≡ filter (λ (k : Socket). not (k.space == place)) (values_of by_serial.old.entries) }
     ensures mirrors { IsIndex by_serial.new.entries by_place.new.entries }
 {
     if let Some(serial) = by_place.remove(&place) {

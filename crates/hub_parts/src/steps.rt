@@ -28,9 +28,13 @@ impl Model for Steps {
 
     ghost Value = { PlainSteps };
 
-    ghost view = { λ s. record { steps = reverse s.steps.items; room = vec_capacity s.steps - vec_len s.steps } };
+    ghost view = { λ s. record {
+      steps = reverse s.steps.items;
+      room = vec_capacity s.steps - vec_len s.steps;
+    } };
 
-    ghost invariant = { λ s. s.bytes ≡ min (totals.held (reverse s.steps.items)) 18446744073709551615 };
+    ghost invariant = { λ s. s.bytes
+        ≡ min (totals.held (reverse s.steps.items)) 18446744073709551615 };
 }
 
 /// How many bytes an entry has, or the greatest u64.

@@ -1,2 +1,4 @@
 pub mod Inside
 pub mod Returning
+pub mod Changes
+pub mod Sending

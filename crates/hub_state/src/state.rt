@@ -4,12 +4,12 @@ ghost use Rattle.std.specs.Prelude.{◌≡◌, ℕ, ◌+◌, ◌<◌, ◌≤◌,
 ghost use Rattle.std.specs.List.{IsDistinct, AllByRecursion};
 ghost use Rattle.journal.specs.Config.{config_refusal, empty_base};
 ghost use Rattle.room_maps.specs.Membership as room_maps;
-ghost use Rattle.journal.specs.Journal.{moment};
+ghost use Rattle.journal.specs.Journal.{moment, moment_at};
 ghost use Rattle.journal.specs.Membership.{open_clients, is_open, sockets, is_connected, sid_of, is_space, rooms};
 ghost use Rattle.journal.specs.Sessions.{sessions};
 ghost use Rattle.journal.specs.Log.{log, log_calls, next_number};
 ghost use Rattle.journal.specs.Totals as counted;
-ghost use Rattle.journal.specs.Totals.{IsConserved, is_past, is_spent, placed_by, dropped_by, handed_out_by, discarded_by, waiting_in_all};
+ghost use Rattle.journal.specs.Totals.{IsConserved, is_past, is_spent};
 ghost use Rattle.journal.specs.Refusals.{or_spent};
 ghost use Rattle.journal.specs.Legal.{IsLegal, IsSound};
 ghost use Rattle.recovery.specs.PacketLog.{IsRun, Rises, latest};
@@ -19,16 +19,20 @@ ghost use Rattle.journal.specs.Broadcast.{RightCast};
 ghost use Rattle.journal.specs.declared.step.Step.{Step};
 ghost use Rattle.journal.specs.declared.step.What.{What};
 ghost use Rattle.continuity.specs.Truly.{HearsWhatIsDue};
+ghost use Rattle.hub_state.specs.Changes.{OfEach};
 
+mod aim;
 mod cast;
 mod close;
 mod connect;
 mod deliver;
 mod dismiss;
 mod end;
+mod event;
 mod gather;
 mod look;
 mod members;
+mod missed;
 mod open;
 mod park;
 mod recover;
@@ -90,7 +94,8 @@ pub(crate) fn reserve(journal: &mut Steps) -> Result<(), HubError>
 pub(crate) fn record(journal: &mut Steps, last: &mut u64, now: u64, what: What)
     requires { 0 < journal.old.room }
     ensures last { last.new ≡ max now last.old }
-    ensures journal { journal.new.steps ≡ record { at = max now last.old; what = what } ∷ journal.old.steps }
+    ensures journal { let step : Step = record { at = max now last.old; what = what }
+        in journal.new.steps ≡ step ∷ journal.old.steps }
 {
     *last = now.max(*last);
     journal.push(Step { at: *last, what });
@@ -116,7 +121,13 @@ pub(crate) const NONE: Added = Added {
 /// Counts one more command, with what it adds.
 pub(crate) fn count(counts: &mut Counts, added: Added)
     requires { CanCount counts.old added.placed added.dropped added.taken added.discarded }
-    ensures { counts.new ≡ record { commands = counts.old.commands + 1; placed = counts.old.placed + added.placed; dropped = counts.old.dropped + added.dropped; taken = counts.old.taken + added.taken; discarded = counts.old.discarded + added.discarded } }
+    ensures { let old = counts.old in counts.new ≡ record {
+      commands = old.commands + 1;
+      placed = old.placed + added.placed;
+      dropped = old.dropped + added.dropped;
+      taken = old.taken + added.taken;
+      discarded = old.discarded + added.discarded;
+    } }
 {
     counts.commands += 1;
     counts.placed += added.placed;
@@ -129,7 +140,12 @@ pub(crate) fn count(counts: &mut Counts, added: Added)
 fn empty_log(alloc: Global, config: &Config) -> Result<PacketLog, HubError>
     requires log { 1 ≤ config.now.log }
     requires first { 1 ≤ config.now.first_offset }
-    ensures ok { IfOk result (λ log. log ≡ record { limit = config.now.log; next = Some config.now.first_offset; last = 0; entries = [] }) }
+    ensures ok { IfOk result (λ log. log ≡ record {
+      limit = config.now.log;
+      next = Some config.now.first_offset;
+      last = 0;
+      entries = [];
+    }) }
     ensures memory { IfErr result (λ e. e ≡ HubError.Memory) }
 {
     match PacketLog::new(alloc, config.log, config.first_offset) {
@@ -172,7 +188,8 @@ impl State {
     /// A hub with no clients and an empty journal. Refused as `BadConfig`, then for `Memory`. It
     /// compares each two of the namespaces, and copies their names once.
     pub fn new(alloc: Global, config: Config) -> Result<State, HubError>
-        ensures ok { IfOk result (λ state. (config_refusal config ≡ None) × (state ≡ record { base = empty_base config.first_offset; limits = config; journal = [] })) }
+        ensures ok { IfOk result (λ state. (config_refusal config ≡ None) × (state
+            ≡ record { base = empty_base config.first_offset; limits = config; journal = [] })) }
         ensures err { IfErr result (λ e. e ≡ unwrap_or (config_refusal config) HubError.Memory) }
     {
         if config.is_bad() {
@@ -186,8 +203,14 @@ impl State {
     /// A hub with an empty base and an empty log.
     fn begin(alloc: Global, limits: Limits, log: PacketLog) -> State
         requires few { length limits.spaces ≤ 65536 }
-        requires log { log ≡ record { limit = limits.log; next = Some limits.first_offset; last = 0; entries = [] } }
-        ensures { result ≡ record { base = empty_base limits.first_offset; limits = limits; journal = [] } }
+        requires log { log ≡ record {
+          limit = limits.log;
+          next = Some limits.first_offset;
+          last = 0;
+          entries = [];
+        } }
+        ensures { result
+            ≡ record { base = empty_base limits.first_offset; limits = limits; journal = [] } }
     {
         let config = limits.config();
         let base = empty_base(alloc, config);
@@ -216,25 +239,39 @@ impl State {
         }
     }
 
-    /// What holds of every hub: its journal is legal, each of its broadcasts reached whom it was for,
-    /// its state is sound, and each connected session, where it was true to what it heard, has heard
-    /// just what is due to it. It has no effect.
+    /// What holds of every hub: its journal is legal, each of its broadcasts reached whom it was
+    /// for, its state is sound, and each connected session, where it was true to what it heard, has
+    /// heard just what is due to it. It has no effect.
     pub fn facts(&self)
         ensures legal { IsLegal self.now.base self.now.limits self.now.journal }
-        ensures casts { (later before : List Step) (step : Step) (b : PlainBroadcast) → self.now.journal ≡ later ++ step ∷ before → step.what ≡ What.Cast b → RightCast self.now.base self.now.limits before step b }
+        ensures casts { (later before : List Step) (step : Step) (b : PlainBroadcast)
+            → self.now.journal ≡ later ++ step ∷ before → step.what ≡ What.Cast b
+            → RightCast self.now.base self.now.limits before step b }
         ensures sound { IsSound self.now.base self.now.limits self.now.journal }
-        ensures continuity { (p : ℕ) → HearsWhatIsDue self.now.base self.now.limits self.now.journal p }
+        ensures continuity { (p : ℕ)
+            → HearsWhatIsDue self.now.base self.now.limits self.now.journal p }
     {
         // The type's invariant is known once a field is read.
         let _fields = &self.base;
         heard_is_due();
     }
 
+    /// The moment of a step that is made now.
+    pub(crate) fn moment_at(&self, now: u64) -> u64
+        ensures { result ≡ moment_at self.now now }
+    {
+        now.max(self.last)
+    }
+
     /// Whether the number of commands, of entries placed or of sockets dropped would pass the
     /// greatest u64.
     fn passes(&self, puts: u64, drops: u64) -> bool
-        ensures passes { result ≡ (is_past (counted.commands self.now.base self.now.journal + 1) || is_past (counted.placed self.now.base self.now.limits self.now.journal + puts) || is_past (counted.dropped self.now.base self.now.journal + drops)) }
-        ensures small { counted.placed self.now.base self.now.limits self.now.journal ≤ 18446744073709551615 }
+        ensures passes { let h = self.now
+            in result ≡ (is_past (counted.commands h.base h.journal + 1)
+            || is_past (counted.placed h.base h.limits h.journal + puts)
+            || is_past (counted.dropped h.base h.journal + drops)) }
+        ensures small { let h = self.now
+            in counted.placed h.base h.limits h.journal ≤ 18446744073709551615 }
     {
         let commands = self.counts.commands;
         let placed = self.counts.placed;
@@ -244,7 +281,8 @@ impl State {
 
     /// Whether a count would pass the greatest u64 by a step that puts and drops so many.
     pub(crate) fn is_spent(&self, puts: u64, drops: u64) -> bool
-        ensures { (what : What) → placed_by self.now.base self.now.limits self.now.journal what ≡ puts → dropped_by what ≡ drops → handed_out_by what + discarded_by self.now.base self.now.limits self.now.journal what ≤ waiting_in_all self.now.base self.now.limits self.now.journal → result ≡ is_spent self.now.base self.now.limits self.now.journal what }
+        ensures { OfEach self.now puts drops (λ what.
+            result ≡ is_spent self.now.base self.now.limits self.now.journal what) }
     {
         // The type's invariant is known once a field is read.
         let _fields = &self.base;
@@ -253,7 +291,8 @@ impl State {
 
     /// Spent, where a step that puts and drops so many can't be counted.
     pub(crate) fn count_refusal(&self, puts: u64, drops: u64) -> Option<HubError>
-        ensures { (what : What) → placed_by self.now.base self.now.limits self.now.journal what ≡ puts → dropped_by what ≡ drops → handed_out_by what + discarded_by self.now.base self.now.limits self.now.journal what ≤ waiting_in_all self.now.base self.now.limits self.now.journal → result ≡ or_spent None (is_spent self.now.base self.now.limits self.now.journal what) }
+        ensures { OfEach self.now puts drops (λ what. result
+            ≡ or_spent None (is_spent self.now.base self.now.limits self.now.journal what)) }
     {
         if self.is_spent(puts, drops) {
             Some(HubError::Spent)

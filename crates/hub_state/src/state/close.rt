@@ -1,19 +1,13 @@
 //! Clients are closed.
 
-ghost use Rattle.std.specs.Prelude.{◌≡◌, ℕ, ◌==◌, true, false, length, None, if◌then◌else◌};
-ghost use Rattle.std.specs.List.{list_any, AllByRecursion};
+ghost use Rattle.std.specs.Prelude.{◌≡◌, ℕ, ◌==◌, length, None, if◌then◌else◌};
 ghost use Rattle.std.specs.Ordering.{nat_cmp};
 ghost use Rattle.std.specs.BTreeMap.{get};
-ghost use Rattle.std.specs.BTreeSet as sorted;
-ghost use Rattle.room_maps.specs.Membership as room_maps;
 ghost use Rattle.journal.specs.Membership.{without_sockets};
-ghost use Rattle.journal.specs.Totals.{is_spent};
-ghost use Rattle.journal.specs.Refusals.{or_spent, client_refusal};
-ghost use Rattle.journal.specs.Legal.{EachTwo, AreApart};
 ghost use Rattle.journal.specs.Command.{Does};
 ghost use Rattle.journal.specs.Fields.{held_sockets, held_entries};
-ghost use Rattle.journal.specs.declared.socket.Socket.{Socket};
 ghost use Rattle.journal.specs.declared.step.What.{What};
+ghost use Rattle.hub_state.specs.Changes.{CanForget, WithoutSeats, WithoutPids, refusal_now};
 
 use crate::state::end::forget_all;
 use crate::state::{Added, NONE, State, count, record, reserve};
@@ -33,13 +27,16 @@ pub(crate) fn forget_client(
     rooms: &mut Rooms,
     client: u128,
 ) -> usize
-    requires known { AllByRecursion (λ (k : Socket). room_maps.is_socket rooms.old k.sid ≡ true) (held_sockets (get nat_cmp clients.old client)) }
-    requires apart { EachTwo AreApart (held_sockets (get nat_cmp clients.old client)) }
+    requires { CanForget (held_sockets (get nat_cmp clients.old client)) rooms.old }
     ensures discards { result ≡ length (held_entries (get nat_cmp clients.old client)) }
-    ensures clients { (q : ℕ) → get nat_cmp clients.new q ≡ (if client == q then None else get nat_cmp clients.old q) }
-    ensures seats { (s : ℕ) → get nat_cmp seats.new s ≡ (if list_any (λ (k : Socket). k.sid == s) (held_sockets (get nat_cmp clients.old client)) then None else get nat_cmp seats.old s) }
-    ensures pids { (p : ℕ) → sorted.contains nat_cmp pids.new p ≡ (if list_any (λ (k : Socket). k.pid == p) (held_sockets (get nat_cmp clients.old client)) then false else sorted.contains nat_cmp pids.old p) }
-    ensures rooms { rooms.new ≡ without_sockets rooms.old (held_sockets (get nat_cmp clients.old client)) }
+    ensures clients { (q : ℕ) → get nat_cmp clients.new q
+        ≡ (if client == q then None else get nat_cmp clients.old q) }
+    ensures seats { let held = held_sockets (get nat_cmp clients.old client)
+        in WithoutSeats held seats.old seats.new }
+    ensures pids { let held = held_sockets (get nat_cmp clients.old client)
+        in WithoutPids held pids.old pids.new }
+    ensures rooms { let held = held_sockets (get nat_cmp clients.old client)
+        in rooms.new ≡ without_sockets rooms.old held }
 {
     match clients.remove(&client) {
         Some(known) => {
@@ -52,7 +49,7 @@ pub(crate) fn forget_client(
 
 impl State {
     fn close_refusal(&self, client: u128) -> Option<HubError>
-        ensures { result ≡ or_spent (client_refusal self.now.base self.now.journal client) (is_spent self.now.base self.now.limits self.now.journal (What.Closed client)) }
+        ensures { result ≡ refusal_now self.now (What.Closed client) }
     {
         self.facts();
         if !self.is_open(client) {

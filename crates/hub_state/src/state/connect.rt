@@ -1,6 +1,6 @@
 //! Sockets are connected (Socket.IO protocol 5, "Connection to a namespace").
 
-ghost use Rattle.std.specs.Prelude.{◌≡◌, ℕ, ◌+◌, ◌<◌, ◌≤◌, ◌==◌, ◌||◌, true, false, [], ◌∷◌, ◌++◌, length, OnOk, OnErr, IfOk, IfErr, IfSome, IfNone, None, Some, nat_le, nat_lt, position, bytes_eq, get_or, unwrap_or, if◌then◌else◌};
+ghost use Rattle.std.specs.Prelude.{◌≡◌, ℕ, ◌+◌, ◌≤◌, ◌==◌, ◌||◌, true, false, [], length, OnOk, OnErr, IfOk, IfErr, None, Some, nat_le, nat_lt, get_or, if◌then◌else◌};
 ghost use Rattle.std.specs.List.{find};
 ghost use Rattle.std.specs.Option.{option_map};
 ghost use Rattle.std.specs.Ordering.{nat_cmp};
@@ -10,17 +10,17 @@ ghost use Rattle.std.specs.Arc.{arc_value};
 ghost use Rattle.room_maps.specs.Membership as room_maps;
 ghost use Rattle.sio_wire.specs.Entry.{entry_size};
 ghost use Rattle.sio_wire.specs.ConnectAnswer as connect_answer;
-ghost use Rattle.journal.specs.Membership.{place_of, is_open, is_connected, pid_of, sid_of, sockets_of, socket_of};
+ghost use Rattle.journal.specs.Membership.{place_of, is_space, is_open, is_connected, pid_of, sid_of, sockets_of, socket_of};
 ghost use Rattle.journal.specs.Sessions.{sessions, is_sid_saved, is_pid_saved};
 ghost use Rattle.journal.specs.Outboxes.{answer, waiting, total_size, is_full};
 ghost use Rattle.journal.specs.Outboxes as outboxes;
-ghost use Rattle.journal.specs.Journal.{with_step};
-ghost use Rattle.journal.specs.Totals.{is_spent};
-ghost use Rattle.journal.specs.Refusals.{or_spent, attach_refusal, is_taken};
+ghost use Rattle.journal.specs.Refusals.{is_taken};
 ghost use Rattle.journal.specs.Command.{Does};
 ghost use Rattle.journal.specs.Fields.{plus_socket, without_last, held_sockets};
 ghost use Rattle.journal.specs.declared.socket.Socket.{Socket};
 ghost use Rattle.journal.specs.declared.step.What.{What};
+ghost use Rattle.hub_parts.specs.Seats.{SameSeats, WithSeat, WithoutSeat};
+ghost use Rattle.hub_state.specs.Changes.{ChangesClient, SamePids, WithPid, WithoutPid, refusal_now, MakesStep};
 
 use crate::state::deliver::put_entry;
 use crate::state::{Added, NONE, State, count, record, reserve};
@@ -43,7 +43,10 @@ fn answer_size(name: &str) -> usize
 
 /// The answer to a CONNECT to this namespace.
 fn answer_text(alloc: Global, name: &str, sid: Sid, pid: Pid) -> Result<Entry, HubError>
-    ensures ok { IfOk result (λ entry. entry ≡ record { text = connect_answer.connected_text name.now sid pid; attachments = [] }) }
+    ensures ok { IfOk result (λ entry. entry ≡ record {
+      text = connect_answer.connected_text name.now sid pid;
+      attachments = [];
+    }) }
     ensures memory { IfErr result (λ e. e ≡ HubError.Memory) }
 {
     match connected_text(alloc, name, sid.number(), pid.number()) {
@@ -55,30 +58,10 @@ fn answer_text(alloc: Global, name: &str, sid: Sid, pid: Pid) -> Result<Entry, H
     }
 }
 
-/// Makes a socket known by its session id, which is free.
-pub(crate) fn add_seat(seats: &mut Seats, socket: Socket) -> Result<(), HubError>
-    requires { get nat_cmp seats.old socket.sid ≡ None }
-    ensures ok { OnOk result ((s : ℕ) → get nat_cmp seats.new s ≡ (if socket.sid == s then Some socket else get nat_cmp seats.old s)) }
-    ensures err { OnErr result ((s : ℕ) → get nat_cmp seats.new s ≡ get nat_cmp seats.old s) }
-    ensures memory { IfErr result (λ e. e ≡ HubError.Memory) }
-{
-    match seats.insert(socket) {
-        Ok(()) => Ok(()),
-        Err(_) => Err(HubError::Memory),
-    }
-}
-
-/// Forgets the socket with a session id.
-pub(crate) fn drop_seat(seats: &mut Seats, sid: Sid)
-    ensures { (s : ℕ) → get nat_cmp seats.new s ≡ (if sid == s then None else get nat_cmp seats.old s) }
-{
-    seats.remove(sid);
-}
-
 /// Makes a socket known by its private id.
-pub(crate) fn add_pid(pids: &mut BTreeSet<Pid>, pid: Pid) -> Result<(), HubError>
-    ensures ok { OnOk result ((p : ℕ) → sorted.contains nat_cmp pids.new p ≡ ((pid == p) || sorted.contains nat_cmp pids.old p)) }
-    ensures err { OnErr result ((p : ℕ) → sorted.contains nat_cmp pids.new p ≡ sorted.contains nat_cmp pids.old p) }
+fn add_pid(pids: &mut BTreeSet<Pid>, pid: Pid) -> Result<(), HubError>
+    ensures ok { OnOk result (WithPid pid pids.old pids.new) }
+    ensures err { OnErr result (SamePids pids.old pids.new) }
     ensures memory { IfErr result (λ e. e ≡ HubError.Memory) }
 {
     match pids.insert(pid) {
@@ -87,14 +70,38 @@ pub(crate) fn add_pid(pids: &mut BTreeSet<Pid>, pid: Pid) -> Result<(), HubError
     }
 }
 
-/// Forgets a private id.
-pub(crate) fn drop_pid(pids: &mut BTreeSet<Pid>, pid: Pid)
-    ensures { (p : ℕ) → sorted.contains nat_cmp pids.new p ≡ (if pid == p then false else sorted.contains nat_cmp pids.old p) }
+/// Makes a socket known by both its ids, of which the session id is free.
+pub(crate) fn add_ids(
+    seats: &mut Seats,
+    pids: &mut BTreeSet<Pid>,
+    socket: Socket,
+) -> Result<(), HubError>
+    requires free { get nat_cmp seats.old socket.sid ≡ None }
+    ensures seats { OnOk result (WithSeat socket seats.old seats.new) }
+    ensures pids { OnOk result (WithPid socket.pid pids.old pids.new) }
+    ensures same_seats { OnErr result (SameSeats seats.old seats.new) }
+    ensures same_pids { OnErr result (SamePids pids.old pids.new) }
+    ensures memory { IfErr result (λ e. e ≡ HubError.Memory) }
 {
+    let (sid, pid) = (socket.sid, socket.pid);
+    seats.insert(socket)?;
+    if add_pid(pids, pid).is_err() {
+        seats.remove(sid);
+        return Err(HubError::Memory);
+    }
+    Ok(())
+}
+
+/// Forgets both ids of a socket.
+pub(crate) fn drop_ids(seats: &mut Seats, pids: &mut BTreeSet<Pid>, sid: Sid, pid: Pid)
+    ensures seats { WithoutSeat sid seats.old seats.new }
+    ensures pids { WithoutPid pid pids.old pids.new }
+{
+    seats.remove(sid);
     pids.remove(&pid);
 }
 
-/// Makes a socket known by both its ids, in its own room.
+/// Makes a socket known by both its ids, which are free, in its own room.
 fn enter(
     alloc: Global,
     seats: &mut Seats,
@@ -104,23 +111,17 @@ fn enter(
 ) -> Result<(), HubError>
     requires free { get nat_cmp seats.old socket.sid ≡ None }
     requires unused { sorted.contains nat_cmp pids.old socket.pid ≡ false }
-    ensures seats { OnOk result ((s : ℕ) → get nat_cmp seats.new s ≡ (if socket.sid == s then Some socket else get nat_cmp seats.old s)) }
-    ensures pids { OnOk result ((p : ℕ) → sorted.contains nat_cmp pids.new p ≡ ((socket.pid == p) || sorted.contains nat_cmp pids.old p)) }
+    ensures known { OnOk result (WithSeat socket seats.old seats.new
+        × WithPid socket.pid pids.old pids.new) }
     ensures rooms { OnOk result (rooms.new ≡ room_maps.with_socket rooms.old socket.sid) }
-    ensures same_seats { OnErr result ((s : ℕ) → get nat_cmp seats.new s ≡ get nat_cmp seats.old s) }
-    ensures same_pids { OnErr result ((p : ℕ) → sorted.contains nat_cmp pids.new p ≡ sorted.contains nat_cmp pids.old p) }
-    ensures same_rooms { OnErr result (rooms.new ≡ rooms.old) }
+    ensures unchanged { OnErr result (SameSeats seats.old seats.new × SamePids pids.old pids.new
+        × (rooms.new ≡ rooms.old)) }
     ensures memory { IfErr result (λ e. e ≡ HubError.Memory) }
 {
     let (sid, pid) = (socket.sid, socket.pid);
-    add_seat(seats, socket)?;
-    if add_pid(pids, pid).is_err() {
-        drop_seat(seats, sid);
-        return Err(HubError::Memory);
-    }
+    add_ids(seats, pids, socket)?;
     if rooms.enter(alloc, sid).is_err() {
-        drop_seat(seats, sid);
-        drop_pid(pids, pid);
+        drop_ids(seats, pids, sid, pid);
         return Err(HubError::Memory);
     }
     Ok(())
@@ -132,9 +133,11 @@ pub(crate) fn add_socket(
     client: u128,
     socket: Socket,
 ) -> Result<(), HubError>
-    requires { find (λ (k : Socket). k.space == socket.space) (held_sockets (get nat_cmp clients.old client)) ≡ None }
-    ensures ok { OnOk result ((q : ℕ) → get nat_cmp clients.new q ≡ (if client == q then option_map (plus_socket socket) (get nat_cmp clients.old q) else get nat_cmp clients.old q)) }
-    ensures err { OnErr result ((q : ℕ) → get nat_cmp clients.new q ≡ get nat_cmp clients.old q) }
+    requires { let held = held_sockets (get nat_cmp clients.old client)
+        in find (λ (k : Socket). k.space == socket.space) held ≡ None }
+    ensures ok { OnOk result (ChangesClient (plus_socket socket) client clients.old clients.new) }
+    ensures err { OnErr result ((q : ℕ)
+        → get nat_cmp clients.new q ≡ get nat_cmp clients.old q) }
     ensures memory { IfErr result (λ e. e ≡ HubError.Memory) }
 {
     match clients.get_mut(&client) {
@@ -150,7 +153,7 @@ pub(crate) fn add_socket(
 
 /// Takes the newest socket of a client away.
 pub(crate) fn drop_socket(clients: &mut BTreeMap<u128, Client>, client: u128)
-    ensures { (q : ℕ) → get nat_cmp clients.new q ≡ (if client == q then option_map without_last (get nat_cmp clients.old q) else get nat_cmp clients.old q) }
+    ensures { ChangesClient without_last client clients.old clients.new }
 {
     if let Some(known) = clients.get_mut(&client) {
         known.sockets.pop();
@@ -158,11 +161,20 @@ pub(crate) fn drop_socket(clients: &mut BTreeMap<u128, Client>, client: u128)
 }
 
 impl State {
-    /// The place of a namespace in the hub's list, or the length of the list where it isn't there.
-    pub(crate) fn place_of(&self, space: &str) -> usize
-        ensures { result ≡ place_of self.now.limits space.now }
+    /// The place of a namespace in the hub's list. Refused as `UnknownNamespace`.
+    #[tactic(auto, unfolding(journal::specs::Membership::place_of))]
+    pub(crate) fn place_of(&self, space: &str) -> Result<u16, HubError>
+        ensures place { IfOk result (λ place. place ≡ place_of self.now.limits space.now) }
+        ensures known { IfOk result (λ place. is_space self.now.limits place ≡ true) }
+        ensures unknown { IfErr result (λ _.
+            is_space self.now.limits (place_of self.now.limits space.now) ≡ false) }
+        ensures refused { IfErr result (λ e. e ≡ HubError.UnknownNamespace) }
     {
-        self.limits.place_of(space)
+        let _few = self.spaces();
+        match self.limits.place_of(space) {
+            Some(place) => Ok(place as u16),
+            None => Err(HubError::UnknownNamespace),
+        }
     }
 
     /// The namespaces.
@@ -182,7 +194,9 @@ impl State {
 
     /// The socket of a client at a place, where the client is open.
     fn socket_if_open(&self, client: u128, place: usize) -> Option<Socket>
-        ensures { result ≡ (if is_open self.now.base self.now.journal client then find (λ k. k.space == place) (sockets_of self.now.base self.now.journal client) else None) }
+        ensures { let h = self.now
+            in result ≡ (if is_open h.base h.journal client
+            then find (λ k. k.space == place) (sockets_of h.base h.journal client) else None) }
     {
         match self.clients.get(&client) {
             Some(known) => known.sockets.at(place),
@@ -201,32 +215,38 @@ impl State {
     /// The session id of a client's socket in a namespace, or `None` where it has none there. It
     /// takes the logarithm of the clients, of the namespaces and of the client's sockets.
     pub fn socket_of(&self, client: u128, space: &str) -> Option<Sid>
-        ensures { result ≡ option_map sid_of (socket_of self.now.base self.now.journal client (place_of self.now.limits space.now)) }
+        ensures { let place = place_of self.now.limits space.now
+            in result ≡ option_map sid_of (socket_of self.now.base self.now.journal client place) }
     {
-        let place = self.place_of(space);
-        match self.socket_at(client, place) {
-            Some(socket) => Some(socket.sid),
-            None => None,
+        // The prover needs that each socket is in a namespace.
+        self.facts();
+        match self.place_of(space) {
+            Ok(place) => Some(self.socket_at(client, usize::from(place))?.sid),
+            Err(_) => None,
         }
     }
 
     /// Whether a saved session has this session id.
     fn is_sid_saved(&self, sid: Sid) -> bool
-        ensures { result ≡ is_sid_saved (sessions self.now.base self.now.limits self.now.journal) sid }
+        ensures { let h = self.now
+            in result ≡ is_sid_saved (sessions h.base h.limits h.journal) sid }
     {
         self.saved.has_sid(sid)
     }
 
     /// Whether a saved session has this private id.
     fn is_pid_saved(&self, pid: Pid) -> bool
-        ensures { result ≡ is_pid_saved (sessions self.now.base self.now.limits self.now.journal) pid }
+        ensures { let h = self.now
+            in result ≡ is_pid_saved (sessions h.base h.limits h.journal) pid }
     {
         self.saved.has_pid(pid)
     }
 
     /// Whether a connected socket or a saved session has one of these ids.
     fn is_taken(&self, sid: Sid, pid: Pid) -> bool
-        ensures { (c space : ℕ) → result ≡ is_taken self.now.base self.now.limits self.now.journal (record { client = c; space = space; sid = sid; pid = pid }) }
+        ensures { (c space : ℕ)
+            → let socket : Socket = record { client = c; space = space; sid = sid; pid = pid }
+            in result ≡ is_taken self.now.base self.now.limits self.now.journal socket }
     {
         (self.is_connected(sid) || self.is_sid_saved(sid))
             || (self.is_pid_connected(pid) || self.is_pid_saved(pid))
@@ -234,7 +254,10 @@ impl State {
 
     /// Whether an open client's outbox has no place for an entry of this many bytes.
     fn lacks(&self, client: u128, size: usize) -> bool
-        ensures { is_open self.now.base self.now.journal client ≡ true → result ≡ (nat_le self.now.limits.capacity (length (waiting self.now.base self.now.limits self.now.journal client)) || nat_lt self.now.limits.bytes (total_size (waiting self.now.base self.now.limits self.now.journal client) + size)) }
+        ensures { let waits = waiting self.now.base self.now.limits self.now.journal client
+            in is_open self.now.base self.now.journal client ≡ true
+            → result ≡ (nat_le self.now.limits.capacity (length waits)
+            || nat_lt self.now.limits.bytes (total_size waits + size)) }
     {
         match self.clients.get(&client) {
             Some(known) => known.outbox.lacks(size),
@@ -254,7 +277,8 @@ impl State {
 
     /// How many bytes the answer to a CONNECT to the namespace at a place has.
     pub(crate) fn answer_size(&self, place: usize) -> usize
-        ensures { (client sid pid : ℕ) → result ≡ entry_size (answer self.now.limits (record { client = client; space = place; sid = sid; pid = pid })) }
+        ensures { (client sid pid : ℕ) → result ≡ entry_size (answer self.now.limits
+            (record { client = client; space = place; sid = sid; pid = pid })) }
     {
         answer_size(self.name_at(place))
     }
@@ -267,7 +291,8 @@ impl State {
         sid: Sid,
         pid: Pid,
     ) -> Result<Entry, HubError>
-        ensures ok { IfOk result (λ entry. (client : ℕ) → entry ≡ answer self.now.limits (record { client = client; space = place; sid = sid; pid = pid })) }
+        ensures ok { IfOk result (λ entry. (client : ℕ) → entry ≡ answer self.now.limits
+            (record { client = client; space = place; sid = sid; pid = pid })) }
         ensures memory { IfErr result (λ e. e ≡ HubError.Memory) }
     {
         answer_text(alloc, self.name_at(place), sid, pid)
@@ -275,33 +300,55 @@ impl State {
 
     /// Whether an open client's outbox has no place for the answer to a CONNECT.
     fn lacks_answer(&self, client: u128, place: usize) -> bool
-        ensures { is_open self.now.base self.now.journal client ≡ true → (sid pid : ℕ) → result ≡ is_full self.now.base self.now.limits self.now.journal client (answer self.now.limits (record { client = client; space = place; sid = sid; pid = pid })) }
+        ensures { let h = self.now in is_open h.base h.journal client ≡ true → (sid pid : ℕ)
+            → result ≡ is_full h.base h.limits h.journal client (answer h.limits
+            (record { client = client; space = place; sid = sid; pid = pid })) }
     {
         let size = self.answer_size(place);
         self.lacks(client, size)
     }
 
-    fn attach_refusal(&self, client: u128, place: usize, sid: Sid, pid: Pid) -> Option<HubError>
-        ensures refusal { let socket : Socket = record { client = client; space = place; sid = sid; pid = pid } in result ≡ or_spent (attach_refusal self.now.base self.now.limits self.now.journal socket) (is_spent self.now.base self.now.limits self.now.journal (What.Attached socket)) }
-        ensures known { IfNone result (place < length self.now.limits.spaces) }
-        ensures small { IfNone result (place < 65536) }
+    /// The socket that is to be connected, or why it can't be.
+    fn attaching(&self, client: u128, space: &str, sid: Sid, pid: Pid) -> Result<Socket, HubError>
+        ensures socket { IfOk result (λ socket. socket ≡ record {
+          client = client;
+          space = place_of self.now.limits space.now;
+          sid = sid;
+          pid = pid;
+        }) }
+        ensures accepted { IfOk result (λ socket.
+            refusal_now self.now (What.Attached socket) ≡ None) }
+        ensures refused { let socket : Socket = record {
+          client = client;
+          space = place_of self.now.limits space.now;
+          sid = sid;
+          pid = pid;
+        }
+            in IfErr result (λ e. Some e ≡ refusal_now self.now (What.Attached socket)) }
     {
         if !self.is_open(client) {
-            return Some(HubError::UnknownClient);
+            return Err(HubError::UnknownClient);
         }
-        if place >= self.spaces().len() {
-            return Some(HubError::UnknownNamespace);
-        }
+        let space = self.place_of(space)?;
+        let place = usize::from(space);
         if self.socket_at(client, place).is_some() {
-            return Some(HubError::AlreadyConnected);
+            return Err(HubError::AlreadyConnected);
         }
         if self.is_taken(sid, pid) {
-            return Some(HubError::IdTaken);
+            return Err(HubError::IdTaken);
         }
         if self.lacks_answer(client, place) {
-            return Some(HubError::OutboxFull);
+            return Err(HubError::OutboxFull);
         }
-        self.count_refusal(1, 0)
+        if let Some(refusal) = self.count_refusal(1, 0) {
+            return Err(refusal);
+        }
+        Ok(Socket {
+            client,
+            space,
+            sid,
+            pid,
+        })
     }
 
     /// Connects a client's new socket to a namespace: it is in its own room, and the answer to the
@@ -317,34 +364,17 @@ impl State {
         pid: Pid,
         now: u64,
     ) -> Result<(), HubError>
-        ensures { let socket : Socket = record { client = client; space = place_of self.old.limits space.now; sid = sid; pid = pid } in Does self.old self.new now (What.Attached socket) result }
-    {
-        let place = self.place_of(space);
-        self.attach_at(alloc, client, place, sid, pid, now)
-    }
-
-    fn attach_at(
-        &mut self,
-        alloc: Global,
-        client: u128,
-        place: usize,
-        sid: Sid,
-        pid: Pid,
-        now: u64,
-    ) -> Result<(), HubError>
-        ensures { let socket : Socket = record { client = client; space = place; sid = sid; pid = pid } in Does self.old self.new now (What.Attached socket) result }
-    {
-        if let Some(refusal) = self.attach_refusal(client, place, sid, pid) {
-            return Err(refusal);
+        ensures { let socket : Socket = record {
+          client = client;
+          space = place_of self.old.limits space.now;
+          sid = sid;
+          pid = pid;
         }
-        let entry = self.answer(alloc, place, sid, pid)?;
+            in Does self.old self.new now (What.Attached socket) result }
+    {
+        let socket = self.attaching(client, space, sid, pid)?;
+        let entry = self.answer(alloc, usize::from(socket.space), sid, pid)?;
         let answer = Arc::new(alloc, entry)?;
-        let socket = Socket {
-            client,
-            space: place as u16,
-            sid,
-            pid,
-        };
         self.connect(alloc, socket, answer, now)
     }
 
@@ -356,11 +386,9 @@ impl State {
         answer: Arc<Entry>,
         now: u64,
     ) -> Result<(), HubError>
-        requires accepted { None ≡ or_spent (attach_refusal self.old.base self.old.limits self.old.journal socket) (is_spent self.old.base self.old.limits self.old.journal (What.Attached socket)) }
+        requires accepted { None ≡ refusal_now self.old (What.Attached socket) }
         requires answer { arc_value answer ≡ outboxes.answer self.old.limits socket }
-        ensures ok { OnOk result (self.new ≡ with_step self.old now (What.Attached socket)) }
-        ensures err { OnErr result (self.new ≡ self.old) }
-        ensures memory { IfErr result (λ e. e ≡ HubError.Memory) }
+        ensures { MakesStep self.old self.new now (What.Attached socket) result }
     {
         let client = socket.client;
         let same = Socket {

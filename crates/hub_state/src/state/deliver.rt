@@ -1,17 +1,15 @@
 //! Entries are put into clients' outboxes and handed out.
 
-ghost use Rattle.std.specs.Prelude.{◌≡◌, ℕ, ◌≤◌, true, false, length, min, take, ◌==◌, IfOk, IfErr, IfSome, IfNone, None, Some, if◌then◌else◌};
+ghost use Rattle.std.specs.Prelude.{◌≡◌, ◌≤◌, true, false, length, min, take, IfOk, IfErr, IfSome, IfNone, None, Some};
 ghost use Rattle.std.specs.Ordering.{nat_cmp};
 ghost use Rattle.std.specs.BTreeMap.{get};
 ghost use Rattle.std.specs.Arc.{arc_value};
 ghost use Rattle.journal.specs.Membership.{is_open};
 ghost use Rattle.journal.specs.Outboxes.{waiting, is_full, has_no_place};
-ghost use Rattle.journal.specs.Totals.{is_spent};
-ghost use Rattle.journal.specs.Refusals.{or_spent, client_refusal, tell_refusal};
 ghost use Rattle.journal.specs.Command.{Does};
 ghost use Rattle.journal.specs.Fields.{without_first, with_entry};
-ghost use Rattle.std.specs.Option.{option_map};
 ghost use Rattle.journal.specs.declared.step.What.{What};
+ghost use Rattle.hub_state.specs.Changes.{ChangesClient, refusal_now};
 
 use crate::state::{Added, NONE, State, count, record, reserve};
 use hub_parts::Client;
@@ -23,7 +21,7 @@ use std::sync::Arc;
 
 /// Takes the first entries of a client's outbox away.
 fn hand_out(clients: &mut BTreeMap<u128, Client>, client: u128, count: usize)
-    ensures { (q : ℕ) → get nat_cmp clients.new q ≡ (if client == q then option_map (without_first count) (get nat_cmp clients.old q) else get nat_cmp clients.old q) }
+    ensures { ChangesClient (without_first count) client clients.old clients.new }
 {
     if let Some(known) = clients.get_mut(&client) {
         known.outbox.pop_first(count);
@@ -43,8 +41,9 @@ fn share(alloc: Global, entry: Entry) -> Result<(Arc<Entry>, Arc<Entry>), HubErr
 
 /// Puts an entry at the end of a client's outbox, which has a place for it.
 pub(crate) fn put_entry(clients: &mut BTreeMap<u128, Client>, client: u128, entry: Arc<Entry>)
-    requires { IfSome (get nat_cmp clients.old client) (λ known. has_no_place known.outbox.capacity known.outbox.bytes known.outbox.waiting (arc_value entry) ≡ false) }
-    ensures { (q : ℕ) → get nat_cmp clients.new q ≡ (if client == q then option_map (with_entry (arc_value entry)) (get nat_cmp clients.old q) else get nat_cmp clients.old q) }
+    requires { IfSome (get nat_cmp clients.old client) (λ known. let outbox = known.outbox
+        in has_no_place outbox.capacity outbox.bytes outbox.waiting (arc_value entry) ≡ false) }
+    ensures { ChangesClient (with_entry (arc_value entry)) client clients.old clients.new }
 {
     if let Some(known) = clients.get_mut(&client) {
         known.outbox.push(entry);
@@ -54,7 +53,8 @@ pub(crate) fn put_entry(clients: &mut BTreeMap<u128, Client>, client: u128, entr
 impl State {
     /// Whether an open client's outbox has no place for an entry.
     fn is_full(&self, client: u128, entry: &Entry) -> bool
-        ensures { is_open self.now.base self.now.journal client ≡ true → result ≡ is_full self.now.base self.now.limits self.now.journal client entry.now }
+        ensures { let h = self.now in is_open h.base h.journal client ≡ true
+            → result ≡ is_full h.base h.limits h.journal client entry.now }
     {
         match self.clients.get(&client) {
             Some(known) => known.outbox.has_no_place(entry),
@@ -63,8 +63,10 @@ impl State {
     }
 
     fn tell_refusal(&self, client: u128, entry: &Entry) -> Option<HubError>
-        ensures refusal { let what = What.Told (record { client = client; entry = entry.now }) in result ≡ or_spent (tell_refusal self.now.base self.now.limits self.now.journal client entry.now) (is_spent self.now.base self.now.limits self.now.journal what) }
-        ensures place { IfNone result (is_full self.now.base self.now.limits self.now.journal client entry.now ≡ false) }
+        ensures refusal { let what = What.Told (record { client = client; entry = entry.now })
+            in result ≡ refusal_now self.now what }
+        ensures place { let h = self.now
+            in IfNone result (is_full h.base h.limits h.journal client entry.now ≡ false) }
     {
         if !self.is_open(client) {
             return Some(HubError::UnknownClient);
@@ -84,7 +86,8 @@ impl State {
         entry: Entry,
         now: u64,
     ) -> Result<(), HubError>
-        ensures { let what = What.Told (record { client = client; entry = entry }) in Does self.old self.new now what result }
+        ensures { let what = What.Told (record { client = client; entry = entry })
+            in Does self.old self.new now what result }
     {
         if let Some(refusal) = self.tell_refusal(client, &entry) {
             return Err(refusal);
@@ -101,9 +104,13 @@ impl State {
 
     /// How many entries a `take` hands out, or why it is refused.
     fn takes(&self, client: u128, most: usize) -> Result<usize, HubError>
-        ensures number { IfOk result (λ number. number ≡ min most (length (waiting self.now.base self.now.limits self.now.journal client))) }
-        ensures accepted { IfOk result (λ number. or_spent (client_refusal self.now.base self.now.journal client) (is_spent self.now.base self.now.limits self.now.journal (What.Took client most number)) ≡ None) }
-        ensures refused { IfErr result (λ refusal. or_spent (client_refusal self.now.base self.now.journal client) (is_spent self.now.base self.now.limits self.now.journal (What.Took client most (min most (length (waiting self.now.base self.now.limits self.now.journal client))))) ≡ Some refusal) }
+        ensures number { let waits = waiting self.now.base self.now.limits self.now.journal client
+            in IfOk result (λ number. number ≡ min most (length waits)) }
+        ensures accepted { IfOk result (λ number.
+            refusal_now self.now (What.Took client most number) ≡ None) }
+        ensures refused { let waits = waiting self.now.base self.now.limits self.now.journal client
+            in IfErr result (λ e.
+            refusal_now self.now (What.Took client most (min most (length waits))) ≡ Some e) }
     {
         self.facts();
         let Some(waits) = self.waiting(client) else {
@@ -118,8 +125,10 @@ impl State {
 
     /// Copies of the first entries that wait for a client.
     fn copies(&self, alloc: Global, client: u128, count: usize) -> Result<Vec<Entry>, HubError>
-        requires { count ≤ length (waiting self.now.base self.now.limits self.now.journal client) }
-        ensures ok { IfOk result (λ entries. is_open self.now.base self.now.journal client ≡ true → entries.items ≡ take count (waiting self.now.base self.now.limits self.now.journal client)) }
+        requires { let h = self.now in count ≤ length (waiting h.base h.limits h.journal client) }
+        ensures ok { let h = self.now
+            in IfOk result (λ entries. is_open h.base h.journal client ≡ true
+            → entries.items ≡ take count (waiting h.base h.limits h.journal client)) }
         ensures memory { IfErr result (λ e. e ≡ HubError.Memory) }
     {
         match self.clients.get(&client) {
@@ -138,8 +147,11 @@ impl State {
         most: usize,
         now: u64,
     ) -> Result<Vec<Entry>, HubError>
-        ensures entries { IfOk result (λ entries. entries.items ≡ take most (waiting self.old.base self.old.limits self.old.journal client)) }
-        ensures does { let number = min most (length (waiting self.old.base self.old.limits self.old.journal client)) in Does self.old self.new now (What.Took client most number) result }
+        ensures entries { let waits = waiting self.old.base self.old.limits self.old.journal client
+            in IfOk result (λ entries. entries.items ≡ take most waits) }
+        ensures does { let waits = waiting self.old.base self.old.limits self.old.journal client
+            in let what = What.Took client most (min most (length waits))
+            in Does self.old self.new now what result }
     {
         let number = self.takes(client, most)?;
         let entries = self.copies(alloc, client, number)?;
@@ -148,9 +160,9 @@ impl State {
     }
 
     /// The first `most` entries that wait for a client, or all where fewer wait, are taken as by
-    /// `take`, but not handed out: who wants them has read them by `front`. Tells how many they are.
-    /// Refused as `UnknownClient`, `Spent`, then for `Memory`. It takes the logarithm of the clients,
-    /// and copies nothing.
+    /// `take`, but not handed out: who wants them has read them by `front`. Tells how many they
+    /// are. Refused as `UnknownClient`, `Spent`, then for `Memory`. It takes the logarithm of the
+    /// clients, and copies nothing.
     pub fn take_away(
         &mut self,
         _alloc: Global,
@@ -158,8 +170,11 @@ impl State {
         most: usize,
         now: u64,
     ) -> Result<usize, HubError>
-        ensures number { IfOk result (λ number. number ≡ min most (length (waiting self.old.base self.old.limits self.old.journal client))) }
-        ensures does { let number = min most (length (waiting self.old.base self.old.limits self.old.journal client)) in Does self.old self.new now (What.Took client most number) result }
+        ensures number { let waits = waiting self.old.base self.old.limits self.old.journal client
+            in IfOk result (λ number. number ≡ min most (length waits)) }
+        ensures does { let waits = waiting self.old.base self.old.limits self.old.journal client
+            in let what = What.Took client most (min most (length waits))
+            in Does self.old self.new now what result }
     {
         let number = self.takes(client, most)?;
         reserve(&mut self.journal)?;
@@ -169,12 +184,8 @@ impl State {
             ..NONE
         };
         count(&mut self.counts, added);
-        record(
-            &mut self.journal,
-            &mut self.last,
-            now,
-            What::Took(client, most, number),
-        );
+        let what = What::Took(client, most, number);
+        record(&mut self.journal, &mut self.last, now, what);
         Ok(number)
     }
 }

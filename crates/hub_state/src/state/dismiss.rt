@@ -1,17 +1,15 @@
 //! Many sockets of a namespace are ended (Socket.IO server documentation, "Server API":
 //! `disconnectSockets`).
 
-ghost use Rattle.std.specs.Prelude.{◌≡◌, ℕ, ◌==◌, ◌<◌, true, false, [], map, length, nat_eq, get_or, OnOk, OnErr, IfOk, IfErr, None, if◌then◌else◌};
+ghost use Rattle.std.specs.Prelude.{◌≡◌, ℕ, ◌==◌, true, false, [], map, nat_eq, IfOk, IfErr, None, if◌then◌else◌};
 ghost use Rattle.std.specs.List.{list_any, IsDistinct, AllByRecursion};
 ghost use Rattle.std.specs.Option.{option_map};
 ghost use Rattle.std.specs.Ordering.{nat_cmp};
 ghost use Rattle.std.specs.BTreeMap.{get};
-ghost use Rattle.std.specs.BTreeSet as sorted;
 ghost use Rattle.std.specs.Arc.{arc_value};
 ghost use Rattle.terms.specs.Listing.{ListsRising};
 ghost use Rattle.room_maps.specs.Membership as room_maps;
 ghost use Rattle.sio_wire.specs.Disconnect as disconnect;
-ghost use Rattle.journal.specs.Journal.{with_step};
 ghost use Rattle.journal.specs.Membership.{place_of, sid_of, is_space, without_sockets};
 ghost use Rattle.journal.specs.Outboxes as outboxes;
 ghost use Rattle.journal.specs.ManySockets.{dismissal};
@@ -25,8 +23,10 @@ ghost use Rattle.journal.specs.Casting as casting;
 ghost use Rattle.journal.specs.Dismissing.{ListsMatching, Dismisses};
 ghost use Rattle.journal.specs.declared.socket.Socket.{Socket};
 ghost use Rattle.journal.specs.declared.step.What.{What};
+ghost use Rattle.hub_state.specs.Changes.{WithoutSeats, WithoutPids, MakesStep};
 
-use crate::state::cast::{messages_for, put_messages, receivers, sockets_in};
+use crate::state::aim::{messages_for, sockets_in};
+use crate::state::cast::{put_messages, receivers};
 use crate::state::end::{drop_from, forget};
 use crate::state::{Added, NONE, State, count, record, reserve};
 use hub_parts::{Client, Seats};
@@ -41,7 +41,8 @@ use terms::Text;
 
 /// What a client is told whose socket in the namespace with this name is ended.
 fn farewell_to(alloc: Global, name: &str) -> Result<Arc<Entry>, HubError>
-    ensures ok { IfOk result (λ entry. arc_value entry ≡ record { text = disconnect.disconnect_text name.now; attachments = [] }) }
+    ensures ok { IfOk result (λ entry. arc_value entry
+        ≡ record { text = disconnect.disconnect_text name.now; attachments = [] }) }
     ensures memory { IfErr result (λ e. e ≡ HubError.Memory) }
 {
     match disconnect_text(alloc, name) {
@@ -67,7 +68,8 @@ fn ids_of(alloc: Global, sockets: &[Socket]) -> Result<Vec<Sid>, HubError>
 /// The clients that the messages are for, rising. No two messages are for one client.
 fn told_by(alloc: Global, messages: &[Message]) -> Result<Vec<u128>, HubError>
     requires { IsDistinct nat_eq (map receiver_of messages.now) }
-    ensures ok { IfOk result (λ clients. ListsRising nat_cmp (λ c. list_any (λ d. d == c) (map receiver_of messages.now)) clients.items) }
+    ensures ok { IfOk result (λ clients. ListsRising nat_cmp (λ c.
+        list_any (λ d. d == c) (map receiver_of messages.now)) clients.items) }
     ensures memory { IfErr result (λ e. e ≡ HubError.Memory) }
 {
     let mut clients = receivers(alloc, messages)?;
@@ -89,7 +91,10 @@ fn answer_of(alloc: Global, dismissal: &Dismissal) -> Result<Dismissed, HubError
 
 /// Takes the sockets, which are in the namespace at this place, out of their clients' lists.
 fn drop_all(clients: &mut BTreeMap<u128, Client>, sockets: &[Socket], place: usize)
-    ensures { (q : ℕ) → get nat_cmp clients.new q ≡ (if list_any (λ (k : Socket). k.client == q) sockets.now then option_map (without_place place) (get nat_cmp clients.old q) else get nat_cmp clients.old q) }
+    ensures { (q : ℕ) → get nat_cmp clients.new q
+        ≡ (if list_any (λ (k : Socket). k.client == q) sockets.now
+        then option_map (without_place place) (get nat_cmp clients.old q)
+        else get nat_cmp clients.old q) }
 {
     for socket in sockets {
         drop_from(clients, socket.client, place);
@@ -98,10 +103,11 @@ fn drop_all(clients: &mut BTreeMap<u128, Client>, sockets: &[Socket], place: usi
 
 /// Forgets the ids of sockets that are apart, and ends these in the rooms.
 fn forget_each(seats: &mut Seats, pids: &mut BTreeSet<Pid>, rooms: &mut Rooms, sockets: &[Socket])
-    requires known { AllByRecursion (λ (k : Socket). room_maps.is_socket rooms.old k.sid ≡ true) sockets.now }
+    requires known { AllByRecursion (λ (k : Socket).
+        room_maps.is_socket rooms.old k.sid ≡ true) sockets.now }
     requires apart { EachTwo AreApart sockets.now }
-    ensures seats { (s : ℕ) → get nat_cmp seats.new s ≡ (if list_any (λ (k : Socket). k.sid == s) sockets.now then None else get nat_cmp seats.old s) }
-    ensures pids { (p : ℕ) → sorted.contains nat_cmp pids.new p ≡ (if list_any (λ (k : Socket). k.pid == p) sockets.now then false else sorted.contains nat_cmp pids.old p) }
+    ensures seats { WithoutSeats sockets.now seats.old seats.new }
+    ensures pids { WithoutPids sockets.now pids.old pids.new }
     ensures rooms { rooms.new ≡ without_sockets rooms.old sockets.now }
 {
     for socket in sockets {
@@ -112,7 +118,8 @@ fn forget_each(seats: &mut Seats, pids: &mut BTreeSet<Pid>, rooms: &mut Rooms, s
 impl State {
     /// What a client is told whose socket in the namespace at a place is ended.
     fn farewell(&self, alloc: Global, place: usize) -> Result<Arc<Entry>, HubError>
-        ensures ok { IfOk result (λ entry. arc_value entry ≡ outboxes.farewell self.now.limits place) }
+        ensures ok { IfOk result (λ entry.
+            arc_value entry ≡ outboxes.farewell self.now.limits place) }
         ensures memory { IfErr result (λ e. e ≡ HubError.Memory) }
     {
         farewell_to(alloc, self.name_at(place))
@@ -127,7 +134,8 @@ impl State {
         rooms: &[Room],
         excepted: &[Room],
     ) -> Result<Vec<Socket>, HubError>
-        ensures ok { IfOk result (λ sockets. ListsMatching self.now.base self.now.journal space rooms.now excepted.now sockets.items) }
+        ensures ok { let h = self.now in IfOk result (λ sockets.
+            ListsMatching h.base h.journal space rooms.now excepted.now sockets.items) }
         ensures memory { IfErr result (λ e. e ≡ HubError.Memory) }
     {
         let sids = self.listeners(alloc, space, rooms, excepted)?;
@@ -142,13 +150,15 @@ impl State {
         rooms: Vec<Room>,
         excepted: Vec<Room>,
     ) -> Result<(Dismissal, Vec<Socket>, Vec<Message>), HubError>
-        ensures asked { IfOk result (λ plan. plan.0 ≡ dismissal self.now space rooms.items excepted.items) }
-        ensures makes { IfOk result (λ plan. Dismisses self.now.base self.now.limits self.now.journal plan.0 plan.1.items plan.2.items) }
+        ensures asked { IfOk result (λ plan.
+            plan.0 ≡ dismissal self.now space rooms.items excepted.items) }
+        ensures makes { let h = self.now in IfOk result (λ plan.
+            Dismisses h.base h.limits h.journal plan.0 plan.1.items plan.2.items) }
         ensures memory { IfErr result (λ e. e ≡ HubError.Memory) }
     {
         let sockets = self.matching_sockets(alloc, space, &rooms, &excepted)?;
         let entry = self.farewell(alloc, usize::from(space))?;
-        let messages = messages_for(alloc, &self.clients, &sockets, &entry)?;
+        let (messages, _missing) = messages_for(alloc, &self.clients, &sockets, &entry)?;
         let ended = ids_of(alloc, &sockets)?;
         let told = told_by(alloc, &messages)?;
         let dismissal = Dismissal {
@@ -163,7 +173,8 @@ impl State {
 
     /// Spent, where a dismissal can't be counted.
     fn dismissal_refusal(&self, dismissal: &Dismissal) -> Option<HubError>
-        ensures { result ≡ or_spent None (is_spent self.now.base self.now.limits self.now.journal (What.AllEnded dismissal.now)) }
+        ensures { let what = What.AllEnded dismissal.now in result
+            ≡ or_spent None (is_spent self.now.base self.now.limits self.now.journal what) }
     {
         self.count_refusal(dismissal.told.len() as u64, 0)
     }
@@ -177,11 +188,11 @@ impl State {
         now: u64,
     ) -> Result<(), HubError>
         requires known { is_space self.old.limits dismissal.space ≡ true }
-        requires makes { Dismisses self.old.base self.old.limits self.old.journal dismissal sockets.items messages.items }
-        requires unspent { is_spent self.old.base self.old.limits self.old.journal (What.AllEnded dismissal) ≡ false }
-        ensures ok { OnOk result (self.new ≡ with_step self.old now (What.AllEnded dismissal)) }
-        ensures err { OnErr result (self.new ≡ self.old) }
-        ensures memory { IfErr result (λ e. e ≡ HubError.Memory) }
+        requires makes { let h = self.old
+            in Dismisses h.base h.limits h.journal dismissal sockets.items messages.items }
+        requires unspent { let what = What.AllEnded dismissal
+            in is_spent self.old.base self.old.limits self.old.journal what ≡ false }
+        ensures { MakesStep self.old self.new now (What.AllEnded dismissal) result }
     {
         let told = dismissal.told.len() as u64;
         let place = usize::from(dismissal.space);
@@ -209,9 +220,12 @@ impl State {
         now: u64,
     ) -> Result<Dismissed, HubError>
         requires { is_space self.old.limits space ≡ true }
-        ensures ended { IfOk result (λ done. done.ended.items ≡ (dismissal self.old space rooms.items excepted.items).ended) }
-        ensures told { IfOk result (λ done. done.told.items ≡ (dismissal self.old space rooms.items excepted.items).told) }
-        ensures does { Does self.old self.new now (What.AllEnded (dismissal self.old space rooms.items excepted.items)) result }
+        ensures ended { let d = dismissal self.old space rooms.items excepted.items
+            in IfOk result (λ done. done.ended.items ≡ d.ended) }
+        ensures told { let d = dismissal self.old space rooms.items excepted.items
+            in IfOk result (λ done. done.told.items ≡ d.told) }
+        ensures does { let d = dismissal self.old space rooms.items excepted.items
+            in Does self.old self.new now (What.AllEnded d) result }
     {
         let (dismissal, sockets, messages) = self.plan(alloc, space, rooms, excepted)?;
         let done = answer_of(alloc, &dismissal)?;
@@ -238,13 +252,14 @@ impl State {
         excepted: Vec<Room>,
         now: u64,
     ) -> Result<Dismissed, HubError>
-        ensures done { IfOk result (λ done. let d = dismissal self.old (place_of self.old.limits space.now) rooms.items excepted.items in (done.ended.items ≡ d.ended) × (done.told.items ≡ d.told)) }
-        ensures does { Does self.old self.new now (What.AllEnded (dismissal self.old (place_of self.old.limits space.now) rooms.items excepted.items)) result }
+        ensures done { let place = place_of self.old.limits space.now
+            in IfOk result (λ done. let d = dismissal self.old place rooms.items excepted.items
+            in (done.ended.items ≡ d.ended) × (done.told.items ≡ d.told)) }
+        ensures does { let place = place_of self.old.limits space.now
+            in let d = dismissal self.old place rooms.items excepted.items
+            in Does self.old self.new now (What.AllEnded d) result }
     {
-        let place = self.place_of(space);
-        if place >= self.spaces().len() {
-            return Err(HubError::UnknownNamespace);
-        }
-        self.dismiss_at(alloc, place as u16, rooms, excepted, now)
+        let place = self.place_of(space)?;
+        self.dismiss_at(alloc, place, rooms, excepted, now)
     }
 }

@@ -1,22 +1,18 @@
 //! Sockets are ended.
 
-ghost use Rattle.std.specs.Prelude.{◌≡◌, ℕ, ◌==◌, true, false, IfOk, IfErr, None, Some, if◌then◌else◌};
-ghost use Rattle.std.specs.List.{list_any, AllByRecursion};
-ghost use Rattle.std.specs.Option.{option_map};
-ghost use Rattle.std.specs.Ordering.{nat_cmp};
-ghost use Rattle.std.specs.BTreeMap.{get};
-ghost use Rattle.std.specs.BTreeSet as sorted;
+ghost use Rattle.std.specs.Prelude.{◌≡◌, true, IfOk, IfErr, None, Some};
+ghost use Rattle.std.specs.List.{AllByRecursion};
 ghost use Rattle.room_maps.specs.Membership as room_maps;
 ghost use Rattle.journal.specs.Membership.{socket_with, sid_of, without_sockets};
-ghost use Rattle.journal.specs.Totals.{is_spent};
-ghost use Rattle.journal.specs.Refusals.{or_spent, end_refusal};
 ghost use Rattle.journal.specs.Legal.{EachTwo, AreApart};
 ghost use Rattle.journal.specs.Command.{Does};
 ghost use Rattle.journal.specs.Fields.{without_place};
 ghost use Rattle.journal.specs.declared.socket.Socket.{Socket};
 ghost use Rattle.journal.specs.declared.step.What.{What};
+ghost use Rattle.hub_parts.specs.Seats.{WithoutSeat};
+ghost use Rattle.hub_state.specs.Changes.{ChangesClient, WithoutPid, WithoutSeats, WithoutPids, refusal_now};
 
-use crate::state::connect::{drop_pid, drop_seat};
+use crate::state::connect::drop_ids;
 use crate::state::{NONE, State, count, record, reserve};
 use hub_parts::{Client, Seats, Sockets};
 use journal::{HubError, Socket, What};
@@ -27,7 +23,7 @@ use std::collections::{BTreeMap, BTreeSet};
 
 /// Takes the socket at a place out of its client's list.
 pub(crate) fn drop_from(clients: &mut BTreeMap<u128, Client>, client: u128, place: usize)
-    ensures { (q : ℕ) → get nat_cmp clients.new q ≡ (if client == q then option_map (without_place place) (get nat_cmp clients.old q) else get nat_cmp clients.old q) }
+    ensures { ChangesClient (without_place place) client clients.old clients.new }
 {
     if let Some(known) = clients.get_mut(&client) {
         known.sockets.remove(place);
@@ -45,12 +41,11 @@ fn end_in(rooms: &mut Rooms, sid: Sid)
 /// Forgets a socket's ids, and ends it in the rooms.
 pub(crate) fn forget(seats: &mut Seats, pids: &mut BTreeSet<Pid>, rooms: &mut Rooms, socket: Socket)
     requires { room_maps.is_socket rooms.old socket.sid ≡ true }
-    ensures seats { (s : ℕ) → get nat_cmp seats.new s ≡ (if socket.sid == s then None else get nat_cmp seats.old s) }
-    ensures pids { (p : ℕ) → sorted.contains nat_cmp pids.new p ≡ (if socket.pid == p then false else sorted.contains nat_cmp pids.old p) }
+    ensures seats { WithoutSeat socket.sid seats.old seats.new }
+    ensures pids { WithoutPid socket.pid pids.old pids.new }
     ensures rooms { rooms.new ≡ room_maps.without_socket rooms.old socket.sid }
 {
-    drop_seat(seats, socket.sid);
-    drop_pid(pids, socket.pid);
+    drop_ids(seats, pids, socket.sid, socket.pid);
     end_in(rooms, socket.sid);
 }
 
@@ -61,10 +56,11 @@ pub(crate) fn forget_all(
     rooms: &mut Rooms,
     sockets: &Sockets,
 )
-    requires known { AllByRecursion (λ (k : Socket). room_maps.is_socket rooms.old k.sid ≡ true) sockets.now }
+    requires known { AllByRecursion (λ (k : Socket).
+        room_maps.is_socket rooms.old k.sid ≡ true) sockets.now }
     requires apart { EachTwo AreApart sockets.now }
-    ensures seats { (s : ℕ) → get nat_cmp seats.new s ≡ (if list_any (λ (k : Socket). k.sid == s) sockets.now then None else get nat_cmp seats.old s) }
-    ensures pids { (p : ℕ) → sorted.contains nat_cmp pids.new p ≡ (if list_any (λ (k : Socket). k.pid == p) sockets.now then false else sorted.contains nat_cmp pids.old p) }
+    ensures seats { WithoutSeats sockets.now seats.old seats.new }
+    ensures pids { WithoutPids sockets.now pids.old pids.new }
     ensures rooms { rooms.new ≡ without_sockets rooms.old sockets.now }
 {
     for socket in sockets.values() {
@@ -85,9 +81,10 @@ impl State {
 
     /// The socket that is to end, or why it can't be ended.
     fn ending(&self, sid: Sid) -> Result<Socket, HubError>
-        ensures socket { IfOk result (λ socket. socket_with sid_of self.now.base self.now.journal sid ≡ Some socket) }
-        ensures accepted { IfOk result (λ socket. or_spent (end_refusal self.now.base self.now.journal sid) (is_spent self.now.base self.now.limits self.now.journal (What.Ended sid)) ≡ None) }
-        ensures refused { IfErr result (λ refusal. or_spent (end_refusal self.now.base self.now.journal sid) (is_spent self.now.base self.now.limits self.now.journal (What.Ended sid)) ≡ Some refusal) }
+        ensures socket { IfOk result (λ socket.
+            socket_with sid_of self.now.base self.now.journal sid ≡ Some socket) }
+        ensures accepted { IfOk result (λ _. refusal_now self.now (What.Ended sid) ≡ None) }
+        ensures refused { IfErr result (λ e. refusal_now self.now (What.Ended sid) ≡ Some e) }
     {
         let Some(socket) = self.socket_with(sid) else {
             return Err(HubError::UnknownSocket);

@@ -1,14 +1,15 @@
 //! All sockets of a namespace that match join a room, or leave it (Socket.IO server documentation,
 //! "Server API", `socketsJoin` and `socketsLeave`).
 
-ghost use Rattle.std.specs.Prelude.{◌≡◌, ℕ, ◌&&◌, true, not, filter, None, OnOk, OnErr, IfOk, IfErr};
+ghost use Rattle.std.specs.Prelude.{◌≡◌, ℕ, true, not, filter, None, IfOk, IfErr};
 ghost use Rattle.room_maps.specs.Membership.{is_in};
 ghost use Rattle.journal.specs.Membership.{place_of, is_space, sockets, sid_of, matches};
-ghost use Rattle.journal.specs.Journal.{moment_at, with_step};
+ghost use Rattle.journal.specs.Journal.{moment_at};
 ghost use Rattle.journal.specs.ManySockets as many;
 ghost use Rattle.journal.specs.ManySockets.{ListsSockets, RightJoining, RightLeaving};
 ghost use Rattle.journal.specs.Command.{refusal, Does};
 ghost use Rattle.journal.specs.declared.step.What.{What};
+ghost use Rattle.hub_state.specs.Changes.{MakesStep};
 
 use crate::state::members::keep_here;
 use crate::state::{NONE, State, count, record, reserve};
@@ -31,8 +32,8 @@ fn keep_inside(sids: &mut Vec<Sid>, inside: &Rooms, room: Room)
 }
 
 impl State {
-    /// The connected sockets of the namespace at a place that are in one of the rooms, or where none
-    /// is named all, but for those in an excepted room. They rise by their ids.
+    /// The connected sockets of the namespace at a place that are in one of the rooms, or where
+    /// none is named all, but for those in an excepted room. They rise by their ids.
     pub(crate) fn matching(
         &self,
         alloc: Global,
@@ -40,7 +41,9 @@ impl State {
         rooms: &[Room],
         excepted: &[Room],
     ) -> Result<Vec<Sid>, HubError>
-        ensures ok { IfOk result (λ sids. ListsSockets sid_of (matches self.now.base self.now.journal space rooms.now excepted.now) (sockets self.now.base self.now.journal) sids.items) }
+        ensures ok { let h = self.now in IfOk result (λ sids. ListsSockets sid_of
+            (matches h.base h.journal space rooms.now excepted.now)
+            (sockets h.base h.journal) sids.items) }
         ensures memory { IfErr result (λ e. e ≡ HubError.Memory) }
     {
         let sids = self.listeners(alloc, space, rooms, excepted)?;
@@ -56,7 +59,8 @@ impl State {
         excepted: Vec<Room>,
         room: Room,
     ) -> Result<RoomChange, HubError>
-        ensures change { IfOk result (λ m. m ≡ many.joining self.now space rooms.items excepted.items room) }
+        ensures change { IfOk result (λ m.
+            m ≡ many.joining self.now space rooms.items excepted.items room) }
         ensures right { IfOk result (λ m. RightJoining self.now.base self.now.journal m) }
         ensures memory { IfErr result (λ e. e ≡ HubError.Memory) }
     {
@@ -80,7 +84,8 @@ impl State {
         excepted: Vec<Room>,
         room: Room,
     ) -> Result<RoomChange, HubError>
-        ensures change { IfOk result (λ m. m ≡ many.leaving self.now space rooms.items excepted.items room) }
+        ensures change { IfOk result (λ m.
+            m ≡ many.leaving self.now space rooms.items excepted.items room) }
         ensures right { IfOk result (λ m. RightLeaving self.now.base self.now.journal m) }
         ensures memory { IfErr result (λ e. e ≡ HubError.Memory) }
     {
@@ -125,13 +130,12 @@ impl State {
         change: RoomChange,
         now: u64,
     ) -> Result<Vec<Sid>, HubError>
-        requires accepted { None ≡ refusal self.old (moment_at self.old now) (What.AllJoined change) }
+        requires accepted { let at = moment_at self.old now
+            in None ≡ refusal self.old at (What.AllJoined change) }
         requires known { is_space self.old.limits change.space ≡ true }
         requires right { RightJoining self.old.base self.old.journal change }
-        ensures step { OnOk result (self.new ≡ with_step self.old now (What.AllJoined change)) }
+        ensures does { MakesStep self.old self.new now (What.AllJoined change) result }
         ensures changed { IfOk result (λ sids. sids.items ≡ change.changed) }
-        ensures unchanged { OnErr result (self.new ≡ self.old) }
-        ensures memory { IfErr result (λ e. e ≡ HubError.Memory) }
     {
         reserve(&mut self.journal)?;
         let Ok(joined) = self.rooms.join_all(alloc, &change.changed, change.room) else {
@@ -151,13 +155,12 @@ impl State {
         change: RoomChange,
         now: u64,
     ) -> Result<Vec<Sid>, HubError>
-        requires accepted { None ≡ refusal self.old (moment_at self.old now) (What.AllLeft change) }
+        requires accepted { let at = moment_at self.old now
+            in None ≡ refusal self.old at (What.AllLeft change) }
         requires known { is_space self.old.limits change.space ≡ true }
         requires right { RightLeaving self.old.base self.old.journal change }
-        ensures step { OnOk result (self.new ≡ with_step self.old now (What.AllLeft change)) }
+        ensures does { MakesStep self.old self.new now (What.AllLeft change) result }
         ensures changed { IfOk result (λ sids. sids.items ≡ change.changed) }
-        ensures unchanged { OnErr result (self.new ≡ self.old) }
-        ensures memory { IfErr result (λ e. e ≡ HubError.Memory) }
     {
         reserve(&mut self.journal)?;
         let Ok(left) = self.rooms.leave_all(alloc, &change.changed, change.room) else {
@@ -186,14 +189,15 @@ impl State {
         room: Room,
         now: u64,
     ) -> Result<Vec<Sid>, HubError>
-        ensures changed { let change = many.joining self.old (place_of self.old.limits space.now) rooms.items excepted.items room in IfOk result (λ sids. sids.items ≡ change.changed) }
-        ensures does { let change = many.joining self.old (place_of self.old.limits space.now) rooms.items excepted.items room in Does self.old self.new now (What.AllJoined change) result }
+        ensures changed { let place = place_of self.old.limits space.now
+            in let change = many.joining self.old place rooms.items excepted.items room
+            in IfOk result (λ sids. sids.items ≡ change.changed) }
+        ensures does { let place = place_of self.old.limits space.now
+            in let change = many.joining self.old place rooms.items excepted.items room
+            in Does self.old self.new now (What.AllJoined change) result }
     {
-        let place = self.place_of(space);
-        if place >= self.spaces().len() {
-            return Err(HubError::UnknownNamespace);
-        }
-        let change = self.joining(alloc, place as u16, rooms, excepted, room)?;
+        let place = self.place_of(space)?;
+        let change = self.joining(alloc, place, rooms, excepted, room)?;
         if let Some(refusal) = self.joining_refusal(&change) {
             return Err(refusal);
         }
@@ -203,8 +207,8 @@ impl State {
     /// All sockets of a namespace that are in one of the rooms, or where none is named all, but for
     /// those in an excepted room, leave a room, or none does. It gives those that were in it,
     /// rising. Refused as `UnknownNamespace`, then as `RoomRefused(OwnRoom)` where the room is the
-    /// own one of one of them, then `Spent`; want of memory may come in place of these two. It takes
-    /// as much as `sockets_join`.
+    /// own one of one of them, then `Spent`; want of memory may come in place of these two. It
+    /// takes as much as `sockets_join`.
     pub fn sockets_leave(
         &mut self,
         alloc: Global,
@@ -214,14 +218,15 @@ impl State {
         room: Room,
         now: u64,
     ) -> Result<Vec<Sid>, HubError>
-        ensures changed { let change = many.leaving self.old (place_of self.old.limits space.now) rooms.items excepted.items room in IfOk result (λ sids. sids.items ≡ change.changed) }
-        ensures does { let change = many.leaving self.old (place_of self.old.limits space.now) rooms.items excepted.items room in Does self.old self.new now (What.AllLeft change) result }
+        ensures changed { let place = place_of self.old.limits space.now
+            in let change = many.leaving self.old place rooms.items excepted.items room
+            in IfOk result (λ sids. sids.items ≡ change.changed) }
+        ensures does { let place = place_of self.old.limits space.now
+            in let change = many.leaving self.old place rooms.items excepted.items room
+            in Does self.old self.new now (What.AllLeft change) result }
     {
-        let place = self.place_of(space);
-        if place >= self.spaces().len() {
-            return Err(HubError::UnknownNamespace);
-        }
-        let change = self.leaving(alloc, place as u16, rooms, excepted, room)?;
+        let place = self.place_of(space)?;
+        let change = self.leaving(alloc, place, rooms, excepted, room)?;
         if let Some(refusal) = self.leaving_refusal(&change) {
             return Err(refusal);
         }

@@ -39,7 +39,7 @@ impl State {
     pub fn has_space(&self, space: &str) -> bool
         ensures { result ≡ is_space self.now.limits (place_of self.now.limits space.now) }
     {
-        self.place_of(space) < self.spaces().len()
+        self.place_of(space).is_ok()
     }
 
     /// How many bytes may wait for each client.
@@ -49,9 +49,9 @@ impl State {
         self.limits.config().bytes
     }
 
-    /// The two maps of rooms themselves: the rooms of each connected socket, and the sockets of each
-    /// room. They mirror each other, each socket is in its own room, and no room is empty (Socket.IO
-    /// server documentation, "Rooms").
+    /// The two maps of rooms themselves: the rooms of each connected socket, and the sockets of
+    /// each room. They mirror each other, each socket is in its own room, and no room is empty
+    /// (Socket.IO server documentation, "Rooms").
     pub fn mirrors(
         &self,
     ) -> (
@@ -79,7 +79,8 @@ impl State {
 
     /// How many entries wait for a client, or `None` where it isn't open.
     pub fn waiting(&self, client: u128) -> Option<usize>
-        ensures { result ≡ (if is_open self.now.base self.now.journal client then Some (length (waiting self.now.base self.now.limits self.now.journal client)) else None) }
+        ensures { let h = self.now in result ≡ (if is_open h.base h.journal client
+            then Some (length (waiting h.base h.limits h.journal client)) else None) }
     {
         match self.clients.get(&client) {
             Some(known) => Some(known.outbox.len()),
@@ -90,7 +91,8 @@ impl State {
     /// How many bytes the entries that wait for a client have together, or `None` where it isn't
     /// open.
     pub fn waiting_bytes(&self, client: u128) -> Option<usize>
-        ensures { result ≡ (if is_open self.now.base self.now.journal client then Some (total_size (waiting self.now.base self.now.limits self.now.journal client)) else None) }
+        ensures { let h = self.now in result ≡ (if is_open h.base h.journal client
+            then Some (total_size (waiting h.base h.limits h.journal client)) else None) }
     {
         match self.clients.get(&client) {
             Some(known) => Some(known.outbox.used()),
@@ -100,7 +102,8 @@ impl State {
 
     /// An entry that waits for a client, counted from the oldest, or `None` where there is none.
     pub fn front(&self, client: u128, index: usize) -> Option<&Entry>
-        ensures { option_copied result ≡ (if is_open self.now.base self.now.journal client then slice_get (waiting self.now.base self.now.limits self.now.journal client) index else None) }
+        ensures { let h = self.now in option_copied result ≡ (if is_open h.base h.journal client
+            then slice_get (waiting h.base h.limits h.journal client) index else None) }
     {
         match self.clients.get(&client) {
             Some(known) => known.outbox.get(index),

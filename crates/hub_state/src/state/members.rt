@@ -31,7 +31,8 @@ pub(crate) fn keep_here(
     sids: &[Sid],
     place: usize,
 ) -> Result<Vec<Sid>, HubError>
-    ensures ok { IfOk result (λ kept. kept.items ≡ filter (λ s. is_here place (get nat_cmp seats.now s)) sids.now) }
+    ensures ok { IfOk result (λ kept. kept.items
+        ≡ filter (λ s. is_here place (get nat_cmp seats.now s)) sids.now) }
     ensures memory { IfErr result (λ e. e ≡ HubError.Memory) }
 {
     let mut kept = Vec::new(alloc);
@@ -46,7 +47,8 @@ pub(crate) fn keep_here(
 impl State {
     /// The sockets of all namespaces that are in a room, rising.
     fn members_of(&self, alloc: Global, room: Room) -> Result<Vec<Sid>, HubError>
-        ensures ok { IfOk result (λ sids. ListsRising nat_cmp (λ s. is_in (rooms self.now.base self.now.journal) s room) sids.items) }
+        ensures ok { let h = self.now in IfOk result (λ sids.
+            ListsRising nat_cmp (λ s. is_in (rooms h.base h.journal) s room) sids.items) }
         ensures memory { IfErr result (λ e. e ≡ HubError.Memory) }
     {
         match self.rooms.members_of(alloc, room) {
@@ -57,7 +59,9 @@ impl State {
 
     /// The sockets of a namespace that are in a room, rising.
     fn members_at(&self, alloc: Global, place: usize, room: Room) -> Result<Vec<Sid>, HubError>
-        ensures ok { IfOk result (λ sids. ListsRising nat_cmp (λ s. is_in_space self.now.base self.now.journal place s && is_in (rooms self.now.base self.now.journal) s room) sids.items) }
+        ensures ok { let h = self.now in IfOk result (λ sids. ListsRising nat_cmp (λ s.
+            is_in_space h.base h.journal place s
+            && is_in (rooms h.base h.journal) s room) sids.items) }
         ensures memory { IfErr result (λ e. e ≡ HubError.Memory) }
     {
         let sids = self.members_of(alloc, room)?;
@@ -68,14 +72,15 @@ impl State {
     /// `UnknownNamespace`, then for `Memory`. It takes the logarithm of the namespaces, and
     /// walks the room's members of all namespaces, each with the logarithm.
     pub fn members(&self, alloc: Global, space: &str, room: Room) -> Result<Vec<Sid>, HubError>
-        ensures members { IfOk result (λ sids. ListsRising nat_cmp (λ s. is_in_space self.now.base self.now.journal (place_of self.now.limits space.now) s && is_in (rooms self.now.base self.now.journal) s room) sids.items) }
-        ensures refused { is_space self.now.limits (place_of self.now.limits space.now) ≡ false → result ≡ Err HubError.UnknownNamespace }
-        ensures memory { is_space self.now.limits (place_of self.now.limits space.now) ≡ true → IfErr result (λ e. e ≡ HubError.Memory) }
+        ensures members { let h = self.now in IfOk result (λ sids. ListsRising nat_cmp (λ s.
+            is_in_space h.base h.journal (place_of h.limits space.now) s
+            && is_in (rooms h.base h.journal) s room) sids.items) }
+        ensures refused { is_space self.now.limits (place_of self.now.limits space.now) ≡ false
+            → result ≡ Err HubError.UnknownNamespace }
+        ensures memory { is_space self.now.limits (place_of self.now.limits space.now) ≡ true
+            → IfErr result (λ e. e ≡ HubError.Memory) }
     {
-        let place = self.place_of(space);
-        if place >= self.spaces().len() {
-            return Err(HubError::UnknownNamespace);
-        }
-        self.members_at(alloc, place, room)
+        let place = self.place_of(space)?;
+        self.members_at(alloc, usize::from(place), room)
     }
 }

@@ -5,11 +5,10 @@ ghost use Rattle.std.specs.Ordering.{nat_cmp};
 ghost use Rattle.std.specs.BTreeMap.{get};
 ghost use Rattle.journal.specs.Membership.{open_clients, sockets};
 ghost use Rattle.journal.specs.Outboxes.{waiting};
-ghost use Rattle.journal.specs.Totals.{is_spent};
-ghost use Rattle.journal.specs.Refusals.{or_spent, open_refusal};
 ghost use Rattle.journal.specs.Command.{Does};
 ghost use Rattle.journal.specs.Fields.{new_client};
 ghost use Rattle.journal.specs.declared.step.What.{What};
+ghost use Rattle.hub_state.specs.Changes.{refusal_now};
 
 use crate::state::{NONE, State, count, record, reserve};
 use hub_parts::{Client, Outbox, Sockets};
@@ -19,7 +18,10 @@ use std::collections::BTreeMap;
 
 /// A client with no sockets, for which nothing waits.
 fn empty_client(alloc: Global, capacity: usize, bytes: usize) -> Result<Client, HubError>
-    ensures ok { IfOk result (λ client. client ≡ record { sockets = []; outbox = record { waiting = []; capacity = capacity; bytes = bytes } }) }
+    ensures ok { IfOk result (λ client. client ≡ record {
+      sockets = [];
+      outbox = record { waiting = []; capacity = capacity; bytes = bytes };
+    }) }
     ensures memory { IfErr result (λ e. e ≡ HubError.Memory) }
 {
     let outbox = Outbox::new(alloc, capacity, bytes)?;
@@ -35,7 +37,8 @@ fn put_client(
     client: u128,
     value: Client,
 ) -> Result<(), HubError>
-    ensures ok { OnOk result ((q : ℕ) → get nat_cmp clients.new q ≡ (if client == q then Some value else get nat_cmp clients.old q)) }
+    ensures ok { OnOk result ((q : ℕ) → get nat_cmp clients.new q
+        ≡ (if client == q then Some value else get nat_cmp clients.old q)) }
     ensures err { OnErr result (clients.new.entries ≡ clients.old.entries) }
     ensures memory { IfErr result (λ e. e ≡ HubError.Memory) }
 {
@@ -64,14 +67,15 @@ impl State {
 
     /// Whether there are as many clients as there may be.
     fn is_crowded(&self) -> bool
-        ensures { result ≡ nat_le self.now.limits.clients (length (open_clients self.now.base self.now.journal)) }
+        ensures { let h = self.now
+            in result ≡ nat_le h.limits.clients (length (open_clients h.base h.journal)) }
     {
         let count = self.clients.len();
         self.most_clients() <= count
     }
 
     fn open_refusal(&self, client: u128) -> Option<HubError>
-        ensures { result ≡ or_spent (open_refusal self.now.base self.now.limits self.now.journal client) (is_spent self.now.base self.now.limits self.now.journal (What.Opened client)) }
+        ensures { result ≡ refusal_now self.now (What.Opened client) }
     {
         if self.is_open(client) {
             return Some(HubError::IdTaken);

@@ -7,12 +7,11 @@ ghost use Rattle.std.specs.BTreeMap.{get};
 ghost use Rattle.recovery.specs.SavedTable as table;
 ghost use Rattle.journal.specs.Membership.{is_open, sockets_of};
 ghost use Rattle.journal.specs.Sessions.{sessions};
-ghost use Rattle.journal.specs.Totals.{is_spent};
-ghost use Rattle.journal.specs.Refusals.{or_spent, park_refusal};
 ghost use Rattle.journal.specs.Command.{Does};
 ghost use Rattle.journal.specs.Fields.{held_sockets};
 ghost use Rattle.journal.specs.Parking.{lost_in, HasNoneOf, with_lost, without_lost};
 ghost use Rattle.journal.specs.declared.step.What.{What};
+ghost use Rattle.hub_state.specs.Changes.{refusal_now};
 
 use crate::state::close::forget_client;
 use crate::state::recover::take_session;
@@ -102,7 +101,8 @@ fn save_client(
     at: u64,
 ) -> Result<(), HubError>
     requires { HasNoneOf (held_sockets (get nat_cmp clients.now client)) saved.old }
-    ensures saved { OnOk result (saved.new ≡ with_lost rooms.now at (held_sockets (get nat_cmp clients.now client)) saved.old) }
+    ensures saved { let held = held_sockets (get nat_cmp clients.now client)
+        in OnOk result (saved.new ≡ with_lost rooms.now at held saved.old) }
     ensures unchanged { OnErr result (saved.new ≡ saved.old) }
     ensures memory { IfErr result (λ e. e ≡ HubError.Memory) }
 {
@@ -115,7 +115,8 @@ fn save_client(
 impl State {
     /// How many sockets a client has, or `None` where it isn't open.
     fn socket_count(&self, client: u128) -> Option<usize>
-        ensures { result ≡ (if is_open self.now.base self.now.journal client then Some (length (sockets_of self.now.base self.now.journal client)) else None) }
+        ensures { let h = self.now in result ≡ (if is_open h.base h.journal client
+            then Some (length (sockets_of h.base h.journal client)) else None) }
     {
         match self.clients.get(&client) {
             Some(known) => Some(known.sockets.len()),
@@ -125,13 +126,14 @@ impl State {
 
     /// How many more sessions may be saved.
     fn free_places(&self) -> usize
-        ensures { result ≡ self.now.limits.saved - length (sessions self.now.base self.now.limits self.now.journal) }
+        ensures { let h = self.now
+            in result ≡ h.limits.saved - length (sessions h.base h.limits h.journal) }
     {
         self.limits.config().saved.saturating_sub(self.saved.len())
     }
 
     fn park_refusal(&self, client: u128) -> Option<HubError>
-        ensures { result ≡ or_spent (park_refusal self.now.base self.now.limits self.now.journal client) (is_spent self.now.base self.now.limits self.now.journal (What.Parked client)) }
+        ensures { result ≡ refusal_now self.now (What.Parked client) }
     {
         self.facts();
         let Some(sockets) = self.socket_count(client) else {
@@ -147,8 +149,8 @@ impl State {
     /// sockets end, and what waits for it is discarded. Refused as `UnknownClient`, `SavedFull`
     /// where the saved sessions leave fewer places than it has sockets, `Spent`, then for `Memory`.
     /// It takes the logarithm of the clients and, for each of the client's sockets, that of the
-    /// sockets and of the saved sessions, and each of their rooms takes the logarithm of the sockets
-    /// and of the rooms.
+    /// sockets and of the saved sessions, and each of their rooms takes the logarithm of the
+    /// sockets and of the rooms.
     pub fn park(&mut self, alloc: Global, client: u128, now: u64) -> Result<(), HubError>
         ensures { Does self.old self.new now (What.Parked client) result }
     {

@@ -3,10 +3,9 @@
 ghost use Rattle.std.specs.Prelude.{◌≡◌, None};
 ghost use Rattle.room_maps.specs.Membership as room_maps;
 ghost use Rattle.journal.specs.Membership.{rooms};
-ghost use Rattle.journal.specs.Totals.{is_spent};
-ghost use Rattle.journal.specs.Refusals.{or_spent, join_refusal, leave_refusal};
 ghost use Rattle.journal.specs.Command.{Does};
 ghost use Rattle.journal.specs.declared.step.What.{What};
+ghost use Rattle.hub_state.specs.Changes.{refusal_now};
 
 use crate::state::{NONE, State, count, record, reserve};
 use journal::{HubError, What};
@@ -37,7 +36,7 @@ impl State {
     }
 
     fn join_refusal(&self, sid: Sid, room: Room) -> Option<HubError>
-        ensures { result ≡ or_spent (join_refusal self.now.base self.now.journal sid room) (is_spent self.now.base self.now.limits self.now.journal (What.Joined sid room)) }
+        ensures { result ≡ refusal_now self.now (What.Joined sid room) }
     {
         if !self.is_connected(sid) {
             return Some(HubError::UnknownSocket);
@@ -49,7 +48,7 @@ impl State {
     }
 
     fn leave_refusal(&self, sid: Sid, room: Room) -> Option<HubError>
-        ensures { result ≡ or_spent (leave_refusal self.now.base self.now.journal sid room) (is_spent self.now.base self.now.limits self.now.journal (What.Left sid room)) }
+        ensures { result ≡ refusal_now self.now (What.Left sid room) }
     {
         if !self.is_connected(sid) {
             return Some(HubError::UnknownSocket);
@@ -74,12 +73,8 @@ impl State {
         }
         self.rooms.kept_facts();
         count(&mut self.counts, NONE);
-        record(
-            &mut self.journal,
-            &mut self.last,
-            now,
-            What::Joined(sid, room),
-        );
+        let what = What::Joined(sid, room);
+        record(&mut self.journal, &mut self.last, now, what);
         Ok(())
     }
 
@@ -94,12 +89,8 @@ impl State {
         reserve(&mut self.journal)?;
         take_out(&mut self.rooms, sid, room);
         count(&mut self.counts, NONE);
-        record(
-            &mut self.journal,
-            &mut self.last,
-            now,
-            What::Left(sid, room),
-        );
+        let what = What::Left(sid, room);
+        record(&mut self.journal, &mut self.last, now, what);
         Ok(())
     }
 }

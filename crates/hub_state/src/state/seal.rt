@@ -60,8 +60,10 @@ fn copy_clients(
 impl State {
     /// The open clients as a base has them, rising.
     fn base_clients(&self, alloc: Global) -> Result<Vec<BaseClient>, HubError>
-        ensures open { IfOk result (λ clients. ListsRising nat_cmp (is_open self.now.base self.now.journal) (map client_of clients.items)) }
-        ensures are { IfOk result (λ clients. clients.items ≡ map (base_client self.now.base self.now.limits self.now.journal) (map client_of clients.items)) }
+        ensures open { let h = self.now in IfOk result (λ clients.
+            ListsRising nat_cmp (is_open h.base h.journal) (map client_of clients.items)) }
+        ensures are { let h = self.now in IfOk result (λ clients. clients.items
+            ≡ map (base_client h.base h.limits h.journal) (map client_of clients.items)) }
         ensures memory { IfErr result (λ e. e ≡ HubError.Memory) }
     {
         match copy_clients(alloc, &self.clients) {
@@ -72,7 +74,8 @@ impl State {
 
     /// Each socket with each of its rooms, rising.
     fn base_pairs(&self, alloc: Global) -> Result<Vec<(Sid, Room)>, HubError>
-        ensures pairs { IfOk result (λ pairs. ListsRising pair_cmp (λ pair. is_in (rooms self.now.base self.now.journal) pair.0 pair.1) pairs.items) }
+        ensures pairs { let h = self.now in IfOk result (λ pairs. ListsRising pair_cmp
+            (λ pair. is_in (rooms h.base h.journal) pair.0 pair.1) pairs.items) }
         ensures memory { IfErr result (λ e. e ≡ HubError.Memory) }
     {
         match self.rooms.pairs(alloc) {
@@ -83,8 +86,10 @@ impl State {
 
     /// The log, rising by offset. The entries are shared.
     fn base_log(&self, alloc: Global) -> Result<Vec<Logged>, HubError>
-        ensures log { IfOk result (λ list. list.items ≡ log self.now.base self.now.limits self.now.journal) }
-        ensures run { IsRun (number_of (next self.now.base self.now.journal)) (log self.now.base self.now.limits self.now.journal) }
+        ensures log { let h = self.now
+            in IfOk result (λ list. list.items ≡ log h.base h.limits h.journal) }
+        ensures run { let h = self.now
+            in IsRun (number_of (next h.base h.journal)) (log h.base h.limits h.journal) }
         ensures memory { IfErr result (λ e. e ≡ HubError.Memory) }
     {
         match self.log.list(alloc) {
@@ -95,7 +100,8 @@ impl State {
 
     /// The saved sessions, rising by private id.
     fn base_sessions(&self, alloc: Global) -> Result<Vec<Saved>, HubError>
-        ensures sessions { IfOk result (λ list. list.items ≡ sessions self.now.base self.now.limits self.now.journal) }
+        ensures sessions { let h = self.now
+            in IfOk result (λ list. list.items ≡ sessions h.base h.limits h.journal) }
         ensures memory { IfErr result (λ e. e ≡ HubError.Memory) }
     {
         match self.saved.list(alloc) {
@@ -106,8 +112,10 @@ impl State {
 
     /// The present state as a base.
     fn present(&self, alloc: Global) -> Result<Base, HubError>
-        ensures leads { IfOk result (λ base. LeadsTo self.now.base self.now.limits self.now.journal base) }
-        ensures run { IfOk result (λ base. IsRun (number_of (next self.now.base self.now.journal)) (log self.now.base self.now.limits self.now.journal)) }
+        ensures leads { IfOk result (λ base.
+            LeadsTo self.now.base self.now.limits self.now.journal base) }
+        ensures run { let h = self.now in IfOk result (λ _.
+            IsRun (number_of (next h.base h.journal)) (log h.base h.limits h.journal)) }
         ensures memory { IfErr result (λ e. e ≡ HubError.Memory) }
     {
         Ok(Base {

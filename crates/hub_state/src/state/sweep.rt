@@ -6,10 +6,9 @@ ghost use Rattle.recovery.specs.PacketLog.{swept};
 ghost use Rattle.recovery.specs.SavedTable.{table_swept};
 ghost use Rattle.journal.specs.Sessions.{sessions};
 ghost use Rattle.journal.specs.Log.{log};
-ghost use Rattle.journal.specs.Totals.{is_spent};
-ghost use Rattle.journal.specs.Refusals.{or_spent};
 ghost use Rattle.journal.specs.Command.{Does};
 ghost use Rattle.journal.specs.declared.step.What.{What};
+ghost use Rattle.hub_state.specs.Changes.{refusal_now};
 
 use crate::state::{NONE, State, count, record, reserve};
 use hub_parts::Limits;
@@ -33,7 +32,7 @@ fn drop_outdated(log: &mut PacketLog, saved: &mut SavedTable, limits: &Limits, a
 
 impl State {
     fn sweep_refusal(&self) -> Option<HubError>
-        ensures { result ≡ or_spent None (is_spent self.now.base self.now.limits self.now.journal What.Swept) }
+        ensures { result ≡ refusal_now self.now What.Swept }
     {
         self.count_refusal(0, 0)
     }
@@ -43,7 +42,11 @@ impl State {
     /// logarithm of the saved sessions, and it looks at one more of both.
     pub fn sweep(&mut self, _alloc: Global, now: u64) -> Result<Swept, HubError>
         ensures does { Does self.old self.new now What.Swept result }
-        ensures counts { IfOk result (λ dropped. (length (log self.old.base self.old.limits self.old.journal) ≡ length (log self.new.base self.new.limits self.new.journal) + dropped.log) × (length (sessions self.old.base self.old.limits self.old.journal) ≡ length (sessions self.new.base self.new.limits self.new.journal) + dropped.saved)) }
+        ensures counts { let h = self.old in let after = self.new in IfOk result (λ dropped.
+            (length (log h.base h.limits h.journal)
+            ≡ length (log after.base after.limits after.journal) + dropped.log)
+            × (length (sessions h.base h.limits h.journal)
+            ≡ length (sessions after.base after.limits after.journal) + dropped.saved)) }
     {
         if let Some(refusal) = self.sweep_refusal() {
             return Err(refusal);

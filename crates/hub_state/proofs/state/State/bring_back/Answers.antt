@@ -1,4 +1,4 @@
-use Rattle.std.proofs.Common.{rules, ◌≡◌, ◌||◌, ◌==◌, ◌∙◌, sym, ap, map, length, ℕ, Some, if◌then◌else◌}
+use Rattle.std.proofs.Common.{rules, refl, ◌≡◌, ◌||◌, ◌==◌, ◌∙◌, sym, ap, map, length, ℕ, Some, if◌then◌else◌}
 use Rattle.std.specs.Ordering.{nat_cmp}
 use Rattle.std.specs.BTreeMap.{get}
 use Rattle.std.specs.BTreeSet as sorted
@@ -25,15 +25,10 @@ enter_again-entered-requires-clause-unused c =
     let b = comes-back c.self.inside _ _ c.recovery.inside.socket _ c.args.now c.self.invariant c.self.view_is (ap (λ r. r.socket) c.recovery.view_is) c.requires.accepted c.requires.right c.requires.puts in
     b.unused
 
-pub enter_again-entered-requires-clause-new : goal.enter_again-entered-requires-clause-new
-enter_again-entered-requires-clause-new c =
+pub enter_again-entered-requires-clause-enters : goal.enter_again-entered-requires-clause-enters
+enter_again-entered-requires-clause-enters c =
     let b = comes-back c.self.inside _ _ c.recovery.inside.socket _ c.args.now c.self.invariant c.self.view_is (ap (λ r. r.socket) c.recovery.view_is) c.requires.accepted c.requires.right c.requires.puts in
-    b.new
-
-pub enter_again-entered-requires-clause-few : goal.enter_again-entered-requires-clause-few
-enter_again-entered-requires-clause-few c =
-    let b = comes-back c.self.inside _ _ c.recovery.inside.socket _ c.args.now c.self.invariant c.self.view_is (ap (λ r. r.socket) c.recovery.view_is) c.requires.accepted c.requires.right c.requires.puts in
-    b.few
+    rw (b.new, b.few) refl
 
 pub invariant_of-self-then-is_err : goal.invariant_of-self-then-is_err
 invariant_of-self-then-is_err c =

@@ -15,11 +15,11 @@ count-requires c =
     can_park c.self.inside.base c.self.inside.limits (get nat_cmp c.self.inside.clients) c.self.inside.journal.steps c.self.inside.counts c.self.invariant.3 c.self.invariant.2 c.self.invariant.0.clients
     c.args.client c.forget_client-discards.result (search rules) c.forget_client-discards.ensures.discards
 
-pub forget_client-discards-requires-clause-known : goal.forget_client-discards-requires-clause-known
-forget_client-discards-requires-clause-known c = (can_part _ _ c.args.client _ (get nat_cmp c.self.inside.clients) _ _ _ _ _ _ _ c.self.invariant (search rules)).0
-
-pub forget_client-discards-requires-clause-apart : goal.forget_client-discards-requires-clause-apart
-forget_client-discards-requires-clause-apart c = (can_part _ _ c.args.client _ (get nat_cmp c.self.inside.clients) _ _ _ _ _ _ _ c.self.invariant (search rules)).1
+pub forget_client-discards-requires : goal.forget_client-discards-requires
+forget_client-discards-requires c = (
+  (can_part _ _ c.args.client _ (get nat_cmp c.self.inside.clients) _ _ _ _ _ _ _ c.self.invariant (search rules)).0,
+  (can_part _ _ c.args.client _ (get nat_cmp c.self.inside.clients) _ _ _ _ _ _ _ c.self.invariant (search rules)).1,
+)
 
 pub save_client-requires : goal.save_client-requires
 save_client-requires c = (can_part _ _ c.args.client _ (get nat_cmp c.self.inside.clients) _ _ _ _ _ _ _ c.self.invariant (search rules)).2

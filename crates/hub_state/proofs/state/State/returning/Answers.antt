@@ -1,6 +1,6 @@
-use Rattle.std.proofs.Common.{rules, arith, ◌≡◌, refl, true, None}
+use Rattle.std.proofs.Common.{rules, arith, ◌≡◌, ◌∙◌, refl, true, None}
 use Rattle.journal.specs.declared.step.What.TheVariants.{Recovered}
-use Rattle.journal.specs.Membership.{is_open, is_space, socket_of}
+use Rattle.journal.specs.Membership.{is_open, is_space, socket_of, place_of}
 use Rattle.journal.specs.Recovery.{recovery_of}
 use Rattle.hub_state.proofs.ReturnLemmas.{has-no-place, by-count}
 use Rattle.hub_state.proofs.state.State.returning.Goals as goal
@@ -9,29 +9,41 @@ pub returns-in_default-clause-refused : goal.returns-in_default-clause-refused
 returns-in_default-clause-refused c =
     let h = c.args.self.now in
     let found = c.in_ok-found.ensures in
+    let place = place_of h.limits c.args.space.now in
+    let is : c.from-place.result ≡ place = c.from-place.ensures ∙ c.in_ok-space.ensures.place in
     let known : is_open h.base h.journal c.args.client ≡ true = search rules in
-    let has_space : is_space h.limits c.args.place ≡ true = search rules in
-    let alone : socket_of h.base h.journal c.args.client c.args.place ≡ None = search rules in
-    has-no-place h.base h.limits h.journal c.args.client c.args.place c.args.pid c.args.offset c.args.at c.in_ok-found.found.session.now known has_space alone found.accepted found.session c.in_default.ensures.none
+    let has_space : is_space h.limits place ≡ true = rw c.in_ok-space.ensures.place at c.in_ok-space.ensures.known in
+    let free : socket_of h.base h.journal c.args.client c.from-place.result ≡ None = search rules in
+    let alone : socket_of h.base h.journal c.args.client place ≡ None = rw is at free in
+    let accepted = rw is at found.accepted in
+    has-no-place h.base h.limits h.journal c.args.client place c.args.pid c.args.offset c.args.at c.in_ok-found.found.session.now known has_space alone accepted found.session c.in_default.ensures.none
 
 pub returns-in-Some-count_refusal-clause-refused : goal.returns-in-Some-count_refusal-clause-refused
 returns-in-Some-count_refusal-clause-refused c =
     let h = c.args.self.now in
     let found = c.in_ok-found.ensures in
+    let place = place_of h.limits c.args.space.now in
+    let is : c.from-place.result ≡ place = c.from-place.ensures ∙ c.in_ok-space.ensures.place in
     let known : is_open h.base h.journal c.args.client ≡ true = search rules in
-    let has_space : is_space h.limits c.args.place ≡ true = search rules in
-    let alone : socket_of h.base h.journal c.args.client c.args.place ≡ None = search rules in
-    by-count h.base h.limits h.journal c.args.client c.args.place c.args.pid c.args.offset c.args.at c.in_ok-found.found.session.now known has_space alone found.accepted found.session
+    let has_space : is_space h.limits place ≡ true = rw c.in_ok-space.ensures.place at c.in_ok-space.ensures.known in
+    let free : socket_of h.base h.journal c.args.client c.from-place.result ≡ None = search rules in
+    let alone : socket_of h.base h.journal c.args.client place ≡ None = rw is at free in
+    let accepted = rw is at found.accepted in
+    by-count h.base h.limits h.journal c.args.client place c.args.pid c.args.offset c.args.at c.in_ok-found.found.session.now known has_space alone accepted found.session
     c.in-Some.puts c.in-Some.ensures.place c.in-Some.ensures.count _
-    (λ placed. c.in-Some-count_refusal.ensures (Recovered (recovery_of h.base h.limits h.journal c.args.client c.args.place c.args.pid c.args.offset)) placed refl (omega arith))
+    (λ placed. c.in-Some-count_refusal.ensures (Recovered (recovery_of h.base h.limits h.journal c.args.client place c.args.pid c.args.offset)) placed refl (omega arith))
 
 pub returns-in-None-clause-accepted : goal.returns-in-None-clause-accepted
 returns-in-None-clause-accepted c =
     let h = c.args.self.now in
     let found = c.in_ok-found.ensures in
+    let place = place_of h.limits c.args.space.now in
+    let is : c.from-place.result ≡ place = c.from-place.ensures ∙ c.in_ok-space.ensures.place in
     let known : is_open h.base h.journal c.args.client ≡ true = search rules in
-    let has_space : is_space h.limits c.args.place ≡ true = search rules in
-    let alone : socket_of h.base h.journal c.args.client c.args.place ≡ None = search rules in
-    by-count h.base h.limits h.journal c.args.client c.args.place c.args.pid c.args.offset c.args.at c.in_ok-found.found.session.now known has_space alone found.accepted found.session
+    let has_space : is_space h.limits place ≡ true = rw c.in_ok-space.ensures.place at c.in_ok-space.ensures.known in
+    let free : socket_of h.base h.journal c.args.client c.from-place.result ≡ None = search rules in
+    let alone : socket_of h.base h.journal c.args.client place ≡ None = rw is at free in
+    let accepted = rw is at found.accepted in
+    by-count h.base h.limits h.journal c.args.client place c.args.pid c.args.offset c.args.at c.in_ok-found.found.session.now known has_space alone accepted found.session
     c.in-Some.puts c.in-Some.ensures.place c.in-Some.ensures.count _
-    (λ placed. c.in-None.ensures (Recovered (recovery_of h.base h.limits h.journal c.args.client c.args.place c.args.pid c.args.offset)) placed refl (omega arith))
+    (λ placed. c.in-None.ensures (Recovered (recovery_of h.base h.limits h.journal c.args.client place c.args.pid c.args.offset)) placed refl (omega arith))

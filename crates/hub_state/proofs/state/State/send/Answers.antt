@@ -16,9 +16,9 @@ put_messages-requires-clause-places c =
 pub invariant_of-self-2 : goal.invariant_of-self-2
 invariant_of-self-2 c =
     let event = rw (← c.self.view_is) at c.requires.event in
-    let given = rw (← c.self.view_is) at c.requires.offset in
+    let given = rw (← c.self.view_is) at c.requires.counted.offset in
     let told = rw (← c.self.view_is) at c.requires.tells in
-    let room = rw (← c.self.view_is) at c.requires.unspent in
+    let room = rw (← c.self.view_is) at c.requires.counted.unspent in
     let logs = rw (← c.self.view_is, ← c.self.invariant.0.last) at c.requires.logged in
     let logged = c.push_logged.ensures ∙ ap (with_logged c.self.inside.log) logs in
     let told_of = rw c.deref.ensures.value at (c.done.view_is ∙ c.in_ok-done.ensures.ok) in

@@ -13,8 +13,8 @@ returns-in-Some-clause-does c =
     let self = c.args.self.now in
     let place = place_of self.limits c.args.space.now in
     let at = moment_at self c.args.now in
-    let known : is_space self.limits place ≡ true = search rules in
-    let is : c.in_ok-change.change ≡ joining self place c.args.rooms.items c.args.excepted.items c.args.room = rw c.place_of-place.ensures at c.in_ok-change.ensures.change in
+    let known : is_space self.limits place ≡ true = rw c.in_ok-place.ensures.place at c.in_ok-place.ensures.known in
+    let is : c.in_ok-change.change ≡ joining self place c.args.rooms.items c.args.excepted.items c.args.room = rw c.in_ok-place.ensures.place at c.in_ok-change.ensures.change in
     let asked = c.joining_refusal.ensures at in
     let said : Some c.in-Some.refusal ≡ refusal self at (AllJoined c.in_ok-change.change) = search (rules, asked) in (
       subst (λ (m : PlainRoomChange). IsErrorOf (is_space self.limits m.space) (refusal self at (AllJoined m)) c.in-Some.refusal) is
@@ -27,10 +27,10 @@ returns-clause-does c =
     let self = c.args.self.now in
     let place = place_of self.limits c.args.space.now in
     let at = moment_at self c.args.now in
-    let known : is_space self.limits place ≡ true = search rules in
-    let is : c.in_ok-change.change ≡ joining self place c.args.rooms.items c.args.excepted.items c.args.room = rw c.place_of-place.ensures at c.in_ok-change.ensures.change in
+    let known : is_space self.limits place ≡ true = rw c.in_ok-place.ensures.place at c.in_ok-place.ensures.known in
+    let is : c.in_ok-change.change ≡ joining self place c.args.rooms.items c.args.excepted.items c.args.room = rw c.in_ok-place.ensures.place at c.in_ok-change.ensures.change in
     let asked = c.joining_refusal.ensures at in
     let accepted : None ≡ refusal self at (AllJoined c.in_ok-change.change) = search (rules, asked) in
     subst (λ (m : PlainRoomChange). Does self c.join_all.new.self c.args.now (AllJoined m) c.join_all.result) is
     (does-late self c.join_all.new.self c.args.now (AllJoined c.in_ok-change.change) c.join_all.result (ap (λ (m : PlainRoomChange). is_space self.limits m.space) is ∙ known) accepted
-    c.join_all.ensures.step c.join_all.ensures.unchanged c.join_all.ensures.memory)
+    c.join_all.ensures.does.0 c.join_all.ensures.does.1 c.join_all.ensures.does.2)

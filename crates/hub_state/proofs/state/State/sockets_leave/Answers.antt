@@ -13,8 +13,8 @@ returns-in-Some-clause-does c =
     let self = c.args.self.now in
     let place = place_of self.limits c.args.space.now in
     let at = moment_at self c.args.now in
-    let known : is_space self.limits place ≡ true = search rules in
-    let is : c.in_ok-change.change ≡ leaving self place c.args.rooms.items c.args.excepted.items c.args.room = rw c.place_of-place.ensures at c.in_ok-change.ensures.change in
+    let known : is_space self.limits place ≡ true = rw c.in_ok-place.ensures.place at c.in_ok-place.ensures.known in
+    let is : c.in_ok-change.change ≡ leaving self place c.args.rooms.items c.args.excepted.items c.args.room = rw c.in_ok-place.ensures.place at c.in_ok-change.ensures.change in
     let asked = c.leaving_refusal.ensures at in
     let said : Some c.in-Some.refusal ≡ refusal self at (AllLeft c.in_ok-change.change) = search (rules, asked) in (
       subst (λ (m : PlainRoomChange). IsErrorOf (is_space self.limits m.space) (refusal self at (AllLeft m)) c.in-Some.refusal) is
@@ -27,10 +27,10 @@ returns-clause-does c =
     let self = c.args.self.now in
     let place = place_of self.limits c.args.space.now in
     let at = moment_at self c.args.now in
-    let known : is_space self.limits place ≡ true = search rules in
-    let is : c.in_ok-change.change ≡ leaving self place c.args.rooms.items c.args.excepted.items c.args.room = rw c.place_of-place.ensures at c.in_ok-change.ensures.change in
+    let known : is_space self.limits place ≡ true = rw c.in_ok-place.ensures.place at c.in_ok-place.ensures.known in
+    let is : c.in_ok-change.change ≡ leaving self place c.args.rooms.items c.args.excepted.items c.args.room = rw c.in_ok-place.ensures.place at c.in_ok-change.ensures.change in
     let asked = c.leaving_refusal.ensures at in
     let accepted : None ≡ refusal self at (AllLeft c.in_ok-change.change) = search (rules, asked) in
     subst (λ (m : PlainRoomChange). Does self c.leave_all.new.self c.args.now (AllLeft m) c.leave_all.result) is
     (does-late self c.leave_all.new.self c.args.now (AllLeft c.in_ok-change.change) c.leave_all.result (ap (λ (m : PlainRoomChange). is_space self.limits m.space) is ∙ known) accepted
-    c.leave_all.ensures.step c.leave_all.ensures.unchanged c.leave_all.ensures.memory)
+    c.leave_all.ensures.does.0 c.leave_all.ensures.does.1 c.leave_all.ensures.does.2)

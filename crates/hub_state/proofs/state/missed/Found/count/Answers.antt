@@ -1,7 +1,7 @@
 use Rattle.std.proofs.Common.{◌≡◌, ◌∙◌, refl, ap}
 use Rattle.journal.specs.Recovery.{gets}
 use Rattle.journal.proofs.RecoverLemmas.{gets-pieces, lacks-front, lacks-back, bytes-all, none-so}
-use Rattle.hub_state.proofs.state.recover.Found.count.Goals as goal
+use Rattle.hub_state.proofs.state.missed.Found.count.Goals as goal
 
 pub returns-in_err-first-clause-none : goal.returns-in_err-first-clause-none
 returns-in_err-first-clause-none c =

@@ -1,7 +1,7 @@
 use Rattle.std.proofs.Common.{◌≡◌, ◌+◌, length, take}
 use Rattle.journal.specs.Outboxes.{total_size}
 use Rattle.journal.specs.Recovery.{gets}
-use Rattle.hub_state.proofs.state.recover.left_after.Given as goal
+use Rattle.hub_state.proofs.state.missed.left_after.Given as goal
 
 abbrev pub invariant-loop-logged : goal.invariant-loop-logged
 invariant-loop-logged l =

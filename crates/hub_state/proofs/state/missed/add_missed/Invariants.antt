@@ -3,7 +3,7 @@ use Rattle.std.specs.Arc.{arc_value}
 use Rattle.recovery.specs.PacketLog.{PlainLogged}
 use Rattle.recovery.specs.Missed.{is_for}
 use Rattle.journal.specs.Recovery.{gets}
-use Rattle.hub_state.proofs.state.recover.add_missed.Given as goal
+use Rattle.hub_state.proofs.state.missed.add_missed.Given as goal
 
 abbrev pub invariant-loop-logged : goal.invariant-loop-logged
 invariant-loop-logged l =

@@ -1,7 +1,7 @@
 use Rattle.std.proofs.Common.{rules, ◌≡◌, true, false, ap, ◌∙◌}
 use Rattle.recovery.specs.Missed.{is_for}
 use Rattle.journal.proofs.RecoverLemmas.{none-got, one-got, one-lacks, none-so}
-use Rattle.hub_state.proofs.state.recover.left_after_one.Goals as goal
+use Rattle.hub_state.proofs.state.missed.left_after_one.Goals as goal
 
 pub returns-then-not-is_for-clause-bytes : goal.returns-then-not-is_for-clause-bytes
 returns-then-not-is_for-clause-bytes c =

@@ -1,6 +1,6 @@
 use Rattle.std.proofs.Common.{rules, ◌≡◌, refl}
 use Rattle.hub_state.proofs.RetainLemmas.{filtered_by}
-use Rattle.hub_state.proofs.state.cast.retain_outside.Goals as goal
+use Rattle.hub_state.proofs.state.aim.retain_outside.Goals as goal
 
 pub returns : goal.returns
 returns c =

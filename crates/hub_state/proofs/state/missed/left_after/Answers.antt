@@ -1,6 +1,6 @@
 use Rattle.std.proofs.Common.{arith}
 use Rattle.journal.proofs.RecoverLemmas.{places-next, bytes-next, lacks-all, none-so, total_size-none}
-use Rattle.hub_state.proofs.state.recover.left_after.Goals as goal
+use Rattle.hub_state.proofs.state.missed.left_after.Goals as goal
 
 pub loop-logged-preserved : goal.loop-logged-preserved
 loop-logged-preserved c = record {

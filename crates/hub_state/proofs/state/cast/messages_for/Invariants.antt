@@ -1,9 +1,0 @@
-use Rattle.std.proofs.Common.{◌≡◌, take}
-use Rattle.std.specs.Ordering.{nat_cmp}
-use Rattle.std.specs.BTreeMap.{get}
-use Rattle.std.specs.Arc.{arc_value}
-use Rattle.journal.specs.Casting.{messages_for}
-use Rattle.hub_state.proofs.state.cast.messages_for.Given as goal
-
-abbrev pub invariant-loop-socket : goal.invariant-loop-socket
-invariant-loop-socket l = l.messages.items ≡ messages_for (get nat_cmp l.clients) (arc_value l.entry) (take l.socket-index l.sockets)

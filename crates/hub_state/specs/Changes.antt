@@ -1,0 +1,69 @@
+-- How a command changes what a state is kept in, and what its refusal says.
+use Rattle.std.specs.Prelude.{◌≡◌, ℕ, ◌+◌, ◌≤◌, ◌==◌, ◌||◌, true, false, List, Option, None, Result, OnOk, OnErr, IfErr, if◌then◌else◌}
+use Rattle.std.specs.List.{list_any, AllByRecursion}
+use Rattle.std.specs.Option.{option_map}
+use Rattle.std.specs.Ordering.{nat_cmp}
+use Rattle.std.specs.BTreeMap.{BTreeMap, get}
+use Rattle.std.specs.BTreeSet.{BTreeSet, contains}
+use Rattle.journal.specs.declared.error.HubError.{HubError}
+use Rattle.journal.specs.declared.error.HubError.TheVariants.{Memory}
+use Rattle.journal.specs.declared.socket.Socket.{Socket}
+use Rattle.journal.specs.declared.step.What.{What}
+use Rattle.room_maps.specs.Membership.{RoomSets, is_socket}
+use Rattle.journal.specs.Plain.{PlainClient}
+use Rattle.journal.specs.Journal.{History, moment, with_step}
+use Rattle.journal.specs.Totals.{placed_by, dropped_by, handed_out_by, discarded_by, waiting_in_all}
+use Rattle.journal.specs.Legal.{EachTwo, AreApart}
+use Rattle.journal.specs.Command.{refusal}
+use Rattle.hub_parts.specs.Seats.{SeatMap}
+
+-- ---- the maps
+
+-- what is held of one client, if anything, becomes this, and what is held of the others stays
+abbrev pub ChangesClient : (PlainClient → PlainClient) → ℕ → BTreeMap ℕ PlainClient → BTreeMap ℕ PlainClient → Type 0
+ChangesClient f client old new =
+    (q : ℕ) → get nat_cmp new q ≡ (if client == q then option_map f (get nat_cmp old q) else get nat_cmp old q)
+
+-- the same private ids
+abbrev pub SamePids : BTreeSet ℕ → BTreeSet ℕ → Type 0
+SamePids old new = (p : ℕ) → contains nat_cmp new p ≡ contains nat_cmp old p
+
+-- one private id more
+abbrev pub WithPid : ℕ → BTreeSet ℕ → BTreeSet ℕ → Type 0
+WithPid pid old new = (p : ℕ) → contains nat_cmp new p ≡ ((pid == p) || contains nat_cmp old p)
+
+-- without a private id
+abbrev pub WithoutPid : ℕ → BTreeSet ℕ → BTreeSet ℕ → Type 0
+WithoutPid pid old new = (p : ℕ) → contains nat_cmp new p ≡ (if pid == p then false else contains nat_cmp old p)
+
+-- without the sockets of a list, by their session ids
+abbrev pub WithoutSeats : List Socket → SeatMap → SeatMap → Type 0
+WithoutSeats sockets old new =
+    (s : ℕ) → get nat_cmp new s ≡ (if list_any (λ (k : Socket). k.sid == s) sockets then None else get nat_cmp old s)
+
+-- without the sockets of a list, by their private ids
+abbrev pub WithoutPids : List Socket → BTreeSet ℕ → BTreeSet ℕ → Type 0
+WithoutPids sockets old new =
+    (p : ℕ) → contains nat_cmp new p ≡ (if list_any (λ (k : Socket). k.pid == p) sockets then false else contains nat_cmp old p)
+
+-- the rooms know these sockets, of which no two share an id: so they can be forgotten one by one
+abbrev pub CanForget : List Socket → RoomSets → Type 0
+CanForget sockets rooms = AllByRecursion (λ (k : Socket). is_socket rooms k.sid ≡ true) sockets × EachTwo AreApart sockets
+
+-- ---- the answers
+
+-- so it is of each step that puts and drops so many, and hands out and discards no more than waits
+abbrev pub OfEach : History → (puts drops : ℕ) → (What → Type 0) → Type 0
+OfEach h puts drops Holds =
+    (what : What) → placed_by h.base h.limits h.journal what ≡ puts → dropped_by what ≡ drops
+    → handed_out_by what + discarded_by h.base h.limits h.journal what ≤ waiting_in_all h.base h.limits h.journal → Holds what
+
+-- why the command that makes this step is refused, at the moment of the newest step: but for a session that comes back
+-- it is the same at each moment
+abbrev pub refusal_now : History → What → Option HubError
+refusal_now h what = refusal h (moment h.base h.journal) what
+
+-- the step, which may be made, was made, or nothing changed for want of memory
+abbrev pub MakesStep : {X : Type 0} → (old new : History) → ℕ → What → Result X HubError → Type 0
+MakesStep old new now what result =
+    OnOk result (new ≡ with_step old now what) × OnErr result (new ≡ old) × IfErr result (λ e. e ≡ Memory)

@@ -1,0 +1,238 @@
+//! For whom an entry is: the sockets of a namespace that are in one of the rooms and in no excepted
+//! one, and their clients (Socket.IO server documentation, "Rooms" and "Adapter").
+
+ghost use Rattle.std.specs.Prelude.{◌≡◌, ◌&&◌, not, [], ◌++◌, filter, IfOk, IfErr, OnOk};
+ghost use Rattle.std.specs.List.{flat_map, list_any};
+ghost use Rattle.std.specs.Ordering.{nat_cmp};
+ghost use Rattle.std.specs.BTreeMap.{get};
+ghost use Rattle.std.specs.Arc.{arc_value};
+ghost use Rattle.terms.specs.Listing.{ListsRising};
+ghost use Rattle.room_maps.specs.Membership.{is_in};
+ghost use Rattle.room_maps.specs.Addressed.{is_addressed};
+ghost use Rattle.journal.specs.Membership as membership;
+ghost use Rattle.journal.specs.Membership.{is_in_space};
+ghost use Rattle.journal.specs.Casting.{in_space, is_here, ListsInside, is_full_in, message_for, missing_of, Tells};
+ghost use Rattle.journal.specs.Casting as casting;
+
+use crate::state::State;
+use hub_parts::{Client, Seats};
+use journal::{Broadcast, HubError, Message, Socket};
+use room_maps::{Room, Rooms, Sid};
+use sio_wire::Entry;
+use std::alloc::Global;
+use std::collections::BTreeMap;
+use std::sync::Arc;
+
+/// Adds the socket with an id, where it is in the namespace at a place.
+fn add_socket(
+    sockets: &mut Vec<Socket>,
+    seats: &Seats,
+    sid: Sid,
+    space: u16,
+) -> Result<(), HubError>
+    ensures ok { OnOk result (sockets.new.items
+        ≡ sockets.old.items ++ in_space space (get nat_cmp seats.now sid)) }
+    ensures memory { IfErr result (λ e. e ≡ HubError.Memory) }
+{
+    if let Some(socket) = seats.get(sid) {
+        if socket.space == space {
+            sockets.push(*socket)?;
+        }
+    }
+    Ok(())
+}
+
+/// Those of the sockets with these ids that are in the namespace at a place, in the same order.
+pub(crate) fn sockets_in(
+    alloc: Global,
+    seats: &Seats,
+    sids: &[Sid],
+    space: u16,
+) -> Result<Vec<Socket>, HubError>
+    ensures ok { IfOk result (λ sockets. sockets.items
+        ≡ flat_map (λ s. in_space space (get nat_cmp seats.now s)) sids.now) }
+    ensures memory { IfErr result (λ e. e ≡ HubError.Memory) }
+{
+    let mut sockets = Vec::new(alloc);
+    for sid in sids {
+        add_socket(&mut sockets, seats, *sid, space)?;
+    }
+    Ok(sockets)
+}
+
+/// Whether the socket is in one of the rooms.
+fn is_in_any(inside: &Rooms, sid: Sid, rooms: &[Room]) -> bool
+    ensures { result ≡ list_any (is_in inside.now sid) rooms.now }
+{
+    rooms.iter().any(|room| inside.is_in(sid, *room))
+}
+
+/// Keeps the sockets that are in none of the rooms.
+fn retain_outside(sids: &mut Vec<Sid>, inside: &Rooms, rooms: &[Room])
+    ensures { sids.new.items
+        ≡ filter (λ s. not (list_any (is_in inside.now s) rooms.now)) sids.old.items }
+{
+    sids.retain(|sid| !is_in_any(inside, *sid, rooms));
+}
+
+/// The sockets in the namespace at a place but those in an excepted room, rising.
+fn everybody_but(
+    alloc: Global,
+    seats: &Seats,
+    inside: &Rooms,
+    space: u16,
+    excepted: &[Room],
+) -> Result<Vec<Sid>, HubError>
+    ensures ok { IfOk result (λ sids. ListsRising nat_cmp (λ s.
+        is_here space (get nat_cmp seats.now s)
+        && not (list_any (is_in inside.now s) excepted.now)) sids.items) }
+    ensures memory { IfErr result (λ e. e ≡ HubError.Memory) }
+{
+    let mut sids = seats.sids_in(alloc, space)?;
+    retain_outside(&mut sids, inside, excepted);
+    Ok(sids)
+}
+
+/// Whether the client's outbox has no place for the entry.
+fn is_full(clients: &BTreeMap<u128, Client>, client: u128, entry: &Entry) -> bool
+    ensures { result ≡ is_full_in (get nat_cmp clients.now) entry.now client }
+{
+    match clients.get(&client) {
+        Some(known) => known.outbox.has_no_place(entry),
+        None => false,
+    }
+}
+
+/// Adds a message for the socket's client where its outbox has a place for the entry, and else the
+/// socket's id to those that miss it.
+fn address(
+    messages: &mut Vec<Message>,
+    missing: &mut Vec<Sid>,
+    clients: &BTreeMap<u128, Client>,
+    socket: &Socket,
+    entry: &Arc<Entry>,
+) -> Result<(), HubError>
+    ensures told { OnOk result (messages.new.items ≡ messages.old.items
+        ++ message_for (get nat_cmp clients.now) (arc_value entry.now) socket.now.client) }
+    ensures missing { OnOk result (missing.new.items ≡ missing.old.items
+        ++ missing_of (get nat_cmp clients.now) (arc_value entry.now) socket.now) }
+    ensures memory { IfErr result (λ e. e ≡ HubError.Memory) }
+{
+    let client = socket.client;
+    if is_full(clients, client, entry) {
+        missing.push(socket.sid)?;
+    } else {
+        let entry = Arc::try_clone(entry)?;
+        messages.push(Message { client, entry })?;
+    }
+    Ok(())
+}
+
+/// One message for each of the sockets whose client's outbox has a place for the entry, and the ids
+/// of the others.
+pub(crate) fn messages_for(
+    alloc: Global,
+    clients: &BTreeMap<u128, Client>,
+    sockets: &[Socket],
+    entry: &Arc<Entry>,
+) -> Result<(Vec<Message>, Vec<Sid>), HubError>
+    ensures told { IfOk result (λ both. both.0.items
+        ≡ casting.messages_for (get nat_cmp clients.now) (arc_value entry.now) sockets.now) }
+    ensures missing { IfOk result (λ both. both.1.items
+        ≡ casting.missing (get nat_cmp clients.now) (arc_value entry.now) sockets.now) }
+    ensures memory { IfErr result (λ e. e ≡ HubError.Memory) }
+{
+    let (mut messages, mut missing) = (Vec::new(alloc), Vec::new(alloc));
+    for socket in sockets {
+        address(&mut messages, &mut missing, clients, socket, entry)?;
+    }
+    Ok((messages, missing))
+}
+
+impl State {
+    /// The sockets in all namespaces that are in one of the rooms, or where none is named all, but
+    /// for those in an excepted room.
+    fn addressees(
+        &self,
+        alloc: Global,
+        rooms: &[Room],
+        excepted: &[Room],
+    ) -> Result<Vec<Sid>, HubError>
+        ensures ok { let inside = membership.rooms self.now.base self.now.journal
+            in IfOk result (λ sids.
+            ListsRising nat_cmp (is_addressed inside rooms.now excepted.now) sids.items) }
+        ensures memory { IfErr result (λ e. e ≡ HubError.Memory) }
+    {
+        match self.rooms.addressees(alloc, rooms, excepted) {
+            Ok(sids) => Ok(sids),
+            Err(_) => Err(HubError::Memory),
+        }
+    }
+
+    /// The sockets in the namespace at a place but those in an excepted room.
+    fn everybody(&self, alloc: Global, space: u16, excepted: &[Room]) -> Result<Vec<Sid>, HubError>
+        ensures ok { let inside = membership.rooms self.now.base self.now.journal
+            in IfOk result (λ sids. ListsInside (is_in_space self.now.base self.now.journal space)
+            (is_addressed inside [] excepted.now) sids.items) }
+        ensures memory { IfErr result (λ e. e ≡ HubError.Memory) }
+    {
+        everybody_but(alloc, &self.seats, &self.rooms, space, excepted)
+    }
+
+    /// For whom a broadcast to the namespace at a place is. Where rooms are named, sockets of other
+    /// namespaces may be among them.
+    pub(crate) fn listeners(
+        &self,
+        alloc: Global,
+        space: u16,
+        rooms: &[Room],
+        excepted: &[Room],
+    ) -> Result<Vec<Sid>, HubError>
+        ensures ok { let inside = membership.rooms self.now.base self.now.journal
+            in IfOk result (λ sids. ListsInside (is_in_space self.now.base self.now.journal space)
+            (is_addressed inside rooms.now excepted.now) sids.items) }
+        ensures memory { IfErr result (λ e. e ≡ HubError.Memory) }
+    {
+        if rooms.is_empty() {
+            self.everybody(alloc, space, excepted)
+        } else {
+            self.addressees(alloc, rooms, excepted)
+        }
+    }
+
+    /// The broadcast with those who miss it, and the messages for the others.
+    pub(crate) fn aim(
+        &self,
+        alloc: Global,
+        space: u16,
+        rooms: Vec<Room>,
+        excepted: Vec<Room>,
+        offset: Option<u64>,
+        entry: Arc<Entry>,
+    ) -> Result<(Broadcast, Vec<Message>), HubError>
+        ensures broadcast { IfOk result (λ both. both.0 ≡ record {
+          space = space;
+          rooms = rooms.items;
+          excepted = excepted.items;
+          offset = offset;
+          entry = arc_value entry;
+          dropped = both.0.dropped;
+        }) }
+        ensures tells { IfOk result (λ both.
+            Tells self.now.base self.now.limits self.now.journal both.0 both.1.items) }
+        ensures memory { IfErr result (λ e. e ≡ HubError.Memory) }
+    {
+        let sids = self.listeners(alloc, space, &rooms, &excepted)?;
+        let sockets = sockets_in(alloc, &self.seats, &sids, space)?;
+        let (messages, dropped) = messages_for(alloc, &self.clients, &sockets, &entry)?;
+        let broadcast = Broadcast {
+            space,
+            rooms,
+            excepted,
+            offset,
+            entry,
+            dropped,
+        };
+        Ok((broadcast, messages))
+    }
+}
