@@ -4,9 +4,9 @@ use crate::memory_wire::{MemoryWire, fault, read};
 use http_edge::{EdgeError, Request, read_request};
 use std::alloc::{AllocError, Global};
 
-static POST: &[u8] = b"POST /socket.io/?transport=polling HTTP/1.1\r\nContent-Length: 2\r\n\r\n40";
+const POST: &[u8] = b"POST /socket.io/?transport=polling HTTP/1.1\r\nContent-Length: 2\r\n\r\n40";
 
-static MORE: &[u8] =
+const MORE: &[u8] =
     b"POST /socket.io/?transport=polling HTTP/1.1\r\nContent-Length: 2\r\n\r\n40GET";
 
 fn is_post(request: &Request, rest: &[u8]) -> bool {
@@ -20,25 +20,24 @@ fn is_post(request: &Request, rest: &[u8]) -> bool {
         && request.rest.as_slice() == rest
 }
 
-fn reads_post(alloc: Global, bytes: &[u8], step: usize, rest: &[u8]) -> bool {
-    match read(alloc, bytes, step, 1_000) {
-        Ok(request) => is_post(&request, rest),
-        Err(_) => false,
-    }
-}
-
+/// A POST, which comes so many bytes at a time, also before a GET.
 #[test]
 fn a_post(rt: HostRuntime) {
-    static STEPS: [usize; 4] = [1, 2, 7, 4_096];
-    for step in STEPS.iter() {
-        assert!(rt; reads_post(rt.alloc(), POST, *step, b""), "by {step}");
+    static CASES: [(&[u8], usize, &[u8]); 6] = [
+        (POST, 1, b""),
+        (POST, 2, b""),
+        (POST, 7, b""),
+        (POST, 4_096, b""),
+        (MORE, 4_096, b"GET"),
+        (MORE, 1, b""),
+    ];
+    for (bytes, step, rest) in CASES.iter() {
+        let is_read = match read(rt.alloc(), bytes, *step, 1_000) {
+            Ok(request) => is_post(&request, rest),
+            Err(_) => false,
+        };
+        assert!(rt; is_read, "by {step}");
     }
-}
-
-#[test]
-fn a_post_before_a_get(rt: HostRuntime) {
-    assert!(rt; reads_post(rt.alloc(), MORE, 4_096, b"GET"));
-    assert!(rt; reads_post(rt.alloc(), MORE, 1, b""));
 }
 
 /// Whether a text is there, and is this one.
@@ -57,42 +56,35 @@ fn has_fields(alloc: Global, bytes: &[u8], upgrade: bool, origin: Option<&str>) 
     }
 }
 
+/// The fields of a GET, whether it asks for an upgrade, and its origin.
 #[test]
 fn upgrade_and_origin(rt: HostRuntime) {
     static CASES: [(&[u8], bool, Option<&str>); 6] = [
         (
-            b"GET / HTTP/1.1\r\nupgrade: WEBSOCKET\r\nORIGIN: http://a.b\r\n\r\n",
+            b"upgrade: WEBSOCKET\r\nORIGIN: http://a.b",
             true,
             Some("http://a.b"),
         ),
-        (
-            b"GET / HTTP/1.1\r\nUpgrade: h2c\r\nUpgrade: websocket\r\n\r\n",
-            true,
-            None,
-        ),
-        (
-            b"GET / HTTP/1.1\r\nUpgrade: websocket, h2c\r\nOrigin:\r\n\r\n",
-            false,
-            Some(""),
-        ),
-        (
-            b"GET / HTTP/1.1\r\nOrigin: a\r\nOrigin: a\r\n\r\n",
-            false,
-            None,
-        ),
-        (b"GET / HTTP/1.1\r\nOrigin: \xff\r\n\r\n", false, None),
-        (
-            b"GET / HTTP/1.1\r\nX-Origin: a\r\nX-Upgrade: websocket\r\n\r\n",
-            false,
-            None,
-        ),
+        (b"Upgrade: h2c\r\nUpgrade: websocket", true, None),
+        (b"Upgrade: websocket, h2c\r\nOrigin:", false, Some("")),
+        (b"Origin: a\r\nOrigin: a", false, None),
+        (b"Origin: \xff", false, None),
+        (b"X-Origin: a\r\nX-Upgrade: websocket", false, None),
     ];
-    for (place, (bytes, upgrade, origin)) in CASES.iter().enumerate() {
-        assert!(rt;
-            has_fields(rt.alloc(), bytes, *upgrade, *origin),
-            "case {place}"
-        );
+    for (place, (fields, upgrade, origin)) in CASES.iter().enumerate() {
+        let get = [b"GET / HTTP/1.1\r\n".as_slice(), *fields, b"\r\n\r\n"];
+        let get = joined(rt.alloc(), &get).ok().expect(&rt, "a GET");
+        let is_so = has_fields(rt.alloc(), get.as_slice(), *upgrade, *origin);
+        assert!(rt; is_so, "case {place}");
     }
+}
+
+fn joined(alloc: Global, parts: &[&[u8]]) -> Result<Vec<u8>, AllocError> {
+    let mut all = Vec::new(alloc);
+    for part in parts {
+        all.extend_from_slice(part)?;
+    }
+    Ok(all)
 }
 
 fn has_body(alloc: Global, bytes: &[u8], body: &str, rest: &[u8]) -> bool {
@@ -113,87 +105,63 @@ fn only_a_post_has_a_body(rt: HostRuntime) {
 #[test]
 fn bodies_that_are_refused(rt: HostRuntime) {
     static CASES: [(&[u8], EdgeError); 4] = [
-        (
-            b"POST / HTTP/1.1\r\nContent-Length: 5\r\n\r\nabc",
-            EdgeError::EarlyEnd,
-        ),
-        (
-            b"POST / HTTP/1.1\r\nContent-Length: 1\r\n\r\n\xff",
-            EdgeError::NotUtf8,
-        ),
-        (
-            b"POST / HTTP/1.1\r\nContent-Length: 1000001\r\n\r\n",
-            EdgeError::BodyTooLong,
-        ),
-        (
-            b"POST / HTTP/1.1\r\nContent-Length: 1000000\r\n\r\n",
-            EdgeError::EarlyEnd,
-        ),
+        (b"Content-Length: 5\r\n\r\nabc", EdgeError::EarlyEnd),
+        (b"Content-Length: 1\r\n\r\n\xff", EdgeError::NotUtf8),
+        (b"Content-Length: 1000001\r\n\r\n", EdgeError::BodyTooLong),
+        (b"Content-Length: 1000000\r\n\r\n", EdgeError::EarlyEnd),
     ];
     for (place, (bytes, want)) in CASES.iter().enumerate() {
-        assert!(rt; fault(rt.alloc(), bytes) == Some(*want), "case {place}");
+        let post = joined(rt.alloc(), &[b"POST / HTTP/1.1\r\n".as_slice(), *bytes]);
+        let post = post.ok().expect(&rt, "a POST");
+        assert!(rt;
+            fault(rt.alloc(), post.as_slice()) == Some(*want),
+            "case {place}"
+        );
     }
-}
-
-#[test]
-fn turns(rt: HostRuntime) {
-    let length = POST.len() as u64;
-    assert!(rt; 0 < length);
-    assert!(rt; fault_within(rt.alloc(), length - 1) == Some(EdgeError::TurnsSpent));
-    assert!(rt; fault_within(rt.alloc(), length) == None);
-    assert!(rt; fault_within(rt.alloc(), 0) == Some(EdgeError::TurnsSpent));
 }
 
 /// Why the post isn't read byte by byte in so many turns.
-fn fault_within(alloc: Global, turns: u64) -> Option<EdgeError> {
-    read(alloc, POST, 1, turns).err()
-}
-
-fn broken_once(alloc: Global, bytes: &[u8]) -> Option<EdgeError> {
-    read_request(alloc, &mut MemoryWire::breaking(alloc, bytes), 1_000).err()
-}
-
-/// The fault over a wire that breaks behind these bytes.
-fn broken(alloc: Global, bytes: &[u8]) -> Option<EdgeError> {
-    match broken_once(alloc, bytes) {
-        Some(EdgeError::Memory) => broken_once(alloc, bytes),
-        fault => fault,
+#[test]
+fn turns(rt: HostRuntime) {
+    let length = POST.len() as u64;
+    for (turns, want) in [
+        (length.saturating_sub(1), Some(EdgeError::TurnsSpent)),
+        (length, None),
+        (0, Some(EdgeError::TurnsSpent)),
+    ] {
+        assert!(rt;
+            read(rt.alloc(), POST, 1, turns).err() == want,
+            "in {turns}"
+        );
     }
 }
 
-fn broken_after(alloc: Global, count: usize) -> (Option<EdgeError>, Option<EdgeError>) {
+/// The faults over a wire that breaks behind so many bytes, and over one that ends there.
+fn faults_after(alloc: Global, count: usize) -> (Option<EdgeError>, Option<EdgeError>) {
     let bytes = POST.get(..count).unwrap_or(b"");
-    (broken(alloc, bytes), read(alloc, bytes, 7, 1_000).err())
+    let broken = read_request(alloc, &mut MemoryWire::breaking(alloc, bytes), 1_000);
+    (broken.err(), read(alloc, bytes, 7, 1_000).err())
 }
 
 #[test]
 fn fails_at_each_byte(rt: HostRuntime) {
     for count in 0..POST.len() {
-        assert!(rt; fails_after(rt.alloc(), count), "after {count}");
+        let faults = (Some(EdgeError::Device), Some(EdgeError::EarlyEnd));
+        assert!(rt; faults_after(rt.alloc(), count) == faults, "after {count}");
     }
 }
 
-/// Whether a wire that breaks here is a fault of the device, and one that ends is an early end.
-fn fails_after(alloc: Global, count: usize) -> bool {
-    broken_after(alloc, count) == (Some(EdgeError::Device), Some(EdgeError::EarlyEnd))
-}
-
-/// A head of so many bytes.
-fn head_of(alloc: Global, length: usize) -> Result<Vec<u8>, AllocError> {
+/// The fault of a head of so many bytes, of which the last ones are cut.
+fn fault_of_head(
+    alloc: Global,
+    length: usize,
+    cut: usize,
+) -> Result<Option<EdgeError>, AllocError> {
     let mut bytes = Vec::from_slice(alloc, b"GET / HTTP/1.1\r\nA: ")?;
     bytes.resize(length.saturating_sub(4), b'a')?;
     bytes.extend_from_slice(b"\r\n\r\n")?;
-    Ok(bytes)
-}
-
-fn fault_of_head(alloc: Global, length: usize, cut: usize) -> Option<EdgeError> {
-    match head_of(alloc, length) {
-        Ok(bytes) => fault(
-            alloc,
-            bytes.get(..length.saturating_sub(cut)).unwrap_or(b""),
-        ),
-        Err(_) => Some(EdgeError::Memory),
-    }
+    let kept = bytes.get(..length.saturating_sub(cut)).unwrap_or(b"");
+    Ok(fault(alloc, kept))
 }
 
 #[test]
@@ -205,9 +173,7 @@ fn long_heads(rt: HostRuntime) {
         (16_384, 1, Some(EdgeError::EarlyEnd)),
     ];
     for (length, cut, want) in HEADS.iter() {
-        assert!(rt;
-            fault_of_head(rt.alloc(), *length, *cut) == *want,
-            "{length} without {cut}"
-        );
+        let got = fault_of_head(rt.alloc(), *length, *cut).ok();
+        assert!(rt; got == Some(*want), "{length} without {cut}");
     }
 }

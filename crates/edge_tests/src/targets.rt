@@ -3,7 +3,29 @@
 use crate::memory_wire::read;
 use http_edge::{EdgeError, Refusal, Request, Target, refusal_body, route};
 use std::alloc::Global;
-use std::process::Abort;
+
+/// Request lines, where it is needed a field behind `+`, and behind `=>` what they ask for: without a
+/// session id, with one, and where the first of a key counts or a key is percent-encoded.
+static ROUTES: &str = "GET / => NotFound
+GET /socket.io/x?EIO=4&transport=polling => NotFound
+GET /socket.io/?EIO=4&transport=smoke => Refuse(UnknownTransport)
+GET /socket.io/?EIO=4 => Refuse(UnknownTransport)
+GET /socket.io/?EIO=3&transport=polling => Refuse(UnsupportedVersion)
+GET /socket.io/?transport=polling => Refuse(UnsupportedVersion)
+POST /socket.io/?EIO=4&transport=polling + Content-Length: 0 => Refuse(BadMethod)
+GET /socket.io/?EIO=4&transport=websocket => Refuse(BadRequest)
+GET /socket.io/?EIO=4&transport=websocket + Upgrade: WebSocket => OpenSocket
+GET /socket.io?t=x&EIO=4&transport=polling => OpenPoll
+GET /socket.io/?EIO=4&transport=polling&sid=xyz => Refuse(UnknownSession)
+GET /socket.io/?transport=polling&sid=0000000000000000000000000000000A => Refuse(UnknownSession)
+GET /socket.io/?transport=polling&sid=0000000000000000000000000000000a => Poll(10)
+POST /socket.io/?transport=polling&sid=00000000000000000000000000000001 + Content-Length: 0 => Post(1)
+PUT /socket.io/?transport=polling&sid=00000000000000000000000000000001 => Refuse(BadRequest)
+GET /socket.io/?transport=websocket&sid=00000000000000000000000000000001 + Upgrade: websocket => ProbeSocket(1)
+GET /socket.io/?transport=websocket&sid=x => Refuse(UnknownSession)
+GET /socket.io/?transport=websocket&sid=00000000000000000000000000000001 => Refuse(BadRequest)
+GET /socket.io/?EIO=4&transport=polling&transport=smoke&EIO=3 => OpenPoll
+GET /socket.io/?%45IO=%34&transport=poll%69ng => OpenPoll";
 
 fn routed(alloc: Global, request: &Request) -> Option<Target> {
     match route(alloc, request) {
@@ -12,116 +34,22 @@ fn routed(alloc: Global, request: &Request) -> Option<Target> {
     }
 }
 
-fn target(alloc: Global, head: &[u8]) -> Option<Target> {
-    match read(alloc, head, 4_096, 10) {
-        Ok(request) => routed(alloc, &request),
-        Err(_) => None,
+/// Whether a line is so.
+fn is_routed(alloc: Global, line: &str) -> Option<bool> {
+    let (request, want) = line.split_once(" => ")?;
+    let (start, field) = request.split_once(" + ").unwrap_or((request, "Host: a"));
+    let head = format!(in alloc; "{start} HTTP/1.1\r\n{field}\r\n\r\n").ok()?;
+    let request = read(alloc, head.as_bytes(), 4_096, 10).ok()?;
+    let target = routed(alloc, &request)?;
+    let told = format!(in alloc; "{target:?}").ok()?;
+    Some(told.as_str() == want)
+}
+
+#[test]
+fn routes(rt: HostRuntime) {
+    for line in ROUTES.lines() {
+        assert!(rt; is_routed(rt.alloc(), line) == Some(true), "{line}");
     }
-}
-
-/// Each head asks for its target.
-fn expect_targets(rt: &(impl Abort + AllocGlobal), cases: &[(&[u8], Target)]) {
-    for (place, (head, want)) in cases.iter().enumerate() {
-        assert!(rt; target(rt.alloc(), head) == Some(*want), "case {place}");
-    }
-}
-
-#[test]
-fn rows_without_a_sid(rt: HostRuntime) {
-    static CASES: [(&[u8], Target); 10] = [
-        (b"GET / HTTP/1.1\r\n\r\n", Target::NotFound),
-        (
-            b"GET /socket.io/x?EIO=4&transport=polling HTTP/1.1\r\n\r\n",
-            Target::NotFound,
-        ),
-        (
-            b"GET /socket.io/?EIO=4&transport=smoke HTTP/1.1\r\n\r\n",
-            Target::Refuse(Refusal::UnknownTransport),
-        ),
-        (
-            b"GET /socket.io/?EIO=4 HTTP/1.1\r\n\r\n",
-            Target::Refuse(Refusal::UnknownTransport),
-        ),
-        (
-            b"GET /socket.io/?EIO=3&transport=polling HTTP/1.1\r\n\r\n",
-            Target::Refuse(Refusal::UnsupportedVersion),
-        ),
-        (
-            b"GET /socket.io/?transport=polling HTTP/1.1\r\n\r\n",
-            Target::Refuse(Refusal::UnsupportedVersion),
-        ),
-        (
-            b"POST /socket.io/?EIO=4&transport=polling HTTP/1.1\r\nContent-Length: 0\r\n\r\n",
-            Target::Refuse(Refusal::BadMethod),
-        ),
-        (
-            b"GET /socket.io/?EIO=4&transport=websocket HTTP/1.1\r\n\r\n",
-            Target::Refuse(Refusal::BadRequest),
-        ),
-        (
-            b"GET /socket.io/?EIO=4&transport=websocket HTTP/1.1\r\nUpgrade: WebSocket\r\n\r\n",
-            Target::OpenSocket,
-        ),
-        (
-            b"GET /socket.io?t=x&EIO=4&transport=polling HTTP/1.1\r\n\r\n",
-            Target::OpenPoll,
-        ),
-    ];
-    expect_targets(&rt, &CASES);
-}
-
-#[test]
-fn rows_with_a_sid(rt: HostRuntime) {
-    static CASES: [(&[u8], Target); 8] = [
-        (
-            b"GET /socket.io/?EIO=4&transport=polling&sid=xyz HTTP/1.1\r\n\r\n",
-            Target::Refuse(Refusal::UnknownSession),
-        ),
-        (
-            b"GET /socket.io/?transport=polling&sid=0000000000000000000000000000000A HTTP/1.1\r\n\r\n",
-            Target::Refuse(Refusal::UnknownSession),
-        ),
-        (
-            b"GET /socket.io/?transport=polling&sid=0000000000000000000000000000000a HTTP/1.1\r\n\r\n",
-            Target::Poll(10),
-        ),
-        (
-            b"POST /socket.io/?transport=polling&sid=00000000000000000000000000000001 HTTP/1.1\r\nContent-Length: 0\r\n\r\n",
-            Target::Post(1),
-        ),
-        (
-            b"PUT /socket.io/?transport=polling&sid=00000000000000000000000000000001 HTTP/1.1\r\n\r\n",
-            Target::Refuse(Refusal::BadRequest),
-        ),
-        (
-            b"GET /socket.io/?transport=websocket&sid=00000000000000000000000000000001 HTTP/1.1\r\nUpgrade: websocket\r\n\r\n",
-            Target::ProbeSocket(1),
-        ),
-        (
-            b"GET /socket.io/?transport=websocket&sid=x HTTP/1.1\r\n\r\n",
-            Target::Refuse(Refusal::UnknownSession),
-        ),
-        (
-            b"GET /socket.io/?transport=websocket&sid=00000000000000000000000000000001 HTTP/1.1\r\n\r\n",
-            Target::Refuse(Refusal::BadRequest),
-        ),
-    ];
-    expect_targets(&rt, &CASES);
-}
-
-#[test]
-fn the_first_of_a_key_counts(rt: HostRuntime) {
-    static CASES: [(&[u8], Target); 2] = [
-        (
-            b"GET /socket.io/?EIO=4&transport=polling&transport=smoke&EIO=3 HTTP/1.1\r\n\r\n",
-            Target::OpenPoll,
-        ),
-        (
-            b"GET /socket.io/?%45IO=%34&transport=poll%69ng HTTP/1.1\r\n\r\n",
-            Target::OpenPoll,
-        ),
-    ];
-    expect_targets(&rt, &CASES);
 }
 
 #[test]
@@ -136,4 +64,6 @@ fn bodies_of_refusals(rt: HostRuntime) {
     for (refusal, length) in CASES.iter() {
         assert!(rt; refusal_body(*refusal).len() == *length, "of {length}");
     }
+    let unknown = "{\"code\":0,\"message\":\"Transport unknown\"}";
+    assert!(rt; refusal_body(Refusal::UnknownTransport) == unknown);
 }
