@@ -10,20 +10,14 @@ mod options;
 #[cfg(test)]
 mod pages;
 #[cfg(test)]
-mod polling;
+mod player;
 #[cfg(test)]
 mod pressure;
 #[cfg(test)]
 mod requests;
 #[cfg(test)]
-mod returning;
+mod scenes;
+#[cfg(test)]
+mod server;
 #[cfg(test)]
 mod sockets;
-#[cfg(test)]
-mod speaking;
-#[cfg(test)]
-mod spread;
-#[cfg(test)]
-mod stopping;
-#[cfg(test)]
-mod tasks;
