@@ -1,5 +1,5 @@
 -- What stood so that something came for it since its last look began doesn't rest.
-use Rattle.std.proofs.Common.{◌≡◌, ℕ, Bool, true, false, List, [], ◌∷◌, cond, refl, subst, nat_eq}
+use Rattle.std.proofs.Common.{◌≡◌, ℕ, Bool, true, false, ◌&&◌, List, [], ◌∷◌, cond, refl, subst, nat_eq}
 use Rattle.loop_rules.specs.declared.looks.LookState.{LookState}
 use Rattle.loop_rules.specs.declared.looks.LookState.TheVariants as state
 use Rattle.loop_rules.specs.declared.looks.Found.{Found}
@@ -9,25 +9,32 @@ use Rattle.loop_rules.specs.declared.looks.Pause.TheVariants as pause
 use Rattle.loop_rules.specs.declared.turns.Verdict.{Verdict}
 use Rattle.loop_rules.specs.declared.turns.Verdict.TheVariants as verdict
 use Rattle.loop_rules.specs.Turns.{verdict_for}
-use Rattle.loop_rules.specs.Looks.{is_awake, called, missed, paused, followed, going_on, is_dry, is_calm, finds_dry, has_looked, may_rest, Step, Comes, Misses, Begins, Follows, Pauses, state_after, was_dry, came_since_look, NeverRests}
+use Rattle.loop_rules.specs.Looks.{is_awake, called, begun, paused, followed, going_on, is_dry, is_calm, finds_dry, has_looked, may_rest, cuts, Step, Comes, Begins, Follows, Pauses, state_after, was_dry, is_under_way, came_since_look, NeverRests}
 
 awake-called : (s : LookState) → is_awake (called s) ≡ true
 awake-called state.Rests = refl
 awake-called state.Called = refl
-awake-called state.Missed = refl
+awake-called state.Again = refl
 awake-called state.Full = refl
 awake-called state.Early = refl
 awake-called (state.Looks dry) = refl
 awake-called (state.Stirred dry) = refl
 
-awake-missed : (s : LookState) → is_awake s ≡ true → is_awake (missed s) ≡ true
-awake-missed state.Called a = refl
-awake-missed state.Rests a = a
-awake-missed state.Missed a = a
-awake-missed state.Full a = a
-awake-missed state.Early a = a
-awake-missed (state.Looks dry) a = a
-awake-missed (state.Stirred dry) a = a
+-- it rests, or is called: no look is under way
+rests-or-called : LookState → Bool
+rests-or-called state.Rests = true
+rests-or-called state.Called = true
+rests-or-called _ = false
+
+awake-begun : (s : LookState) → is_awake s ≡ true → rests-or-called s ≡ false → is_awake (begun s) ≡ true
+unfolding rests-or-called
+awake-begun state.Rests a r = absurd (cc)
+awake-begun state.Called a r = absurd (cc)
+awake-begun state.Again a r = refl
+awake-begun state.Full a r = refl
+awake-begun state.Early a r = refl
+awake-begun (state.Looks dry) a r = absurd (cc)
+awake-begun (state.Stirred dry) a r = refl
 
 awake-paused : (s : LookState) (p : Pause) → is_awake s ≡ true → is_awake (paused s p) ≡ true
 awake-paused s pause.Full a = refl
@@ -36,7 +43,7 @@ awake-paused s pause.More a = refl
 awake-paused (state.Looks dry) pause.Done a = a
 awake-paused state.Rests pause.Done a = refl
 awake-paused state.Called pause.Done a = refl
-awake-paused state.Missed pause.Done a = refl
+awake-paused state.Again pause.Done a = refl
 awake-paused state.Full pause.Done a = refl
 awake-paused state.Early pause.Done a = refl
 awake-paused (state.Stirred dry) pause.Done a = refl
@@ -53,7 +60,7 @@ awake-followed state.Rests f left full a n = absurd (cc)
 awake-followed (state.Looks dry) f left full a n = absurd (cc)
 awake-followed s f left true a n = refl
 awake-followed state.Called f left false a n = goes-on (nat_eq left 0) state.Called f a n refl
-awake-followed state.Missed f left false a n = goes-on (nat_eq left 0) state.Missed f a n refl
+awake-followed state.Again f left false a n = goes-on (nat_eq left 0) state.Again f a n refl
 awake-followed state.Full f left false a n = goes-on (nat_eq left 0) state.Full f a n refl
 awake-followed state.Early f left false a n = goes-on (nat_eq left 0) state.Early f a n refl
 awake-followed (state.Stirred dry) f left false a n = goes-on (nat_eq left 0) (state.Stirred dry) f a n refl
@@ -63,18 +70,18 @@ dry-called (state.Looks dry) d = d
 dry-called (state.Stirred dry) d = d
 dry-called state.Rests d = absurd (cc)
 dry-called state.Called d = absurd (cc)
-dry-called state.Missed d = absurd (cc)
+dry-called state.Again d = absurd (cc)
 dry-called state.Full d = absurd (cc)
 dry-called state.Early d = absurd (cc)
 
-dry-missed : (s : LookState) → is_dry (missed s) ≡ true → is_dry s ≡ true
-dry-missed (state.Looks dry) d = d
-dry-missed (state.Stirred dry) d = d
-dry-missed state.Rests d = d
-dry-missed state.Called d = d
-dry-missed state.Missed d = d
-dry-missed state.Full d = d
-dry-missed state.Early d = d
+not-dry-begun : (s : LookState) → is_dry (begun s) ≡ false
+not-dry-begun state.Rests = refl
+not-dry-begun state.Called = refl
+not-dry-begun state.Again = refl
+not-dry-begun state.Full = refl
+not-dry-begun state.Early = refl
+not-dry-begun (state.Looks dry) = refl
+not-dry-begun (state.Stirred dry) = refl
 
 not-dry-paused : (s : LookState) (p : Pause) → is_dry (paused s p) ≡ false
 not-dry-paused s pause.Full = refl
@@ -98,8 +105,7 @@ dry : (h : List Step) → is_dry (state_after h) ≡ true → was_dry h ≡ true
 unfolding state_after was_dry
 dry [] d = absurd (cc)
 dry (Comes ∷ h) d = dry h (dry-called (state_after h) d)
-dry (Misses ∷ h) d = dry h (dry-missed (state_after h) d)
-dry (Begins ∷ h) d = absurd (cc)
+dry (Begins ∷ h) d = absurd (cc (not-dry-begun (state_after h)))
 dry (Follows f left full ∷ h) d = dry-followed (state_after h) f (verdict_for left (may_rest (state_after h) f) full) d
 dry (Pauses p ∷ h) d = absurd (cc (not-dry-paused (state_after h) p))
 
@@ -115,13 +121,93 @@ came-still : (over came : Bool) → cond over false came ≡ true → (over ≡ 
 came-still true came c = absurd (cc)
 came-still false came c = (refl, c)
 
+called-start : (s : LookState) → rests-or-called (called s) ≡ true → rests-or-called s ≡ true
+unfolding rests-or-called
+called-start state.Rests r = refl
+called-start state.Called r = refl
+called-start state.Again r = absurd (cc)
+called-start state.Full r = absurd (cc)
+called-start state.Early r = absurd (cc)
+called-start (state.Looks dry) r = absurd (cc)
+called-start (state.Stirred dry) r = absurd (cc)
+
+begun-looks : (s : LookState) → rests-or-called (begun s) ≡ false
+unfolding rests-or-called
+begun-looks state.Rests = refl
+begun-looks state.Called = refl
+begun-looks state.Again = refl
+begun-looks state.Full = refl
+begun-looks state.Early = refl
+begun-looks (state.Looks dry) = refl
+begun-looks (state.Stirred dry) = refl
+
+going-on-under-way : (over calm dry : Bool) → rests-or-called (cond over (state.Looks false) (cond calm (state.Looks dry) (state.Stirred dry))) ≡ false
+unfolding rests-or-called
+going-on-under-way true calm dry = refl
+going-on-under-way false true dry = refl
+going-on-under-way false false dry = refl
+
+followed-under-way : (s : LookState) (f : Found) (full spent : Bool)
+    → rests-or-called (followed s f (cond full verdict.Held (cond spent verdict.Again verdict.GoesOn))) ≡ false
+unfolding rests-or-called
+followed-under-way s f true spent = refl
+followed-under-way s f false true = refl
+followed-under-way s f false false = going-on-under-way (has_looked (is_dry s) f) (is_calm s) (finds_dry f)
+
+-- one that rests after an answer has looked
+rests-over : (calm over full spent : Bool) (s : LookState) (f : Found)
+    → rests-or-called (followed s f (cond full verdict.Held (cond (calm && over) verdict.Rests (cond spent verdict.Again verdict.GoesOn)))) ≡ true → over ≡ true
+rests-over calm true full spent s f r = refl
+rests-over true false full spent s f r = absurd (cc (followed-under-way s f full spent))
+rests-over false false full spent s f r = absurd (cc (followed-under-way s f full spent))
+
+over-still : (kept was : Bool) (f : Found) → (kept ≡ true → was ≡ true) → has_looked kept f ≡ true → has_looked was f ≡ true
+over-still kept was found.Idle k o = refl
+over-still kept was found.More k o = absurd (cc)
+over-still kept was found.Dry k o = absurd (cc)
+over-still kept was found.Quiet k o = k o
+
+cut-full : rests-or-called state.Full ≡ true → ⊥
+unfolding rests-or-called
+cut-full r = cc
+
+cut-early : rests-or-called state.Early ≡ true → ⊥
+unfolding rests-or-called
+cut-early r = cc
+
+-- no look is under way of one that rests or is called
+start : (h : List Step) → rests-or-called (state_after h) ≡ true → is_under_way h ≡ false
+unfolding state_after is_under_way
+start [] r = refl
+start (Comes ∷ h) r = start h (called-start (state_after h) r)
+start (Begins ∷ h) r = absurd (cc (begun-looks (state_after h)))
+start (Follows f left full ∷ h) r =
+    let over : has_looked (is_dry (state_after h)) f ≡ true =
+        rests-over (is_calm (state_after h)) (has_looked (is_dry (state_after h)) f) full (nat_eq left 0) (state_after h) f r in
+    let was : has_looked (was_dry h) f ≡ true = over-still (is_dry (state_after h)) (was_dry h) f (dry h) over in
+    rw was refl
+start (Pauses pause.Done ∷ h) r = refl
+start (Pauses pause.More ∷ h) r = refl
+start (Pauses pause.Full ∷ h) r = absurd (cut-full r)
+start (Pauses pause.Early ∷ h) r = absurd (cut-early r)
+
+both : (a b : Bool) → a && b ≡ true → (a ≡ true) × (b ≡ true)
+both true b h = (refl, h)
+both false b h = absurd (cc)
+
+not-start : (r u : Bool) → (r ≡ true → u ≡ false) → u ≡ true → r ≡ false
+not-start true u none way = absurd (cc (none refl))
+not-start false u none way = refl
+
 -- where something came since the last look began, the connection is awake
 pub awake : (h : List Step) → came_since_look h ≡ true → is_awake (state_after h) ≡ true
 unfolding state_after came_since_look
 awake [] c = absurd (cc)
 awake (Comes ∷ h) c = awake-called (state_after h)
-awake (Misses ∷ h) c = awake-missed (state_after h) (awake h c)
-awake (Begins ∷ h) c = absurd (cc)
+awake (Begins ∷ h) c =
+    let parts : (is_under_way h ≡ true) × (came_since_look h ≡ true) = both (is_under_way h) (came_since_look h) c in
+    awake-begun (state_after h) (awake h parts.1)
+    (not-start (rests-or-called (state_after h)) (is_under_way h) (start h) parts.0)
 awake (Follows f left full ∷ h) c =
     let still : (has_looked (was_dry h) f ≡ false) × (came_since_look h ≡ true) = came-still (has_looked (was_dry h) f) (came_since_look h) c in
     awake-followed (state_after h) f left full (awake h still.1)
@@ -137,8 +223,17 @@ never old new stays h is came rests =
 pub never_called : (s : LookState) → NeverRests s (called s)
 never_called s = never s (called s) (λ a. awake-called s)
 
-pub never_missed : (s : LookState) → NeverRests s (missed s)
-never_missed s = never s (missed s) (awake-missed s)
+begun-not-resting : (s : LookState) → begun s ≡ state.Rests → ⊥
+begun-not-resting state.Rests r = cc
+begun-not-resting state.Called r = cc
+begun-not-resting state.Again r = cc
+begun-not-resting state.Full r = cc
+begun-not-resting state.Early r = cc
+begun-not-resting (state.Looks dry) r = cc
+begun-not-resting (state.Stirred dry) r = cc
+
+pub never_begun : (s : LookState) → NeverRests s (begun s)
+never_begun s h is came rests = begun-not-resting s rests
 
 pub never_paused : (s : LookState) (p : Pause) → NeverRests s (paused s p)
 never_paused s p = never s (paused s p) (awake-paused s p)
@@ -146,7 +241,7 @@ never_paused s p = never s (paused s p) (awake-paused s p)
 awake-not-calm : (s : LookState) → is_awake s ≡ true → is_calm s ≡ false
 awake-not-calm state.Rests a = refl
 awake-not-calm state.Called a = refl
-awake-not-calm state.Missed a = refl
+awake-not-calm state.Again a = refl
 awake-not-calm state.Full a = refl
 awake-not-calm state.Early a = refl
 awake-not-calm (state.Looks dry) a = absurd (cc)

@@ -16,27 +16,33 @@ use Rattle.loop_rules.specs.Turns.{verdict_for}
 abbrev pub first : LookState
 first = state.Rests
 
--- something came: one in its turn looks once more, and any other is called to its turn
+-- something came: one that rested is called, one in its turn looks once more, and any other goes on with
+-- its look, and then looks once more
 abbrev pub called : LookState → LookState
+called state.Rests = state.Called
+called state.Called = state.Called
 called (state.Looks dry) = state.Stirred dry
 called (state.Stirred dry) = state.Stirred dry
-called _ = state.Called
+called _ = state.Again
 
--- then it is put into the queue, unless it stands there, or it is its turn
+-- it stands in the queue
+abbrev pub is_queued : LookState → Bool
+is_queued state.Called = true
+is_queued state.Again = true
+is_queued _ = false
+
+-- something came for one that is to be put into the queue: it stands there not, and it isn't its turn
 abbrev pub is_to_queue : LookState → Bool
-is_to_queue state.Called = false
-is_to_queue (state.Looks dry) = false
-is_to_queue (state.Stirred dry) = false
-is_to_queue _ = true
+is_to_queue state.Rests = true
+is_to_queue state.Full = true
+is_to_queue state.Early = true
+is_to_queue _ = false
 
--- there was no memory to queue it
-abbrev pub missed : LookState → LookState
-missed state.Called = state.Missed
-missed s = s
-
--- its turn begins, and with it a look
-abbrev pub begun : LookState
-begun = state.Looks false
+-- its turn begins: so does a look, unless one is under way; then it looks once more after it
+abbrev pub begun : LookState → LookState
+begun state.Rests = state.Looks false
+begun state.Called = state.Looks false
+begun _ = state.Stirred false
 
 abbrev pub is_dry : LookState → Bool
 is_dry (state.Looks dry) = dry
@@ -46,10 +52,6 @@ is_dry _ = false
 abbrev pub is_calm : LookState → Bool
 is_calm (state.Looks dry) = true
 is_calm _ = false
-
-abbrev pub is_called : LookState → Bool
-is_called state.Called = true
-is_called _ = false
 
 -- a look is over where nothing was due after a stream was found dry, or where there is nothing to do
 abbrev pub has_looked : Bool → Found → Bool
@@ -75,10 +77,10 @@ going_on s f =
 abbrev pub followed : LookState → Found → Verdict → LookState
 followed s f verdict.Rests = state.Rests
 followed s f verdict.Held = state.Full
-followed s f verdict.Again = state.Called
+followed s f verdict.Again = state.Again
 followed s f verdict.GoesOn = going_on s f
 
--- a turn is over in which no event was answered
+-- a turn is over in which no event was answered last
 abbrev pub paused : LookState → Pause → LookState
 paused s pause.Full = state.Full
 paused s pause.Early = state.Early
@@ -97,7 +99,6 @@ is_awake _ = true
 -- too much unsent
 pub data Step : Type 0 where
   Comes : Step
-  Misses : Step
   Begins : Step
   Follows : Found → ℕ → Bool → Step
   Pauses : Pause → Step
@@ -106,25 +107,37 @@ pub data Step : Type 0 where
 unfoldable pub state_after : List Step → LookState
 state_after [] = first
 state_after (Comes ∷ h) = called (state_after h)
-state_after (Misses ∷ h) = missed (state_after h)
-state_after (Begins ∷ h) = begun
+state_after (Begins ∷ h) = begun (state_after h)
 state_after (Follows f left full ∷ h) =
     followed (state_after h) f (verdict_for left (may_rest (state_after h) f) full)
 state_after (Pauses p ∷ h) = paused (state_after h) p
 
--- in its present look the last answer but for what came has found the stream dry
+-- in its present turn the last answer but for what came has found the stream dry
 unfoldable pub was_dry : List Step → Bool
 was_dry (Follows f left full ∷ h) = finds_dry f
 was_dry (Comes ∷ h) = was_dry h
-was_dry (Misses ∷ h) = was_dry h
 was_dry _ = false
 
--- something came since the last look began: one begins with each turn, and where one is over
+-- a look is cut in two where its turn ends before its bytes have gone, or its moment has come
+abbrev pub cuts : Pause → Bool
+cuts pause.Full = true
+cuts pause.Early = true
+cuts _ = false
+
+-- a look is under way: some of its events were answered, and it isn't over. Only then does a turn go on
+-- with one, and else a look begins with it
+unfoldable pub is_under_way : List Step → Bool
+is_under_way [] = false
+is_under_way (Comes ∷ h) = is_under_way h
+is_under_way (Begins ∷ h) = is_under_way h
+is_under_way (Follows f left full ∷ h) = cond (has_looked (was_dry h) f) false true
+is_under_way (Pauses p ∷ h) = cuts p && is_under_way h
+
+-- something came since the last look began: one begins with a turn, and where one is over
 unfoldable pub came_since_look : List Step → Bool
 came_since_look [] = false
 came_since_look (Comes ∷ h) = true
-came_since_look (Misses ∷ h) = came_since_look h
-came_since_look (Begins ∷ h) = false
+came_since_look (Begins ∷ h) = is_under_way h && came_since_look h
 came_since_look (Follows f left full ∷ h) = cond (has_looked (was_dry h) f) false (came_since_look h)
 came_since_look (Pauses p ∷ h) = came_since_look h
 

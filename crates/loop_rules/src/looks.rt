@@ -13,10 +13,10 @@ use std::marker::Model;
 pub enum LookState {
     /// It has looked at all that came, and rests until something comes.
     Rests,
-    /// Something came, or it has more to do: it stands in the queue.
+    /// Something came while it rested: it stands in the queue, and its look begins with its turn.
     Called,
-    /// So it should, but there was no memory to queue it.
-    Missed,
+    /// It stands in the queue while a look is under way: it goes on with that, and then looks once more.
+    Again,
     /// It is not served until its bytes have gone.
     Full,
     /// It is not served until its moment has come.
@@ -107,23 +107,31 @@ impl LookState {
         self.is_calm() && has_looked(self.is_dry(), found)
     }
 
+    /// Whether it stands in the queue.
+    pub fn is_queued(self) -> bool
+        ensures { result ≡ looks.is_queued self }
+    {
+        matches!(self, LookState::Called | LookState::Again)
+    }
+
     /// Something came.
     fn called(self) -> LookState
         ensures { result ≡ looks.called self }
     {
         match self {
+            LookState::Rests | LookState::Called => LookState::Called,
             LookState::Looks { dry } | LookState::Stirred { dry } => LookState::Stirred { dry },
-            _ => LookState::Called,
+            LookState::Again | LookState::Full | LookState::Early => LookState::Again,
         }
     }
 
-    /// There was no memory to queue it.
-    fn missed(self) -> LookState
-        ensures { result ≡ looks.missed self }
+    /// Its turn begins.
+    fn begun(self) -> LookState
+        ensures { result ≡ looks.begun self }
     {
         match self {
-            LookState::Called => LookState::Missed,
-            other => other,
+            LookState::Rests | LookState::Called => LookState::Looks { dry: false },
+            _ => LookState::Stirred { dry: false },
         }
     }
 
@@ -134,7 +142,7 @@ impl LookState {
         match verdict {
             Verdict::Rests => LookState::Rests,
             Verdict::Held => LookState::Full,
-            Verdict::Again => LookState::Called,
+            Verdict::Again => LookState::Again,
             Verdict::GoesOn => self.going_on(found),
         }
     }
@@ -166,7 +174,7 @@ impl LookState {
     }
 }
 
-#[tactic(auto, using(crate::proofs::LookLemmas::never_called, crate::proofs::LookLemmas::never_missed))]
+#[tactic(auto, using(crate::proofs::LookLemmas::never_called, crate::proofs::LookLemmas::never_begun))]
 impl Look {
     /// Nothing came yet.
     pub fn new() -> Look
@@ -192,22 +200,15 @@ impl Look {
     {
         let old = self.state;
         self.state = old.called();
-        self.state == LookState::Called && old != LookState::Called
+        self.state.is_queued() && !old.is_queued()
     }
 
-    /// There was no memory to queue it.
-    pub fn miss(&mut self)
-        ensures state { self.new ≡ looks.missed self.old }
+    /// Its turn begins, and with it a look, unless one is under way.
+    pub fn begin(&mut self)
+        ensures state { self.new ≡ looks.begun self.old }
         ensures law { NeverRests self.old self.new }
     {
-        self.state = self.state.missed();
-    }
-
-    /// Its turn begins, and with it a look.
-    pub fn begin(&mut self)
-        ensures { self.new ≡ looks.begun }
-    {
-        self.state = LookState::Looks { dry: false };
+        self.state = self.state.begun();
     }
 
     /// An event was answered. Answers what follows, where it has too much unsent or not.
@@ -224,11 +225,11 @@ impl Look {
 
     /// Its turn is over, and no event was answered. Answers whether it is to be put into the queue.
     pub fn pause(&mut self, pause: Pause) -> bool
-        ensures queue { result ≡ looks.is_called self.new }
+        ensures queue { result ≡ looks.is_queued self.new }
         ensures state { self.new ≡ looks.paused self.old pause }
         ensures law { NeverRests self.old self.new }
     {
         self.state = self.state.paused(pause);
-        self.state == LookState::Called
+        self.state.is_queued()
     }
 }
