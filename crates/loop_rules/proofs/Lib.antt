@@ -1,1 +1,4 @@
 mod LookLemmas
+mod NotesLemmas
+mod RosterLemmas
+mod RotaLemmas

@@ -183,7 +183,7 @@ start (Comes ∷ h) r = start h (called-start (state_after h) r)
 start (Begins ∷ h) r = absurd (cc (begun-looks (state_after h)))
 start (Follows f left full ∷ h) r =
     let over : has_looked (is_dry (state_after h)) f ≡ true =
-        rests-over (is_calm (state_after h)) (has_looked (is_dry (state_after h)) f) full (nat_eq left 0) (state_after h) f r in
+    rests-over (is_calm (state_after h)) (has_looked (is_dry (state_after h)) f) full (nat_eq left 0) (state_after h) f r in
     let was : has_looked (was_dry h) f ≡ true = over-still (is_dry (state_after h)) (was_dry h) f (dry h) over in
     rw was refl
 start (Pauses pause.Done ∷ h) r = refl

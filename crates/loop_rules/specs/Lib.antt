@@ -2,5 +2,10 @@ pub mod Deadlines
 pub mod Frames
 pub mod Ids
 pub mod Looks
+pub mod Mailboxes
+pub mod Notes
 pub mod Owners
+pub mod Rosters
+pub mod Rotas
+pub mod Takers
 pub mod Turns

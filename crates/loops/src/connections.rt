@@ -1,12 +1,17 @@
 //! The connections of a loop, and which of them have something to do.
 
-use crate::link::{Connection, Mode, Sent, Stream};
-use loop_rules::{Overdue, Part, find_overdue};
+ghost use Rattle.std.specs.Prelude.{IsTrue};
+ghost use Rattle.loop_rules.specs.Rotas.{IsQuiet};
+
+use crate::connection::{Connection, Mode, Sent};
+use crate::stage::Stream;
+use dispatch::Outcome;
+use effects::CoreError;
+use loop_rules::{LookState, Overdue, Part, Pause, Roster, Turn, Verdict, find_overdue};
 use mio::Token;
 use mio::event::Event;
 use slab::Slab;
 use std::alloc::Global;
-use std::collections::{HashMap, VecDeque};
 use std::rt::Clock;
 
 /// The token of the loop's own bell.
@@ -17,15 +22,11 @@ pub(crate) const BELL: Token = Token(usize::MAX);
 pub(crate) struct Connections<R> {
     slots: Slab<Box<Connection<R>>>,
     generation: u32,
-    /// The connection to which what is put for a client goes.
-    takers: HashMap<u128, usize>,
-    /// Those that have something to do.
-    ready: VecDeque<usize>,
-    /// Those that have more to do at the next turn of the loop.
-    again: Vec<usize>,
+    /// Those that have something to do, and the clients that are listed with theirs.
+    pub(crate) roster: Roster,
     /// Those that may have bytes to send.
     unsent: Vec<usize>,
-    /// There was no memory to queue one.
+    /// There was no memory to note one that has bytes to send.
     overlooked: bool,
 }
 
@@ -40,9 +41,7 @@ impl<R: Clock + Drop> Connections<R> {
         Connections {
             slots: Slab::new(alloc),
             generation: 0,
-            takers: HashMap::new(alloc),
-            ready: VecDeque::new(alloc),
-            again: Vec::new(alloc),
+            roster: Roster::new(alloc),
             unsent: Vec::new(alloc),
             overlooked: false,
         }
@@ -67,6 +66,9 @@ impl<R: Clock + Drop> Connections<R> {
 
     /// Adds a connection, for which the next token was given. None where there is no memory for it.
     pub(crate) fn add(&mut self, connection: Box<Connection<R>>) -> Option<usize> {
+        if !self.roster.rota.admit(self.slots.vacant_key()) {
+            return None;
+        }
         self.slots.insert(connection).ok()
     }
 
@@ -79,8 +81,9 @@ impl<R: Clock + Drop> Connections<R> {
     /// Takes a connection out.
     pub(crate) fn remove(&mut self, key: usize) -> Option<Box<Connection<R>>> {
         let connection = self.slots.try_remove(key)?;
-        if let Some(client) = connection.client() {
-            self.release(client, key);
+        self.roster.rota.dismiss(key);
+        if let Some(client) = connection.stage.client() {
+            self.roster.takers.release(client, key);
         }
         Some(connection)
     }
@@ -88,100 +91,60 @@ impl<R: Clock + Drop> Connections<R> {
     /// Takes a connection out whose request was read, and leaves its stream of it.
     pub(crate) fn take_stream(&mut self, key: usize) -> Option<Stream> {
         let mut connection = self.remove(key)?;
-        connection.take_stream()
+        connection.stage.take_stream()
     }
 
     /// What is put for this client goes to this connection from now on.
     pub(crate) fn settle(&mut self, client: u128, key: usize) {
-        self.wake(client);
-        if self.takers.insert(client, key).is_err() {
-            self.overlooked = true;
-        }
+        self.roster.wake(client);
+        self.roster.takers.list(client, key);
     }
 
-    /// Nothing that is put for this client goes to this connection any more.
-    pub(crate) fn release(&mut self, client: u128, key: usize) {
-        if self.is_taker(client, key) {
-            let _ = self.takers.remove(&client);
-        }
-    }
-
-    /// Whether what is put for this client goes to this connection.
-    pub(crate) fn is_taker(&self, client: u128, key: usize) -> bool {
-        match self.takers.get(&client) {
-            Some(taker) => *taker == key,
-            None => false,
-        }
-    }
-
-    /// Queues the connection to which what is put for this client goes.
-    pub(crate) fn wake(&mut self, client: u128) {
-        let Some(taker) = self.takers.get(&client) else {
-            return;
-        };
-        let key = *taker;
-        self.queue(key);
-    }
-
-    /// Queues all connections.
-    pub(crate) fn wake_all(&mut self) {
-        for key in 0..self.keys_below() {
-            self.queue(key);
-        }
-    }
-
-    /// Whether one was to be queued for which there was no memory. It is told once.
-    pub(crate) fn has_overlooked(&mut self) -> bool {
-        let overlooked = self.overlooked;
-        self.overlooked = false;
-        overlooked
-    }
-
-    /// Queues a connection, once.
-    pub(crate) fn queue(&mut self, key: usize) {
-        let Some(connection) = self.slots.get_mut(key) else {
-            return;
-        };
-        connection.stirred = true;
-        if connection.queued {
-            return;
-        }
-        connection.queued = self.ready.push_back(key).is_ok();
-        self.overlooked |= !connection.queued;
-    }
-
-    /// Queues a connection for the next turn of the loop.
-    pub(crate) fn queue_again(&mut self, key: usize) {
-        let Some(connection) = self.slots.get_mut(key) else {
-            return;
-        };
-        if connection.queued {
-            return;
-        }
-        connection.queued = self.again.push(key).is_ok();
-        self.overlooked |= !connection.queued;
-    }
-
-    /// The next turn of the loop begins: those that have more to do are queued.
-    pub(crate) fn begin_turn(&mut self) {
-        for key in self.again.drain(..) {
-            self.overlooked |= self.ready.push_back(key).is_err();
+    /// Queues all connections, where all are to be looked at, or one was overlooked for which there was no
+    /// memory.
+    pub(crate) fn call_missed(&mut self, everyone: bool) {
+        if self.overlooked || everyone {
+            self.overlooked = false;
+            self.roster.rota.call_all();
         }
     }
 
     /// Whether none has something to do.
-    pub(crate) fn is_quiet(&self) -> bool {
-        self.ready.is_empty() && !self.overlooked
+    pub(crate) fn is_quiet(&self) -> bool
+        ensures { IsTrue result → IsQuiet self.now.roster.rota }
+    {
+        self.roster.rota.is_quiet() && !self.overlooked
     }
 
-    /// The next one that has something to do.
-    pub(crate) fn pop(&mut self) -> Option<usize> {
-        let key = self.ready.pop_front()?;
-        if let Some(connection) = self.get_mut(key) {
-            connection.queued = false;
-            connection.begin();
+    /// Queues a connection: something came for it.
+    pub(crate) fn queue(&mut self, key: usize) {
+        self.roster.rota.call(key);
+    }
+
+    /// The turn of a connection is over, and no event was answered last.
+    pub(crate) fn pause(&mut self, key: usize, pause: Pause) {
+        self.roster.rota.pause(key, pause);
+    }
+
+    /// An event of a connection was answered in its turn. Answers what follows.
+    pub(crate) fn follow(
+        &mut self,
+        key: usize,
+        turn: &mut Turn,
+        got: &Result<Outcome, CoreError>,
+        now: u64,
+    ) -> Verdict {
+        let Some(connection) = self.get_mut(key) else {
+            return Verdict::Rests;
+        };
+        match connection.hear(got, now) {
+            Some(found) => {
+                let full = connection.is_full();
+                self.roster.rota.follow(key, turn, found, full)
+            }
+            // Its next event tells so.
+            None => Verdict::GoesOn,
         }
-        Some(key)
     }
 
     /// It may have bytes to send.
@@ -194,6 +157,14 @@ impl<R: Clock + Drop> Connections<R> {
         }
         connection.unsent = self.unsent.push(key).is_ok();
         self.overlooked |= !connection.unsent;
+    }
+
+    /// Whether a connection brought all that it read, and its stream has no more, as far as is known.
+    pub(crate) fn has_brought_all(&mut self, key: usize) -> bool {
+        match self.get_mut(key) {
+            Some(connection) => connection.has_brought_all(),
+            None => false,
+        }
     }
 
     /// Whether a connection has so much to send that it is to be sent at once.
@@ -220,11 +191,22 @@ impl<R: Clock + Drop> Connections<R> {
         };
         match connection.send(now) {
             Sent::Nothing => false,
+            Sent::Fits => {
+                self.resume(key);
+                false
+            }
             Sent::Queue => {
                 self.queue(key);
                 false
             }
             Sent::Remove => true,
+        }
+    }
+
+    /// So many bytes of a connection have gone that it may be served: it is queued, if it waits for that.
+    fn resume(&mut self, key: usize) {
+        if self.roster.rota.look(key) == LookState::Full {
+            self.queue(key);
         }
     }
 
@@ -257,15 +239,20 @@ impl<R: Clock + Drop> Connections<R> {
         }
     }
 
+    /// Whether what is put for this client goes to this connection.
+    pub(crate) fn is_taker(&self, client: u128, key: usize) -> bool {
+        self.roster.takers.is_taker(client, key)
+    }
+
     /// Whose connection it is, once that is known.
     pub(crate) fn client(&self, key: usize) -> Option<u128> {
-        self.slots.get(key)?.client()
+        self.slots.get(key)?.stage.client()
     }
 
     /// Whether the connection is a WebSocket.
     pub(crate) fn is_socket(&self, key: usize) -> bool {
         match self.slots.get(key) {
-            Some(connection) => connection.is_socket(),
+            Some(connection) => connection.stage.is_socket(),
             None => false,
         }
     }
@@ -315,14 +302,16 @@ impl<R: Clock + Drop> Connections<R> {
             Mode::Loses | Mode::Closes => return Part::Sends,
             Mode::Lingers => return Part::Ends,
         }
-        if connection.is_gathering() {
+        if connection.stage.is_gathering() {
             return Part::Request;
         }
-        if connection.is_waiting() {
+        if connection.stage.is_waiting() {
             return Part::Waits;
         }
-        match connection.client() {
-            Some(client) if connection.is_socket() && !self.is_taker(client, key) => Part::Knocks,
+        match connection.stage.client() {
+            Some(client) if connection.stage.is_socket() && !self.is_taker(client, key) => {
+                Part::Knocks
+            }
             _ => Part::Served,
         }
     }

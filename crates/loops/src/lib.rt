@@ -3,20 +3,26 @@
 #![tactic(auto)]
 
 mod acceptor;
+mod answers;
 mod buffered;
+mod connection;
 mod connections;
+mod delays;
 mod download;
 mod drawn;
 mod event_loop;
 mod fault;
 mod inbox;
 mod keeper;
-mod link;
 mod news;
 mod outbound;
+mod progress;
+mod reading;
+mod requests;
 mod server;
 mod settings;
 mod shared;
+mod stage;
 mod watch;
 mod worker;
 

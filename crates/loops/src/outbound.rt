@@ -1,56 +1,43 @@
-//! Clients of other loops for which something was put.
+//! What a loop tells the others.
 
 use crate::inbox::Inbox;
+use loop_rules::Notes;
 use std::alloc::{AllocError, Global};
 use std::sync::Wait;
 
 /// Clients of other loops, to be told once a turn.
 #[derive(Drop)]
 pub(crate) struct Outbound {
-    lists: Vec<Vec<u128>>,
-    /// There was no memory for one: each loop is to look at all of its connections.
-    overlooked: bool,
+    pub(crate) notes: Notes,
 }
 
 impl Outbound {
     /// Nobody yet, for so many loops.
     pub(crate) fn new(alloc: Global, loops: usize) -> Result<Outbound, AllocError> {
-        let mut lists = Vec::new(alloc);
-        for _ in 0..loops {
-            lists.push(Vec::new(alloc))?;
-        }
         Ok(Outbound {
-            lists,
-            overlooked: false,
+            notes: Notes::new(alloc, loops)?,
         })
     }
 
     /// Notes a client of this loop.
     pub(crate) fn note(&mut self, number: usize, client: u128) {
-        match self.lists.get_mut(number) {
-            Some(list) => {
-                if list.push(client).is_err() {
-                    self.overlooked = true;
-                }
-            }
-            None => {}
-        }
+        self.notes.note(number, client);
     }
 
     /// Each loop is to look at all of its connections.
     pub(crate) fn note_everyone(&mut self) {
-        self.overlooked = true;
+        self.notes.everyone = true;
     }
 
     /// Tells the loops.
     pub(crate) fn send(&mut self, rt: &impl Wait, inboxes: &[Inbox]) {
-        for (inbox, list) in inboxes.iter().zip(self.lists.iter_mut()) {
-            if self.overlooked {
+        for (inbox, list) in inboxes.iter().zip(self.notes.lists.iter_mut()) {
+            if self.notes.everyone {
                 inbox.wake_everyone(rt);
             }
             tell(rt, inbox, list);
         }
-        self.overlooked = false;
+        self.notes.everyone = false;
     }
 }
 

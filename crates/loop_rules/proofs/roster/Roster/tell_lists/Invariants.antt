@@ -1,0 +1,8 @@
+use Rattle.std.proofs.Common.{◌≡◌, ℕ, ◌<◌, length, slice_index_or, map, []}
+use Rattle.loop_rules.specs.Rosters.{AreTold}
+use Rattle.loop_rules.proofs.roster.Roster.tell_lists.Given as goal
+
+-- all of the lists before this one are told
+abbrev pub invariant-loop-list : goal.invariant-loop-list
+invariant-loop-list l =
+    (k : ℕ) → k < l.list-index → AreTold l.own l.loops (slice_index_or (map (λ ids. ids.items) l.lists) k []) l.self l.notes

@@ -1,0 +1,20 @@
+use Rattle.std.proofs.Common.{rules, ◌≡◌, ◌≤◌, ◌<◌, ◌++◌, true, false, ℕ, IsTrue, length, ◌+◌, Bool, List, [], ◌∷◌, refl, arith, ap, sym, ◌∙◌}
+use Rattle.std.proofs.lemmas.List.{get_or_read}
+use Rattle.loop_rules.specs.declared.looks.LookState.TheVariants as state
+use Rattle.loop_rules.specs.Looks.{is_queued, may_rest, is_to_queue}
+use Rattle.loop_rules.specs.Rotas as rotas
+use Rattle.loop_rules.specs.Rotas.{look_of, will_look, has_turn}
+use Rattle.loop_rules.proofs.RotaLemmas.{room, to_queue_isnt_queued}
+use Rattle.loop_rules.proofs.rota.Rota.call.Goals as goal
+
+-- src/rota.rt
+pub push_back_reserved-requires : goal.push_back_reserved-requires
+push_back_reserved-requires c =
+    let below : c.args.key < length c.self.inside.looks.items = omega arith in
+    let at : c.index.result.now ≡ look_of c.self.inside.looks.items c.args.key =
+    get_or_read c.self.inside.looks.items c.args.key c.index.result.now below c.index.ensures state.Rests in
+    let to : is_to_queue c.index.result.now ≡ true = cc in
+    let out : is_queued (look_of c.self.inside.looks.items c.args.key) ≡ false =
+    rw (← at) (to_queue_isnt_queued c.index.result.now to) in
+    let fits = room c.self.inside.looks.items _ _ _ _ c.args.key c.self.invariant below out in
+    omega (arith, fits.0)

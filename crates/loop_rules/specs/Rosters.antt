@@ -1,0 +1,33 @@
+-- Who is woken where something was put for clients.
+use Rattle.std.specs.Prelude.{◌≡◌, ℕ, ◌<◌, Bool, true, false, Option, None, Some, nat_eq, List, length, slice_index_or}
+use Rattle.loop_rules.specs.declared.looks.LookState.{LookState}
+use Rattle.loop_rules.specs.declared.roster.Roster.{Roster}
+use Rattle.loop_rules.specs.declared.notes.Notes.{Notes}
+use Rattle.loop_rules.specs.Ids.{loop_of}
+use Rattle.loop_rules.specs.Notes.{is_noted}
+use Rattle.loop_rules.specs.Rotas.{look_of, will_look}
+use Rattle.loop_rules.specs.Takers.{taker_of}
+
+-- the connection to which what is put for a client goes will look, if there is one here; where there was no
+-- memory to list some, all will
+abbrev pub IsWoken : Option ℕ → Bool → List LookState → Type 0
+IsWoken (Some key) unlisted looks = key < length looks → will_look (look_of looks key) ≡ true
+IsWoken None unlisted looks =
+    unlisted ≡ true → (key : ℕ) → key < length looks → will_look (look_of looks key) ≡ true
+
+-- who will look still will
+pub record Keeps (old new : List LookState) : Type 0 where
+  pub long : length new ≡ length old
+  pub kept : (key : ℕ) → will_look (look_of old key) ≡ true → will_look (look_of new key) ≡ true
+
+-- a client of this loop is woken, and one of another is noted for it
+abbrev pub IsToldBy : Bool → ℕ → ℕ → Roster → Notes → Type 0
+IsToldBy true owner client r notes = IsWoken (taker_of r.takers client) r.takers.unlisted r.rota.looks
+IsToldBy false owner client r notes = is_noted owner client notes ≡ true
+
+abbrev pub IsTold : ℕ → ℕ → ℕ → Roster → Notes → Type 0
+IsTold own loops client r notes = IsToldBy (nat_eq (loop_of client loops) own) (loop_of client loops) client r notes
+
+abbrev pub AreTold : ℕ → ℕ → List ℕ → Roster → Notes → Type 0
+AreTold own loops clients r notes =
+    (k : ℕ) → k < length clients → IsTold own loops (slice_index_or clients k 0) r notes

@@ -1,0 +1,224 @@
+//! Which connections of a loop have something to do, and whose turn is next.
+
+ghost use Rattle.std.specs.Prelude.{◌≡◌, ◌+◌, ◌≤◌, ◌<◌, ◌↔◌, true, false, ℕ, IsTrue, length, vec_len};
+ghost use Rattle.std.specs.VecDeque.{DequeUnchanged, deque_capacity};
+ghost use Rattle.loop_rules.specs.Looks.{is_queued, may_rest};
+ghost use Rattle.loop_rules.specs.Rotas as rotas;
+ghost use Rattle.loop_rules.specs.Rotas.{IsQuiet, has_turn, look_of, will_look};
+ghost use Rattle.loop_rules.specs.Turns.{left_after, verdict_for};
+
+use crate::looks::{Found, Look, LookState, Pause};
+use crate::turns::{Turn, Verdict};
+use std::alloc::Global;
+use std::collections::VecDeque;
+use std::marker::Model;
+
+/// Which connections of a loop have something to do, by their keys, and whose turn is next. A key stands
+/// in the queue once where its connection is called or goes on with its look, and else not at all; and
+/// there is room for all, so that no wake needs memory.
+#[derive(Drop)]
+pub struct Rota {
+    looks: Vec<Look>,
+    /// Those that have their turn in this turn of the loop.
+    ready: VecDeque<usize>,
+    /// Those that have more to do in the loop's next turn.
+    again: VecDeque<usize>,
+}
+
+impl Model for Rota {
+    ghost use Rattle.std.specs.Prelude.{◌+◌, ◌++◌};
+    ghost use Rattle.std.specs.VecDeque.{deque_capacity, deque_len};
+    ghost use Rattle.loop_rules.specs.Rotas.{Waiting, IsOrderly};
+
+    ghost Value = { Waiting };
+
+    ghost view = { λ r. record { looks = r.looks.items; ready = r.ready.items; again = r.again.items } };
+
+    ghost invariant = { λ r. IsOrderly r.looks.items (r.ready.items ++ r.again.items)
+        (deque_len r.ready + deque_len r.again) (deque_capacity r.ready) (deque_capacity r.again) };
+}
+
+impl LookState {
+    /// Whether it is its turn.
+    fn has_turn(self) -> bool
+        ensures { result ≡ rotas.has_turn self }
+    {
+        matches!(self, LookState::Looks { .. } | LookState::Stirred { .. })
+    }
+}
+
+/// Makes room for so many keys in a queue, and tells whether there was memory for it.
+fn make_room(queue: &mut VecDeque<usize>, most: usize) -> bool
+    ensures same { DequeUnchanged queue.old queue.new }
+    ensures kept { deque_capacity queue.old ≤ deque_capacity queue.new }
+    ensures room { IsTrue result → most ≤ deque_capacity queue.new }
+{
+    let more = most.saturating_sub(queue.len());
+    queue.reserve(more).is_ok()
+}
+
+impl Rota {
+    /// There is no connection yet.
+    pub fn new(alloc: Global) -> Rota
+        ensures { result ≡ rotas.nobody }
+    {
+        Rota {
+            looks: Vec::new(alloc),
+            ready: VecDeque::new(alloc),
+            again: VecDeque::new(alloc),
+        }
+    }
+
+    /// A bound of all keys.
+    pub fn len(&self) -> usize
+        ensures { result ≡ length self.now.looks }
+    {
+        self.looks.len()
+    }
+
+    /// How the connection with this key stands.
+    pub fn look(&self, key: usize) -> LookState
+        ensures { result ≡ look_of self.now.looks key }
+    {
+        match self.looks.get(key) {
+            Some(look) => look.state(),
+            None => LookState::Rests,
+        }
+    }
+
+    /// Makes a place for a connection with this key, which is at most one above all others. Answers
+    /// whether there was memory for it.
+    pub fn admit(&mut self, key: usize) -> bool
+        ensures known { IsTrue result → key < length self.new.looks }
+        ensures same { (k : ℕ) → look_of self.new.looks k ≡ look_of self.old.looks k }
+        ensures ready { self.new.ready ≡ self.old.ready }
+        ensures again { self.new.again ≡ self.old.again }
+    {
+        let count = self.looks.len();
+        key < count || (key == count && self.grow())
+    }
+
+    /// Makes a place for one more connection, and tells whether there was memory for it.
+    fn grow(&mut self) -> bool
+        ensures more { IsTrue result → length self.new.looks ≡ length self.old.looks + 1 }
+        ensures same { (k : ℕ) → look_of self.new.looks k ≡ look_of self.old.looks k }
+        ensures ready { self.new.ready ≡ self.old.ready }
+        ensures again { self.new.again ≡ self.old.again }
+    {
+        let most = self.looks.len().saturating_add(1);
+        if !make_room(&mut self.ready, most) || !make_room(&mut self.again, most) {
+            return false;
+        }
+        self.looks.push(Look::new()).is_ok()
+    }
+
+    /// The connection with this key is gone. If the key stands in the queue, it stays there.
+    pub fn dismiss(&mut self, key: usize)
+        ensures { self.new ≡ rotas.dismissed_at key self.old }
+    {
+        if key < self.looks.len() && !self.looks[key].state().is_queued() {
+            self.looks[key] = Look::new();
+        }
+    }
+
+    /// Something came for the connection with this key: it stands in the queue from now on, or looks once
+    /// more in its turn.
+    pub fn call(&mut self, key: usize)
+        ensures state { self.new ≡ rotas.called_at key self.old }
+        ensures looks { key < length self.old.looks → will_look (look_of self.new.looks key) ≡ true }
+    {
+        if key >= self.looks.len() {
+            return;
+        }
+        let mut look = self.looks[key];
+        let queues = look.call();
+        self.looks[key] = look;
+        if queues {
+            self.ready.push_back_reserved(key);
+        }
+    }
+
+    /// Something may have come for each connection.
+    pub fn call_all(&mut self)
+        ensures looks { (k : ℕ) → k < length self.old.looks → will_look (look_of self.new.looks k) ≡ true }
+        ensures long { length self.new.looks ≡ length self.old.looks }
+    {
+        for key in 0..self.len() {
+            self.call(key);
+        }
+    }
+
+    /// The turn of the first one begins.
+    pub fn pop(&mut self) -> Option<usize>
+        ensures first { result ≡ rotas.next_of self.old.ready }
+        ensures state { self.new ≡ rotas.begun_at self.old.ready self.old }
+    {
+        let key = self.ready.pop_front()?;
+        let mut look = self.looks[key];
+        look.begin();
+        self.looks[key] = look;
+        Some(key)
+    }
+
+    /// How the connection stands whose turn it is, if this is its key.
+    fn turn_of(&self, key: usize) -> Option<Look>
+        ensures { result ≡ rotas.turn_of (look_of self.now.looks key) }
+    {
+        match self.looks.get(key) {
+            Some(look) if look.state().has_turn() => Some(*look),
+            _ => None,
+        }
+    }
+
+    /// The connection whose turn it is stands so from now on.
+    fn leave(&mut self, key: usize, look: Look)
+        requires { has_turn (look_of self.old.looks key) ≡ true }
+        ensures { self.new ≡ rotas.left_so key look self.old }
+    {
+        self.looks[key] = look;
+        if look.state().is_queued() {
+            self.again.push_back_reserved(key);
+        }
+    }
+
+    /// An event was answered in the turn of this connection. Answers what follows, where it has too much
+    /// unsent or not. Where it isn't its turn, it rests.
+    pub fn follow(&mut self, key: usize, turn: &mut Turn, found: Found, full: bool) -> Verdict
+        ensures verdict { result ≡ rotas.verdict_at key turn.old found full self.old }
+        ensures state { self.new ≡ rotas.followed_at key found result self.old }
+    {
+        let Some(mut look) = self.turn_of(key) else {
+            return Verdict::Rests;
+        };
+        let verdict = look.follow(turn, found, full);
+        self.leave(key, look);
+        verdict
+    }
+
+    /// The turn of this connection is over, and no event was answered last.
+    pub fn pause(&mut self, key: usize, pause: Pause)
+        ensures { self.new ≡ rotas.paused_at key pause self.old }
+    {
+        let Some(mut look) = self.turn_of(key) else {
+            return;
+        };
+        let _ = look.pause(pause);
+        self.leave(key, look);
+    }
+
+    /// The next turn of the loop begins.
+    pub fn begin_turn(&mut self)
+        ensures { self.new ≡ rotas.turned self.old }
+    {
+        // There is room for all.
+        let _ = self.ready.append(&mut self.again);
+    }
+
+    /// Whether nobody has anything to do. Then nobody is called, or has more to look at.
+    pub fn is_quiet(&self) -> bool
+        ensures quiet { IsTrue result ↔ IsQuiet self.now }
+        ensures nobody { IsTrue result → (k : ℕ) → is_queued (look_of self.now.looks k) ≡ false }
+    {
+        self.ready.is_empty() && self.again.is_empty()
+    }
+}
