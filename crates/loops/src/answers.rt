@@ -114,20 +114,14 @@ impl<R: Wait + Clock + Copy + Drop, L: Log> EventLoop<'_, R, L> {
     /// A client comes over to its WebSocket.
     fn come_over(&mut self, client: u128, key: usize) {
         self.connections.settle(client, key);
-        self.base
-            .shared
-            .lives()
-            .note_upgraded(&self.base.rt, client);
+        self.base.note_upgraded(client);
     }
 
     /// A client has ended, which its waiting GET is to be told.
     fn note_end(&mut self, client: u128, cause: Option<Cause>) {
         self.connections.roster.wake(client);
         let now = self.watch.tell();
-        self.base
-            .shared
-            .lives()
-            .end(&self.base.rt, self.base.log, client, cause, now);
+        self.base.note_end(client, cause, now);
     }
 
     /// A client was opened. What is put for it goes to its WebSocket, if it has one.
@@ -137,10 +131,7 @@ impl<R: Wait + Clock + Copy + Drop, L: Log> EventLoop<'_, R, L> {
             self.connections.settle(client, key);
         }
         let now = self.watch.tell();
-        self.base
-            .shared
-            .lives()
-            .note_opened(&self.base.rt, client, is_socket, now);
+        self.base.note_opened(client, is_socket, now);
     }
 
     /// A client was handed a payload.

@@ -1,5 +1,6 @@
 //! A loop that serves many connections: one peer, which brings the events of all of their clients.
 
+use crate::base::Base;
 use crate::buffered::Buffered;
 use crate::connection::{Connection, Mode, Next};
 use crate::connections::Connections;
@@ -34,18 +35,6 @@ const TURNS: usize = 1_024;
 /// How long a loop sleeps at the most, in milliseconds.
 const BEAT: u64 = 1_000;
 
-/// Whose loop it is, and what it goes by.
-#[derive(Drop)]
-pub(crate) struct Base<'a, R, L> {
-    pub(crate) rt: R,
-    pub(crate) alloc: Global,
-    pub(crate) log: &'a L,
-    /// Which loop it is.
-    pub(crate) number: usize,
-    pub(crate) shared: Arc<Shared>,
-    pub(crate) rules: Arc<Rules>,
-}
-
 /// Whose turn it is.
 #[derive(Clone, Copy)]
 pub(crate) struct Current {
@@ -79,7 +68,7 @@ impl<R: Wait + Clock + Copy + Drop, L: Log> Peer for EventLoop<'_, R, L> {
     fn next(&mut self) -> Result<Option<(Event, u64)>, PeerFault> {
         if !self.begun {
             self.begun = true;
-            self.base.shared.note_begun(&self.base.rt);
+            self.base.note_begun();
         }
         for _ in 0..u64::MAX {
             let brought = match self.current.key {
@@ -94,7 +83,7 @@ impl<R: Wait + Clock + Copy + Drop, L: Log> Peer for EventLoop<'_, R, L> {
             }
         }
         self.close_all();
-        self.base.shared.note_loop_ended(&self.base.rt);
+        self.base.note_ended();
         Ok(None)
     }
 
@@ -161,7 +150,7 @@ impl<'a, R: Wait + Clock + Copy + Drop, L: Log> EventLoop<'a, R, L> {
         self.connections.roster.rota.begin_turn();
         self.tell_others();
         self.send_all();
-        if self.connections.len() == 0 && self.base.shared.is_over(&self.base.rt) {
+        if self.connections.len() == 0 && self.base.is_over() {
             return false;
         }
         self.current.left = TURNS;
@@ -170,8 +159,7 @@ impl<'a, R: Wait + Clock + Copy + Drop, L: Log> EventLoop<'a, R, L> {
 
     /// Tells the other loops of their clients.
     pub(crate) fn tell_others(&mut self) {
-        self.outbound
-            .send(&self.base.rt, self.base.shared.inboxes());
+        self.base.send(&mut self.outbound);
     }
 
     /// Sends the bytes of all connections that have some.
@@ -215,11 +203,7 @@ impl<'a, R: Wait + Clock + Copy + Drop, L: Log> EventLoop<'a, R, L> {
 
     /// Whether nothing is to be done, and nothing was handed in.
     fn may_sleep(&self) -> bool {
-        self.connections.is_quiet()
-            && match self.base.shared.inboxes().get(self.base.number) {
-                Some(inbox) => inbox.falls_asleep(&self.base.rt),
-                None => true,
-            }
+        self.connections.is_quiet() && self.base.falls_asleep()
     }
 
     /// The time until something is due.
@@ -234,9 +218,7 @@ impl<'a, R: Wait + Clock + Copy + Drop, L: Log> EventLoop<'a, R, L> {
 
     /// Takes in what was handed in, and does what is due.
     fn take_in(&mut self) -> bool {
-        if let Some(inbox) = self.base.shared.inboxes().get(self.base.number) {
-            inbox.take(&self.base.rt, &mut self.mail);
-        }
+        self.base.take(&mut self.mail);
         self.admit_all();
         self.wake_told();
         let everyone = mem::replace(&mut self.mail.everyone, false);
@@ -273,7 +255,7 @@ impl<'a, R: Wait + Clock + Copy + Drop, L: Log> EventLoop<'a, R, L> {
                 Arrival::Handed(handed) => self.adopt(handed),
             };
             if admitted.is_none() {
-                self.base.shared.note_closed(&self.base.rt);
+                self.base.note_closed();
             }
         }
     }
@@ -324,7 +306,7 @@ impl<'a, R: Wait + Clock + Copy + Drop, L: Log> EventLoop<'a, R, L> {
     /// Looks at what each connection has come to.
     fn keep_deadlines(&mut self, now: u64) {
         self.delays.forget_old(now);
-        let cutting = self.base.shared.is_cutting(&self.base.rt);
+        let cutting = self.base.is_cutting();
         for key in 0..self.connections.keys_below() {
             let overdue = self.connections.overdue(key, cutting, now);
             if self.connections.part_with(key, overdue, now) {
@@ -435,7 +417,7 @@ impl<'a, R: Wait + Clock + Copy + Drop, L: Log> EventLoop<'a, R, L> {
     /// A connection is over.
     pub(crate) fn close(&mut self, key: usize) {
         if self.connections.remove(key).is_some() {
-            self.base.shared.note_closed(&self.base.rt);
+            self.base.note_closed();
         }
     }
 }

@@ -4,6 +4,7 @@
 
 mod acceptor;
 mod answers;
+mod base;
 mod buffered;
 mod connection;
 mod connections;

@@ -100,7 +100,7 @@ impl<R: Wait + Clock + Copy + Drop, L: Log> EventLoop<'_, R, L> {
     /// Hands a request to another loop, with its stream.
     fn hand_on(&mut self, key: usize, owner: usize, request: Box<Request>, target: Target) {
         let given = match self.take_stream(key) {
-            Some(stream) => self.hand(
+            Some(stream) => self.base.hand(
                 owner,
                 Handed {
                     stream,
@@ -111,7 +111,7 @@ impl<R: Wait + Clock + Copy + Drop, L: Log> EventLoop<'_, R, L> {
             None => false,
         };
         if !given {
-            self.base.shared.note_closed(&self.base.rt);
+            self.base.note_closed();
         }
     }
 
@@ -121,13 +121,5 @@ impl<R: Wait + Clock + Copy + Drop, L: Log> EventLoop<'_, R, L> {
         let mut stream = self.connections.take_stream(key)?;
         let _ = self.poll.registry().deregister(stream.get_mut());
         Some(stream)
-    }
-
-    /// Hands a request to another loop, and tells whether it was taken.
-    fn hand(&self, owner: usize, handed: Handed) -> bool {
-        match self.base.shared.inboxes().get(owner) {
-            Some(inbox) => inbox.hand(&self.base.rt, handed),
-            None => false,
-        }
     }
 }
