@@ -2,12 +2,10 @@
 #![tactic(auto)]
 
 #[cfg(test)]
-mod made;
-#[cfg(test)]
-mod packets;
+mod lists;
 #[cfg(test)]
 mod random;
 #[cfg(test)]
-mod sockets;
+mod refused;
 #[cfg(test)]
-mod turns;
+mod said;
