@@ -4,14 +4,20 @@
 #[cfg(test)]
 mod answers;
 #[cfg(test)]
+mod gets;
+#[cfg(test)]
 mod limits;
 #[cfg(test)]
-mod made;
+mod lost;
 #[cfg(test)]
-mod polls;
+mod moments;
+#[cfg(test)]
+mod served;
 #[cfg(test)]
 mod sheet;
 #[cfg(test)]
 mod sockets;
 #[cfg(test)]
 mod spoken;
+#[cfg(test)]
+mod targets;

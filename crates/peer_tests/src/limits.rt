@@ -8,6 +8,28 @@ use hub_gate::{Peer, PeerFault};
 use std::alloc::{AllocError, Global};
 use terms::Text;
 
+/// The frames that a client sends behind its head, by their lengths; and what is heard: how many texts the
+/// core is handed, the last of them by its length, first byte and last one (`4` and `!`, from the first frame
+/// and from the last), how the peer ends, and whether it then has no further event.
+static ROWS: &str = "\
+# The longest that the core reads, the longest that is read at all, and one byte more.
+text:1000000 = 1 Some((1000000, Some(52), Some(33))) Some(Ended) true
+text:1048576 = 1 Some((1048576, Some(52), Some(33))) Some(Ended) true
+text:1048577 = 0 None Some(Device) true
+# The same by the header alone: one is waited for, and the other isn't.
+header:1048576 = 0 None Some(Ended) true
+header:1048577 = 0 None Some(Device) true
+# Two frames are one message, which has the same limit.
+begins:524288 ends:524288 = 1 Some((1048576, Some(52), Some(33))) Some(Ended) true
+begins:524288 ends:524289 = 0 None Some(Device) true
+# What ends the stream is the frame's, not its length: such a one is read.
+text:65536 = 1 Some((65536, Some(52), Some(33))) Some(Ended) true
+unmasked:65536 = 0 None Some(Device) true
+# No UTF-8 text has the byte 255.
+broken:65536 text:65536 = 0 None Some(Device) true
+begins-broken:524288 ends:524288 = 0 None Some(Device) true
+";
+
 /// A client's frame. Its payload has at least 65,536 bytes, so that its length is written in eight.
 #[derive(Clone, Copy)]
 struct Frame {
@@ -22,61 +44,49 @@ struct Frame {
     whole: bool,
 }
 
-/// What a text is known by: its length, its first byte and its last one.
-type Known = (usize, Option<u8>, Option<u8>);
-
-/// What comes of a WebSocket.
-#[derive(Clone, Copy, Debug, PartialEq, Eq)]
-struct Heard {
-    /// How many texts the core is handed, and the last of them.
-    texts: u64,
-    text: Option<Known>,
-    end: Option<PeerFault>,
-    /// Whether it has no further event.
-    over: bool,
-}
-
-const NOTHING: Heard = Heard {
-    texts: 0,
-    text: None,
-    end: None,
-    over: false,
-};
-
-/// What a client sends behind its head; the length of the one text that the core is handed, if any;
-/// and how the peer ends.
-#[derive(Clone, Copy)]
-struct Row {
-    frames: &'static [Frame],
-    text: Option<usize>,
-    end: PeerFault,
-}
-
 const TEXT: Frame = Frame {
     kind: 0x81,
     masked: true,
-    length: 65_536,
+    length: 0,
     first: b'4',
     last: b'!',
     whole: true,
 };
 
-/// The first frame of a text of two, and the second one.
+/// The first frame of a text of two.
 const BEGINS: Frame = Frame {
     kind: 0x01,
-    length: 524_288,
     last: b'a',
     ..TEXT
 };
 
-const ENDS: Frame = Frame {
-    kind: 0x80,
-    length: 524_288,
-    first: b'a',
-    ..TEXT
-};
+fn frame_named(name: &str) -> Option<Frame> {
+    match name {
+        "text" => Some(TEXT),
+        "header" => Some(Frame {
+            whole: false,
+            ..TEXT
+        }),
+        "begins" => Some(BEGINS),
+        "ends" => Some(Frame {
+            kind: 0x80,
+            first: b'a',
+            ..TEXT
+        }),
+        "unmasked" => Some(Frame {
+            masked: false,
+            ..TEXT
+        }),
+        "broken" => Some(Frame { last: 0xFF, ..TEXT }),
+        "begins-broken" => Some(Frame {
+            last: 0xFF,
+            ..BEGINS
+        }),
+        _ => None,
+    }
+}
 
-fn put_header(bytes: &mut Vec<u8>, frame: &Frame) -> Result<(), AllocError> {
+fn put_header(bytes: &mut Vec<u8>, frame: Frame) -> Result<(), AllocError> {
     let length = (frame.length as u64).to_be_bytes();
     bytes.push(frame.kind)?;
     bytes.push(if frame.masked { 0xFF } else { 0x7F })?;
@@ -87,7 +97,7 @@ fn put_header(bytes: &mut Vec<u8>, frame: &Frame) -> Result<(), AllocError> {
     Ok(())
 }
 
-fn put_payload(bytes: &mut Vec<u8>, frame: &Frame) -> Result<(), AllocError> {
+fn put_payload(bytes: &mut Vec<u8>, frame: Frame) -> Result<(), AllocError> {
     let end = bytes.len().saturating_add(frame.length);
     bytes.push(frame.first)?;
     bytes.resize(end.saturating_sub(1), b'a')?;
@@ -95,31 +105,28 @@ fn put_payload(bytes: &mut Vec<u8>, frame: &Frame) -> Result<(), AllocError> {
     Ok(())
 }
 
-fn put(bytes: &mut Vec<u8>, frame: &Frame) -> Result<(), AllocError> {
-    put_header(bytes, frame)?;
-    if frame.whole {
-        put_payload(bytes, frame)?;
-    }
-    Ok(())
-}
-
-fn sent(alloc: Global, frames: &[Frame]) -> Result<Vec<u8>, AllocError> {
+/// The bytes of some frames.
+fn sent(alloc: Global, frames: &str) -> Option<Vec<u8>> {
     let mut bytes = Vec::new(alloc);
-    for frame in frames {
-        put(&mut bytes, frame)?;
+    for word in frames.split_whitespace() {
+        let (name, length) = word.split_once(':')?;
+        let frame = Frame {
+            length: length.parse().ok()?,
+            ..frame_named(name)?
+        };
+        put_header(&mut bytes, frame).ok()?;
+        if frame.whole {
+            put_payload(&mut bytes, frame).ok()?;
+        }
     }
-    Ok(bytes)
+    Some(bytes)
 }
 
-/// A peer whose client sends these frames, and then no more.
-fn sender(alloc: Global, frames: &[Frame]) -> Option<Accepted> {
-    let rest = sent(alloc, frames).ok()?;
-    accepted(alloc, HEAD, rest, &[])
-}
-
-fn known(text: &str) -> Known {
-    let bytes = text.as_bytes();
-    (bytes.len(), bytes.first().copied(), bytes.last().copied())
+/// What is heard of a peer: its texts, and the last of them.
+#[derive(Clone, Copy)]
+struct Heard {
+    texts: u64,
+    text: Option<(usize, Option<u8>, Option<u8>)>,
 }
 
 fn note(heard: &mut Heard, event: &Event) {
@@ -128,15 +135,16 @@ fn note(heard: &mut Heard, event: &Event) {
         frame: WsFrame::Text(text),
     } = event
     {
+        let bytes = text.as_str().as_bytes();
         heard.texts = heard.texts.saturating_add(1);
-        heard.text = Some(known(text.as_str()));
+        heard.text = Some((bytes.len(), bytes.first().copied(), bytes.last().copied()));
     }
 }
 
 /// The client is opened, and nothing waits for it.
 fn answer(alloc: Global, event: &Event) -> Result<Result<Outcome, CoreError>, AllocError> {
     match event {
-        Event::Opened { socket: _ } => {
+        Event::Opened { .. } => {
             let text = Text::copy_of(alloc, "0{}")?;
             Ok(Ok(Outcome::Opened(Opening { client: 7, text })))
         }
@@ -145,7 +153,7 @@ fn answer(alloc: Global, event: &Event) -> Result<Result<Outcome, CoreError>, Al
 }
 
 /// One event of the peer, or its end.
-fn hear_once<P: Peer>(alloc: Global, peer: &mut P, heard: &mut Heard) -> Result<bool, PeerFault> {
+fn hear_once(alloc: Global, peer: &mut Accepted, heard: &mut Heard) -> Result<bool, PeerFault> {
     let Some((event, _)) = peer.next()? else {
         return Ok(false);
     };
@@ -158,7 +166,7 @@ fn hear_once<P: Peer>(alloc: Global, peer: &mut P, heard: &mut Heard) -> Result<
 }
 
 /// The events of the peer up to its fault, of which there are at most 16.
-fn hear<P: Peer>(alloc: Global, peer: &mut P, heard: &mut Heard) -> Option<PeerFault> {
+fn hear(alloc: Global, peer: &mut Accepted, heard: &mut Heard) -> Option<PeerFault> {
     for _ in 0..16 {
         match hear_once(alloc, peer, heard) {
             Ok(true) => {}
@@ -169,147 +177,37 @@ fn hear<P: Peer>(alloc: Global, peer: &mut P, heard: &mut Heard) -> Option<PeerF
     None
 }
 
-/// All that is heard of a peer.
-fn heard_of<P: Peer>(alloc: Global, peer: &mut P) -> Heard {
-    let mut heard = NOTHING;
-    let end = hear(alloc, peer, &mut heard);
-    let over = matches!(peer.next(), Ok(None));
-    Heard { end, over, ..heard }
-}
-
-/// Texts have the first byte of the first frame, and the last one of the last.
-fn is_as_wanted(heard: &Heard, row: &Row) -> bool {
-    let text = match row.text {
-        Some(length) => Some((length, Some(TEXT.first), Some(TEXT.last))),
-        None => None,
+/// What is heard of a client that sends these frames, and then no more.
+fn heard_of(alloc: Global, frames: &str) -> Option<String> {
+    let mut peer = accepted(alloc, HEAD, sent(alloc, frames)?, "")?;
+    let mut heard = Heard {
+        texts: 0,
+        text: None,
     };
-    *heard
-        == Heard {
-            texts: u64::from(text.is_some()),
-            text,
-            end: Some(row.end),
-            over: true,
+    let end = hear(alloc, &mut peer, &mut heard);
+    let over = matches!(peer.next(), Ok(None));
+    let Heard { texts, text } = heard;
+    format!(in alloc; "{texts} {text:?} {end:?} {over}").ok()
+}
+
+/// Whether this is heard in one of two runs: of a run's allocations at most one is refused.
+fn is_heard(alloc: Global, frames: &str, want: &str) -> bool {
+    for _ in 0..2 {
+        if let Some(found) = heard_of(alloc, frames)
+            && found.as_str() == want
+        {
+            return true;
         }
-}
-
-fn is_heard_once(alloc: Global, row: &Row) -> bool {
-    match sender(alloc, row.frames) {
-        Some(mut peer) => is_as_wanted(&heard_of(alloc, &mut peer), row),
-        None => false,
     }
-}
-
-/// Of a run's allocations at most one is refused, so one of two runs has ample memory.
-fn is_heard(alloc: Global, row: &Row) -> bool {
-    is_heard_once(alloc, row) || is_heard_once(alloc, row)
+    false
 }
 
 #[test]
-fn messages_of_a_length(rt: HostRuntime) {
-    static ROWS: [Row; 7] = [
-        // The longest that the core reads, the longest that is read at all, and one byte more.
-        Row {
-            frames: &[Frame {
-                length: 1_000_000,
-                ..TEXT
-            }],
-            text: Some(1_000_000),
-            end: PeerFault::Ended,
-        },
-        Row {
-            frames: &[Frame {
-                length: 1_048_576,
-                ..TEXT
-            }],
-            text: Some(1_048_576),
-            end: PeerFault::Ended,
-        },
-        Row {
-            frames: &[Frame {
-                length: 1_048_577,
-                ..TEXT
-            }],
-            text: None,
-            end: PeerFault::Device,
-        },
-        // The same by the header alone: one is waited for, and the other isn't.
-        Row {
-            frames: &[Frame {
-                length: 1_048_576,
-                whole: false,
-                ..TEXT
-            }],
-            text: None,
-            end: PeerFault::Ended,
-        },
-        Row {
-            frames: &[Frame {
-                length: 1_048_577,
-                whole: false,
-                ..TEXT
-            }],
-            text: None,
-            end: PeerFault::Device,
-        },
-        // Two frames are one message, which has the same limit.
-        Row {
-            frames: &[BEGINS, ENDS],
-            text: Some(1_048_576),
-            end: PeerFault::Ended,
-        },
-        Row {
-            frames: &[
-                BEGINS,
-                Frame {
-                    length: 524_289,
-                    ..ENDS
-                },
-            ],
-            text: None,
-            end: PeerFault::Device,
-        },
-    ];
-    for (index, row) in ROWS.iter().enumerate() {
-        assert!(rt; is_heard(rt.alloc(), row), "row {index}");
-    }
-}
-
-#[test]
-fn frames_that_end_the_stream(rt: HostRuntime) {
-    static ROWS: [Row; 4] = [
-        // What ends it is the frame's, not its length: such a one is read.
-        Row {
-            frames: &[TEXT],
-            text: Some(65_536),
-            end: PeerFault::Ended,
-        },
-        Row {
-            frames: &[Frame {
-                masked: false,
-                ..TEXT
-            }],
-            text: None,
-            end: PeerFault::Device,
-        },
-        // No UTF-8 text has this byte.
-        Row {
-            frames: &[Frame { last: 0xFF, ..TEXT }, TEXT],
-            text: None,
-            end: PeerFault::Device,
-        },
-        Row {
-            frames: &[
-                Frame {
-                    last: 0xFF,
-                    ..BEGINS
-                },
-                ENDS,
-            ],
-            text: None,
-            end: PeerFault::Device,
-        },
-    ];
-    for (index, row) in ROWS.iter().enumerate() {
-        assert!(rt; is_heard(rt.alloc(), row), "row {index}");
+fn messages_at_their_limits(rt: HostRuntime) {
+    let rows = ROWS.lines().filter(|line| !line.starts_with('#'));
+    assert!(rt; ROWS.lines().filter(|line| !line.starts_with('#')).count() == 11);
+    for row in rows {
+        let (frames, want) = row.split_once(" = ").unwrap_or(("", ""));
+        assert!(rt; is_heard(rt.alloc(), frames, want), "{row}");
     }
 }

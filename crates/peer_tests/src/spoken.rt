@@ -15,14 +15,14 @@ pub enum Piece {
 /// Gives these pieces, each at one read, and then ends; takes `room` bytes and then fails.
 #[derive(Drop)]
 pub struct Spoken {
-    pieces: &'static [Piece],
+    pieces: Vec<Piece>,
     at: usize,
     room: usize,
     pub written: Vec<u8>,
 }
 
 impl Spoken {
-    pub fn new(alloc: Global, pieces: &'static [Piece], room: usize) -> Spoken {
+    pub fn new(alloc: Global, pieces: Vec<Piece>, room: usize) -> Spoken {
         Spoken {
             pieces,
             at: 0,

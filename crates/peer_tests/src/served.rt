@@ -1,0 +1,46 @@
+//! How a peer is served by a core.
+
+use hub_gate::{Peer, PeerFault};
+use relay::RelayApp;
+use std::alloc::Global;
+use std::sync::ledger::Ledger;
+use usual_core::Server;
+
+/// How it ended with a peer.
+#[derive(Clone, Copy, Debug, PartialEq, Eq)]
+pub enum End {
+    Over,
+    Failed(PeerFault),
+    Spent,
+}
+
+/// One event of the peer. Says whether it had one.
+fn serve_once<C: Ledger, T: Ledger, P: Peer>(
+    alloc: Global,
+    server: &mut Server<C, T>,
+    peer: &mut P,
+) -> Result<bool, PeerFault> {
+    let Some((event, now)) = peer.next()? else {
+        return Ok(false);
+    };
+    let got = server.apply(alloc, &RelayApp, &event, now);
+    peer.answer(&got)?;
+    Ok(true)
+}
+
+/// Serves a peer for so many events at the most.
+pub fn serve<C: Ledger, T: Ledger, P: Peer>(
+    alloc: Global,
+    server: &mut Server<C, T>,
+    peer: &mut P,
+    most: u64,
+) -> End {
+    for _ in 0..most {
+        match serve_once(alloc, server, peer) {
+            Ok(true) => {}
+            Ok(false) => return End::Over,
+            Err(fault) => return End::Failed(fault),
+        }
+    }
+    End::Spent
+}
