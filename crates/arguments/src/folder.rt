@@ -5,24 +5,36 @@ use std::alloc::{AllocError, Global};
 use std::io::{ErrorKind, Read};
 use std::path::Path;
 use std::rt::Files;
-use std::{fs, io};
+use std::{fmt, fs, io};
 use terms::{Bytes, Text};
-use thiserror::Error;
 
 /// Why a folder can't be served.
-#[derive(Debug, Drop, Error)]
+#[derive(Drop)]
 pub enum FolderFault {
-    #[error("out of memory")]
+    /// An allocation was refused.
     Memory,
     /// The folder, or a file of it.
-    #[error("{0} can't be read")]
     Unreadable(String),
-    #[error("the name of a file in it is not UTF-8")]
+    /// The name of a file.
     NotUtf8,
-    #[error("it has more than {MOST_FILES} files")]
+    /// Of the files.
     TooMany,
-    #[error("its files have more than {MOST_BYTES} bytes together")]
+    /// Of their bytes together.
     TooLarge,
+}
+
+impl fmt::Display for FolderFault {
+    fn fmt<W: fmt::Write>(&self, f: &mut fmt::Formatter<W>) -> fmt::Result {
+        match self {
+            FolderFault::Memory => f.write_str("out of memory"),
+            FolderFault::Unreadable(path) => write!(f, "{path} can't be read"),
+            FolderFault::NotUtf8 => f.write_str("the name of a file in it is not UTF-8"),
+            FolderFault::TooMany => write!(f, "it has more than {MOST_FILES} files"),
+            FolderFault::TooLarge => {
+                write!(f, "its files have more than {MOST_BYTES} bytes together")
+            }
+        }
+    }
 }
 
 impl From<AllocError> for FolderFault {

@@ -1,4 +1,5 @@
-//! The arguments of `event_server`: what they ask for, and the folder that they name.
+//! The arguments of `event_server` and of other programs that serve: what they ask for, and the folder that
+//! they name.
 #![tactic(auto)]
 
 pub mod folder;

@@ -1,12 +1,13 @@
-//! The options of `event_server serve`.
+//! The options of a program that serves.
 
 use clap::builder::ValueParser;
 use clap::{Arg, ArgAction, ArgMatches, Command};
-use loops::{Limits, Settings};
+use journal::Config;
 use page::Page;
+use settings::{MOST_BYTES, Settings, TIMING, usual_spaces};
 use std::alloc::{AllocError, Global};
 
-/// What `event_server serve` is asked for.
+/// What a program that serves is asked for.
 #[derive(Drop)]
 pub struct Options {
     pub settings: Settings,
@@ -18,178 +19,183 @@ pub struct Options {
     pub verbose: bool,
 }
 
-/// An option with a number.
-struct Number {
+/// An option.
+struct Entry {
     name: &'static str,
-    usual: &'static str,
-    least: u64,
-    most: u64,
+    takes: Takes,
+    unsaid: Unsaid,
     help: &'static str,
+}
+
+/// What an option takes.
+enum Takes {
+    /// A number between these.
+    Number(u64, u64),
+    /// A text.
+    Text,
+    /// A text each time that it comes.
+    Texts,
+    /// Nothing: it is there or not.
+    Nothing,
+}
+
+/// What holds where an option isn't there.
+enum Unsaid {
+    /// It has to be there.
+    Refused,
+    /// This.
+    Usual(&'static str),
+    /// No value.
+    Absent,
 }
 
 /// The most that a u32 counts.
 const MANY: u64 = 4_294_967_295;
 
-/// The options with a number that have a usual value.
-static NUMBERS: [Number; 10] = [
-    Number {
+/// The options, in the order in which help tells them.
+static OPTIONS: [Entry; 17] = [
+    Entry {
+        name: "port",
+        takes: Takes::Number(1, 65_535),
+        unsaid: Unsaid::Refused,
+        help: "The port to listen at",
+    },
+    Entry {
+        name: "host",
+        takes: Takes::Text,
+        unsaid: Unsaid::Usual("127.0.0.1"),
+        help: "The address to listen at",
+    },
+    Entry {
+        name: "workers",
+        takes: Takes::Number(1, 1_023),
+        unsaid: Unsaid::Absent,
+        help: "The threads that serve [default: one a processor, at most 8]",
+    },
+    Entry {
         name: "connections",
-        usual: "0",
-        least: 0,
-        most: u64::MAX,
+        takes: Takes::Number(0, u64::MAX),
+        unsaid: Unsaid::Usual("0"),
         help: "Ends after so many connections; 0: never",
     },
-    Number {
+    Entry {
         name: "clients",
-        usual: "10000",
-        least: 1,
-        most: MANY,
+        takes: Takes::Number(1, MANY),
+        unsaid: Unsaid::Usual("10000"),
         help: "The most clients at a time",
     },
-    Number {
+    Entry {
         name: "capacity",
-        usual: "64",
-        least: 1,
-        most: 65_536,
+        takes: Takes::Number(1, 65_536),
+        unsaid: Unsaid::Usual("64"),
         help: "The most entries that wait for a client",
     },
-    Number {
+    Entry {
         name: "bytes",
-        usual: "8388608",
-        least: 1,
-        most: MANY,
+        takes: Takes::Number(1, MANY),
+        unsaid: Unsaid::Usual("8388608"),
         help: "The most bytes that wait for a client",
     },
-    Number {
+    Entry {
         name: "log",
-        usual: "1024",
-        least: 1,
-        most: MANY,
+        takes: Takes::Number(1, MANY),
+        unsaid: Unsaid::Usual("1024"),
         help: "The most broadcasts that are logged",
     },
-    Number {
+    Entry {
         name: "saved",
-        usual: "4096",
-        least: 0,
-        most: MANY,
+        takes: Takes::Number(0, MANY),
+        unsaid: Unsaid::Usual("4096"),
         help: "The most sessions that are saved",
     },
-    Number {
+    Entry {
         name: "keep",
-        usual: "120000",
-        least: 0,
-        most: u64::MAX,
+        takes: Takes::Number(0, u64::MAX),
+        unsaid: Unsaid::Usual("120000"),
         help: "How long these are kept, in milliseconds",
     },
-    Number {
+    Entry {
         name: "together",
-        usual: "16",
-        least: 1,
-        most: u64::MAX,
+        takes: Takes::Number(1, u64::MAX),
+        unsaid: Unsaid::Usual("16"),
         help: "How many connections, one after another, one thread is given",
     },
-    Number {
+    Entry {
         name: "poll-entries",
-        usual: "15",
-        least: 1,
-        most: 65_536,
+        takes: Takes::Number(1, 65_536),
+        unsaid: Unsaid::Usual("15"),
         help: "The most entries of one answer to a GET",
     },
-    Number {
+    Entry {
         name: "report",
-        usual: "0",
-        least: 0,
-        most: MANY,
+        takes: Takes::Number(0, MANY),
+        unsaid: Unsaid::Usual("0"),
         help: "Tells the totals on standard error every so many seconds; 0: never",
+    },
+    Entry {
+        name: "origin",
+        takes: Takes::Texts,
+        unsaid: Unsaid::Absent,
+        help: "Serves only pages of this origin; may come again",
+    },
+    Entry {
+        name: "page",
+        takes: Takes::Text,
+        unsaid: Unsaid::Absent,
+        help: "A folder whose files are served beside the socket's path",
+    },
+    Entry {
+        name: "until-eof",
+        takes: Takes::Nothing,
+        unsaid: Unsaid::Absent,
+        help: "Ends once standard input does",
+    },
+    Entry {
+        name: "verbose",
+        takes: Takes::Nothing,
+        unsaid: Unsaid::Absent,
+        help: "Tells on standard error of each client that ends",
     },
 ];
 
-/// The subcommand.
-pub fn command<'a>(alloc: Global) -> Result<Command<'a>, AllocError> {
-    let serve = Command::new(alloc, "serve").about("Serves browsers and other clients over TCP");
-    let serve = with_numbers(alloc, with_address(alloc, serve)?)?;
-    let eof = flag(alloc, "until-eof", "Ends once standard input does");
-    let verbose = flag(
-        alloc,
-        "verbose",
-        "Tells on standard error of each client that ends",
-    );
-    serve
-        .arg(origin(alloc))?
-        .arg(page(alloc))?
-        .arg(eof)?
-        .arg(verbose)
-}
-
-/// Adds where it listens, and by how many threads.
-fn with_address<'a>(alloc: Global, serve: Command<'a>) -> Result<Command<'a>, AllocError> {
-    serve
-        .arg(port(alloc))?
-        .arg(host(alloc))?
-        .arg(workers(alloc))
-}
-
-/// Adds the options with a number that have a usual value.
-fn with_numbers<'a>(alloc: Global, serve: Command<'a>) -> Result<Command<'a>, AllocError> {
+/// A command that serves, with its options.
+pub(crate) fn with_options<'a>(
+    alloc: Global,
+    serve: Command<'a>,
+) -> Result<Command<'a>, AllocError> {
     let mut serve = serve;
-    for number in NUMBERS.iter() {
-        serve = serve.arg(number_option(alloc, number))?;
+    for entry in OPTIONS.iter() {
+        serve = serve.arg(argument(alloc, entry))?;
     }
     Ok(serve)
 }
 
-fn port<'a>(alloc: Global) -> Arg<'a> {
-    Arg::new(alloc, "port")
-        .long("port")
-        .value_parser(ValueParser::unsigned(1, 65_535))
-        .required(true)
-        .help("The port to listen at")
+fn argument<'a>(alloc: Global, entry: &Entry) -> Arg<'a> {
+    let plain = Arg::new(alloc, entry.name)
+        .long(entry.name)
+        .help(entry.help);
+    unless_said(taking(plain, &entry.takes), &entry.unsaid)
 }
 
-fn host<'a>(alloc: Global) -> Arg<'a> {
-    Arg::new(alloc, "host")
-        .long("host")
-        .default_value("127.0.0.1")
-        .help("The address to listen at")
+fn taking<'a>(arg: Arg<'a>, takes: &Takes) -> Arg<'a> {
+    match takes {
+        Takes::Number(least, most) => arg.value_parser(ValueParser::unsigned(*least, *most)),
+        Takes::Text => arg,
+        Takes::Texts => arg.action(ArgAction::Append),
+        Takes::Nothing => arg.action(ArgAction::SetTrue),
+    }
 }
 
-fn workers<'a>(alloc: Global) -> Arg<'a> {
-    Arg::new(alloc, "workers")
-        .long("workers")
-        .value_parser(ValueParser::unsigned(1, 1_023))
-        .help("The threads that serve [default: one a processor, at most 8]")
-}
-
-fn origin<'a>(alloc: Global) -> Arg<'a> {
-    Arg::new(alloc, "origin")
-        .long("origin")
-        .action(ArgAction::Append)
-        .help("Serves only pages of this origin; may come again")
-}
-
-fn page<'a>(alloc: Global) -> Arg<'a> {
-    Arg::new(alloc, "page")
-        .long("page")
-        .help("A folder whose files are served beside the socket's path")
-}
-
-fn number_option<'a>(alloc: Global, number: &Number) -> Arg<'a> {
-    Arg::new(alloc, number.name)
-        .long(number.name)
-        .value_parser(ValueParser::unsigned(number.least, number.most))
-        .default_value(number.usual)
-        .help(number.help)
-}
-
-fn flag<'a>(alloc: Global, name: &'static str, help: &'static str) -> Arg<'a> {
-    Arg::new(alloc, name)
-        .long(name)
-        .action(ArgAction::SetTrue)
-        .help(help)
+fn unless_said<'a>(arg: Arg<'a>, unsaid: &Unsaid) -> Arg<'a> {
+    match unsaid {
+        Unsaid::Refused => arg.required(true),
+        Unsaid::Usual(text) => arg.default_value(text),
+        Unsaid::Absent => arg,
+    }
 }
 
 /// What the options ask for, where so many threads serve if none says how many.
-pub fn read_options(
+pub(crate) fn read_options(
     alloc: Global,
     matches: &ArgMatches<'_>,
     processors: usize,
@@ -208,30 +214,42 @@ fn settings(
     processors: usize,
 ) -> Result<Settings, AllocError> {
     let host = String::from_str(alloc, matches.get_str("host").unwrap_or("127.0.0.1"))?;
+    let hub = hub(alloc, matches)?;
     let origins = origins(alloc, matches)?;
     Ok(Settings {
         host,
         port: matches.get_one::<u16>("port").unwrap_or(0),
         workers: matches.get_one::<usize>("workers").unwrap_or(processors),
-        connections: count(matches, "connections"),
-        limits: limits(matches),
+        connections: unless_0(count(matches, "connections")),
+        hub,
+        timing: TIMING,
+        max_payload: MOST_BYTES,
         together: count(matches, "together"),
         poll_entries: size(matches, "poll-entries"),
         origins,
         page: Page::new(alloc),
-        report: count(matches, "report"),
+        report: unless_0(count(matches, "report")),
     })
 }
 
-fn limits(matches: &ArgMatches<'_>) -> Limits {
-    Limits {
+/// The limits of the hub, with the usual namespaces.
+fn hub(alloc: Global, matches: &ArgMatches<'_>) -> Result<Config, AllocError> {
+    let spaces = usual_spaces(alloc)?;
+    Ok(Config {
         clients: size(matches, "clients"),
         capacity: size(matches, "capacity"),
         bytes: size(matches, "bytes"),
         log: size(matches, "log"),
         saved: size(matches, "saved"),
         keep: count(matches, "keep"),
-    }
+        first_offset: 1,
+        spaces,
+    })
+}
+
+/// A number of which 0 says never.
+fn unless_0(number: u64) -> Option<u64> {
+    if number == 0 { None } else { Some(number) }
 }
 
 fn folder(alloc: Global, matches: &ArgMatches<'_>) -> Result<Option<String>, AllocError> {

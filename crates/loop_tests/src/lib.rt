@@ -4,6 +4,8 @@
 #[cfg(test)]
 mod bounds;
 #[cfg(test)]
+mod chosen;
+#[cfg(test)]
 mod made;
 #[cfg(test)]
 mod options;

@@ -1,9 +1,10 @@
 //! The server that a test runs, and what is seen of it.
 
 use hub_gate::{Report, WorkerCounts};
-use journal::Totals;
-use loops::{Ended, Limits, Log, Settings};
+use journal::{Config, Totals};
+use loops::{Ended, Log};
 use page::Page;
+use settings::{Settings, usual_spaces};
 use std::alloc::{AllocError, Global};
 use std::sync::atomic::{AtomicU64, Ordering};
 
@@ -37,28 +38,31 @@ pub const STOPPED: Plan = Plan {
 
 /// The settings of a plan.
 pub fn settings(alloc: Global, plan: &Plan, page: Page) -> Result<Settings, AllocError> {
-    let mut origins = Vec::new(alloc);
+    let mut settings = Settings::usual(alloc, 0, plan.workers)?;
     if let Some(origin) = plan.origin {
-        origins.push(String::from_str(alloc, origin)?)?;
+        settings.origins.push(String::from_str(alloc, origin)?)?;
     }
-    Ok(Settings {
-        host: String::from_str(alloc, HOST)?,
-        port: 0,
-        workers: plan.workers,
-        connections: plan.connections.unwrap_or(0),
-        limits: Limits {
-            clients: plan.clients,
-            capacity: plan.capacity,
-            bytes: 4_000_000,
-            log: 1_024,
-            saved: 64,
-            keep: 120_000,
-        },
-        together: 1,
-        poll_entries: plan.entries,
-        origins,
-        page,
-        report: 1,
+    settings.connections = plan.connections;
+    settings.hub = hub(alloc, plan)?;
+    settings.together = 1;
+    settings.poll_entries = plan.entries;
+    settings.page = page;
+    settings.report = Some(1);
+    Ok(settings)
+}
+
+/// The limits of a plan, and the usual namespaces.
+fn hub(alloc: Global, plan: &Plan) -> Result<Config, AllocError> {
+    let spaces = usual_spaces(alloc)?;
+    Ok(Config {
+        clients: plan.clients,
+        capacity: plan.capacity,
+        bytes: 4_000_000,
+        log: 1_024,
+        saved: 64,
+        keep: 120_000,
+        first_offset: 1,
+        spaces,
     })
 }
 

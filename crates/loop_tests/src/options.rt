@@ -79,11 +79,11 @@ static SHORT: Wanted = Wanted {
 
 /// The numbers of options, in the same order.
 fn numbers(options: &Options) -> [u64; 12] {
-    let (settings, limits) = (&options.settings, options.settings.limits);
+    let (settings, limits) = (&options.settings, &options.settings.hub);
     [
         u64::from(settings.port),
         settings.workers as u64,
-        settings.connections,
+        settings.connections.unwrap_or(0),
         limits.clients as u64,
         limits.capacity as u64,
         limits.bytes as u64,
@@ -92,7 +92,7 @@ fn numbers(options: &Options) -> [u64; 12] {
         limits.keep,
         settings.together,
         settings.poll_entries as u64,
-        settings.report,
+        settings.report.unwrap_or(0),
     ]
 }
 

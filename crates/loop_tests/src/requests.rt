@@ -58,18 +58,23 @@ pub fn is_answer(alloc: Global, text: Option<&str>, head: &str, body: &str) -> b
 }
 
 /// The body of an answer that is a success.
-fn body_of<'t>(alloc: Global, text: &'t str) -> Option<&'t str> {
+pub fn body_of<'t>(alloc: Global, text: &'t str) -> Option<&'t str> {
     let (_, body) = text.split_once("\r\n\r\n")?;
     is_answer(alloc, Some(text), SUCCESS, body).then_some(body)
 }
 
 /// The client of an open packet.
 pub fn opened_in(packet: &str, upgrades: &str) -> Option<u128> {
+    let told = ",\"pingInterval\":25000,\"pingTimeout\":20000,\"maxPayload\":1000000}";
+    opened_with(packet, upgrades, told)
+}
+
+/// The client of an open packet with these numbers.
+pub fn opened_with(packet: &str, upgrades: &str, told: &str) -> Option<u128> {
     let (id, rest) = packet
         .strip_prefix("0{\"sid\":\"")?
         .split_once("\",\"upgrades\":")?;
     let numbers = rest.strip_prefix(upgrades)?;
-    let told = ",\"pingInterval\":25000,\"pingTimeout\":20000,\"maxPayload\":1000000}";
     (numbers == told).then_some(read_id(id)?)
 }
 

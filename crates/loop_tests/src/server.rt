@@ -4,11 +4,12 @@ use crate::made::{Ear, Heard, Plan, Seen, settings};
 use crate::player::Player;
 use crate::requests::Place;
 use crate::scenes::{PATIENT, POLLING, RETURNING, SPEAKING, SPREAD, STOPPING, Scene};
-use crate::{bounds, pages, pressure};
+use crate::{bounds, chosen, pages, pressure};
 use hub_gate::Report;
 use loops::Server;
 use page::Page;
 use relay::RelayApp;
+use settings::Settings;
 use std::alloc::Global;
 use std::net::{Net, TcpStream};
 use std::process::Abort;
@@ -31,6 +32,8 @@ pub enum Task {
     Browse,
     /// A member that reads nothing for a while.
     Press,
+    /// A client of a server with settings of its own.
+    Choose,
 }
 
 impl Task {
@@ -41,6 +44,7 @@ impl Task {
             Task::Check => bounds::STRICT,
             Task::Browse => pages::PLAN,
             Task::Press => pressure::PLAN,
+            Task::Choose => chosen::PLAN,
         }
     }
 
@@ -51,6 +55,14 @@ impl Task {
         }
     }
 
+    fn settings(self, alloc: Global) -> Option<Settings> {
+        let mut settings = settings(alloc, &self.plan(), self.page(alloc)?).ok()?;
+        if matches!(self, Task::Choose) {
+            chosen::choose(alloc, &mut settings).ok()?;
+        }
+        Some(settings)
+    }
+
     fn play<R: Net<Stream = TcpStream> + Clock + Wait + Abort>(self, place: &Place<'_, R>) {
         match self {
             Task::Play(scene) => play(place, scene),
@@ -58,6 +70,7 @@ impl Task {
             Task::Check => bounds::check(place),
             Task::Browse => pages::play(place),
             Task::Press => pressure::play(place),
+            Task::Choose => chosen::play(place),
         }
     }
 }
@@ -104,8 +117,7 @@ where
 /// Runs a server, and the clients of a task beside it.
 fn run<R: Machine>(rt: &R, heard: &Heard, task: Task) -> Option<Report> {
     let alloc = rt.alloc();
-    let settings = settings(alloc, &task.plan(), task.page(alloc)?).ok()?;
-    let server = Server::listen(rt, alloc, settings, Ear { heard }).ok()?;
+    let server = Server::listen(rt, alloc, task.settings(alloc)?, Ear { heard }).ok()?;
     let (port, shared) = (server.port(), server.shared().ok()?);
     let shared = &shared;
     let place = Place {
@@ -218,4 +230,10 @@ fn page_beside_the_socket(rt: HostRuntime) {
 fn a_member_that_reads_nothing(rt: HostRuntime) {
     let counts = "any-dropped 1, waiting 0, lost 2, closed 0, sockets 2";
     check(&rt, "a member that reads nothing", Task::Press, counts);
+}
+
+#[test]
+fn settings_of_its_own(rt: HostRuntime) {
+    let counts = "placed 1, taken 1, dropped 0";
+    check(&rt, "settings of its own", Task::Choose, counts);
 }

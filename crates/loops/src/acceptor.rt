@@ -34,6 +34,17 @@ const MOST_REFUSED: usize = 256;
 /// How many reports one wait takes.
 const EVENTS: usize = 8;
 
+/// How many connections there are.
+#[derive(Clone, Copy)]
+pub(crate) struct Bounds {
+    /// How many more are accepted, if there is an end of them.
+    pub(crate) left: Option<u64>,
+    /// How many may be open at a time.
+    pub(crate) most: u64,
+    /// How many one loop is given before the next one is.
+    pub(crate) together: u64,
+}
+
 /// Accepts connections, and gives so many to each loop in turn.
 #[derive(Drop)]
 pub(crate) struct Acceptor {
@@ -41,15 +52,10 @@ pub(crate) struct Acceptor {
     poll: Poll,
     listener: TcpListener,
     events: Events<Global>,
-    /// How many more are accepted; none says that there is no end.
-    left: Option<u64>,
-    /// How many may be open at a time.
-    most: u64,
+    bounds: Bounds,
     /// Those that had no place and were told so. They are closed a little later, since a stream that is
     /// closed with bytes unread takes back what was sent.
     refused: VecDeque<TcpStream>,
-    /// How many one loop is given before the next one is.
-    together: u64,
     /// How many were given so far.
     given: u64,
 }
@@ -67,9 +73,7 @@ impl Acceptor {
         alloc: Global,
         poll: Poll,
         listener: TcpListener,
-        connections: u64,
-        together: u64,
-        most: u64,
+        bounds: Bounds,
     ) -> io::Result<Box<Acceptor>> {
         let mut listener = listener;
         poll.registry()
@@ -82,14 +86,8 @@ impl Acceptor {
             poll,
             listener,
             events,
-            left: if connections == 0 {
-                None
-            } else {
-                Some(connections)
-            },
-            most,
+            bounds,
             refused: VecDeque::new(alloc),
-            together,
             given: 0,
         };
         Box::new(alloc, acceptor).map_err(|_| io::Error::from(ErrorKind::OutOfMemory))
@@ -102,7 +100,7 @@ impl Acceptor {
             return;
         }
         for _ in 0..u64::MAX {
-            if self.left == Some(0) || shared.is_closing(rt) {
+            if self.bounds.left == Some(0) || shared.is_closing(rt) {
                 break;
             }
             match self.accept(rt, shared) {
@@ -151,10 +149,10 @@ impl Acceptor {
         let _ = self.refused.push_back(stream);
     }
 
-    fn accept(&mut self, rt: &impl Wait, shared: &Shared) -> Attempt {
+    fn accept<R: Wait + Clock>(&mut self, rt: &R, shared: &Shared) -> Attempt {
         match self.listener.accept() {
             Ok((stream, _)) => {
-                self.left = self.left.map(|left| left.saturating_sub(1));
+                self.bounds.left = self.bounds.left.map(|left| left.saturating_sub(1));
                 self.give(rt, shared, stream);
                 Attempt::Accepted
             }
@@ -164,17 +162,17 @@ impl Acceptor {
     }
 
     /// Gives a connection to the loop whose turn it is.
-    fn give(&mut self, rt: &impl Wait, shared: &Shared, stream: TcpStream) {
+    fn give<R: Wait + Clock>(&mut self, rt: &R, shared: &Shared, stream: TcpStream) {
         // Without it a small answer may wait for the acknowledgement of the one before.
         let _ = stream.set_nodelay(true);
-        if !shared.note_accepted(rt, self.most) {
+        if !shared.note_accepted(rt, self.bounds.most) {
             self.turn_away(stream);
             return;
         }
         let loops = shared.inboxes().len();
         let given = match shared
             .inboxes()
-            .get(dealt_to(self.given, self.together, loops))
+            .get(dealt_to(self.given, self.bounds.together, loops))
         {
             Some(inbox) => inbox.give(rt, stream),
             None => false,

@@ -1,9 +1,9 @@
 //! Whose a loop is, and what it goes by.
 
-use crate::inbox::{Arrival, Handed};
+use crate::inbox::Handed;
 use crate::news::Log;
 use crate::outbound::Outbound;
-use crate::settings::Rules;
+use crate::rules::Rules;
 use crate::shared::Shared;
 use effects::Cause;
 use loop_rules::Mail;
@@ -58,7 +58,7 @@ impl<R: Wait + Clock, L: Log> Base<'_, R, L> {
     }
 
     /// Takes all that was handed in, into a mail that is empty.
-    pub(crate) fn take(&self, mail: &mut Mail<Arrival>) {
+    pub(crate) fn take(&self, mail: &mut Mail<Handed>) {
         if let Some(inbox) = self.shared.inboxes().get(self.number) {
             inbox.take(&self.rt, mail);
         }

@@ -6,14 +6,15 @@ use crate::connection::{Connection, Mode, Next};
 use crate::connections::Connections;
 use crate::delays::Delays;
 use crate::fault::ServerFault;
-use crate::inbox::{Arrival, Handed};
+use crate::inbox::{Ears, Handed};
 use crate::news::Log;
 use crate::outbound::Outbound;
 use crate::reading::Drained;
-use crate::settings::Rules;
+use crate::rules::Rules;
 use crate::shared::Shared;
 use crate::stage::Stream;
 use crate::watch::Watch;
+use crossbeam_channel::Receiver;
 use dispatch::{Event, Outcome};
 use effects::CoreError;
 use hub_gate::{Peer, PeerFault};
@@ -28,6 +29,9 @@ use std::time::Duration;
 
 /// How many reports of streams one wait takes.
 const EVENTS: usize = 256;
+
+/// The most new connections that one turn of the loop adds. Where more wait, it doesn't sleep.
+const STREAMS: usize = 256;
 
 /// The most turns of connections in one turn of the loop.
 const TURNS: usize = 1_024;
@@ -52,10 +56,12 @@ pub(crate) struct Current {
 pub(crate) struct EventLoop<'a, R, L> {
     pub(crate) base: Base<'a, R, L>,
     pub(crate) poll: Poll,
+    /// The new connections.
+    streams: Receiver<TcpStream>,
     events: Events<Global>,
     pub(crate) watch: Watch<R>,
     pub(crate) connections: Connections<R>,
-    mail: Mail<Arrival>,
+    mail: Mail<Handed>,
     pub(crate) outbound: Outbound,
     pub(crate) delays: Delays,
     pub(crate) current: Current,
@@ -104,9 +110,10 @@ impl<'a, R: Wait + Clock + Copy + Drop, L: Log> EventLoop<'a, R, L> {
         number: usize,
         shared: Arc<Shared>,
         rules: Arc<Rules>,
-        poll: Poll,
+        ears: Ears,
         watch: Watch<R>,
     ) -> Result<EventLoop<'a, R, L>, ServerFault> {
+        let Ears { poll, streams } = ears;
         let outbound = Outbound::new(alloc, rules.loops)?;
         let events = Events::with_capacity(alloc, EVENTS)?;
         Ok(EventLoop {
@@ -119,6 +126,7 @@ impl<'a, R: Wait + Clock + Copy + Drop, L: Log> EventLoop<'a, R, L> {
                 rules,
             },
             poll,
+            streams,
             events,
             watch,
             connections: Connections::new(alloc),
@@ -219,7 +227,8 @@ impl<'a, R: Wait + Clock + Copy + Drop, L: Log> EventLoop<'a, R, L> {
     /// Takes in what was handed in, and does what is due.
     fn take_in(&mut self) -> bool {
         self.base.take(&mut self.mail);
-        self.admit_all();
+        self.add_streams();
+        self.adopt_handed();
         self.wake_told();
         let everyone = mem::replace(&mut self.mail.everyone, false);
         self.connections.call_missed(everyone);
@@ -244,17 +253,25 @@ impl<'a, R: Wait + Clock + Copy + Drop, L: Log> EventLoop<'a, R, L> {
         }
     }
 
-    /// Takes over the connections that were handed in.
-    fn admit_all(&mut self) {
-        for _ in 0..usize::MAX {
-            let Some(arrival) = self.mail.handed.pop() else {
+    /// Adds the new connections.
+    fn add_streams(&mut self) {
+        for _ in 0..STREAMS {
+            let Ok(stream) = self.streams.try_recv(&self.base.rt) else {
                 return;
             };
-            let admitted = match arrival {
-                Arrival::New(stream) => self.add_new(stream),
-                Arrival::Handed(handed) => self.adopt(handed),
+            if self.add_new(stream).is_none() {
+                self.base.note_closed();
+            }
+        }
+    }
+
+    /// Takes over the requests that other loops handed on.
+    fn adopt_handed(&mut self) {
+        for _ in 0..usize::MAX {
+            let Some(handed) = self.mail.handed.pop() else {
+                return;
             };
-            if admitted.is_none() {
+            if self.adopt(handed).is_none() {
                 self.base.note_closed();
             }
         }

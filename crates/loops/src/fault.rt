@@ -1,6 +1,7 @@
 //! Why a server ended.
 
 use hub_gate::ServeError;
+use settings::Setting;
 use std::alloc::{AllocError, AllocFailed};
 use std::{fmt, io};
 use thiserror::Error;
@@ -23,7 +24,7 @@ impl fmt::Display for Doing {
     }
 }
 
-/// Why a server ended.
+/// Why a server ended, or doesn't begin.
 #[derive(Clone, Copy, Debug, PartialEq, Eq, Error)]
 pub enum ServerFault {
     /// An allocation was refused.
@@ -32,9 +33,9 @@ pub enum ServerFault {
     /// A device failed.
     #[error("device fault while {0}")]
     Device(Doing),
-    /// The hub allows no such limits.
-    #[error("bad limits")]
-    BadLimits,
+    /// No server is made with this setting.
+    #[error("bad {0}")]
+    BadSetting(Setting),
     /// The threads' counts don't add up to the hub's totals.
     #[error("books differ")]
     Books,
@@ -42,7 +43,7 @@ pub enum ServerFault {
 
 impl ServerFault {
     /// A device failed while the server did this.
-    pub(crate) fn while_doing(doing: Doing, error: &io::Error) -> ServerFault {
+    fn while_doing(doing: Doing, error: &io::Error) -> ServerFault {
         match error.kind() {
             io::ErrorKind::OutOfMemory => ServerFault::Memory,
             _ => ServerFault::Device(doing),
@@ -69,4 +70,14 @@ impl<T: Drop> From<AllocFailed<T>> for ServerFault {
     fn from(_refused: AllocFailed<T>) -> ServerFault {
         ServerFault::Memory
     }
+}
+
+/// The server couldn't begin to listen.
+pub(crate) fn listening(error: io::Error) -> ServerFault {
+    ServerFault::while_doing(Doing::Listening, &error)
+}
+
+/// The server couldn't make what it needs.
+pub(crate) fn starting(error: io::Error) -> ServerFault {
+    ServerFault::while_doing(Doing::Starting, &error)
 }

@@ -1,12 +1,21 @@
 //! What others hand to a loop.
 
 use crate::stage::Stream;
+use crossbeam_channel::{Receiver, Sender, bounded};
 use http_edge::{Request, Target};
 use loop_rules::{Mail, Mailbox};
-use mio::Waker;
 use mio::net::TcpStream;
-use std::alloc::Global;
+use mio::{Poll, Waker};
+use std::alloc::{AllocError, Global};
+use std::rt::Clock;
 use std::sync::{Mutex, Wait};
+use std::time::Duration;
+
+/// How many new connections may wait for a loop.
+const STREAMS: usize = 256;
+
+/// How long a new connection waits for its place among these, in milliseconds.
+const PATIENCE: u64 = 1_000;
 
 /// A connection whose request is of a client of another loop.
 #[derive(Drop)]
@@ -16,46 +25,56 @@ pub(crate) struct Handed {
     pub(crate) target: Target,
 }
 
-/// A connection that is a loop's from now on.
-#[derive(Drop)]
-pub(crate) enum Arrival {
-    /// It was accepted, and nothing was read of it yet.
-    New(TcpStream),
-    /// Its request is of a client of this loop.
-    Handed(Handed),
-}
-
 /// What others hand to a loop, with the bell that ends its sleep.
 #[derive(Drop)]
 pub(crate) struct Inbox {
-    mailbox: Mutex<Mailbox<Arrival>>,
+    /// Where new connections are sent.
+    streams: Sender<TcpStream>,
+    mailbox: Mutex<Mailbox<Handed>>,
     waker: Waker,
 }
 
+/// What a loop waits with.
+#[derive(Drop)]
+pub(crate) struct Ears {
+    pub(crate) poll: Poll,
+    /// The new connections.
+    pub(crate) streams: Receiver<TcpStream>,
+}
+
 impl Inbox {
-    /// Nothing was handed in. The waker is that of the loop's poll.
-    pub(crate) fn new(alloc: Global, waker: Waker) -> Inbox {
-        Inbox {
+    /// Nothing was handed in. The waker is that of the loop's poll. The receiver is the loop's, to
+    /// which new connections come.
+    pub(crate) fn new(
+        alloc: Global,
+        waker: Waker,
+    ) -> Result<(Inbox, Receiver<TcpStream>), AllocError> {
+        let (streams, receiver) = bounded(alloc, STREAMS)?;
+        let inbox = Inbox {
+            streams,
             mailbox: Mutex::new(Mailbox::new(alloc)),
             waker,
-        }
+        };
+        Ok((inbox, receiver))
     }
 
-    /// Hands a new connection in, and tells whether there was memory for it; else it is closed.
-    pub(crate) fn give(&self, rt: &impl Wait, stream: TcpStream) -> bool {
-        self.add(rt, Arrival::New(stream))
+    /// Hands a new connection in, and tells whether it got a place while it waited; else it is
+    /// closed. It is sent before the bell is rung, and a loop that falls asleep looks for it under
+    /// the lock that the bell's ringer takes.
+    pub(crate) fn give<R: Wait + Clock>(&self, rt: &R, stream: TcpStream) -> bool {
+        let most = Duration::from_millis(PATIENCE);
+        let given = self.streams.send_timeout(rt, stream, most).is_ok();
+        let slept = self.mailbox.lock(rt).rouse();
+        self.ring_if(slept);
+        given
     }
 
     /// Hands a request over, and tells whether there was memory for it; else it is closed.
     pub(crate) fn hand(&self, rt: &impl Wait, handed: Handed) -> bool {
-        self.add(rt, Arrival::Handed(handed))
-    }
-
-    fn add(&self, rt: &impl Wait, arrival: Arrival) -> bool {
         let (given, slept) = {
             let mut mailbox = self.mailbox.lock(rt);
             let slept = mailbox.rouse();
-            (mailbox.hand(arrival), slept)
+            (mailbox.hand(handed), slept)
         };
         self.ring_if(slept);
         given
@@ -86,11 +105,13 @@ impl Inbox {
 
     /// Whether nothing was handed in, so that the loop may sleep until its bell is rung.
     pub(crate) fn falls_asleep(&self, rt: &impl Wait) -> bool {
-        self.mailbox.lock(rt).fall_asleep(true)
+        let mut mailbox = self.mailbox.lock(rt);
+        let has_no_stream = self.streams.is_empty();
+        mailbox.fall_asleep(has_no_stream)
     }
 
     /// Takes all that was handed in, into a mail that is empty.
-    pub(crate) fn take(&self, rt: &impl Wait, mail: &mut Mail<Arrival>) {
+    pub(crate) fn take(&self, rt: &impl Wait, mail: &mut Mail<Handed>) {
         self.mailbox.lock(rt).take(mail);
     }
 

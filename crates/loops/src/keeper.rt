@@ -2,7 +2,7 @@
 
 use crate::news::Log;
 use crate::outbound::Outbound;
-use crate::settings::Rules;
+use crate::rules::Rules;
 use crate::shared::Shared;
 use crate::watch::Watch;
 use dispatch::{Event, Outcome};
@@ -130,11 +130,14 @@ impl<'a, R: Wait + Clock + Copy, L: Log, C: Ledger, T: Ledger> Keeper<'a, R, L, 
 
     /// Tells the totals, where it is time.
     fn tell_totals(&mut self) {
+        let Some(pause) = self.rules.report else {
+            return;
+        };
         let now = self.watch.tell();
-        if self.rules.report == 0 || now < self.report {
+        if now < self.report {
             return;
         }
-        self.report = now.saturating_add(self.rules.report.saturating_mul(1_000));
+        self.report = now.saturating_add(pause.saturating_mul(1_000));
         let totals = self.totals();
         self.log.totals(totals);
     }

@@ -1,65 +1,39 @@
 //! A server, from its listening to its totals.
 
-ghost use Rattle.std.specs.Prelude.{◌≡◌, ◌<◌, ◌+◌, IfOk, vec_len, sum_by};
+ghost use Rattle.std.specs.Prelude.{◌≡◌, ◌+◌, None, Err, IfOk, IfSome, OnOk, vec_len, sum_by};
+ghost use Rattle.settings.specs.Wrong.{wrong_setting};
+ghost use Rattle.loops.specs.declared.fault.ServerFault.TheVariants.{BadSetting};
 
 use crate::acceptor::Acceptor;
-use crate::connections::BELL;
+use crate::crew::{Common, sources, workers_for};
 use crate::drawn::DrawnIds;
-use crate::event_loop::EventLoop;
-use crate::fault::{Doing, ServerFault};
-use crate::inbox::Inbox;
-use crate::keeper::Keeper;
-use crate::news::{Lives, Log};
-use crate::outbound::Outbound;
-use crate::settings::{Limits, Rules, Settings};
+use crate::fault::{Doing, ServerFault, starting};
+use crate::inbox::Ears;
+use crate::news::Log;
+use crate::opening::{acceptor_for, ears_for, shared_by};
+use crate::rules::{Making, Rules, rules_and_making};
 use crate::shared::Shared;
 use crate::watch::Watch;
 use crate::worker::{Open, Worker};
 use dispatch::Core;
 use effects::{App, CoreError, CoreFault};
-use eio_wire::Numbers;
 use hub::Pass;
 use hub_gate::{Locked, Pool, Report, Settled, serve_peers};
-use journal::Config;
-use mio::net::TcpListener;
-use mio::{Poll, Waker};
-use rand::make_rng;
 use rand::rngs::StdRng;
-use session_clock::Timing;
-use std::alloc::{AllocError, Global};
+use settings::{Setting, Settings};
+use std::alloc::Global;
 use std::marker::Brand;
-use std::net::{Net, ToSocketAddrs};
+use std::net::Net;
 use std::random::RandomSource;
 use std::rt::Clock;
 use std::sync::ledger::{Blank, Ledger};
 use std::sync::{Arc, Wait};
+use std::thread;
 use std::thread::{JoinHandle, Threads};
 use std::time::Instant;
-use std::{io, thread};
-use terms::Text;
 
 /// How many threads may count what they do.
 const PARTS: u64 = 65_536;
-
-/// The most loops: with the keeper as many as an id can tell.
-const MOST_WORKERS: usize = 1_023;
-
-/// How many connections may be open at a time, whatever the number of clients.
-const LEAST_CONNECTIONS: u64 = 16;
-
-/// What every client is told: pings each 25 s, 20 s for the answer, payloads of a million bytes.
-const NUMBERS: Numbers = Numbers {
-    ping_interval: 25_000,
-    ping_timeout: 20_000,
-    max_payload: 1_000_000,
-};
-
-/// What a client's clock goes by.
-const TIMING: Timing = Timing {
-    ping_interval: 25_000,
-    ping_timeout: 20_000,
-    connect_timeout: 45_000,
-};
 
 /// A server that listens. Where it is dropped, it listens no more.
 #[derive(Drop)]
@@ -67,21 +41,10 @@ pub struct Server<L> {
     log: L,
     port: u16,
     acceptor: Box<Acceptor>,
-    polls: Vec<Poll>,
+    ears: Vec<Ears>,
     shared: Arc<Shared>,
     rules: Arc<Rules>,
-    limits: Limits,
-}
-
-/// What the threads of a server take along.
-#[derive(Drop)]
-struct Common<'a, R, L> {
-    rt: R,
-    alloc: Global,
-    log: &'a L,
-    shared: Arc<Shared>,
-    rules: Arc<Rules>,
-    watch: Watch<R>,
+    making: Box<Making>,
 }
 
 impl<L: Log + Sync + Drop> Server<L> {
@@ -91,20 +54,25 @@ impl<L: Log + Sync + Drop> Server<L> {
         alloc: Global,
         settings: Settings,
         log: L,
-    ) -> Result<Server<L>, ServerFault> {
+    ) -> Result<Server<L>, ServerFault>
+        ensures right { OnOk result (wrong_setting settings ≡ None) }
+        ensures wrong { IfSome (wrong_setting settings) (λ setting. result ≡ Err (BadSetting setting)) }
+    {
+        if let Some(setting) = settings.wrong() {
+            return Err(ServerFault::BadSetting(setting));
+        }
         let (port, acceptor, bell) = acceptor_for(rt, alloc, &settings)?;
-        let (polls, inboxes) = polls_for(rt, alloc, workers_of(&settings))?;
+        let (ears, inboxes) = ears_for(rt, alloc, settings.workers)?;
         let shared = shared_by(alloc, inboxes, bell, log.hears_clients())?;
-        let limits = settings.limits;
-        let rules = rules_for(alloc, settings)?;
+        let (rules, making) = rules_and_making(alloc, settings)?;
         Ok(Server {
             log,
             port,
             acceptor,
-            polls,
+            ears,
             shared,
             rules,
-            limits,
+            making,
         })
     }
 
@@ -155,12 +123,12 @@ fn run_in<
         log,
         port: _port,
         acceptor,
-        polls,
+        ears,
         shared,
         rules,
-        limits,
+        making,
     } = server;
-    let (mut core, mut pass) = new_core::<C, T>(alloc, limits, commands, taken)?;
+    let (mut core, mut pass) = new_core::<C, T>(alloc, making, commands, taken)?;
     let looks = core
         .new_pass()
         .map_err(|_| ServerFault::Device(Doing::Starting))?;
@@ -174,7 +142,7 @@ fn run_in<
         rules,
         watch: Watch::new(*rt, start),
     };
-    let workers = workers_for(&common, polls, &locked, looks)?;
+    let workers = workers_for(&common, ears, &locked, looks)?;
     let ids = sources(rt, alloc, workers.len())?;
     serve_all(rt, &common, &locked, &mut pass, app, acceptor, workers, ids)
 }
@@ -239,208 +207,10 @@ fn start_accepting<R: Threads + Wait + Clock + Copy + Drop + Send + 'static, L>(
     }
 }
 
-/// How many loops serve.
-fn workers_of(settings: &Settings) -> usize
-    ensures { 0 < result }
-{
-    settings.workers.clamp(1, MOST_WORKERS)
-}
-
-/// Listens at the settings' port. Answers at which, who accepts there, and the bell that wakes it.
-fn acceptor_for<R: Net>(
-    rt: &R,
-    alloc: Global,
-    settings: &Settings,
-) -> Result<(u16, Box<Acceptor>, Waker), ServerFault> {
-    let listener = listen_at(rt, settings.host.as_str(), settings.port)?;
-    let port = listener.local_addr().map_err(listening)?.port();
-    let (poll, bell) = poll_with_bell(rt)?;
-    let most = most_connections(settings.limits.clients);
-    let (connections, together) = (settings.connections, settings.together);
-    let acceptor = Acceptor::new(alloc, poll, listener, connections, together, most).map_err(
-        starting,
-    )?;
-    Ok((port, acceptor, bell))
-}
-
-/// What all threads share of the server.
-fn shared_by(
-    alloc: Global,
-    inboxes: Vec<Inbox>,
-    bell: Waker,
-    hears_clients: bool,
-) -> Result<Arc<Shared>, ServerFault> {
-    let lives = Lives::new(alloc, hears_clients);
-    Ok(Arc::new(alloc, Shared::new(inboxes, bell, lives))?)
-}
-
-/// What the loops go by.
-fn rules_for(alloc: Global, settings: Settings) -> Result<Arc<Rules>, ServerFault> {
-    let loops = workers_of(&settings);
-    let Settings {
-        poll_entries,
-        origins,
-        page,
-        report,
-        ..
-    } = settings;
-    let page = Arc::new(alloc, page)?;
-    let rules = Rules {
-        loops,
-        poll_entries,
-        origins,
-        page,
-        report,
-    };
-    Ok(Arc::new(alloc, rules)?)
-}
-
-/// How many connections may be open at a time: one that waits and one that brings for each client, and
-/// some for those that come.
-fn most_connections(clients: usize) -> u64 {
-    (clients as u64).saturating_mul(2).max(LEAST_CONNECTIONS)
-}
-
-/// Listens at the first address of the host that can be bound.
-fn listen_at<R: Net>(rt: &R, host: &str, port: u16) -> Result<TcpListener, ServerFault> {
-    let addresses = (host, port).to_socket_addrs(rt).map_err(listening)?;
-    let mut refused = ServerFault::Device(Doing::Listening);
-    for address in addresses {
-        match TcpListener::bind(rt, address) {
-            Ok(listener) => return Ok(listener),
-            Err(error) => refused = listening(error),
-        }
-    }
-    Err(refused)
-}
-
-/// A poll for each loop, with its inbox.
-fn polls_for<R: Net>(
-    rt: &R,
-    alloc: Global,
-    workers: usize,
-) -> Result<(Vec<Poll>, Vec<Inbox>), ServerFault> {
-    let mut polls = Vec::new(alloc);
-    let mut inboxes = Vec::new(alloc);
-    for _worker in 0..workers {
-        let (poll, bell) = poll_with_bell(rt)?;
-        inboxes.push(Inbox::new(alloc, bell))?;
-        polls.push(poll)?;
-    }
-    Ok((polls, inboxes))
-}
-
-/// A poll, and the bell that ends its waiting.
-fn poll_with_bell<R: Net>(rt: &R) -> Result<(Poll, Waker), ServerFault> {
-    let poll = Poll::new(rt).map_err(starting)?;
-    let bell = Waker::new(poll.registry(), BELL).map_err(starting)?;
-    Ok((poll, bell))
-}
-
-/// The loops, and the keeper as the last worker.
-fn workers_for<'a, R: Wait + Clock + Copy + Drop, L: Log, C: Ledger, T: Ledger>(
-    common: &Common<'a, R, L>,
-    polls: Vec<Poll>,
-    locked: &'a Locked<C, T>,
-    looks: Pass<C, T>,
-) -> Result<Vec<Worker<'a, R, L, C, T>>, ServerFault> {
-    let mut workers = Vec::new(common.alloc);
-    for poll in polls {
-        add_loop(common, poll, &mut workers)?;
-    }
-    add_keeper(common, locked, looks, &mut workers)?;
-    Ok(workers)
-}
-
-/// Adds a loop that waits with this poll. Its number is how many there are before it.
-fn add_loop<'a, R: Wait + Clock + Copy + Drop, L: Log, C: Ledger, T: Ledger>(
-    common: &Common<'a, R, L>,
-    poll: Poll,
-    workers: &mut Vec<Worker<'a, R, L, C, T>>,
-) -> Result<(), ServerFault> {
-    let own = loop_for(common, workers.len(), poll)?;
-    Ok(workers.push(Worker::Serves(own))?)
-}
-
-fn add_keeper<'a, R: Wait + Clock + Copy + Drop, L: Log, C: Ledger, T: Ledger>(
-    common: &Common<'a, R, L>,
-    locked: &'a Locked<C, T>,
-    looks: Pass<C, T>,
-    workers: &mut Vec<Worker<'a, R, L, C, T>>,
-) -> Result<(), ServerFault> {
-    let keeper = keeper_for(common, locked, looks)?;
-    Ok(workers.push(Worker::Keeps(keeper))?)
-}
-
-fn loop_for<'a, R: Wait + Clock + Copy + Drop, L: Log>(
-    common: &Common<'a, R, L>,
-    number: usize,
-    poll: Poll,
-) -> Result<EventLoop<'a, R, L>, ServerFault> {
-    let (shared, rules) = shares_of(common)?;
-    EventLoop::new(
-        common.rt,
-        common.alloc,
-        common.log,
-        number,
-        shared,
-        rules,
-        poll,
-        common.watch,
-    )
-}
-
-/// A worker's shares in what all of them have.
-fn shares_of<R, L>(common: &Common<'_, R, L>) -> Result<(Arc<Shared>, Arc<Rules>), ServerFault> {
-    let shared = Arc::try_clone(&common.shared)?;
-    let rules = Arc::try_clone(&common.rules)?;
-    Ok((shared, rules))
-}
-
-fn keeper_for<'a, R: Wait + Clock + Copy, L: Log, C: Ledger, T: Ledger>(
-    common: &Common<'a, R, L>,
-    locked: &'a Locked<C, T>,
-    looks: Pass<C, T>,
-) -> Result<Keeper<'a, R, L, C, T>, ServerFault> {
-    let (shared, rules) = shares_of(common)?;
-    let outbound = Outbound::new(common.alloc, rules.loops)?;
-    Ok(Keeper::new(
-        common.rt,
-        common.alloc,
-        common.log,
-        locked,
-        looks,
-        shared,
-        rules,
-        common.watch,
-        outbound,
-    ))
-}
-
-/// A source of ids for each worker, which begins where the system says.
-fn sources<R: RandomSource>(
-    rt: &R,
-    alloc: Global,
-    workers: usize,
-) -> Result<Vec<DrawnIds<StdRng>>, ServerFault>
-    ensures { IfOk result (λ v. vec_len v ≡ workers) }
-{
-    let mut all = Vec::new(alloc);
-    for worker in 0..workers {
-        all.push(source(rt, worker)?)?;
-    }
-    Ok(all)
-}
-
-fn source<R: RandomSource>(rt: &R, worker: usize) -> Result<DrawnIds<StdRng>, ServerFault> {
-    let random = make_rng::<StdRng, R>(rt).map_err(starting)?;
-    Ok(DrawnIds::new(worker, random))
-}
-
 /// A core without clients, and its pass.
 fn new_core<C: Ledger, T: Ledger>(
     alloc: Global,
-    limits: Limits,
+    making: Box<Making>,
     commands: Blank,
     taken: Blank,
 ) -> Result<(Box<Core<C, T>>, Pass<C, T>), ServerFault>
@@ -448,8 +218,12 @@ fn new_core<C: Ledger, T: Ledger>(
     requires taken { (taken.name ≡ T.name) × (taken.parts ≡ T.parts) × (taken.parts ≡ 65536) }
     ensures pass { IfOk result (λ made. made.1 ≡ record { commands = 0; taken = 0; parts = 1 }) }
 {
-    let config = config(alloc, limits)?;
-    let made = Core::new(alloc, config, TIMING, NUMBERS, commands, taken);
+    let Making {
+        hub,
+        timing,
+        numbers,
+    } = Box::into_inner(making);
+    let made = Core::new(alloc, hub, timing, numbers, commands, taken);
     let (core, pass) = made.map_err(refused)?;
     Ok((Box::new(alloc, core)?, pass))
 }
@@ -458,7 +232,7 @@ fn new_core<C: Ledger, T: Ledger>(
 fn refused(error: CoreError) -> ServerFault {
     match error.fault {
         CoreFault::Memory => ServerFault::Memory,
-        _ => ServerFault::BadLimits,
+        _ => ServerFault::BadSetting(Setting::Limits),
     }
 }
 
@@ -468,29 +242,4 @@ fn lock<C: Ledger, T: Ledger>(
     core: Box<Core<C, T>>,
 ) -> Result<Box<Locked<C, T>>, ServerFault> {
     Ok(Box::new(alloc, Locked::new(Box::into_inner(core)))?)
-}
-
-/// The limits with the names of the two namespaces.
-fn config(alloc: Global, limits: Limits) -> Result<Config, AllocError> {
-    let mut spaces = Vec::new(alloc);
-    spaces.push(Text::copy_of(alloc, "/")?)?;
-    spaces.push(Text::copy_of(alloc, "/admin")?)?;
-    Ok(Config {
-        clients: limits.clients,
-        capacity: limits.capacity,
-        bytes: limits.bytes,
-        log: limits.log,
-        saved: limits.saved,
-        keep: limits.keep,
-        first_offset: 1,
-        spaces,
-    })
-}
-
-fn starting(error: io::Error) -> ServerFault {
-    ServerFault::while_doing(Doing::Starting, &error)
-}
-
-fn listening(error: io::Error) -> ServerFault {
-    ServerFault::while_doing(Doing::Listening, &error)
 }

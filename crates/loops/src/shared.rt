@@ -32,21 +32,53 @@ struct Standing {
     cutting: bool,
 }
 
+impl Standing {
+    /// One more connection is open, if it has a place among so many.
+    fn accept(&mut self, most: u64) -> bool {
+        let has_place = self.open < most;
+        if has_place {
+            self.open = self.open.saturating_add(1);
+        }
+        has_place
+    }
+
+    /// A connection was closed. Answers whether all is over.
+    fn close(&mut self) -> bool {
+        self.open = self.open.saturating_sub(1);
+        self.is_over()
+    }
+
+    /// Whether nothing is open, and nothing more will be.
+    fn is_over(&self) -> bool {
+        self.closing && self.open == 0
+    }
+
+    /// A worker has begun.
+    fn begin(&mut self) {
+        self.begun = self.begun.saturating_add(1);
+    }
+
+    /// A loop has ended.
+    fn end_loop(&mut self) {
+        self.loops = self.loops.saturating_sub(1);
+    }
+}
+
 impl Shared {
     /// Nothing is open yet, and each loop is at work.
     pub(crate) fn new(inboxes: Vec<Inbox>, acceptor: Waker, lives: Lives) -> Shared {
-        let loops = inboxes.len();
+        let standing = Standing {
+            open: 0,
+            begun: 0,
+            loops: inboxes.len(),
+            closing: false,
+            cutting: false,
+        };
         Shared {
             inboxes,
             acceptor,
             lives,
-            standing: Mutex::new(Standing {
-                open: 0,
-                begun: 0,
-                loops,
-                closing: false,
-                cutting: false,
-            }),
+            standing: Mutex::new(standing),
             changed: Condvar::new(),
         }
     }
@@ -63,32 +95,20 @@ impl Shared {
 
     /// A connection was accepted. Answers whether it has a place among so many.
     pub(crate) fn note_accepted(&self, rt: &impl Wait, most: u64) -> bool {
-        let mut standing = self.standing.lock(rt);
-        let has_place = standing.open < most;
-        if has_place {
-            standing.open = standing.open.saturating_add(1);
-        }
-        has_place
+        self.standing.lock(rt).accept(most)
     }
 
     /// A connection was closed.
     pub(crate) fn note_closed(&self, rt: &impl Wait) {
-        let over = {
-            let mut standing = self.standing.lock(rt);
-            standing.open = standing.open.saturating_sub(1);
-            standing.closing && standing.open == 0
-        };
-        if over {
+        let is_over = self.standing.lock(rt).close();
+        if is_over {
             self.wake_everyone(rt);
         }
     }
 
     /// No more connections are accepted.
     pub(crate) fn note_closing(&self, rt: &impl Wait) {
-        {
-            let mut standing = self.standing.lock(rt);
-            standing.closing = true;
-        }
+        self.standing.lock(rt).closing = true;
         self.wake_everyone(rt);
     }
 
@@ -103,10 +123,7 @@ impl Shared {
     pub fn stop<R: Wait + Clock>(&self, rt: &R, grace: Duration) {
         self.stop_accepting(rt);
         self.wait_for_loops(rt, grace);
-        {
-            let mut standing = self.standing.lock(rt);
-            standing.cutting = true;
-        }
+        self.standing.lock(rt).cutting = true;
         self.wake_everyone(rt);
     }
 
@@ -122,16 +139,12 @@ impl Shared {
 
     /// Whether nothing is open, and nothing more will be.
     pub(crate) fn is_over(&self, rt: &impl Wait) -> bool {
-        let standing = self.standing.lock(rt);
-        standing.closing && standing.open == 0
+        self.standing.lock(rt).is_over()
     }
 
     /// A worker has begun.
     pub(crate) fn note_begun(&self, rt: &impl Wait) {
-        {
-            let mut standing = self.standing.lock(rt);
-            standing.begun = standing.begun.saturating_add(1);
-        }
+        self.standing.lock(rt).begin();
         self.changed.notify_all();
     }
 
@@ -148,10 +161,7 @@ impl Shared {
 
     /// A loop has ended.
     pub(crate) fn note_loop_ended(&self, rt: &impl Wait) {
-        {
-            let mut standing = self.standing.lock(rt);
-            standing.loops = standing.loops.saturating_sub(1);
-        }
+        self.standing.lock(rt).end_loop();
         self.changed.notify_all();
     }
 

@@ -3,24 +3,26 @@
 ghost use Rattle.std.specs.Prelude.{◌≡◌, ◌≢◌, ◌⊎◌, Err, IsOkAnd, MatchResult};
 ghost use Rattle.std.specs.Process.{exit_status};
 ghost use Rattle.clap.specs.Words.{kind_of};
-ghost use Rattle.script.specs.declared.faults.RunError.TheVariants.{Memory, Writing};
+ghost use Rattle.loops.specs.declared.fault.ServerFault.TheVariants.{Memory};
+ghost use Rattle.serving.specs.declared.served.ServeFault.TheVariants as fault;
 
+use crate::served::ServeFault;
 use clap::Error;
 use clap::error::ErrorKind;
-use script::RunError;
+use loops::ServerFault;
 use std::process::ExitCode;
 
 /// Shows the text of a parse without matches, and gives the status: 0 for help, 2 for bad arguments.
-pub fn tell<R: Print + Eprint>(rt: &R, refused: &Error) -> Result<ExitCode, RunError>
-    ensures memory { kind_of refused.now ≡ ErrorKind.OutOfMemory → result ≡ Err Memory }
+pub fn tell_refused<R: Print + Eprint>(rt: &R, refused: &Error) -> Result<ExitCode, ServeFault>
+    ensures memory { kind_of refused.now ≡ ErrorKind.OutOfMemory → result ≡ Err (fault.Server Memory) }
     ensures mistake { kind_of refused.now ≢ ErrorKind.OutOfMemory
         → kind_of refused.now ≢ ErrorKind.DisplayHelp → kind_of refused.now ≢ ErrorKind.DisplayVersion
         → IsOkAnd result (λ code. exit_status code ≡ 2) }
     ensures asked { (kind_of refused.now ≡ ErrorKind.DisplayHelp) ⊎ (kind_of refused.now ≡ ErrorKind.DisplayVersion)
-        → MatchResult result (λ code. exit_status code ≡ 0) (λ fault. fault ≡ Writing) }
+        → MatchResult result (λ code. exit_status code ≡ 0) (λ error. error ≡ fault.Writing) }
 {
     if refused.kind() == ErrorKind::OutOfMemory {
-        return Err(RunError::Memory);
+        return Err(ServeFault::Server(ServerFault::Memory));
     }
     let shown = refused.print(rt);
     if refused.use_stderr() {
@@ -28,6 +30,6 @@ pub fn tell<R: Print + Eprint>(rt: &R, refused: &Error) -> Result<ExitCode, RunE
     }
     match shown {
         Ok(()) => Ok(ExitCode::SUCCESS),
-        Err(_) => Err(RunError::Writing),
+        Err(_) => Err(ServeFault::Writing),
     }
 }

@@ -1,0 +1,2 @@
+pub mod Usual
+pub mod Wrong

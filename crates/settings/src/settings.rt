@@ -1,0 +1,110 @@
+//! The settings of a server.
+
+ghost use Rattle.std.specs.Prelude.{◌≡◌, ◌<◌, None, IfOk};
+ghost use Rattle.settings.specs.Usual as usual;
+ghost use Rattle.settings.specs.Wrong.{wrong_setting};
+
+use crate::usual::{MOST_BYTES, TIMING, usual_hub};
+use crate::wrong::{Setting, has_no_time};
+use eio_wire::Numbers;
+use journal::Config;
+use page::Page;
+use session_clock::Timing;
+use std::alloc::{AllocError, Global};
+
+/// The most loops: with the keeper as many workers as an id can tell.
+const MOST_WORKERS: usize = 1_023;
+
+/// What a server is started with.
+#[derive(Drop)]
+pub struct Settings {
+    /// The host's name or address, and the port; where it is 0, the system chooses one.
+    pub host: String,
+    pub port: u16,
+    /// How many loops serve, 1 to 1,023, since the keeper of time is a worker too.
+    pub workers: usize,
+    /// After how many connections the server ends, if it does.
+    pub connections: Option<u64>,
+    /// The limits of the hub, and its namespaces.
+    pub hub: Config,
+    /// When a client is pinged, and when it is given up. No time of these is 0.
+    pub timing: Timing,
+    /// How many bytes a payload may have, as clients are told: 1 to 1,000,000. The server takes so many
+    /// of each, whatever it told.
+    pub max_payload: u64,
+    /// How many connections, one after another, one loop is given before the next one is, at least 1.
+    /// Who comes at the same time is often in the same rooms, and one loop serves these without waking
+    /// another.
+    pub together: u64,
+    /// How many entries one payload over HTTP may have, at least 1.
+    pub poll_entries: usize,
+    /// The origins that a browser's request may have; all where there are none.
+    pub origins: Vec<String>,
+    /// The files that are served beside the socket's path.
+    pub page: Page,
+    /// Every how many seconds the log is told the totals, if it is.
+    pub report: Option<u64>,
+}
+
+impl Settings {
+    /// The usual settings of a server with so many loops, at this port of the machine itself.
+    pub fn usual(alloc: Global, port: u16, workers: usize) -> Result<Settings, AllocError>
+        ensures asked { IfOk result (λ s. (s.port ≡ port) × (s.workers ≡ workers)) }
+        ensures usual { IfOk result (λ s. (s.hub ≡ usual.hub) × (s.timing ≡ usual.timing)
+            × (s.max_payload ≡ 1000000)) }
+    {
+        let host = String::from_str(alloc, "127.0.0.1")?;
+        let hub = usual_hub(alloc)?;
+        Ok(Settings {
+            host,
+            port,
+            workers,
+            connections: None,
+            hub,
+            timing: TIMING,
+            max_payload: MOST_BYTES,
+            together: 16,
+            poll_entries: 15,
+            origins: Vec::new(alloc),
+            page: Page::new(alloc),
+            report: None,
+        })
+    }
+
+    /// What clients are told of the timing, and of their payloads.
+    pub fn numbers(&self) -> Numbers
+        ensures { result ≡ record {
+          ping_interval = self.now.timing.ping_interval;
+          ping_timeout = self.now.timing.ping_timeout;
+          max_payload = self.now.max_payload;
+        } }
+    {
+        Numbers {
+            ping_interval: self.timing.ping_interval,
+            ping_timeout: self.timing.ping_timeout,
+            max_payload: self.max_payload,
+        }
+    }
+
+    /// The first setting that is wrong, if one is.
+    pub fn wrong(&self) -> Option<Setting>
+        ensures first { result ≡ wrong_setting self.now }
+        ensures some { result ≡ None → 0 < self.now.workers }
+    {
+        if self.workers == 0 || self.workers > MOST_WORKERS {
+            Some(Setting::Workers)
+        } else if self.together == 0 {
+            Some(Setting::Together)
+        } else if self.poll_entries == 0 {
+            Some(Setting::PollEntries)
+        } else if has_no_time(&self.timing) {
+            Some(Setting::Timing)
+        } else if self.max_payload == 0 || self.max_payload > MOST_BYTES {
+            Some(Setting::MaxPayload)
+        } else if self.hub.is_bad() {
+            Some(Setting::Limits)
+        } else {
+            None
+        }
+    }
+}
