@@ -29,7 +29,8 @@ fn closes(what: &What, client: u128) -> bool
 
 /// The clients after a step.
 fn after(alloc: Global, clients: &[u128], what: &What) -> Result<Vec<u128>, AllocError>
-    ensures { IfOk result (λ after. after.items ≡ filter (λ c. not (membership.closes what.now c)) clients.now ++ membership.opens what.now) }
+    ensures { IfOk result (λ after. after.items ≡ filter (λ c. not
+        (membership.closes what.now c)) clients.now ++ membership.opens what.now) }
 {
     let mut after: Vec<u128> = clients
         .iter()
@@ -45,7 +46,8 @@ fn after(alloc: Global, clients: &[u128], what: &What) -> Result<Vec<u128>, Allo
 /// The clients that were opened and not parked or closed since, in the order in which they were
 /// opened.
 pub fn open_clients(alloc: Global, base: &Base, steps: &[Step]) -> Result<Vec<u128>, AllocError>
-    ensures { IfOk result (λ clients. clients.items ≡ membership.open_clients base.now (reverse steps.now)) }
+    ensures { IfOk result (λ clients.
+        clients.items ≡ membership.open_clients base.now (reverse steps.now)) }
 {
     let mut clients = at_base(alloc, base)?;
     for step in steps {

@@ -47,7 +47,8 @@ fn placed_by(
     before: &[Step],
     what: &What,
 ) -> Result<usize, AllocError>
-    ensures { IfOk result (λ number. number ≡ definitions.placed_by base.now config.now (reverse before.now) what.now) }
+    ensures { IfOk result (λ number.
+        number ≡ definitions.placed_by base.now config.now (reverse before.now) what.now) }
 {
     let puts = put(alloc, base, config, before, what)?;
     Ok(puts.len())
@@ -61,7 +62,8 @@ fn count_waiting(
     steps: &[Step],
     client: u128,
 ) -> Result<usize, AllocError>
-    ensures { IfOk result (λ number. number ≡ length (outboxes.waiting base.now config.now (reverse steps.now) client)) }
+    ensures { IfOk result (λ number.
+        number ≡ length (outboxes.waiting base.now config.now (reverse steps.now) client)) }
 {
     let entries = waiting(alloc, base, config, steps, client)?;
     Ok(entries.len())
@@ -75,7 +77,8 @@ fn discarded_by(
     before: &[Step],
     what: &What,
 ) -> Result<usize, AllocError>
-    ensures { IfOk result (λ number. number ≡ definitions.discarded_by base.now config.now (reverse before.now) what.now) }
+    ensures { IfOk result (λ number.
+        number ≡ definitions.discarded_by base.now config.now (reverse before.now) what.now) }
 {
     match what {
         What::Parked(client) | What::Closed(client) => {
@@ -95,7 +98,8 @@ fn commands(base: &Base, steps: &[Step]) -> u128
 
 /// The entries that were put.
 fn placed(alloc: Global, base: &Base, config: &Config, steps: &[Step]) -> Result<u128, AllocError>
-    ensures { IfOk result (λ total. total ≡ definitions.placed base.now config.now (reverse steps.now)) }
+    ensures { IfOk result (λ total.
+        total ≡ definitions.placed base.now config.now (reverse steps.now)) }
 {
     let mut total = wide(base.totals.placed);
     for (index, step) in steps.iter().enumerate() {
@@ -134,7 +138,8 @@ fn discarded(
     config: &Config,
     steps: &[Step],
 ) -> Result<u128, AllocError>
-    ensures { IfOk result (λ total. total ≡ definitions.discarded base.now config.now (reverse steps.now)) }
+    ensures { IfOk result (λ total.
+        total ≡ definitions.discarded base.now config.now (reverse steps.now)) }
 {
     let mut total = wide(base.totals.discarded);
     for (index, step) in steps.iter().enumerate() {
@@ -152,7 +157,8 @@ fn waiting_for(
     steps: &[Step],
     clients: &[u128],
 ) -> Result<u128, AllocError>
-    ensures { IfOk result (λ total. total ≡ sum_by (λ c. length (outboxes.waiting base.now config.now (reverse steps.now) c)) clients.now) }
+    ensures { IfOk result (λ total. total ≡ sum_by (λ c. length
+        (outboxes.waiting base.now config.now (reverse steps.now) c)) clients.now) }
 {
     let mut total: u128 = 0;
     for client in clients {
@@ -170,7 +176,8 @@ fn waiting_in_all(
     config: &Config,
     steps: &[Step],
 ) -> Result<u128, AllocError>
-    ensures { IfOk result (λ total. total ≡ definitions.waiting_in_all base.now config.now (reverse steps.now)) }
+    ensures { IfOk result (λ total.
+        total ≡ definitions.waiting_in_all base.now config.now (reverse steps.now)) }
 {
     let clients = open_clients(alloc, base, steps)?;
     waiting_for(alloc, base, config, steps, &clients)
@@ -195,7 +202,10 @@ pub fn totals(
     config: &Config,
     steps: &[Step],
 ) -> Result<Option<Totals>, AllocError>
-    ensures { IfOk result (λ answer. let t = definitions.totals base.now config.now (reverse steps.now) in MatchOption answer (list_any is_past (t.commands ∷ t.placed ∷ t.dropped ∷ t.taken ∷ t.discarded ∷ t.waiting ∷ []) ≡ true) (λ totals. totals ≡ t)) }
+    ensures { IfOk result (λ answer.
+        let t = definitions.totals base.now config.now (reverse steps.now)
+        in MatchOption answer (list_any is_past (t.commands ∷ t.placed ∷ t.dropped ∷ t.taken ∷
+        t.discarded ∷ t.waiting ∷ []) ≡ true) (λ totals. totals ≡ t)) }
 {
     let placed = placed(alloc, base, config, steps)?;
     let discarded = discarded(alloc, base, config, steps)?;
@@ -219,7 +229,15 @@ fn as_totals(
     discarded: u128,
     waiting: u128,
 ) -> Option<Totals>
-    ensures { MatchOption result (list_any is_past (commands ∷ placed ∷ dropped ∷ taken ∷ discarded ∷ waiting ∷ []) ≡ true) (λ totals. totals ≡ record { commands = commands; placed = placed; dropped = dropped; taken = taken; discarded = discarded; waiting = waiting }) }
+    ensures { MatchOption result (list_any is_past (commands ∷ placed ∷ dropped ∷ taken ∷ discarded
+        ∷ waiting ∷ []) ≡ true) (λ totals. totals ≡ record {
+          commands = commands;
+          placed = placed;
+          dropped = dropped;
+          taken = taken;
+          discarded = discarded;
+          waiting = waiting;
+        }) }
 {
     Some(Totals {
         commands: small(commands)?,

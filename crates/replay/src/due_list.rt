@@ -78,7 +78,8 @@ fn is_for_socket(
     broadcast: &Broadcast,
     socket: &Socket,
 ) -> Result<bool, AllocError>
-    ensures { IfOk result (λ due. due ≡ kept.is_for broadcast.now (kept.kept_by_socket base.now (reverse before.now) socket.now)) }
+    ensures { IfOk result (λ due. due ≡ kept.is_for broadcast.now (kept.kept_by_socket base.now
+        (reverse before.now) socket.now)) }
 {
     let pairs = rooms(alloc, base, before)?;
     Ok(broadcast.space == socket.space && is_for(broadcast, &pairs, socket.sid))
@@ -86,7 +87,8 @@ fn is_for_socket(
 
 /// Whether a broadcast is for one of these sessions, where it has this private id.
 fn is_for_lost(broadcast: &Broadcast, saved: &[Saved], pid: Pid) -> bool
-    ensures { result ≡ option_map_or (λ s. kept.is_for broadcast.now (kept.kept_by_saved s)) (session_with pid saved.now) false }
+    ensures { result ≡ option_map_or (λ s. kept.is_for broadcast.now (kept.kept_by_saved s))
+        (session_with pid saved.now) false }
 {
     match find_session(saved, pid) {
         Some(session) => is_for_saved(broadcast, session),
@@ -103,7 +105,8 @@ fn is_due(
     broadcast: &Broadcast,
     pid: Pid,
 ) -> Result<bool, AllocError>
-    ensures { IfOk result (λ due. due ≡ definitions.is_due base.now config.now (reverse before.now) pid broadcast.now) }
+    ensures { IfOk result (λ due.
+        due ≡ definitions.is_due base.now config.now (reverse before.now) pid broadcast.now) }
 {
     let connected = sockets(alloc, base, before)?;
     if let Some(socket) = find_socket(&connected, pid) {
@@ -123,7 +126,9 @@ fn due_offset(
     broadcast: &Broadcast,
     pid: Pid,
 ) -> Result<Option<u64>, AllocError>
-    ensures { IfOk result (λ offset. option_to_list offset ≡ (if definitions.is_due base.now config.now (reverse before.now) pid broadcast.now then option_to_list broadcast.now.offset else [])) }
+    ensures { IfOk result (λ offset. option_to_list offset
+        ≡ (if definitions.is_due base.now config.now (reverse before.now) pid broadcast.now
+        then option_to_list broadcast.now.offset else [])) }
 {
     if is_due(alloc, base, config, before, broadcast, pid)? {
         Ok(broadcast.offset)
@@ -141,7 +146,8 @@ fn due_by(
     what: &What,
     pid: Pid,
 ) -> Result<Option<u64>, AllocError>
-    ensures { IfOk result (λ offset. option_to_list offset ≡ definitions.due_by base.now config.now (reverse before.now) pid what.now) }
+    ensures { IfOk result (λ offset. option_to_list offset
+        ≡ definitions.due_by base.now config.now (reverse before.now) pid what.now) }
 {
     match what {
         What::Cast(broadcast) => due_offset(alloc, base, config, before, broadcast, pid),
@@ -179,7 +185,9 @@ fn fall_due(
     what: &What,
     pid: Pid,
 ) -> Result<(), AllocError>
-    ensures { OnOk result (due.new.items ≡ (if definitions.begins pid what.now then [] else due.old.items ++ definitions.due_by base.now config.now (reverse before.now) pid what.now)) }
+    ensures { OnOk result (due.new.items ≡ (if definitions.begins pid what.now then []
+        else due.old.items
+        ++ definitions.due_by base.now config.now (reverse before.now) pid what.now)) }
 {
     if begins(what, pid) {
         due.clear();
@@ -198,7 +206,8 @@ pub fn due_casts(
     steps: &[Step],
     pid: Pid,
 ) -> Result<Vec<u64>, AllocError>
-    ensures { IfOk result (λ offsets. offsets.items ≡ definitions.due_casts base.now config.now (reverse steps.now) pid) }
+    ensures { IfOk result (λ offsets.
+        offsets.items ≡ definitions.due_casts base.now config.now (reverse steps.now) pid) }
 {
     let mut due = Vec::new(alloc);
     for (index, step) in steps.iter().enumerate() {

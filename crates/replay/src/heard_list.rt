@@ -45,7 +45,8 @@ fn has(offsets: &[u64], offset: u64) -> bool
 
 /// Those of the offsets that are also among these.
 fn common(alloc: Global, given: &[u64], offsets: &[u64]) -> Result<Vec<u64>, AllocError>
-    ensures { IfOk result (λ common. common.items ≡ filter (definitions.has given.now) offsets.now) }
+    ensures { IfOk result (λ common.
+        common.items ≡ filter (definitions.has given.now) offsets.now) }
 {
     offsets
         .iter()
@@ -98,7 +99,8 @@ fn keep_until(
     config: &Config,
     offset: u64,
 ) -> Result<(), AllocError>
-    ensures { OnOk result (offsets.new.items ≡ definitions.heard_until base.now config.now offset offsets.old.items) }
+    ensures { OnOk result (offsets.new.items
+        ≡ definitions.heard_until base.now config.now offset offsets.old.items) }
 {
     if stands_at_base(alloc, base, config, offset)? {
         offsets.clear();
@@ -117,7 +119,9 @@ fn hear_back(
     before: &[Step],
     recovery: &Recovery,
 ) -> Result<(), AllocError>
-    ensures { OnOk result (offsets.new.items ≡ definitions.heard_until base.now config.now recovery.now.offset offsets.old.items ++ filter (definitions.has (definitions.all_given (reverse before.now))) recovery.now.missed) }
+    ensures { OnOk result (offsets.new.items
+        ≡ definitions.heard_until base.now config.now recovery.now.offset offsets.old.items ++
+        filter (definitions.has (definitions.all_given (reverse before.now))) recovery.now.missed) }
 {
     keep_until(alloc, offsets, base, config, recovery.offset)?;
     let given = all_given(alloc, before)?;
@@ -141,7 +145,8 @@ fn is_put_for(
     broadcast: &Broadcast,
     pid: Pid,
 ) -> Result<bool, AllocError>
-    ensures { IfOk result (λ put. put ≡ definitions.is_put_for base.now (reverse before.now) pid broadcast.now) }
+    ensures { IfOk result (λ put.
+        put ≡ definitions.is_put_for base.now (reverse before.now) pid broadcast.now) }
 {
     let receivers = receivers(alloc, base, before, broadcast)?;
     Ok(has_session(&receivers, pid))
@@ -156,7 +161,9 @@ fn hear_cast(
     broadcast: &Broadcast,
     pid: Pid,
 ) -> Result<(), AllocError>
-    ensures { OnOk result (offsets.new.items ≡ (if definitions.is_put_for base.now (reverse before.now) pid broadcast.now then offsets.old.items ++ option_to_list broadcast.now.offset else offsets.old.items)) }
+    ensures { OnOk result (offsets.new.items
+        ≡ (if definitions.is_put_for base.now (reverse before.now) pid broadcast.now
+        then offsets.old.items ++ option_to_list broadcast.now.offset else offsets.old.items)) }
 {
     if is_put_for(alloc, base, before, broadcast, pid)? {
         add(offsets, broadcast.offset)?;
@@ -174,7 +181,8 @@ fn hear(
     what: &What,
     pid: Pid,
 ) -> Result<(), AllocError>
-    ensures { OnOk result (offsets.new.items ≡ definitions.heard_after base.now config.now (reverse before.now) pid offsets.old.items what.now) }
+    ensures { OnOk result (offsets.new.items ≡ definitions.heard_after base.now config.now
+        (reverse before.now) pid offsets.old.items what.now) }
 {
     match what {
         What::Attached(socket) => {
@@ -202,7 +210,8 @@ pub fn heard(
     steps: &[Step],
     pid: Pid,
 ) -> Result<Vec<u64>, AllocError>
-    ensures { IfOk result (λ offsets. offsets.items ≡ definitions.heard base.now config.now (reverse steps.now) pid) }
+    ensures { IfOk result (λ offsets.
+        offsets.items ≡ definitions.heard base.now config.now (reverse steps.now) pid) }
 {
     let mut offsets = Vec::new(alloc);
     for (index, step) in steps.iter().enumerate() {

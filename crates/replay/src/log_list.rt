@@ -99,7 +99,8 @@ fn call_of_broadcast(
     at: u64,
     broadcast: &Broadcast,
 ) -> Result<Option<Call>, AllocError>
-    ensures { IfOk result (λ call. call ≡ option_map (λ offset. packets.Pushed (definitions.logged at broadcast.now offset)) broadcast.now.offset) }
+    ensures { IfOk result (λ call. call ≡ option_map (λ offset. packets.Pushed
+        (definitions.logged at broadcast.now offset)) broadcast.now.offset) }
 {
     match broadcast.offset {
         Some(offset) => Ok(Some(push(logged(alloc, at, broadcast, offset)?))),
@@ -109,7 +110,8 @@ fn call_of_broadcast(
 
 /// What a step does to the log.
 fn call_of_step(alloc: Global, config: &Config, step: &Step) -> Result<Option<Call>, AllocError>
-    ensures { IfOk result (λ call. call ≡ definitions.log_call config.now step.now.at step.now.what) }
+    ensures { IfOk result (λ call.
+        call ≡ definitions.log_call config.now step.now.at step.now.what) }
 {
     match &step.what {
         What::Cast(broadcast) => call_of_broadcast(alloc, step.at, broadcast),
@@ -125,7 +127,8 @@ fn add_call(
     config: &Config,
     step: &Step,
 ) -> Result<(), AllocError>
-    ensures { OnOk result (reverse calls.new.items ≡ definitions.with_call (definitions.log_call config.now step.now.at step.now.what) (reverse calls.old.items)) }
+    ensures { OnOk result (reverse calls.new.items ≡ definitions.with_call
+        (definitions.log_call config.now step.now.at step.now.what) (reverse calls.old.items)) }
 {
     if let Some(call) = call_of_step(alloc, config, step)? {
         calls.push(call)?;
@@ -140,7 +143,8 @@ fn calls(
     config: &Config,
     steps: &[Step],
 ) -> Result<Vec<Call>, AllocError>
-    ensures { IfOk result (λ calls. reverse calls.items ≡ definitions.log_calls base.now config.now (reverse steps.now)) }
+    ensures { IfOk result (λ calls.
+        reverse calls.items ≡ definitions.log_calls base.now config.now (reverse steps.now)) }
 {
     let mut calls = calls_at_base(alloc, base)?;
     for step in steps {
@@ -205,7 +209,8 @@ fn add_survivor(
     call: &Call,
     later: &[Call],
 ) -> Result<(), AllocError>
-    ensures { OnOk result (entries.new.items ≡ entries.old.items ++ lists.survivors limit later.now call.now) }
+    ensures { OnOk result (entries.new.items ≡ entries.old.items
+        ++ lists.survivors limit later.now call.now) }
 {
     if let Some(entry) = &call.pushed {
         if survives(limit, entry, later) {
@@ -234,7 +239,8 @@ pub fn log(
     config: &Config,
     steps: &[Step],
 ) -> Result<Vec<Logged>, AllocError>
-    ensures { IfOk result (λ entries. entries.items ≡ definitions.log base.now config.now (reverse steps.now)) }
+    ensures { IfOk result (λ entries.
+        entries.items ≡ definitions.log base.now config.now (reverse steps.now)) }
 {
     let calls = calls(alloc, base, config, steps)?;
     survivors(alloc, config.log, &calls)

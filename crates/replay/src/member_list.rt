@@ -37,7 +37,8 @@ fn chosen(
     place: u16,
     room: Room,
 ) -> Result<Vec<Sid>, AllocError>
-    ensures { IfOk result (λ sids. sids.items ≡ map (λ p. p.0) (filter (λ p. same_room p.1 room && is_here sockets.now place p.0) pairs.now)) }
+    ensures { IfOk result (λ sids. sids.items ≡ map (λ p. p.0) (filter (λ p. same_room p.1 room
+        && is_here sockets.now place p.0) pairs.now)) }
 {
     pairs
         .iter()
@@ -54,7 +55,9 @@ pub fn members(
     place: u16,
     room: Room,
 ) -> Result<Vec<Sid>, AllocError>
-    ensures { IfOk result (λ sids. ListsRising nat_cmp (λ s. membership.is_in_space base.now (reverse steps.now) place s && room_maps.is_in (membership.rooms base.now (reverse steps.now)) s room) sids.items) }
+    ensures { IfOk result (λ sids.
+        ListsRising nat_cmp (λ s. membership.is_in_space base.now (reverse steps.now) place s
+        && room_maps.is_in (membership.rooms base.now (reverse steps.now)) s room) sids.items) }
 {
     let sockets = sockets(alloc, base, steps)?;
     let pairs = rooms(alloc, base, steps)?;

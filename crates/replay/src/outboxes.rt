@@ -34,7 +34,11 @@ fn name_at(config: &Config, place: u16) -> &str
 
 /// The answer to a CONNECT to this namespace.
 fn answer_text(alloc: Global, name: &str, socket: &Socket) -> Result<Entry, AllocError>
-    ensures { IfOk result (λ entry. entry ≡ record { text = connect_answer.connected_text name.now socket.now.sid socket.now.pid; attachments = [] }) }
+    ensures { IfOk result (λ entry. entry ≡ record {
+      text = connect_answer.connected_text name.now
+          socket.now.sid socket.now.pid;
+      attachments = [];
+    }) }
 {
     match connected_text(alloc, name, socket.sid.number(), socket.pid.number()) {
         Ok(text) => Ok(Entry {
@@ -55,7 +59,8 @@ fn answer(alloc: Global, config: &Config, socket: &Socket) -> Result<Entry, Allo
 
 /// What sockets of this namespace are told when they are ended.
 fn farewell_text(alloc: Global, name: &str) -> Result<Entry, AllocError>
-    ensures { IfOk result (λ entry. entry ≡ record { text = disconnect.disconnect_text name.now; attachments = [] }) }
+    ensures { IfOk result (λ entry.
+        entry ≡ record { text = disconnect.disconnect_text name.now; attachments = [] }) }
 {
     match disconnect_text(alloc, name) {
         Ok(text) => Ok(Entry {
@@ -97,7 +102,8 @@ pub(crate) fn names_no_room(rooms: &[Room]) -> bool
 
 /// Whether a broadcast is for one who is in these rooms.
 pub(crate) fn is_for(broadcast: &Broadcast, pairs: &[(Sid, Room)], sid: Sid) -> bool
-    ensures { result ≡ addressed.is_for broadcast.now.rooms broadcast.now.excepted (lists.is_pair_listed pairs.now sid) }
+    ensures { result ≡ addressed.is_for broadcast.now.rooms broadcast.now.excepted
+        (lists.is_pair_listed pairs.now sid) }
 {
     (names_no_room(&broadcast.rooms) || is_in_any(pairs, sid, &broadcast.rooms))
         && !is_in_any(pairs, sid, &broadcast.excepted)
@@ -121,7 +127,8 @@ fn reached(
     pairs: &[(Sid, Room)],
     broadcast: &Broadcast,
 ) -> Result<Vec<Socket>, AllocError>
-    ensures { IfOk result (λ reached. reached.items ≡ filter (reach.receives sids.now pairs.now broadcast.now) sockets.now) }
+    ensures { IfOk result (λ reached.
+        reached.items ≡ filter (reach.receives sids.now pairs.now broadcast.now) sockets.now) }
 {
     sockets
         .iter()
@@ -137,7 +144,8 @@ pub(crate) fn receivers(
     before: &[Step],
     broadcast: &Broadcast,
 ) -> Result<Vec<Socket>, AllocError>
-    ensures { IfOk result (λ receivers. receivers.items ≡ definitions.receivers base.now (reverse before.now) broadcast.now) }
+    ensures { IfOk result (λ receivers.
+        receivers.items ≡ definitions.receivers base.now (reverse before.now) broadcast.now) }
 {
     let connected = sockets(alloc, base, before)?;
     let sids = room_sockets(alloc, base, before)?;
@@ -198,7 +206,8 @@ fn add_if_missed(
     logged: &Logged,
     offsets: &[u64],
 ) -> Result<(), AllocError>
-    ensures { OnOk result (puts.new.items ≡ puts.old.items ++ map (λ e. (client, e)) (definitions.entries_of (logged.now ∷ []) offsets.now)) }
+    ensures { OnOk result (puts.new.items ≡ puts.old.items
+        ++ map (λ e. (client, e)) (definitions.entries_of (logged.now ∷ []) offsets.now)) }
 {
     if offsets.contains(&logged.offset) {
         puts.push((client, copy(&logged.entry)?))?;
@@ -213,7 +222,8 @@ fn add_missed(
     entries: &[Logged],
     offsets: &[u64],
 ) -> Result<(), AllocError>
-    ensures { OnOk result (puts.new.items ≡ puts.old.items ++ map (λ e. (client, e)) (definitions.entries_of entries.now offsets.now)) }
+    ensures { OnOk result (puts.new.items ≡ puts.old.items
+        ++ map (λ e. (client, e)) (definitions.entries_of entries.now offsets.now)) }
 {
     for logged in entries {
         add_if_missed(puts, client, logged, offsets)?;
@@ -229,7 +239,10 @@ fn put_back(
     before: &[Step],
     recovery: &Recovery,
 ) -> Result<Vec<(u128, Entry)>, AllocError>
-    ensures { IfOk result (λ puts. puts.items ≡ map (λ e. (recovery.now.socket.client, e)) (definitions.answer config.now recovery.now.socket ∷ definitions.entries_of (log.log base.now config.now (reverse before.now)) recovery.now.missed)) }
+    ensures { IfOk result (λ puts. puts.items
+        ≡ map (λ e. (recovery.now.socket.client, e)) (definitions.answer config.now
+        recovery.now.socket ∷ definitions.entries_of (log.log base.now config.now
+        (reverse before.now)) recovery.now.missed)) }
 {
     let client = recovery.socket.client;
     let entry = answer(alloc, config, &recovery.socket)?;
@@ -248,7 +261,8 @@ pub fn put(
     before: &[Step],
     what: &What,
 ) -> Result<Vec<(u128, Entry)>, AllocError>
-    ensures { IfOk result (λ puts. puts.items ≡ definitions.put base.now config.now (reverse before.now) what.now) }
+    ensures { IfOk result (λ puts.
+        puts.items ≡ definitions.put base.now config.now (reverse before.now) what.now) }
 {
     match what {
         What::Attached(socket) => {
@@ -281,7 +295,8 @@ fn begins(what: &What, client: u128) -> bool
 
 /// Adds an entry where it is for the client.
 fn add_if_for(entries: &mut Vec<Entry>, put: &(u128, Entry), client: u128) -> Result<(), AllocError>
-    ensures { OnOk result (entries.new.items ≡ entries.old.items ++ definitions.entries_for client (put.now ∷ [])) }
+    ensures { OnOk result (entries.new.items ≡ entries.old.items
+        ++ definitions.entries_for client (put.now ∷ [])) }
 {
     if put.0 == client {
         entries.push(copy(&put.1)?)?;
@@ -291,7 +306,8 @@ fn add_if_for(entries: &mut Vec<Entry>, put: &(u128, Entry), client: u128) -> Re
 
 /// Adds the entries that are for the client.
 fn add_for(entries: &mut Vec<Entry>, puts: &[(u128, Entry)], client: u128) -> Result<(), AllocError>
-    ensures { OnOk result (entries.new.items ≡ entries.old.items ++ definitions.entries_for client puts.now) }
+    ensures { OnOk result (entries.new.items ≡ entries.old.items
+        ++ definitions.entries_for client puts.now) }
 {
     for put in puts {
         add_if_for(entries, put, client)?;
@@ -309,7 +325,9 @@ fn place(
     what: &What,
     client: u128,
 ) -> Result<(), AllocError>
-    ensures { OnOk result (entries.new.items ≡ (if definitions.begins client what.now then [] else entries.old.items ++ definitions.entries_for client (definitions.put base.now config.now (reverse before.now) what.now))) }
+    ensures { OnOk result (entries.new.items ≡ (if definitions.begins client what.now then []
+        else entries.old.items ++ definitions.entries_for client
+        (definitions.put base.now config.now (reverse before.now) what.now))) }
 {
     if begins(what, client) {
         entries.clear();
@@ -355,7 +373,8 @@ fn placements(
     steps: &[Step],
     client: u128,
 ) -> Result<Vec<Entry>, AllocError>
-    ensures { IfOk result (λ entries. entries.items ≡ definitions.placements base.now config.now (reverse steps.now) client) }
+    ensures { IfOk result (λ entries.
+        entries.items ≡ definitions.placements base.now config.now (reverse steps.now) client) }
 {
     let mut entries = at_base(alloc, base, client)?;
     for (index, step) in steps.iter().enumerate() {
@@ -386,7 +405,8 @@ fn taken_by(what: &What, client: u128) -> usize
 /// How many entries were handed out to the client after a step, or the greatest `usize` where they
 /// are more.
 fn taken_after(taken: usize, what: &What, client: u128) -> usize
-    ensures { result ≡ (if definitions.begins client what.now then 0 else min (taken + definitions.taken_by client what.now) usize.MAX) }
+    ensures { result ≡ (if definitions.begins client what.now then 0
+        else min (taken + definitions.taken_by client what.now) usize.MAX) }
 {
     if begins(what, client) {
         0
@@ -426,7 +446,8 @@ pub fn waiting(
     steps: &[Step],
     client: u128,
 ) -> Result<Vec<Entry>, AllocError>
-    ensures { IfOk result (λ entries. entries.items ≡ definitions.waiting base.now config.now (reverse steps.now) client) }
+    ensures { IfOk result (λ entries.
+        entries.items ≡ definitions.waiting base.now config.now (reverse steps.now) client) }
 {
     let entries = placements(alloc, base, config, steps, client)?;
     let start = taken(base, steps, client).min(entries.len());

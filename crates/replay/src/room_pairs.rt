@@ -19,7 +19,8 @@ fn ended_with(
     before: &[Step],
     what: &What,
 ) -> Result<Vec<Socket>, AllocError>
-    ensures { IfOk result (λ ended. ended.items ≡ lists.ended_with base.now (reverse before.now) what.now) }
+    ensures { IfOk result (λ ended.
+        ended.items ≡ lists.ended_with base.now (reverse before.now) what.now) }
 {
     match what {
         What::Parked(client) | What::Closed(client) => sockets_of(alloc, base, before, *client),
@@ -81,7 +82,8 @@ fn pairs_in(alloc: Global, sids: &[Sid], room: Room) -> Result<Vec<(Sid, Room)>,
 
 /// The pairs of a socket with its own room and with these.
 fn pairs_back(alloc: Global, sid: Sid, rooms: &[Room]) -> Result<Vec<(Sid, Room)>, AllocError>
-    ensures { IfOk result (λ pairs. pairs.items ≡ (sid, own_room sid) ∷ map (λ room. (sid, room)) rooms.now) }
+    ensures { IfOk result (λ pairs.
+        pairs.items ≡ (sid, own_room sid) ∷ map (λ room. (sid, room)) rooms.now) }
 {
     let mut pairs = pair(alloc, sid, Room::own(sid))?;
     let more = pairs_with(alloc, sid, rooms)?;
@@ -109,7 +111,8 @@ fn sockets_after(
     what: &What,
     ended: &[Socket],
 ) -> Result<Vec<Sid>, AllocError>
-    ensures { IfOk result (λ after. after.items ≡ filter (λ s. not (lists.ends what.now ended.now s)) sids.now ++ lists.begins what.now) }
+    ensures { IfOk result (λ after. after.items
+        ≡ filter (λ s. not (lists.ends what.now ended.now s)) sids.now ++ lists.begins what.now) }
 {
     let mut after: Vec<Sid> = sids
         .iter()
@@ -131,7 +134,8 @@ fn pairs_after(
     what: &What,
     ended: &[Socket],
 ) -> Result<Vec<(Sid, Room)>, AllocError>
-    ensures { IfOk result (λ after. after.items ≡ filter (λ p. not (lists.leaves what.now ended.now p.0 p.1)) pairs.now ++ lists.enters what.now) }
+    ensures { IfOk result (λ after. after.items ≡ filter (λ p. not
+        (lists.leaves what.now ended.now p.0 p.1)) pairs.now ++ lists.enters what.now) }
 {
     let mut after: Vec<(Sid, Room)> = pairs
         .iter()
@@ -167,7 +171,8 @@ fn pairs_at_base(alloc: Global, base: &Base) -> Result<Vec<(Sid, Room)>, AllocEr
 
 /// The sockets that may be in rooms.
 pub fn room_sockets(alloc: Global, base: &Base, steps: &[Step]) -> Result<Vec<Sid>, AllocError>
-    ensures { IfOk result (λ sids. ListsSockets (membership.rooms base.now (reverse steps.now)) sids.items) }
+    ensures { IfOk result (λ sids.
+        ListsSockets (membership.rooms base.now (reverse steps.now)) sids.items) }
 {
     let mut sids = sockets_at_base(alloc, base)?;
     for (index, step) in steps.iter().enumerate() {
@@ -179,7 +184,8 @@ pub fn room_sockets(alloc: Global, base: &Base, steps: &[Step]) -> Result<Vec<Si
 
 /// Each socket with each room that it is in, in no order.
 pub fn rooms(alloc: Global, base: &Base, steps: &[Step]) -> Result<Vec<(Sid, Room)>, AllocError>
-    ensures { IfOk result (λ pairs. ListsPairs (membership.rooms base.now (reverse steps.now)) pairs.items) }
+    ensures { IfOk result (λ pairs.
+        ListsPairs (membership.rooms base.now (reverse steps.now)) pairs.items) }
 {
     let mut pairs = pairs_at_base(alloc, base)?;
     for (index, step) in steps.iter().enumerate() {

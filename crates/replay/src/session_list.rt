@@ -45,7 +45,8 @@ fn at_base(alloc: Global, base: &Base) -> Result<Vec<Saved>, AllocError>
 
 /// The rooms of a socket's pairs.
 fn rooms_among(alloc: Global, pairs: &[(Sid, Room)], sid: Sid) -> Result<Vec<Room>, AllocError>
-    ensures { IfOk result (λ inside. inside.items ≡ map (λ p. p.1) (filter (λ p. p.0 == sid) pairs.now)) }
+    ensures { IfOk result (λ inside.
+        inside.items ≡ map (λ p. p.1) (filter (λ p. p.0 == sid) pairs.now)) }
 {
     pairs
         .iter()
@@ -56,7 +57,8 @@ fn rooms_among(alloc: Global, pairs: &[(Sid, Room)], sid: Sid) -> Result<Vec<Roo
 
 /// The rooms that a socket is in after these steps, rising by their bytes.
 fn rooms_of(alloc: Global, base: &Base, before: &[Step], sid: Sid) -> Result<Vec<Room>, AllocError>
-    ensures { IfOk result (λ inside. ListsRising room_cmp (room_maps.is_in (membership.rooms base.now (reverse before.now)) sid) inside.items) }
+    ensures { IfOk result (λ inside. ListsRising room_cmp (room_maps.is_in
+        (membership.rooms base.now (reverse before.now)) sid) inside.items) }
 {
     let pairs = rooms(alloc, base, before)?;
     let mut inside = rooms_among(alloc, &pairs, sid)?;
@@ -73,7 +75,8 @@ fn lost_session(
     at: u64,
     socket: &Socket,
 ) -> Result<Saved, AllocError>
-    ensures { IfOk result (λ session. session ≡ definitions.lost_session base.now (reverse before.now) at socket.now) }
+    ensures { IfOk result (λ session.
+        session ≡ definitions.lost_session base.now (reverse before.now) at socket.now) }
 {
     Ok(Saved {
         sid: socket.sid,
@@ -117,7 +120,9 @@ fn save_all(
     at: u64,
     sockets: &[Socket],
 ) -> Result<(), AllocError>
-    ensures { OnOk result (sessions.new.items ≡ definitions.with_sessions (map (definitions.lost_session base.now (reverse before.now) at) sockets.now) sessions.old.items) }
+    ensures { OnOk result (sessions.new.items
+        ≡ definitions.with_sessions (map (definitions.lost_session base.now
+        (reverse before.now) at) sockets.now) sessions.old.items) }
 {
     for socket in sockets {
         save(sessions, lost_session(alloc, base, before, at, socket)?)?;
@@ -134,14 +139,16 @@ fn is_other(session: &Saved, pid: Pid) -> bool
 
 /// Takes the session with this private id out.
 fn take_out(sessions: &mut Vec<Saved>, pid: Pid)
-    ensures { sessions.new.items ≡ filter (λ (s : PlainSaved). not (s.pid == pid)) sessions.old.items }
+    ensures { sessions.new.items
+        ≡ filter (λ (s : PlainSaved). not (s.pid == pid)) sessions.old.items }
 {
     sessions.retain(|session| is_other(session, pid));
 }
 
 /// Drops the sessions that are outdated at a moment.
 fn drop_outdated(sessions: &mut Vec<Saved>, keep: u64, now: u64)
-    ensures { sessions.new.items ≡ filter (λ (s : PlainSaved). not (expiry.is_outdated keep now s.lost_at)) sessions.old.items }
+    ensures { sessions.new.items ≡ filter (λ (s : PlainSaved). not
+        (expiry.is_outdated keep now s.lost_at)) sessions.old.items }
 {
     sessions.retain(|session| !is_outdated(session.lost_at, keep, now));
 }
@@ -155,7 +162,8 @@ fn change(
     before: &[Step],
     step: &Step,
 ) -> Result<(), AllocError>
-    ensures { OnOk result (sessions.new.items ≡ definitions.sessions_after base.now config.now (reverse before.now) step.now.at sessions.old.items step.now.what) }
+    ensures { OnOk result (sessions.new.items ≡ definitions.sessions_after base.now config.now
+        (reverse before.now) step.now.at sessions.old.items step.now.what) }
 {
     match &step.what {
         What::Parked(client) => {
@@ -176,7 +184,8 @@ pub fn sessions(
     config: &Config,
     steps: &[Step],
 ) -> Result<Vec<Saved>, AllocError>
-    ensures { IfOk result (λ sessions. sessions.items ≡ definitions.sessions base.now config.now (reverse steps.now)) }
+    ensures { IfOk result (λ sessions.
+        sessions.items ≡ definitions.sessions base.now config.now (reverse steps.now)) }
 {
     let mut sessions = at_base(alloc, base)?;
     for (index, step) in steps.iter().enumerate() {

@@ -61,7 +61,8 @@ fn ends(what: &What, socket: &Socket) -> bool
 
 /// The sockets after a step.
 fn after(alloc: Global, sockets: &[Socket], what: &What) -> Result<Vec<Socket>, AllocError>
-    ensures { IfOk result (λ after. after.items ≡ filter (λ k. not (membership.ends what.now k)) sockets.now ++ membership.connects what.now) }
+    ensures { IfOk result (λ after. after.items ≡ filter (λ k. not
+        (membership.ends what.now k)) sockets.now ++ membership.connects what.now) }
 {
     let mut after: Vec<Socket> = sockets
         .iter()
@@ -78,7 +79,8 @@ fn after(alloc: Global, sockets: &[Socket], what: &What) -> Result<Vec<Socket>, 
 
 /// The sockets that were connected and not ended since, in the order in which they were connected.
 pub fn sockets(alloc: Global, base: &Base, steps: &[Step]) -> Result<Vec<Socket>, AllocError>
-    ensures { IfOk result (λ sockets. sockets.items ≡ membership.sockets base.now (reverse steps.now)) }
+    ensures { IfOk result (λ sockets.
+        sockets.items ≡ membership.sockets base.now (reverse steps.now)) }
 {
     let mut sockets = at_base(alloc, base)?;
     for step in steps {
@@ -94,7 +96,8 @@ pub(crate) fn ending(
     before: &[Step],
     what: &What,
 ) -> Result<Vec<Socket>, AllocError>
-    ensures { IfOk result (λ ending. ending.items ≡ filter (membership.ends what.now) (membership.sockets base.now (reverse before.now))) }
+    ensures { IfOk result (λ ending. ending.items
+        ≡ filter (membership.ends what.now) (membership.sockets base.now (reverse before.now))) }
 {
     let sockets = sockets(alloc, base, before)?;
     sockets
@@ -119,7 +122,8 @@ pub fn sockets_of(
     steps: &[Step],
     client: u128,
 ) -> Result<Vec<Socket>, AllocError>
-    ensures { IfOk result (λ sockets. sockets.items ≡ membership.sockets_of base.now (reverse steps.now) client) }
+    ensures { IfOk result (λ sockets.
+        sockets.items ≡ membership.sockets_of base.now (reverse steps.now) client) }
 {
     let sockets = sockets(alloc, base, steps)?;
     sockets
@@ -151,7 +155,8 @@ pub fn is_connected(
     steps: &[Step],
     sid: Sid,
 ) -> Result<bool, AllocError>
-    ensures { IfOk result (λ connected. connected ≡ membership.is_connected membership.sid_of base.now (reverse steps.now) sid) }
+    ensures { IfOk result (λ connected.
+        connected ≡ membership.is_connected membership.sid_of base.now (reverse steps.now) sid) }
 {
     let sockets = sockets(alloc, base, steps)?;
     Ok(find_sid(&sockets, sid).is_some())
@@ -172,7 +177,8 @@ pub fn is_in_space(
     space: u16,
     sid: Sid,
 ) -> Result<bool, AllocError>
-    ensures { IfOk result (λ inside. inside ≡ membership.is_in_space base.now (reverse steps.now) space sid) }
+    ensures { IfOk result (λ inside.
+        inside ≡ membership.is_in_space base.now (reverse steps.now) space sid) }
 {
     let sockets = sockets(alloc, base, steps)?;
     Ok(sockets.iter().any(|socket| stands_in(socket, space, sid)))
