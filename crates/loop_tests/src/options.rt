@@ -111,7 +111,7 @@ fn are(options: &Options, wanted: &Wanted) -> bool {
 }
 
 /// The task that a command line asks for.
-fn asked(alloc: Global, line: &str) -> Result<Result<Task, ErrorKind>, AllocError> {
+fn task_of_line(alloc: Global, line: &str) -> Result<Result<Task, ErrorKind>, AllocError> {
     let mut words = Vec::new(alloc);
     words.push("event_server")?;
     for word in line.split_whitespace() {
@@ -121,7 +121,7 @@ fn asked(alloc: Global, line: &str) -> Result<Result<Task, ErrorKind>, AllocErro
 }
 
 fn kind_asked(alloc: Global, line: &str) -> Option<Asked> {
-    match asked(alloc, line).ok()? {
+    match task_of_line(alloc, line).ok()? {
         Ok(Task::Script) => Some(Asked::Script),
         Ok(Task::Serve(_)) => Some(Asked::Serve),
         Err(kind) => Some(Asked::Nothing(kind)),
@@ -129,7 +129,7 @@ fn kind_asked(alloc: Global, line: &str) -> Option<Asked> {
 }
 
 fn serves_as(alloc: Global, wanted: &Wanted) -> bool {
-    match asked(alloc, wanted.line) {
+    match task_of_line(alloc, wanted.line) {
         Ok(Ok(Task::Serve(options))) => are(&options, wanted),
         _ => false,
     }

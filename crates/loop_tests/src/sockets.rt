@@ -65,15 +65,19 @@ pub fn sends(alloc: Global, socket: &mut Socket, bytes: &[u8]) -> bool {
     }
 }
 
-/// The next message, which is a text.
+/// The next message, which is a text. On a slow machine a ping may come before it.
 pub fn text_from(alloc: Global, socket: &mut Socket) -> Option<String> {
-    match socket.read() {
-        Ok(Message::Text(text)) => String::from_str(alloc, text.as_str()).ok(),
-        _ => None,
+    for _ in 0..2 {
+        match socket.read() {
+            Ok(Message::Text(text)) if text.as_str() == "2" => {}
+            Ok(Message::Text(text)) => return String::from_str(alloc, text.as_str()).ok(),
+            _ => return None,
+        }
     }
+    None
 }
 
-/// Whether the next message is this text. On a slow machine a ping may come before it.
+/// Whether the next message is this text, also behind a ping.
 pub fn hears(socket: &mut Socket, text: &str) -> bool {
     for _ in 0..2 {
         match socket.read() {
