@@ -1,9 +1,8 @@
 //! The faults that end a run.
 
 use effects::{CoreError, CoreFault};
-use hub_gate::PeerFault;
 use journal::HubError;
-use std::alloc::{AllocError, AllocFailed};
+use std::alloc::AllocError;
 use thiserror::Error;
 
 /// Why a run ended before all its lines were printed.
@@ -62,21 +61,5 @@ impl From<CoreError> for Fault {
 impl From<AllocError> for Fault {
     fn from(_refused: AllocError) -> Fault {
         Fault::Memory
-    }
-}
-
-impl<T: Drop> From<AllocFailed<T>> for Fault {
-    fn from(_refused: AllocFailed<T>) -> Fault {
-        Fault::Memory
-    }
-}
-
-impl From<PeerFault> for Fault {
-    fn from(fault: PeerFault) -> Fault {
-        match fault {
-            PeerFault::Memory => Fault::Memory,
-            PeerFault::Device => Fault::Clock,
-            PeerFault::Ended => Fault::Pool,
-        }
     }
 }

@@ -10,33 +10,24 @@ const PAGE: u64 = 4096;
 
 /// The present moment of the clock that never goes back.
 pub fn now<R: Clock>(rt: &R) -> Result<Instant, Fault> {
-    Instant::now(rt).map_err(|_| Fault::Clock)
+    match Instant::now(rt) {
+        Ok(moment) => Ok(moment),
+        Err(_) => Err(Fault::Clock),
+    }
 }
 
 /// How long ago the moment was.
 pub fn since<R: Clock>(rt: &R, start: Instant) -> Result<Duration, Fault> {
-    start.elapsed(rt).map_err(|_| Fault::Clock)
+    match start.elapsed(rt) {
+        Ok(time) => Ok(time),
+        Err(_) => Err(Fault::Clock),
+    }
 }
 
 /// How many of these there were in a second, or `None` where the time is too short to tell.
 pub fn per_second(number: u64, time: Duration) -> Option<u64> {
-    number
-        .checked_mul(1_000_000_000)?
-        .checked_div(nanoseconds(time)?)
-}
-
-/// The nanoseconds that each of so many took on average, where there was one.
-pub fn average(number: u64, time: Duration) -> Option<u64> {
-    nanoseconds(time)?.checked_div(number)
-}
-
-fn nanoseconds(time: Duration) -> Option<u64> {
-    u64::try_from(time.as_nanos()).ok()
-}
-
-/// What each of so many has of the growth, where that is known.
-pub fn share(growth: Option<u64>, count: u64) -> Option<u64> {
-    growth?.checked_div(count)
+    let nanoseconds = u64::try_from(time.as_nanos()).ok()?;
+    number.checked_mul(1_000_000_000)?.checked_div(nanoseconds)
 }
 
 /// The bytes of memory that the process has touched and still holds, in whole pages, or `None`

@@ -1,19 +1,15 @@
-//! A hub, and what its clients do. The client with a number has one socket, in `/`, and its session
-//! id and its private id are that number too, where nothing else is said.
+//! A hub, and what its clients do, one or all. The client with a number has one socket, in `/`, and
+//! its session id and its private id are that number too, where nothing else is said.
 
 ghost use Rattle.std.specs.Prelude.{◌≡◌};
 
-use crate::deeds::Deed;
 use crate::fault::Fault;
-use crate::rows::{Measured, Row, Scale, Stage, play};
 use hub::{Hub, Pass};
 use journal::{Cast, Config, HubError, Totals};
 use recovery::Pid;
 use room_maps::{Room, Sid};
 use sio_wire::Attachments;
 use std::alloc::Global;
-use std::marker::Brand;
-use std::rt::{Clock, Files};
 use std::sync::ledger::{Blank, Ledger};
 use terms::Text;
 
@@ -23,15 +19,28 @@ pub const PARTS: u64 = 65_536;
 /// How many entries may wait for a client.
 const CAPACITY: usize = 128;
 
+/// How many broadcasts the log holds.
+const LOG: u64 = 1024;
+
+/// The room that sockets join.
+const ROOM: &str = "members";
+
 /// The namespace in which few clients have a socket, beside their one in `/`.
 const FEW: &str = "/few";
 
 /// The first session id of the sockets that clients have beside, or after, the one of their number.
 const SECOND: u128 = 1 << 64;
 
-/// The moment of each command but the sweep, at which all is outdated.
+/// A room that the sockets in the room join, and leave again.
+const SECOND_ROOM: &str = "guests";
+
+/// A room that nobody joins.
+const EMPTY_ROOM: &str = "nobody";
+
+/// The moment of each command but the last sweep.
 pub const NOW: u64 = 0;
 
+/// A moment at which all that was kept since `NOW` is outdated.
 const LATE: u64 = 1_000_000;
 
 /// An event of 64 bytes.
@@ -46,7 +55,7 @@ pub fn config(alloc: Global, clients: u64) -> Result<Config, HubError> {
         clients: clients as usize,
         capacity: CAPACITY,
         bytes: 1_048_576,
-        log: 1_024,
+        log: LOG as usize,
         saved: clients as usize,
         keep: 120_000,
         first_offset: 1,
@@ -60,82 +69,72 @@ pub fn first_boxed<A: Drop, B: Drop>(alloc: Global, both: (A, B)) -> Result<(Box
     Ok((Box::new(alloc, first)?, second))
 }
 
-/// Plays a row over a new hub, and gives what was measured with the hub's counts.
-pub fn measure<R: Clock + Files + AllocGlobal>(
-    rt: &R,
-    row: &Row<Deed>,
-    scale: Scale,
-) -> Result<(Measured, Totals), Fault> {
-    measure_in::<Brand, Brand, R>(rt, row, scale, Blank::new(PARTS), Blank::new(PARTS))
-}
-
-fn measure_in<C: Ledger, T: Ledger, R: Clock + Files + AllocGlobal>(
-    rt: &R,
-    row: &Row<Deed>,
-    scale: Scale,
-    commands: Blank,
-    taken: Blank,
-) -> Result<(Measured, Totals), Fault>
-    requires commands { (commands.name ≡ C.name) × (commands.parts ≡ C.parts) × (commands.parts ≡ 65536) }
-    requires taken { (taken.name ≡ T.name) × (taken.parts ≡ T.parts) × (taken.parts ≡ 65536) }
-{
-    let (alloc, clients) = (rt.alloc(), scale.sockets);
-    let made = Hub::<C, T>::new(alloc, config(alloc, clients)?, commands, taken)?;
-    let (hub, pass) = first_boxed(alloc, made)?;
-    let mut hall = Hall {
-        alloc,
-        hub,
-        pass,
-        clients,
-    };
-    let measured = play(rt, &mut hall, row, scale)?;
-    match hall.hub.settle(&mut hall.pass) {
-        Ok(totals) if totals.dropped == 0 => Ok((measured, totals)),
-        Ok(_) => Err(Fault::Dropped),
-        Err(_) => Err(Fault::Unsettled),
-    }
+/// What a client does.
+#[derive(Clone, Copy)]
+pub enum Deed {
+    Open,
+    /// Its socket connects; the answer to CONNECT waits then.
+    Attach,
+    /// It connects to the namespace of few too.
+    AttachToFew,
+    /// It connects to `/` with new ids.
+    AttachAnew,
+    /// It takes all that waits for it.
+    Take,
+    /// Its socket joins the room,
+    Join,
+    /// or leaves it.
+    Leave,
+    /// It is lost.
+    Park,
+    /// Its session comes back, which had the log's first broadcast.
+    Recover,
 }
 
 /// A hub with its pass.
 #[derive(Drop)]
-struct Hall<C: Ledger, T: Ledger> {
+pub struct Hall<C: Ledger, T: Ledger> {
     alloc: Global,
     hub: Box<Hub<C, T>>,
     pass: Pass<C, T>,
-    clients: u64,
-}
-
-impl<C: Ledger, T: Ledger> Stage<Deed> for Hall<C, T> {
-    fn act(&mut self, deed: Deed, number: u64) -> Result<u64, Fault> {
-        match deed {
-            Deed::Cast => self.cast("/", &[members()], false)?,
-            Deed::CastLogged => self.cast("/", &[members()], true)?,
-            Deed::CastToAll => self.cast("/", &[], false)?,
-            Deed::CastToFew => self.cast(FEW, &[], false)?,
-            Deed::Log if number % 16 == 15 => self.cast("/", &[members()], true)?,
-            Deed::Log => self.cast("/", &[named("nobody")], true)?,
-            Deed::JoinTogether | Deed::LeaveTogether | Deed::EndTogether => self.together(deed)?,
-            Deed::Sweep => self.sweep()?,
-            Deed::Seal => return Ok(self.hub.seal(self.alloc)?.steps.len() as u64),
-            _ => self.client_does(deed, u128::from(number))?,
-        }
-        Ok(1)
-    }
 }
 
 impl<C: Ledger, T: Ledger> Hall<C, T> {
-    fn client_does(&mut self, deed: Deed, id: u128) -> Result<(), HubError> {
-        let (alloc, sid, room) = (self.alloc, Sid::new(id), members());
+    /// A hub for so many clients.
+    pub fn new(
+        alloc: Global,
+        clients: u64,
+        commands: Blank,
+        taken: Blank,
+    ) -> Result<Hall<C, T>, HubError>
+        requires commands { (commands.name ≡ C.name) × (commands.parts ≡ C.parts) × (commands.parts ≡ 65536) }
+        requires taken { (taken.name ≡ T.name) × (taken.parts ≡ T.parts) × (taken.parts ≡ 65536) }
+    {
+        let limits = config(alloc, clients)?;
+        let (hub, pass) = first_boxed(alloc, Hub::new(alloc, limits, commands, taken)?)?;
+        Ok(Hall { alloc, hub, pass })
+    }
+
+    /// The clients below a number do something, one after another.
+    pub fn each(&mut self, clients: u64, deed: Deed) -> Result<(), HubError> {
+        for number in 0..clients {
+            self.act(number, deed)?;
+        }
+        Ok(())
+    }
+
+    fn act(&mut self, number: u64, deed: Deed) -> Result<(), HubError> {
+        let id = u128::from(number);
         match deed {
-            Deed::Open => self.hub.open(alloc, &mut self.pass, id, NOW),
+            Deed::Open => self.hub.open(self.alloc, &mut self.pass, id, NOW),
             Deed::Attach => self.attach(id, "/", id),
             Deed::AttachToFew => self.attach(id, FEW, SECOND.saturating_add(id)),
             Deed::AttachAnew => self.attach(id, "/", SECOND.saturating_add(id)),
-            Deed::Join => self.hub.join(alloc, &mut self.pass, sid, room, NOW),
-            Deed::Leave => self.hub.leave(alloc, &mut self.pass, sid, room, NOW),
-            Deed::Park => self.hub.park(alloc, &mut self.pass, id, NOW),
+            Deed::Take => self.take(id),
+            Deed::Join => self.join(Sid::new(id)),
+            Deed::Leave => self.leave(Sid::new(id)),
+            Deed::Park => self.hub.park(self.alloc, &mut self.pass, id, NOW),
             Deed::Recover => self.recover(id),
-            _ => self.take(id),
         }
     }
 
@@ -152,6 +151,16 @@ impl<C: Ledger, T: Ledger> Hall<C, T> {
         Ok(())
     }
 
+    fn join(&mut self, sid: Sid) -> Result<(), HubError> {
+        self.hub
+            .join(self.alloc, &mut self.pass, sid, room(ROOM), NOW)
+    }
+
+    fn leave(&mut self, sid: Sid) -> Result<(), HubError> {
+        self.hub
+            .leave(self.alloc, &mut self.pass, sid, room(ROOM), NOW)
+    }
+
     fn recover(&mut self, id: u128) -> Result<(), HubError> {
         let pid = Pid::new(id);
         let _sid = self
@@ -160,56 +169,117 @@ impl<C: Ledger, T: Ledger> Hall<C, T> {
         Ok(())
     }
 
-    fn sweep(&mut self) -> Result<(), Fault> {
-        let swept = self.hub.sweep(self.alloc, &mut self.pass, LATE)?;
-        if swept.saved as u64 == self.clients {
-            Ok(())
-        } else {
-            Err(Fault::Dropped)
+    /// Drops all that the hub keeps of the past, and says how many sessions these were.
+    pub fn count_saved(&mut self) -> Result<u64, HubError> {
+        Ok(self.hub.sweep(self.alloc, &mut self.pass, LATE)?.saved as u64)
+    }
+
+    /// Makes the present state the base, and says how many steps are handed out.
+    pub fn seal(&mut self) -> Result<u64, HubError> {
+        Ok(self.hub.seal(self.alloc)?.steps.len() as u64)
+    }
+
+    /// The hub's counts, which are all in the pass. No broadcast may have been dropped.
+    pub fn settle(&mut self) -> Result<Totals, Fault> {
+        match self.hub.settle(&mut self.pass) {
+            Ok(totals) if totals.dropped == 0 => Ok(totals),
+            Ok(_) => Err(Fault::Dropped),
+            Err(_) => Err(Fault::Unsettled),
         }
     }
 
     fn cast(&mut self, space: &str, rooms: &[Room], logged: bool) -> Result<(), HubError> {
-        let alloc = self.alloc;
-        let event = Cast {
-            space: Text::copy_of(alloc, space)?,
-            rooms: Vec::from_slice(alloc, rooms)?,
-            excepted: Vec::new(alloc),
-            logged,
-            payload: Text::copy_of(alloc, PAYLOAD)?,
-            attachments: Attachments::new(alloc),
-        };
-        let _done = self.hub.cast(alloc, &mut self.pass, event, NOW)?;
+        let event = news(self.alloc, space, rooms, logged)?;
+        let _done = self.hub.cast(self.alloc, &mut self.pass, event, NOW)?;
         Ok(())
     }
 
-    /// What all in the room do together.
-    fn together(&mut self, deed: Deed) -> Result<(), HubError> {
-        let (alloc, pass, guests) = (self.alloc, &mut self.pass, named("guests"));
-        let (rooms, none) = (Vec::from_slice(alloc, &[members()])?, Vec::new(alloc));
-        if let Deed::JoinTogether = deed {
-            let _in = self
-                .hub
-                .sockets_join(alloc, pass, "/", rooms, none, guests, NOW)?;
-        } else if let Deed::LeaveTogether = deed {
-            let _out = self
-                .hub
-                .sockets_leave(alloc, pass, "/", rooms, none, guests, NOW)?;
-        } else {
-            let _ended = self
-                .hub
-                .disconnect_sockets(alloc, pass, "/", rooms, none, NOW)?;
+    /// Casts so many times.
+    pub fn cast_to(&mut self, whom: Whom, times: u64) -> Result<(), HubError> {
+        let members = [room(ROOM)];
+        for _time in 0..times {
+            match whom {
+                Whom::Room => self.cast("/", &members, false)?,
+                Whom::RoomLogged => self.cast("/", &members, true)?,
+                Whom::Everybody => self.cast("/", &[], false)?,
+                Whom::Few => self.cast(FEW, &[], false)?,
+            }
         }
         Ok(())
     }
+
+    /// Fills the log. Each sixteenth broadcast is for the room, the others for nobody.
+    pub fn fill_log(&mut self) -> Result<(), HubError> {
+        let (members, nobody) = ([room(ROOM)], [room(EMPTY_ROOM)]);
+        for offset in 1..=LOG {
+            let rooms = if offset % 16 == 0 { &members } else { &nobody };
+            self.cast("/", rooms, true)?;
+        }
+        Ok(())
+    }
+
+    /// All in the room join another, and leave it again.
+    fn move_once(&mut self) -> Result<(), HubError> {
+        let (alloc, guests) = (self.alloc, room(SECOND_ROOM));
+        let (rooms, none) = (Vec::from_slice(alloc, &[room(ROOM)])?, Vec::new(alloc));
+        let _joined = self
+            .hub
+            .sockets_join(alloc, &mut self.pass, "/", rooms, none, guests, NOW)?;
+        let (rooms, none) = (Vec::from_slice(alloc, &[room(ROOM)])?, Vec::new(alloc));
+        let _left = self
+            .hub
+            .sockets_leave(alloc, &mut self.pass, "/", rooms, none, guests, NOW)?;
+        Ok(())
+    }
+
+    /// All in the room join another, and leave it again, so many times.
+    pub fn move_room(&mut self, times: u64) -> Result<(), HubError> {
+        for _time in 0..times {
+            self.move_once()?;
+        }
+        Ok(())
+    }
+
+    /// All in the room end, of which their clients are told.
+    pub fn end_room(&mut self) -> Result<(), HubError> {
+        let alloc = self.alloc;
+        let (rooms, none) = (Vec::from_slice(alloc, &[room(ROOM)])?, Vec::new(alloc));
+        let _done = self
+            .hub
+            .disconnect_sockets(alloc, &mut self.pass, "/", rooms, none, NOW)?;
+        Ok(())
+    }
 }
 
-/// The room that sockets join.
-fn members() -> Room {
-    named("members")
+/// For whom a broadcast is.
+#[derive(Clone, Copy)]
+pub enum Whom {
+    /// The room.
+    Room,
+    /// The room, with an offset and a place in the log.
+    RoomLogged,
+    /// Everybody in `/`.
+    Everybody,
+    /// Everybody in the namespace of few.
+    Few,
 }
 
 /// The room of this name, which is short.
-fn named(name: &str) -> Room {
-    Room::read(name).unwrap_or(Room::own(Sid::new(0)))
+fn room(name: &str) -> Room {
+    match Room::read(name) {
+        Some(room) => room,
+        None => Room::own(Sid::new(0)),
+    }
+}
+
+/// An event for the rooms of a namespace, or where there are none for everybody in it.
+fn news(alloc: Global, space: &str, rooms: &[Room], logged: bool) -> Result<Cast, HubError> {
+    Ok(Cast {
+        space: Text::copy_of(alloc, space)?,
+        rooms: Vec::from_slice(alloc, rooms)?,
+        excepted: Vec::new(alloc),
+        logged,
+        payload: Text::copy_of(alloc, PAYLOAD)?,
+        attachments: Attachments::new(alloc),
+    })
 }

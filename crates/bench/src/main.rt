@@ -4,18 +4,17 @@
 #![tactic(auto)]
 
 mod bands;
-mod club;
-mod deeds;
+mod events;
 mod fault;
+mod figures;
 mod gauge;
 mod hall;
 mod pools;
 mod report;
 mod requests;
-mod rows;
 
 use fault::Fault;
-use rows::Scale;
+use figures::Scale;
 use std::env;
 use std::process::ExitCode;
 use std::rt::{Clock, Env, Files};
@@ -29,6 +28,14 @@ const USAGE: &str =
 /// The members of the greatest room, of which there must be as many sockets.
 const FEWEST_SOCKETS: u64 = 256;
 
+/// What the arguments ask for.
+#[derive(Clone, Copy)]
+enum Wish {
+    Counts,
+    Figures(Scale),
+    Pools(u64),
+}
+
 fn main(rt: HostRuntime) -> ExitCode {
     match run(&rt) {
         Ok(()) => ExitCode::SUCCESS,
@@ -40,28 +47,10 @@ fn main(rt: HostRuntime) -> ExitCode {
 fn run<R: Env + Clock + Files + Threads + Wait + Sync + Print + AllocGlobal>(
     rt: &R,
 ) -> Result<(), Fault> {
-    let Ok(words) = env::args(rt) else {
-        return Err(Fault::Arguments);
-    };
-    let words: Vec<String> = words.collect(rt.alloc())?;
-    match words.as_slice() {
-        [_program] => report::print_counts(rt),
-        [_program, batches] => report::print_pools(rt, number(batches.as_str(), 1)?),
-        [_program, sockets, casts] => {
-            let (sockets, casts) = (sockets.as_str(), casts.as_str());
-            let sockets = number(sockets, FEWEST_SOCKETS)?;
-            let casts = number(casts, 1)?;
-            report::print_figures(rt, Scale { sockets, casts })
-        }
-        _ => Err(Fault::Arguments),
-    }
-}
-
-/// A number that is at least `least`.
-fn number(word: &str, least: u64) -> Result<u64, Fault> {
-    match word.parse::<u64>() {
-        Ok(number) if number >= least => Ok(number),
-        _ => Err(Fault::Arguments),
+    match read_arguments(rt)? {
+        Wish::Counts => report::print_counts(rt),
+        Wish::Figures(scale) => report::print_figures(rt, scale),
+        Wish::Pools(batches) => report::print_pools(rt, batches),
     }
 }
 
@@ -74,4 +63,33 @@ fn tell<R: Eprint>(rt: &R, fault: Fault) -> ExitCode {
     }
     let _ = eprintln!(rt; "{USAGE}");
     ExitCode::from(2)
+}
+
+fn read_arguments<R: Env + AllocGlobal>(rt: &R) -> Result<Wish, Fault> {
+    let Ok(words) = env::args(rt) else {
+        return Err(Fault::Arguments);
+    };
+    let words: Vec<String> = words.collect(rt.alloc())?;
+    wish_of(words.as_slice())
+}
+
+/// What the words ask for, of which the first is the program's name.
+fn wish_of(words: &[String]) -> Result<Wish, Fault> {
+    match words {
+        [_program] => Ok(Wish::Counts),
+        [_program, batches] => Ok(Wish::Pools(number(batches.as_str(), 1)?)),
+        [_program, sockets, casts] => Ok(Wish::Figures(Scale {
+            sockets: number(sockets.as_str(), FEWEST_SOCKETS)?,
+            casts: number(casts.as_str(), 1)?,
+        })),
+        _ => Err(Fault::Arguments),
+    }
+}
+
+/// A number that is at least `least`.
+fn number(word: &str, least: u64) -> Result<u64, Fault> {
+    match word.parse::<u64>() {
+        Ok(number) if number >= least => Ok(number),
+        _ => Err(Fault::Arguments),
+    }
 }

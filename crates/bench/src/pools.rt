@@ -2,40 +2,51 @@
 
 ghost use Rattle.std.specs.Prelude.{◌≡◌, IfOk, vec_len};
 
-use crate::bands::{BANDS, Band, CLIENTS, IDS, Turns};
-use crate::club::Club;
+use crate::bands::{BANDS, Band, MEMBERS, Turns};
 use crate::fault::Fault;
-use crate::gauge;
-use crate::hall::PARTS;
+use crate::figures::Measured;
+use crate::{events, gauge, hall};
+use dispatch::Core;
 use effects::IdSource;
-use hub_gate::{Locked, Peer, Pool, ServeError, Turnstile, serve_peers};
+use hub::Pass;
+use hub_gate::{Locked, Peer, PeerFault, ServeError, Turnstile, serve_peers};
 use journal::Totals;
 use relay::{Counter, RelayApp};
 use std::alloc::{AllocError, Global};
+use std::fmt;
 use std::marker::Brand;
 use std::rt::Clock;
 use std::sync::ledger::{Blank, Ledger};
 use std::sync::{Mutex, Wait};
 use std::thread::Threads;
-use std::time::Duration;
 
 /// How many ids lie between the first ones of two workers: more than all clients draw.
 const IDS_APART: u64 = 1_000;
 
-/// Who serves the bands: one thread that has the core to itself, or so many workers over the lock.
-pub static POOLS: [(&str, Option<usize>); 4] = [
-    ("one thread without a lock", None),
-    ("1 worker", Some(1)),
-    ("2 workers", Some(2)),
-    ("4 workers", Some(4)),
-];
+/// Who serves the bands.
+#[derive(Clone, Copy)]
+pub enum Pool {
+    /// One thread, which has the core to itself.
+    Alone,
+    /// So many workers over the lock.
+    Workers(usize),
+}
 
-/// What was measured: each turn by itself, and the time until the last band was done.
+impl fmt::Display for Pool {
+    fn fmt<W: fmt::Write>(&self, f: &mut fmt::Formatter<W>) -> fmt::Result {
+        match self {
+            Pool::Alone => f.write_str("one thread without a lock"),
+            Pool::Workers(1) => f.write_str("1 worker"),
+            Pool::Workers(number) => write!(f, "{number} workers"),
+        }
+    }
+}
+
+/// What was measured: all turns with the time until the last band was done, and each turn by itself.
 #[derive(Clone, Copy)]
 pub struct Served {
+    pub measured: Measured,
     pub turns: Turns,
-    pub time: Duration,
-    pub totals: Totals,
 }
 
 /// A gate that lets all pass.
@@ -52,104 +63,79 @@ impl Turnstile for Open {
 pub fn measure<R: Clock + Threads + Wait + Sync>(
     rt: &R,
     alloc: Global,
-    workers: Option<usize>,
+    pool: Pool,
     batches: u64,
-) -> Result<Served, Fault> {
-    let tally = Mutex::new(Turns::NONE);
-    let bands = bands(rt, alloc, &tally, workers.unwrap_or(1) as u64, batches)?;
-    let (commands, taken) = (Blank::new(PARTS), Blank::new(PARTS));
-    let (totals, time) = serve::<Brand, Brand, R>(rt, alloc, bands, workers, commands, taken)?;
-    let turns = *tally.lock(rt);
-    Ok(Served {
-        turns,
-        time,
-        totals,
-    })
+) -> Result<(Served, Totals), Fault> {
+    let (commands, taken) = (Blank::new(hall::PARTS), Blank::new(hall::PARTS));
+    measure_in::<Brand, Brand, R>(rt, alloc, pool, batches, commands, taken)
 }
 
-/// The bands. Each worker serves its own one after another.
+fn measure_in<C: Ledger + Send + Sync, T: Ledger + Send + Sync, R: Clock + Threads + Wait + Sync>(
+    rt: &R,
+    alloc: Global,
+    pool: Pool,
+    batches: u64,
+    commands: Blank,
+    taken: Blank,
+) -> Result<(Served, Totals), Fault>
+    requires commands { (commands.name ≡ C.name) × (commands.parts ≡ C.parts) × (commands.parts ≡ 65536) }
+    requires taken { (taken.name ≡ T.name) × (taken.parts ≡ T.parts) × (taken.parts ≡ 65536) }
+{
+    let (core, pass) = events::new_core::<C, T>(alloc, clients(), commands, taken)?;
+    let tally = Mutex::new(Turns::none());
+    let bands = bands(rt, alloc, &tally, batches)?;
+    let start = gauge::now(rt)?;
+    let totals = match pool {
+        Pool::Alone => play_alone(alloc, core, pass, bands)?,
+        Pool::Workers(workers) => play(rt, alloc, core, pass, bands, workers)?,
+    };
+    let time = gauge::since(rt, start)?;
+    let turns = *tally.lock(rt);
+    let measured = Measured {
+        number: turns.number,
+        time,
+    };
+    Ok((Served { measured, turns }, totals))
+}
+
+fn clients() -> u64 {
+    BANDS.saturating_mul(MEMBERS as u64)
+}
+
 fn bands<'a, R: Clock + Wait>(
     rt: &'a R,
     alloc: Global,
     tally: &'a Mutex<Turns>,
-    workers: u64,
     batches: u64,
-) -> Result<Vec<Band<'a, R>>, Fault> {
+) -> Result<Vec<Band<'a, R>>, AllocError> {
     let mut bands = Vec::new(alloc);
-    for (number, says) in BANDS.iter().enumerate() {
-        let first = first_id(number as u64, workers);
-        let (turns, started, says) = (Turns::NONE, None, *says);
-        bands.push(Band {
-            rt,
-            alloc,
-            tally,
-            says,
-            first,
-            batches,
-            turns,
-            started,
-        })?;
+    for number in 0..BANDS {
+        bands.push(Band::new(rt, alloc, tally, number as usize, batches))?;
     }
     Ok(bands)
 }
 
-/// The first id that is drawn for the clients of a band.
-fn first_id(number: u64, workers: u64) -> u128 {
-    let worker = number.checked_rem(workers).unwrap_or(0);
-    let earlier = number.checked_div(workers).unwrap_or(0);
-    u128::from(
-        worker
-            .saturating_mul(IDS_APART)
-            .saturating_add(earlier.saturating_mul(IDS)),
-    )
-    .saturating_add(1)
-}
-
-fn serve<C: Ledger + Send + Sync, T: Ledger + Send + Sync, R: Clock + Threads + Wait + Sync>(
-    rt: &R,
-    alloc: Global,
-    bands: Vec<Band<'_, R>>,
-    workers: Option<usize>,
-    commands: Blank,
-    taken: Blank,
-) -> Result<(Totals, Duration), Fault>
-    requires commands { (commands.name ≡ C.name) × (commands.parts ≡ C.parts) × (commands.parts ≡ 65536) }
-    requires taken { (taken.name ≡ T.name) × (taken.parts ≡ T.parts) × (taken.parts ≡ 65536) }
-{
-    let club = Club::<C, T>::new(alloc, CLIENTS, commands, taken)?;
-    let start = gauge::now(rt)?;
-    let totals = match workers {
-        Some(workers) => share(rt, alloc, club, bands, workers)?,
-        None => play_all(club, bands)?,
-    };
-    Ok((totals, gauge::since(rt, start)?))
-}
-
 /// Serves the bands by workers, of which each has a thread.
-fn share<C: Ledger + Send + Sync, T: Ledger + Send + Sync, R: Clock + Threads + Wait + Sync>(
+fn play<C: Ledger + Send + Sync, T: Ledger + Send + Sync, R: Clock + Threads + Wait + Sync>(
     rt: &R,
     alloc: Global,
-    club: Club<C, T>,
+    core: Box<Core<C, T>>,
+    mut pass: Pass<C, T>,
     bands: Vec<Band<'_, R>>,
     workers: usize,
 ) -> Result<Totals, Fault> {
-    let Club {
-        alloc: _,
-        core,
-        mut pass,
-        ids: _,
-    } = club;
-    let locked = Box::new(alloc, Locked::new(Box::into_inner(core)))?;
-    let (app, gate, turns) = (&RelayApp, &Open, u64::MAX);
-    let pool = Pool {
+    let ids = sources(alloc, workers as u64)?;
+    let Ok(locked) = Box::new(alloc, Locked::new(Box::into_inner(core))) else {
+        return Err(Fault::Memory);
+    };
+    let pool = hub_gate::Pool {
         rt,
         alloc,
         locked: &*locked,
-        app,
-        gate,
-        turns,
+        app: &RelayApp,
+        gate: &Open,
+        turns: u64::MAX,
     };
-    let ids = sources(alloc, workers as u64)?;
     let served = serve_peers(&pool, &mut pass, bands, workers, ids);
     match served {
         Ok(settled) => Ok(settled.report.totals),
@@ -179,26 +165,60 @@ fn ids_behind(count: u64) -> Counter {
 }
 
 /// Plays each band in turn, without a lock.
-fn play_all<C: Ledger, T: Ledger, P: Peer + Drop>(
-    club: Club<C, T>,
+fn play_alone<C: Ledger, T: Ledger, P: Peer + Drop>(
+    alloc: Global,
+    core: Box<Core<C, T>>,
+    pass: Pass<C, T>,
     bands: Vec<P>,
 ) -> Result<Totals, Fault> {
-    let mut club = club;
+    let (mut core, mut pass, mut ids) = (core, pass, Counter::new());
     for band in bands {
         let mut band = band;
-        play(&mut club, &mut band)?;
+        play_band(alloc, &mut core, &mut pass, &mut ids, &mut band)?;
     }
-    club.settle()
+    match core.settle(&mut pass) {
+        Ok(totals) => Ok(totals),
+        Err(_) => Err(Fault::Unsettled),
+    }
 }
 
-/// Plays a band without a lock.
-fn play<C: Ledger, T: Ledger, P: Peer>(club: &mut Club<C, T>, band: &mut P) -> Result<(), Fault> {
+fn play_band<C: Ledger, T: Ledger, P: Peer>(
+    alloc: Global,
+    core: &mut Core<C, T>,
+    pass: &mut Pass<C, T>,
+    ids: &mut Counter,
+    band: &mut P,
+) -> Result<(), Fault> {
     for _turn in 0..u64::MAX {
-        let Some((event, _now)) = band.next()? else {
+        if !play_turn(alloc, core, pass, ids, band)? {
             return Ok(());
-        };
-        let got = club.apply(&event);
-        band.answer(&got)?;
+        }
     }
     Ok(())
+}
+
+/// One turn. Answers whether the band had an event.
+fn play_turn<C: Ledger, T: Ledger, P: Peer>(
+    alloc: Global,
+    core: &mut Core<C, T>,
+    pass: &mut Pass<C, T>,
+    ids: &mut Counter,
+    band: &mut P,
+) -> Result<bool, Fault> {
+    let Some((event, now)) = band.next()? else {
+        return Ok(false);
+    };
+    let got = core.apply(alloc, pass, &RelayApp, &event, now, ids);
+    band.answer(&got)?;
+    Ok(true)
+}
+
+impl From<PeerFault> for Fault {
+    fn from(fault: PeerFault) -> Fault {
+        match fault {
+            PeerFault::Memory => Fault::Memory,
+            PeerFault::Device => Fault::Clock,
+            PeerFault::Ended => Fault::Pool,
+        }
+    }
 }

@@ -1,63 +1,49 @@
 //! What a request costs whose body comes in pieces.
 
 use crate::fault::Fault;
-use crate::rows::Many::Times;
-use crate::rows::Step::Time;
-use crate::rows::{Figure, Rounds, Row, Stage};
+use crate::figures::Measured;
+use crate::gauge;
 use http_edge::Gathered;
 use std::alloc::Global;
+use std::rt::Clock;
+
+/// The bytes of the bodies that are measured.
+pub const BODIES: [usize; 3] = [250_000, 500_000, 1_000_000];
 
 /// The most bytes of a piece.
-const PIECE: usize = 1_024;
+pub const PIECE: usize = 1_024;
+
+/// How many requests are measured.
+const TIMES: u64 = 50;
 
 const BYTES: [u8; PIECE] = [b'4'; PIECE];
 
-/// Requests whose bodies have so many bytes.
-const REQUESTS: Row<usize> = Row {
-    name: "requests of 250000 bytes in pieces of 1024",
-    figure: Figure::Plain,
-    members: 0,
-    start: &[],
-    rounds: Rounds::Once,
-    round: &[Time(250_000, Times(50))],
-};
-
-pub static ROWS: [Row<usize>; 3] = [
-    REQUESTS,
-    Row {
-        name: "requests of 500000 bytes in pieces of 1024",
-        round: &[Time(500_000, Times(50))],
-        ..REQUESTS
-    },
-    Row {
-        name: "requests of 1000000 bytes in pieces of 1024",
-        round: &[Time(1_000_000, Times(50))],
-        ..REQUESTS
-    },
-];
-
-/// Where requests are gathered.
-#[derive(Clone, Copy)]
-pub struct Desk(pub Global);
-
-impl Stage<usize> for Desk {
-    fn act(&mut self, body: usize, _number: u64) -> Result<u64, Fault> {
-        let alloc = self.0;
-        let head = format!(in alloc;
-            "POST /socket.io/?EIO=4 HTTP/1.1\r\nContent-Length: {body}\r\n\r\n"
-        )?;
-        let mut gathered = Gathered::new(alloc);
-        if is_whole(alloc, &mut gathered, head.as_bytes())? {
-            return Err(Fault::Request);
-        }
-        for first in (0..body).step_by(PIECE) {
-            let piece = BYTES.get(..PIECE.min(body.saturating_sub(first)));
-            if is_whole(alloc, &mut gathered, piece.unwrap_or(&[]))? {
-                return Ok(1);
-            }
-        }
-        Err(Fault::Request)
+/// Gathers a request with a body of so many bytes many times.
+pub fn measure<R: Clock>(rt: &R, alloc: Global, body: usize) -> Result<Measured, Fault> {
+    let head = format!(in alloc;
+        "POST /socket.io/?EIO=4 HTTP/1.1\r\nContent-Length: {body}\r\n\r\n"
+    )?;
+    let start = gauge::now(rt)?;
+    for _time in 0..TIMES {
+        gather(alloc, head.as_str(), body)?;
     }
+    let time = gauge::since(rt, start)?;
+    let number = TIMES;
+    Ok(Measured { number, time })
+}
+
+fn gather(alloc: Global, head: &str, body: usize) -> Result<(), Fault> {
+    let mut gathered = Gathered::new(alloc);
+    if is_whole(alloc, &mut gathered, head.as_bytes())? {
+        return Err(Fault::Request);
+    }
+    for first in (0..body).step_by(PIECE) {
+        let piece = BYTES.get(..PIECE.min(body.saturating_sub(first)));
+        if is_whole(alloc, &mut gathered, piece.unwrap_or(&[]))? {
+            return Ok(());
+        }
+    }
+    Err(Fault::Request)
 }
 
 /// Whether the request is whole with this piece.

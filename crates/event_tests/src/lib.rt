@@ -2,10 +2,12 @@
 #![tactic(auto)]
 
 #[cfg(test)]
-mod lists;
+mod made;
+#[cfg(test)]
+mod packets;
 #[cfg(test)]
 mod random;
 #[cfg(test)]
-mod refused;
+mod sockets;
 #[cfg(test)]
-mod said;
+mod turns;

@@ -1,11 +1,15 @@
 //! Random events of all kinds, the same on two cores.
 
+mod agreement;
+mod answers;
 mod apps;
+mod books;
+mod chances;
 mod drawn;
-mod due;
-mod histories;
 mod known;
-mod packets;
-mod play;
-mod stands;
-mod wanted;
+mod names;
+mod runs;
+mod sides;
+mod tally;
+mod texts;
+mod turns;

@@ -1,5 +1,5 @@
-//! Plays a script to a server whose app is the quiz: reads the lines from standard input, and
-//! prints the answers.
+//! Plays a script to a server whose app is the quiz: reads the lines from standard input, and prints
+//! the answers.
 #![tactic(auto)]
 
 use quiz::Quiz;

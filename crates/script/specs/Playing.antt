@@ -47,7 +47,7 @@ abbrev pub new_server : PlainCore → Server
 new_server core = record { core = core; clients = λ name. None; now = 0; next = 1 }
 
 abbrev pub server_of : {C T : Type 0} → Play C T → Server
-server_of play = record { core = play.core.value; clients = get_by_text play.clients; now = play.now; next = play.ids }
+server_of play = record { core = play.core; clients = get_by_text play.clients; now = play.now; next = play.ids }
 
 -- ---- what is printed
 

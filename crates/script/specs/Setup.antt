@@ -1,5 +1,5 @@
 -- The limits of a server.
-use Rattle.std.specs.Prelude.{ℕ, List, [], ◌∷◌, codes}
+use Rattle.std.specs.Prelude.{ℕ, [], ◌∷◌, codes}
 use Rattle.eio_wire.specs.declared.handshake.Numbers.{Numbers}
 use Rattle.session_clock.specs.declared.timing.Timing.{Timing}
 use Rattle.journal.specs.Config.{empty_base}
@@ -23,13 +23,9 @@ with_limit Saved n s = record s { saved = n }
 with_limit Keep n s = record s { keep = n }
 with_limit FirstOffset n s = record s { first_offset = n }
 
--- the two namespaces
-abbrev pub SPACES : List (List ℕ)
-SPACES = codes "/" ∷ codes "/admin" ∷ []
-
 -- the limits and the two namespaces
 abbrev pub limits_of : Setup → Limits
-limits_of s = record { clients = s.clients; capacity = s.capacity; bytes = s.bytes; log = s.log; saved = s.saved; keep = s.keep; first_offset = s.first_offset; spaces = SPACES }
+limits_of s = record { clients = s.clients; capacity = s.capacity; bytes = s.bytes; log = s.log; saved = s.saved; keep = s.keep; first_offset = s.first_offset; spaces = codes "/" ∷ codes "/admin" ∷ [] }
 
 -- when a client is pinged and given up: pings each 25 s, 20 s for the answer, 45 s to join a namespace
 abbrev pub usual_timing : Timing

@@ -42,8 +42,7 @@ pub(crate) fn take_of(transport: Option<Transport>, client: u128, most: usize) -
 pub(crate) fn bytes_of(alloc: Global, text: &str) -> Result<Option<Bytes>, AllocError>
     ensures some { IfOk result (λ read. IfSome read (λ bytes. text.now ≡ encode_lower bytes)) }
     ensures bytes { IfOk result (λ read. IfSome read (λ bytes. IsBytes bytes)) }
-    ensures none { IfOk result (λ read. IfNone read ((bytes : List ℕ) → IsBytes bytes
-        → text.now ≢ encode_lower bytes)) }
+    ensures none { IfOk result (λ read. IfNone read ((bytes : List ℕ) → IsBytes bytes → text.now ≢ encode_lower bytes)) }
 {
     let bytes = match hex::decode(alloc, text) {
         Ok(bytes) => bytes,

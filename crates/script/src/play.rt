@@ -29,7 +29,7 @@ use terms::Text;
 /// A server under way, and the clients that the names stand for.
 #[derive(Drop)]
 pub(crate) struct Play<C: Ledger, T: Ledger> {
-    core: Box<Core<C, T>>,
+    core: Core<C, T>,
     pass: Pass<C, T>,
     ids: Counter,
     clients: BTreeMap<String, u128>,
@@ -38,8 +38,8 @@ pub(crate) struct Play<C: Ledger, T: Ledger> {
 
 impl<C: Ledger, T: Ledger> Play<C, T> {
     /// A server, of which nothing was asked yet.
-    pub(crate) fn new(alloc: Global, core: Box<Core<C, T>>, pass: Pass<C, T>) -> Play<C, T>
-        ensures { server_of result ≡ new_server core.value }
+    pub(crate) fn new(alloc: Global, core: Core<C, T>, pass: Pass<C, T>) -> Play<C, T>
+        ensures { server_of result ≡ new_server core }
     {
         Play {
             core,
@@ -59,8 +59,7 @@ impl<C: Ledger, T: Ledger> Play<C, T> {
     ) -> Result<Option<Answer<'a>>, RunError>
         ensures nothing { line.entry ≡ ScriptLine.Nothing → result ≡ Ok None }
         ensures bad { line.entry ≡ ScriptLine.Bad → result ≡ Ok (Some Answer.BadLine) }
-        ensures plays { IfOk result (λ answer. Plays (A.decides app.now) (A.allows app.now)
-            line.entry (server_of self.old) (option_map answer_text answer) (server_of self.new)) }
+        ensures plays { IfOk result (λ answer. Plays (A.decides app.now) (A.allows app.now) line.entry (server_of self.old) (option_map answer_text answer) (server_of self.new)) }
         ensures err { IsOkUnless result Memory }
     {
         match line {
@@ -81,8 +80,7 @@ impl<C: Ledger, T: Ledger> Play<C, T> {
         line: ScriptLine<'a>,
     ) -> Result<Answer<'a>, RunError>
         ensures bad { line.entry ≡ ScriptLine.Bad → result ≡ Ok Answer.BadLine }
-        ensures replies { IfOk result (λ answer. Replies (A.decides app.now) (A.allows app.now)
-            line.entry (server_of self.old) (answer_text answer) (server_of self.new)) }
+        ensures replies { IfOk result (λ answer. Replies (A.decides app.now) (A.allows app.now) line.entry (server_of self.old) (answer_text answer) (server_of self.new)) }
         ensures err { IsOkUnless result Memory }
     {
         match line {
@@ -96,8 +94,8 @@ impl<C: Ledger, T: Ledger> Play<C, T> {
         }
     }
 
-    /// Does what a line asks for the client that it names. Any other line is bad, and so is one
-    /// whose name stands for no client.
+    /// Does what a line asks for the client that it names. Any other line is bad, and so is one whose
+    /// name stands for no client.
     fn reply_for_client<'a, A: App>(
         &mut self,
         alloc: Global,
@@ -105,9 +103,7 @@ impl<C: Ledger, T: Ledger> Play<C, T> {
         line: ScriptLine<'a>,
     ) -> Result<Answer<'a>, RunError>
         ensures bad { line.entry ≡ ScriptLine.Bad → result ≡ Ok Answer.BadLine }
-        ensures replies { IfOk result (λ answer.
-            RepliesForClient (A.decides app.now) (A.allows app.now)
-            line.entry (server_of self.old) (answer_text answer) (server_of self.new)) }
+        ensures replies { IfOk result (λ answer. RepliesForClient (A.decides app.now) (A.allows app.now) line.entry (server_of self.old) (answer_text answer) (server_of self.new)) }
         ensures err { IsOkUnless result Memory }
     {
         match line {
@@ -127,12 +123,14 @@ impl<C: Ledger, T: Ledger> Play<C, T> {
         app: &A,
         event: &Event,
     ) -> Result<Result<Outcome, CoreError>, RunError>
-        ensures happens { IfOk result (λ answer. Happens (A.decides app.now) (A.allows app.now)
-            (server_of self.old) event.now answer (server_of self.new)) }
+        ensures happens { IfOk result (λ answer. Happens (A.decides app.now) (A.allows app.now) (server_of self.old) event.now answer (server_of self.new)) }
         ensures err { IsOkUnless result Memory }
     {
         let core = &mut self.core;
-        unless_memory(core.apply(alloc, &mut self.pass, app, event, self.now, &mut self.ids))
+        match core.apply(alloc, &mut self.pass, app, event, self.now, &mut self.ids) {
+            Err(error) if error.fault == CoreFault::Memory => Err(RunError::Memory),
+            answer => Ok(answer),
+        }
     }
 
     /// What a client of this name is answered at an event.
@@ -143,9 +141,7 @@ impl<C: Ledger, T: Ledger> Play<C, T> {
         name: &'a str,
         event: &Event,
     ) -> Result<Answer<'a>, RunError>
-        ensures asks { IfOk result (λ answer. Asks (A.decides app.now) (A.allows app.now)
-            name.entry.now event.now (server_of self.old) (answer_text answer)
-            (server_of self.new)) }
+        ensures asks { IfOk result (λ answer. Asks (A.decides app.now) (A.allows app.now) name.entry.now event.now (server_of self.old) (answer_text answer) (server_of self.new)) }
         ensures err { IsOkUnless result Memory }
     {
         match self.apply(alloc, app, event)? {
@@ -162,8 +158,7 @@ impl<C: Ledger, T: Ledger> Play<C, T> {
         name: &'a str,
         socket: bool,
     ) -> Result<Answer<'a>, RunError>
-        ensures opens { IfOk result (λ answer. Opens (A.decides app.now) (A.allows app.now)
-            name.entry.now socket (server_of self.old) (answer_text answer) (server_of self.new)) }
+        ensures opens { IfOk result (λ answer. Opens (A.decides app.now) (A.allows app.now) name.entry.now socket (server_of self.old) (answer_text answer) (server_of self.new)) }
         ensures err { IsOkUnless result Memory }
     {
         match self.apply(alloc, app, &Event::Opened { socket })? {
@@ -178,8 +173,7 @@ impl<C: Ledger, T: Ledger> Play<C, T> {
 
     /// From now on the name stands for this client.
     fn call(&mut self, alloc: Global, name: &str, client: u128) -> Result<(), RunError>
-        ensures names { OnOk result (Names name.now client (server_of self.old)
-            (server_of self.new)) }
+        ensures names { OnOk result (Names name.now client (server_of self.old) (server_of self.new)) }
         ensures err { IsOkUnless result Memory }
     {
         let key = String::from_str(alloc, name)?;
@@ -195,12 +189,8 @@ impl<C: Ledger, T: Ledger> Play<C, T> {
         name: &'a str,
         payload: &str,
     ) -> Result<Answer<'a>, RunError>
-        ensures unknown { get_by_text self.old.clients name.entry.now ≡ None
-            → result ≡ Ok Answer.BadLine }
-        ensures plays { IfOk result (λ answer. ForName name.entry.now
-            (λ c. Asks (A.decides app.now) (A.allows app.now) name.entry.now (event.Post c payload.now)
-                (server_of self.old) (answer_text answer) (server_of self.new))
-            (server_of self.old) (answer_text answer) (server_of self.new)) }
+        ensures unknown { get_by_text self.old.clients name.entry.now ≡ None → result ≡ Ok Answer.BadLine }
+        ensures plays { IfOk result (λ answer. ForName name.entry.now (λ c. Asks (A.decides app.now) (A.allows app.now) name.entry.now (event.Post c payload.now) (server_of self.old) (answer_text answer) (server_of self.new)) (server_of self.old) (answer_text answer) (server_of self.new)) }
         ensures err { IsOkUnless result Memory }
     {
         let Some(client) = self.clients.get(name).copied() else {
@@ -218,12 +208,8 @@ impl<C: Ledger, T: Ledger> Play<C, T> {
         name: &'a str,
         text: &str,
     ) -> Result<Answer<'a>, RunError>
-        ensures unknown { get_by_text self.old.clients name.entry.now ≡ None
-            → result ≡ Ok Answer.BadLine }
-        ensures plays { IfOk result (λ answer. ForName name.entry.now
-            (λ c. Hears (A.decides app.now) (A.allows app.now) name.entry.now c (frame_of.Text text.now)
-                (server_of self.old) (answer_text answer) (server_of self.new))
-            (server_of self.old) (answer_text answer) (server_of self.new)) }
+        ensures unknown { get_by_text self.old.clients name.entry.now ≡ None → result ≡ Ok Answer.BadLine }
+        ensures plays { IfOk result (λ answer. ForName name.entry.now (λ c. Hears (A.decides app.now) (A.allows app.now) name.entry.now c (frame_of.Text text.now) (server_of self.old) (answer_text answer) (server_of self.new)) (server_of self.old) (answer_text answer) (server_of self.new)) }
         ensures err { IsOkUnless result Memory }
     {
         let Some(client) = self.clients.get(name).copied() else {
@@ -241,14 +227,9 @@ impl<C: Ledger, T: Ledger> Play<C, T> {
         name: &'a str,
         hex: &str,
     ) -> Result<Answer<'a>, RunError>
-        ensures unknown { get_by_text self.old.clients name.entry.now ≡ None
-            → result ≡ Ok Answer.BadLine }
-        ensures plays { IfOk result (λ answer. ForName name.entry.now
-            (λ c. HearsBytes (A.decides app.now) (A.allows app.now) name.entry.now hex.now c
-                (server_of self.old) (answer_text answer) (server_of self.new))
-            (server_of self.old) (answer_text answer) (server_of self.new)) }
-        ensures no_bytes { ((bytes : List ℕ) → IsBytes bytes → hex.now ≢ encode_lower bytes)
-            → IfOk result (λ answer. answer ≡ Answer.BadLine) }
+        ensures unknown { get_by_text self.old.clients name.entry.now ≡ None → result ≡ Ok Answer.BadLine }
+        ensures plays { IfOk result (λ answer. ForName name.entry.now (λ c. HearsBytes (A.decides app.now) (A.allows app.now) name.entry.now hex.now c (server_of self.old) (answer_text answer) (server_of self.new)) (server_of self.old) (answer_text answer) (server_of self.new)) }
+        ensures no_bytes { ((bytes : List ℕ) → IsBytes bytes → hex.now ≢ encode_lower bytes) → IfOk result (λ answer. answer ≡ Answer.BadLine) }
         ensures err { IsOkUnless result Memory }
     {
         let Some(client) = self.clients.get(name).copied() else {
@@ -269,9 +250,7 @@ impl<C: Ledger, T: Ledger> Play<C, T> {
         client: u128,
         frame: WsFrame,
     ) -> Result<Answer<'a>, RunError>
-        ensures hears { IfOk result (λ answer. Hears (A.decides app.now) (A.allows app.now)
-            name.entry.now client frame (server_of self.old) (answer_text answer)
-            (server_of self.new)) }
+        ensures hears { IfOk result (λ answer. Hears (A.decides app.now) (A.allows app.now) name.entry.now client frame (server_of self.old) (answer_text answer) (server_of self.new)) }
         ensures err { IsOkUnless result Memory }
     {
         match self.apply(alloc, app, &Event::Frame { client, frame })? {
@@ -288,12 +267,8 @@ impl<C: Ledger, T: Ledger> Play<C, T> {
         notice: Notice,
         name: &'a str,
     ) -> Result<Answer<'a>, RunError>
-        ensures unknown { get_by_text self.old.clients name.entry.now ≡ None
-            → result ≡ Ok Answer.BadLine }
-        ensures plays { IfOk result (λ answer. ForName name.entry.now
-            (λ c. Asks (A.decides app.now) (A.allows app.now) name.entry.now (event_of notice c)
-                (server_of self.old) (answer_text answer) (server_of self.new))
-            (server_of self.old) (answer_text answer) (server_of self.new)) }
+        ensures unknown { get_by_text self.old.clients name.entry.now ≡ None → result ≡ Ok Answer.BadLine }
+        ensures plays { IfOk result (λ answer. ForName name.entry.now (λ c. Asks (A.decides app.now) (A.allows app.now) name.entry.now (event_of notice c) (server_of self.old) (answer_text answer) (server_of self.new)) (server_of self.old) (answer_text answer) (server_of self.new)) }
         ensures err { IsOkUnless result Memory }
     {
         let Some(client) = self.clients.get(name).copied() else {
@@ -310,12 +285,8 @@ impl<C: Ledger, T: Ledger> Play<C, T> {
         name: &'a str,
         most: usize,
     ) -> Result<Answer<'a>, RunError>
-        ensures unknown { get_by_text self.old.clients name.entry.now ≡ None
-            → result ≡ Ok Answer.BadLine }
-        ensures plays { IfOk result (λ answer. ForName name.entry.now
-            (λ c. TakesWaiting (A.decides app.now) (A.allows app.now) name.entry.now c most
-                (server_of self.old) (answer_text answer) (server_of self.new))
-            (server_of self.old) (answer_text answer) (server_of self.new)) }
+        ensures unknown { get_by_text self.old.clients name.entry.now ≡ None → result ≡ Ok Answer.BadLine }
+        ensures plays { IfOk result (λ answer. ForName name.entry.now (λ c. TakesWaiting (A.decides app.now) (A.allows app.now) name.entry.now c most (server_of self.old) (answer_text answer) (server_of self.new)) (server_of self.old) (answer_text answer) (server_of self.new)) }
         ensures err { IsOkUnless result Memory }
     {
         let Some(client) = self.clients.get(name).copied() else {
@@ -328,8 +299,7 @@ impl<C: Ledger, T: Ledger> Play<C, T> {
     /// The sockets of a namespace that are in a room, whose name has at most 64 bytes.
     fn members(&self, alloc: Global, space: &str, room: &str) -> Result<Answer<'static>, RunError>
         ensures long { 64 < length room.now → result ≡ Ok Answer.BadLine }
-        ensures asks { IfOk result (λ answer. AsksMembers space.now room.now
-            (server_of self.entry.now) (answer_text answer)) }
+        ensures asks { IfOk result (λ answer. AsksMembers space.now room.now (server_of self.entry.now) (answer_text answer)) }
         ensures err { IsOkUnless result Memory }
     {
         let Some(room) = Room::read(room) else {
@@ -345,8 +315,7 @@ impl<C: Ledger, T: Ledger> Play<C, T> {
 
     /// What the server keeps no longer is dropped. That is of no client, and prints no name.
     fn sweep<A: App>(&mut self, alloc: Global, app: &A) -> Result<Answer<'static>, RunError>
-        ensures asks { IfOk result (λ answer. Asks (A.decides app.now) (A.allows app.now)
-            [] event.Sweep (server_of self.old) (answer_text answer) (server_of self.new)) }
+        ensures asks { IfOk result (λ answer. Asks (A.decides app.now) (A.allows app.now) [] event.Sweep (server_of self.old) (answer_text answer) (server_of self.new)) }
         ensures err { IsOkUnless result Memory }
     {
         self.done(alloc, app, "", &Event::Sweep)
@@ -354,8 +323,7 @@ impl<C: Ledger, T: Ledger> Play<C, T> {
 
     /// Ends an epoch.
     fn seal(&mut self, alloc: Global) -> Result<Answer<'static>, RunError>
-        ensures seals { IfOk result (λ answer. Seals (server_of self.old) (answer_text answer)
-            (server_of self.new)) }
+        ensures seals { IfOk result (λ answer. Seals (server_of self.old) (answer_text answer) (server_of self.new)) }
         ensures err { IsOkUnless result Memory }
     {
         match self.core.seal(alloc) {
@@ -365,19 +333,8 @@ impl<C: Ledger, T: Ledger> Play<C, T> {
     }
 }
 
-/// The answer to an event, unless memory was refused.
-fn unless_memory<O: Drop>(answer: Result<O, CoreError>) -> Result<Result<O, CoreError>, RunError>
-    ensures same { IfOk result (λ got. got ≡ answer) }
-    ensures err { IsOkUnless result Memory }
-{
-    match answer {
-        Err(error) if error.fault == CoreFault::Memory => Err(RunError::Memory),
-        answer => Ok(answer),
-    }
-}
-
-/// What is printed of an outcome for the client of this name. A second GET that waits has closed
-/// the client, and no payload does so for that cause.
+/// What is printed of an outcome for the client of this name. A second GET that waits has closed the
+/// client, and no payload does so for that cause.
 fn answer_of<'a>(alloc: Global, name: &'a str, outcome: Outcome) -> Result<Answer<'a>, AllocError>
     ensures { IfOk result (λ answer. answer_text answer ≡ outcome_text name.entry.now outcome) }
 {

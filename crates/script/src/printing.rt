@@ -144,8 +144,7 @@ fn push_more(
     name: &str,
     frames: &[WsFrame],
 ) -> Result<(), AllocError>
-    ensures { OnOk result (string_bytes lines.new ≡ string_bytes lines.old
-        ++ more_text name.now frames.now) }
+    ensures { OnOk result (string_bytes lines.new ≡ string_bytes lines.old ++ more_text name.now frames.now) }
 {
     for frame in frames {
         lines.push_str("\n")?;
@@ -161,8 +160,7 @@ fn push_frame(
     name: &str,
     frame: &WsFrame,
 ) -> Result<(), AllocError>
-    ensures { OnOk result (string_bytes lines.new ≡ string_bytes lines.old
-        ++ frame_text name.now frame.now) }
+    ensures { OnOk result (string_bytes lines.new ≡ string_bytes lines.old ++ frame_text name.now frame.now) }
 {
     lines.push_str(name)?;
     match frame {

@@ -202,10 +202,8 @@ fn is_silent(text: &str) -> bool
 
 /// The name of a line that is this word and a name.
 fn name_after<'a>(word: &str, text: &'a str) -> Option<&'a str>
-    ensures some { IfSome result (λ name. IsName name.now × (text.now
-        ≡ word.now ++ SPACE ∷ name.now)) }
-    ensures none { IfNone result ((name : List ℕ) → IsName name → text.now
-        ≢ word.now ++ SPACE ∷ name) }
+    ensures some { IfSome result (λ name. IsName name.now × (text.now ≡ word.now ++ SPACE ∷ name.now)) }
+    ensures none { IfNone result ((name : List ℕ) → IsName name → text.now ≢ word.now ++ SPACE ∷ name) }
 {
     let name = rest_after(word, text)?;
     if is_name(name) { Some(name) } else { None }
@@ -236,10 +234,8 @@ fn rest_after<'a>(word: &str, text: &'a str) -> Option<&'a str>
 
 /// The number of a line that is this word and a number.
 fn number_after(word: &str, text: &str) -> Option<u64>
-    ensures some { IfSome result (λ number. (digits : List ℕ) × IsNumber digits number
-        × (text.now ≡ word.now ++ SPACE ∷ digits)) }
-    ensures none { IfNone result ((digits : List ℕ) (number : ℕ) → IsNumber digits number
-        → text.now ≢ word.now ++ SPACE ∷ digits) }
+    ensures some { IfSome result (λ number. (digits : List ℕ) × IsNumber digits number × (text.now ≡ word.now ++ SPACE ∷ digits)) }
+    ensures none { IfNone result ((digits : List ℕ) (number : ℕ) → IsNumber digits number → text.now ≢ word.now ++ SPACE ∷ digits) }
 {
     read_number(rest_after(word, text)?)
 }
@@ -248,8 +244,7 @@ fn number_after(word: &str, text: &str) -> Option<u64>
 fn key_and_number_after(word: &str, text: &str) -> Option<(Key, u64)>
     ensures some { IfSome result (λ parts. (digits : List ℕ) × IsNumber digits parts.1
         × (text.now ≡ word.now ++ SPACE ∷ key_text parts.0 ++ SPACE ∷ digits)) }
-    ensures none { IfNone result ((key : Key) (digits : List ℕ) (number : ℕ)
-        → IsNumber digits number
+    ensures none { IfNone result ((key : Key) (digits : List ℕ) (number : ℕ) → IsNumber digits number
         → text.now ≢ word.now ++ SPACE ∷ key_text key ++ SPACE ∷ digits) }
 {
     let (key, digits) = word_and_rest_after(word, text)?;

@@ -4,7 +4,7 @@ ghost use Rattle.std.specs.Prelude.{◌≡◌, ◌⊎◌, IfOk, IfErr, OnOk, Non
 ghost use Rattle.effects.specs.declared.fault.CoreFault.TheVariants as fault;
 ghost use Rattle.journal.specs.Config.{config_refusal};
 ghost use Rattle.dispatch.specs.Answers.{fault_of_config};
-ghost use Rattle.script.specs.Setup.{USUAL, SPACES, with_limit, limits_of, new_core};
+ghost use Rattle.script.specs.Setup.{USUAL, with_limit, limits_of, new_core};
 
 use crate::script_line::Key;
 use dispatch::Core;
@@ -74,11 +74,14 @@ impl Setup {
         }
     }
 
-    /// The limits with these namespaces.
-    fn config(self, spaces: Vec<Text>) -> Config
-        ensures { spaces.items ≡ SPACES → result ≡ limits_of self }
+    /// The limits with the names of the two namespaces.
+    fn config(self, alloc: Global) -> Result<Config, AllocError>
+        ensures { IfOk result (λ config. config ≡ limits_of self) }
     {
-        Config {
+        let mut spaces = Vec::new(alloc);
+        spaces.push(Text::copy_of(alloc, "/")?)?;
+        spaces.push(Text::copy_of(alloc, "/admin")?)?;
+        Ok(Config {
             clients: self.clients,
             capacity: self.capacity,
             bytes: self.bytes,
@@ -87,7 +90,7 @@ impl Setup {
             keep: self.keep,
             first_offset: self.first_offset,
             spaces,
-        }
+        })
     }
 
     /// A server with these limits, and its pass. Refused as `BadConfig`, then for `Memory`.
@@ -96,41 +99,16 @@ impl Setup {
         alloc: Global,
         commands: Blank,
         taken: Blank,
-    ) -> Result<(Box<Core<C, T>>, Pass<C, T>), CoreError>
-        requires commands { (commands.name ≡ C.name)
-            × (commands.parts ≡ C.parts) × (commands.parts ≡ 65536) }
+    ) -> Result<(Core<C, T>, Pass<C, T>), CoreError>
+        requires commands { (commands.name ≡ C.name) × (commands.parts ≡ C.parts) × (commands.parts ≡ 65536) }
         requires taken { (taken.name ≡ T.name) × (taken.parts ≡ T.parts) × (taken.parts ≡ 65536) }
-        ensures core { IfOk result (λ made. made.0.value ≡ new_core self) }
+        ensures core { IfOk result (λ made. made.0 ≡ new_core self) }
         ensures allowed { OnOk result (config_refusal (limits_of self) ≡ None) }
-        ensures refused { IfErr result (λ e. (e.fault ≡ fault.Memory)
-            ⊎ (e.fault ≡ fault_of_config (config_refusal (limits_of self)))) }
+        ensures refused { IfErr result (λ e. (e.fault ≡ fault.Memory) ⊎ (e.fault ≡ fault_of_config (config_refusal (limits_of self)))) }
     {
-        let Ok(spaces) = spaces(alloc) else {
-            return Err(CoreFault::Memory.at_once());
-        };
-        let config = self.config(spaces);
-        first_boxed(alloc, Core::new(alloc, config, TIMING, NUMBERS, commands, taken)?)
-    }
-}
-
-/// The two namespaces.
-fn spaces(alloc: Global) -> Result<Vec<Text>, AllocError>
-    ensures { IfOk result (λ spaces. spaces.items ≡ SPACES) }
-{
-    let mut spaces = Vec::new(alloc);
-    spaces.push(Text::copy_of(alloc, "/")?)?;
-    spaces.push(Text::copy_of(alloc, "/admin")?)?;
-    Ok(spaces)
-}
-
-/// Two values, the first in a box, where it is handed on as one.
-fn first_boxed<A: Drop, B: Drop>(alloc: Global, both: (A, B)) -> Result<(Box<A>, B), CoreError>
-    ensures boxed { IfOk result (λ made. (made.0.value ≡ both.0) × (made.1 ≡ both.1)) }
-    ensures refused { IfErr result (λ e. e.fault ≡ fault.Memory) }
-{
-    let (first, second) = both;
-    match Box::new(alloc, first) {
-        Ok(boxed) => Ok((boxed, second)),
-        Err(_) => Err(CoreFault::Memory.at_once()),
+        match self.config(alloc) {
+            Ok(config) => Core::new(alloc, config, TIMING, NUMBERS, commands, taken),
+            Err(_) => Err(CoreFault::Memory.at_once()),
+        }
     }
 }

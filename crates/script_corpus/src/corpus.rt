@@ -6,8 +6,8 @@ use script::{RunError, run_script};
 use std::alloc::Global;
 use std::io::Write;
 
-/// Plays each script, and writes its name and what it prints. The last line tells how many of them
-/// were played with seals too.
+/// Plays each script, and writes its name and what it prints. The last line tells how many of them were
+/// played with seals too.
 pub fn play_all<W: Write>(alloc: Global, corpus: &[u8], writer: &mut W) -> Result<(), RunError> {
     let mut script = Vec::new(alloc);
     let mut seals: u64 = 0;
@@ -41,26 +41,22 @@ fn play_each_way<W: Write>(alloc: Global, script: &[u8], writer: &mut W) -> Resu
     Ok(1)
 }
 
-/// What a script prints. Where an allocation is refused it has printed a beginning of that, and is
-/// played anew.
+/// What a script prints. Where an allocation is refused it has printed a beginning of that, and is played
+/// anew.
 fn printed_by(alloc: Global, script: &[u8]) -> Result<Vec<u8>, RunError> {
     let mut begun = Vec::new(alloc);
-    if print(alloc, script, &mut begun).is_ok() {
+    let mut reader = script;
+    if run_script(alloc, &RelayApp, &mut reader, &mut begun).is_ok() {
         return Ok(begun);
     }
     let mut printed = Vec::new(alloc);
-    print(alloc, script, &mut printed)?;
+    let mut reader = script;
+    run_script(alloc, &RelayApp, &mut reader, &mut printed)?;
     Ok(if printed.starts_with(&begun) {
         printed
     } else {
         begun
     })
-}
-
-/// Plays a script to a new server, and adds what it prints.
-fn print(alloc: Global, script: &[u8], printed: &mut Vec<u8>) -> Result<(), RunError> {
-    let mut reader = script;
-    run_script(alloc, &RelayApp, &mut reader, printed)
 }
 
 /// Writes what a script printed in another way, where that isn't the same.

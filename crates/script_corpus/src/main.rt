@@ -1,9 +1,9 @@
 //! Plays a corpus of scripts to servers of the demonstration app: standard input has them one after
 //! another, each below a line `--- NAME`. Prints that line and what the script prints.
 //!
-//! A script is played three times: as it stands, without its last LF, and with a seal after each
-//! line from its first `open` on, unless it seals itself. Where that prints otherwise, but for the
-//! lines of the seals, it is shown too.
+//! A script is played three times: as it stands, without its last LF, and with a seal after each line
+//! from its first `open` on, unless it seals itself. Where that prints otherwise, but for the lines
+//! of the seals, it is shown too.
 #![tactic(auto)]
 
 mod corpus;

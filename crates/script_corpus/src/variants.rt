@@ -10,8 +10,8 @@ pub fn without_last_feed(script: &[u8]) -> &[u8] {
     }
 }
 
-/// The script with a seal after each line from its first `open` on. Nothing where it opens no
-/// client, or has a seal of its own.
+/// The script with a seal after each line from its first `open` on. Nothing where it opens no client, or
+/// has a seal of its own.
 pub fn sealed(alloc: Global, script: &[u8]) -> Result<Option<Vec<u8>>, AllocError> {
     let mut sealed = Vec::new(alloc);
     let mut is_open = false;

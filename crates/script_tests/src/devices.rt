@@ -1,85 +1,112 @@
-//! A reader and a writer over memory.
+//! A reader and writers over memory.
 
 use std::io;
 use std::io::{ErrorKind, Read, Write};
+
+/// A place in a list of pieces.
+#[derive(Clone, Copy)]
+struct Place<'a> {
+    pieces: &'a [&'a [u8]],
+    index: usize,
+    at: usize,
+}
+
+impl<'a> Place<'a> {
+    fn first(pieces: &'a [&'a [u8]]) -> Place<'a> {
+        Place {
+            pieces,
+            index: 0,
+            at: 0,
+        }
+    }
+
+    /// Goes past the pieces of which nothing is left.
+    fn skip(&mut self) {
+        for _ in 0..self.pieces.len() {
+            match self.pieces.get(self.index) {
+                Some(piece) if piece.len() <= self.at => {
+                    self.index = self.index.saturating_add(1);
+                    self.at = 0;
+                }
+                _ => return,
+            }
+        }
+    }
+
+    /// The next byte.
+    fn next(&mut self) -> Option<u8> {
+        self.skip();
+        let piece = self.pieces.get(self.index)?;
+        let byte = *piece.get(self.at)?;
+        self.at = self.at.saturating_add(1);
+        Some(byte)
+    }
+}
 
 /// A reader that gives one piece a read, in more reads where it is longer than what is asked for.
 /// It may fail once, after the first piece.
 #[derive(Clone, Copy)]
 pub struct Tape<'a> {
-    pieces: &'a [&'a [u8]],
-    rest: &'a [u8],
-    index: usize,
+    place: Place<'a>,
     fails: Option<ErrorKind>,
 }
 
 impl<'a> Tape<'a> {
-    /// A reader of these pieces, of which none is empty.
-    pub fn new(pieces: &'a [&'a [u8]], fails: Option<ErrorKind>) -> Tape<'a> {
+    /// A reader that doesn't fail.
+    pub fn sound(pieces: &'a [&'a [u8]]) -> Tape<'a> {
         Tape {
-            pieces,
-            rest: pieces.first().copied().unwrap_or(b""),
-            index: 0,
-            fails,
+            place: Place::first(pieces),
+            fails: None,
+        }
+    }
+
+    /// A reader that fails in this way after the first piece.
+    pub fn failing(pieces: &'a [&'a [u8]], fails: ErrorKind) -> Tape<'a> {
+        Tape {
+            place: Place::first(pieces),
+            fails: Some(fails),
         }
     }
 }
 
 impl Read for Tape<'_> {
     fn read(&mut self, buffer: &mut [u8]) -> io::Result<usize> {
-        if self.rest.is_empty() {
-            self.index = self.index.saturating_add(1);
-            self.rest = self.pieces.get(self.index).copied().unwrap_or(b"");
-        }
-        if self.index == 1 {
+        self.place.skip();
+        if self.place.index == 1 {
             if let Some(kind) = self.fails.take() {
                 return Err(io::Error::from(kind));
             }
         }
-        self.rest.read(buffer)
+        let Some(piece) = self.place.pieces.get(self.place.index) else {
+            return Ok(0);
+        };
+        let Some(mut rest) = piece.get(self.place.at..) else {
+            return Ok(0);
+        };
+        let count = rest.read(buffer)?;
+        self.place.at = self.place.at.saturating_add(count);
+        Ok(count)
     }
 }
 
-/// A writer that compares what is written with what is wanted, and keeps nothing. It takes so many
-/// bytes, and notes how many it had at each of the first eight flushes.
+/// A writer that compares what is written with what is wanted, and keeps nothing.
 #[derive(Clone, Copy)]
 pub struct Paper<'a> {
-    wanted: &'a [&'a [u8]],
-    rest: &'a [u8],
-    index: usize,
-    room: usize,
+    place: Place<'a>,
+    /// How many bytes were as wanted.
     right: u64,
+    /// How many bytes were not.
     wrong: u64,
-    flushed: [u64; 8],
-    flushes: usize,
 }
 
 impl<'a> Paper<'a> {
-    /// A writer of so many bytes on which these pieces are wanted, one after the other.
-    pub fn wanting(wanted: &'a [&'a [u8]], room: usize) -> Paper<'a> {
+    /// A writer on which these pieces are wanted, one after the other.
+    pub fn wanting(pieces: &'a [&'a [u8]]) -> Paper<'a> {
         Paper {
-            wanted,
-            rest: wanted.first().copied().unwrap_or(b""),
-            index: 0,
-            room,
+            place: Place::first(pieces),
             right: 0,
             wrong: 0,
-            flushed: [0; 8],
-            flushes: 0,
         }
-    }
-
-    /// The next byte that is wanted, behind the pieces of which nothing is left.
-    fn next(&mut self) -> Option<u8> {
-        for _ in self.index..self.wanted.len() {
-            if let Some((first, rest)) = self.rest.split_first() {
-                self.rest = rest;
-                return Some(*first);
-            }
-            self.index = self.index.saturating_add(1);
-            self.rest = self.wanted.get(self.index).copied().unwrap_or(b"");
-        }
-        None
     }
 
     /// Whether nothing was written but what is wanted.
@@ -89,40 +116,69 @@ impl<'a> Paper<'a> {
 
     /// Whether just what is wanted was written.
     pub fn is_whole(&self) -> bool {
-        let mut left = *self;
-        self.wrong == 0 && left.next().is_none()
+        let mut place = self.place;
+        self.wrong == 0 && place.next().is_none()
     }
 
     /// How many bytes were as wanted.
     pub fn right(&self) -> u64 {
         self.right
     }
-
-    /// How much was written at each of the first eight flushes.
-    pub fn flushed(&self) -> &[u64] {
-        &self.flushed[..self.flushes.min(8)]
-    }
 }
 
 impl Write for Paper<'_> {
     fn write(&mut self, bytes: &[u8]) -> io::Result<usize> {
-        let count = bytes.len().min(self.room);
-        for byte in &bytes[..count] {
-            if self.wrong == 0 && self.next() == Some(*byte) {
+        for byte in bytes {
+            if self.wrong == 0 && self.place.next() == Some(*byte) {
                 self.right = self.right.saturating_add(1);
             } else {
                 self.wrong = self.wrong.saturating_add(1);
             }
         }
-        self.room = self.room.saturating_sub(count);
-        Ok(count)
+        Ok(bytes.len())
     }
 
     fn flush(&mut self) -> io::Result<()> {
-        if let Some(place) = self.flushed.get_mut(self.flushes) {
-            *place = self.right;
+        Ok(())
+    }
+}
+
+/// A writer that notes how much was written at each flush.
+#[derive(Clone, Copy)]
+pub struct Flushes {
+    written: u64,
+    noted: [u64; 8],
+    count: usize,
+}
+
+impl Flushes {
+    /// A writer on which nothing was written.
+    pub fn none() -> Flushes {
+        Flushes {
+            written: 0,
+            noted: [0; 8],
+            count: 0,
         }
-        self.flushes = self.flushes.saturating_add(1);
+    }
+
+    /// How much was written at each of the first eight flushes.
+    pub fn noted(&self) -> &[u64] {
+        let count = self.count.min(8);
+        &self.noted[..count]
+    }
+}
+
+impl Write for Flushes {
+    fn write(&mut self, bytes: &[u8]) -> io::Result<usize> {
+        self.written = self.written.saturating_add(bytes.len() as u64);
+        Ok(bytes.len())
+    }
+
+    fn flush(&mut self) -> io::Result<()> {
+        if let Some(place) = self.noted.get_mut(self.count) {
+            *place = self.written;
+        }
+        self.count = self.count.saturating_add(1);
         Ok(())
     }
 }

@@ -28,42 +28,62 @@ A 40{"sid":"00000000000000000000000000000003","pid":"000000000000000000000000000
 B 40{"sid":"00000000000000000000000000000005","pid":"00000000000000000000000000000006"}
 "#;
 
-/// Plays a script to a new server.
-fn play(alloc: Global, mut script: Tape<'_>, paper: &mut Paper<'_>) -> Result<(), RunError> {
-    run_script(alloc, &RelayApp, &mut script, paper)
+/// What came of a run.
+#[derive(Clone, Copy)]
+struct Played {
+    ending: Result<(), RunError>,
+    /// Whether nothing was printed but what is wanted.
+    is_begun: bool,
+    /// Whether just what is wanted was printed.
+    is_whole: bool,
+    /// How many bytes were as wanted.
+    right: u64,
 }
 
-/// Runs a script that ends so, and prints just what is wanted. Where memory is refused, it has
-/// printed a beginning of that, and prints all of it once there is memory again. Gives what was
-/// printed on.
-pub fn expect_ended<'p>(
+/// Runs a script, and compares what it prints with what is wanted.
+fn play(alloc: Global, mut script: Tape<'_>, printed: &[&[u8]]) -> Played {
+    let mut paper = Paper::wanting(printed);
+    let ending = run_script(alloc, &RelayApp, &mut script, &mut paper);
+    Played {
+        ending,
+        is_begun: paper.is_begun(),
+        is_whole: paper.is_whole(),
+        right: paper.right(),
+    }
+}
+
+/// Runs a script that ends so, and compares what it prints. Where memory is refused, it has printed
+/// a beginning of that, and prints all of it once there is memory again.
+pub fn expect_ended(
     rt: &(impl Abort + AllocGlobal),
     shows: &str,
     script: Tape<'_>,
-    wanted: Paper<'p>,
+    printed: &[&[u8]],
     ending: Result<(), RunError>,
-) -> Paper<'p> {
-    let mut paper = wanted;
-    let mut ended = play(rt.alloc(), script, &mut paper);
-    if ended == Err(RunError::Memory) {
-        let right = paper.right();
-        assert!(rt; paper.is_begun(), "{shows}, without memory: {right} bytes are right");
-        paper = wanted;
-        ended = play(rt.alloc(), script, &mut paper);
+) {
+    let mut played = play(rt.alloc(), script, printed);
+    if played.ending == Err(RunError::Memory) {
+        let right = played.right;
+        assert!(rt;
+            played.is_begun,
+            "{shows}, without memory: {right} bytes are right"
+        );
+        played = play(rt.alloc(), script, printed);
     }
-    let right = paper.right();
-    assert!(rt; ended == ending, "{shows}: it ended otherwise, {right} bytes are right");
-    assert!(rt; paper.is_whole(), "{shows}: {right} bytes are right");
-    paper
+    let right = played.right;
+    assert!(rt;
+        played.ending == ending,
+        "{shows}: it ended otherwise, {right} bytes are right"
+    );
+    assert!(rt; played.is_whole, "{shows}: {right} bytes are right");
 }
 
 /// Runs a script to its end, and compares what it prints.
 pub fn expect_printed(
     rt: &(impl Abort + AllocGlobal),
     shows: &str,
-    script: &[&[u8]],
+    script: Tape<'_>,
     printed: &[&[u8]],
 ) {
-    let wanted = Paper::wanting(printed, usize::MAX);
-    let _paper = expect_ended(rt, shows, Tape::new(script, None), wanted, Ok(()));
+    expect_ended(rt, shows, script, printed, Ok(()));
 }

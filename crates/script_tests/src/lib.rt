@@ -1,5 +1,5 @@
-//! Tests of scripts over devices that fail, scripts in pieces, and long ones. `script_corpus` plays
-//! the others.
+//! Tests of scripts over devices that fail, scripts in pieces, and long ones. `script_corpus` plays the
+//! others.
 #![tactic(auto)]
 
 #[cfg(test)]

@@ -1,5 +1,6 @@
 //! Lines that are too long for one read, and for a frame.
 
+use crate::devices::Tape;
 use crate::expected::{BOTH_IN_ROOM, BOTH_IN_ROOM_PRINTED, expect_printed};
 
 /// What a client over a WebSocket is told first.
@@ -21,7 +22,8 @@ fn long_texts(rt: HostRuntime) {
         printed[0] = BOTH_IN_ROOM_PRINTED.as_bytes();
         printed[1] = b"ok\nB 42[\"say\",\"r\",\"";
         printed[pieces + 2] = b"\",\"0000000000000001\"]\n";
-        expect_printed(&rt, shows, &script[..pieces + 3], &printed[..pieces + 3]);
+        let script = Tape::sound(&script[..pieces + 3]);
+        expect_printed(&rt, shows, script, &printed[..pieces + 3]);
     }
 }
 
@@ -36,6 +38,6 @@ fn long_frames(rt: HostRuntime) {
         script[1001] = &fill[..more];
         script[1002] = b"\n";
         let printed = [OPENED, printed.as_bytes()];
-        expect_printed(&rt, shows, &script, &printed);
+        expect_printed(&rt, shows, Tape::sound(&script), &printed);
     }
 }

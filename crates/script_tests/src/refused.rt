@@ -1,5 +1,6 @@
 //! A script that asks for most of what there is, which is right though an allocation is refused.
 
+use crate::devices::Tape;
 use crate::expected::{BOTH_IN_ROOM, BOTH_IN_ROOM_PRINTED, expect_printed};
 
 /// What follows both clients in the room.
@@ -52,5 +53,5 @@ swept log 0, saved 0
 fn a_script_whose_allocations_may_be_refused(rt: HostRuntime) {
     let script: [&[u8]; 2] = [BOTH_IN_ROOM.as_bytes(), LINES.as_bytes()];
     let printed: [&[u8]; 2] = [BOTH_IN_ROOM_PRINTED.as_bytes(), PRINTED.as_bytes()];
-    expect_printed(&rt, "a long script", &script, &printed);
+    expect_printed(&rt, "a long script", Tape::sound(&script), &printed);
 }

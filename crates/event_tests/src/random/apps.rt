@@ -31,17 +31,26 @@ enum Wish {
     Join,
 }
 
-/// What an event or a CONNECT asks for.
-fn wish_in(payload: &str) -> Option<Wish> {
+/// What an event asks for.
+fn wish_of(payload: &str) -> Option<Wish> {
     match payload {
         "[\"over\"]" => Some(Wish::Over),
-        "[\"late\"]" | "{\"do\":\"late\"}" => Some(Wish::Late),
+        "[\"late\"]" => Some(Wish::Late),
         "[\"mute\"]" => Some(Wish::Mute),
         "[\"vague\"]" => Some(Wish::Vague),
-        "[\"again\"]" | "{\"do\":\"again\"}" => Some(Wish::Again),
+        "[\"again\"]" => Some(Wish::Again),
         "[\"own\"]" => Some(Wish::Own),
         "[\"gone\"]" => Some(Wish::Gone),
+        _ => None,
+    }
+}
+
+/// What a CONNECT asks for.
+fn wish_at_first(payload: &str) -> Option<Wish> {
+    match payload {
         "{\"do\":\"join\"}" => Some(Wish::Join),
+        "{\"do\":\"late\"}" => Some(Wish::Late),
+        "{\"do\":\"again\"}" => Some(Wish::Again),
         _ => None,
     }
 }
@@ -133,7 +142,7 @@ impl App for WildApp {
     ghost decides = { λ app who arrived effects. Unit {0} };
 
     fn connects(&self, alloc: Global, space: &str, payload: &str) -> Result<Verdict, AllocError> {
-        match wish_in(payload) {
+        match wish_at_first(payload) {
             Some(wish) => Ok(Verdict::Accept(effects_of(alloc, Room::own(Sid::new(7)), wish)?)),
             None => RelayApp.connects(alloc, space, payload),
         }
@@ -155,7 +164,7 @@ impl App for WildApp {
 /// What is asked for by what arrived.
 fn wish_among(arrived: &Arrived) -> Option<Wish> {
     match arrived {
-        Arrived::Event(message) => wish_in(message.payload.as_str()),
+        Arrived::Event(message) => wish_of(message.payload.as_str()),
         Arrived::Answer(_) => None,
     }
 }

@@ -13,7 +13,10 @@ impl Random {
             .state
             .wrapping_mul(6_364_136_223_846_793_005)
             .wrapping_add(1_442_695_040_888_963_407);
-        (self.state >> 33).checked_rem(bound).unwrap_or(0)
+        match (self.state >> 33).checked_rem(bound) {
+            Some(number) => number,
+            None => 0,
+        }
     }
 
     /// Once in so many times.
@@ -30,9 +33,12 @@ impl Random {
             .saturating_add(leap)
     }
 
-    /// One of these words.
-    pub fn word(&mut self, words: &[&'static str]) -> &'static str {
-        let place = self.below(words.len() as u64) as usize;
-        words.get(place).copied().unwrap_or("")
+    /// One of these texts.
+    pub fn text(&mut self, texts: &[&'static str]) -> &'static str {
+        let place = self.below(texts.len() as u64) as usize;
+        match texts.get(place) {
+            Some(text) => *text,
+            None => "",
+        }
     }
 }

@@ -1,4 +1,4 @@
-//! What the answers so far tell of the open clients, and why their events are refused.
+//! What the answers so far tell of the open clients, and what they have to be told next.
 
 use crate::random::drawn::Random;
 use dispatch::{Event, Outcome};
@@ -41,39 +41,55 @@ pub fn client_of(event: &Event) -> Option<u128> {
     }
 }
 
+/// Why no probe begins.
+fn probe_refusal(on: Transport) -> Option<CoreFault> {
+    match on {
+        Transport::Polling => None,
+        Transport::Probing => Some(CoreFault::AlreadyProbing),
+        Transport::Socket => Some(CoreFault::AlreadyUpgraded),
+    }
+}
+
+/// Why no probe ends.
+fn end_refusal(on: Transport) -> Option<CoreFault> {
+    match on {
+        Transport::Polling => Some(CoreFault::NotProbing),
+        Transport::Probing => None,
+        Transport::Socket => Some(CoreFault::AlreadyUpgraded),
+    }
+}
+
 /// Why an event of an open client is refused at once.
 fn refusal_of(event: &Event, known: KnownClient) -> Option<CoreFault> {
-    match (event, known.on) {
-        (Event::Post { .. } | Event::PollBegin { .. }, Transport::Socket) => {
-            Some(CoreFault::WrongTransport)
-        }
-        (Event::PollTake { .. }, Transport::Socket) if !known.gets => {
-            Some(CoreFault::WrongTransport)
-        }
-        (Event::Frame { .. } | Event::FrameTake { .. }, Transport::Polling | Transport::Probing) =>
-            { Some(CoreFault::WrongTransport) }
-        (Event::Probe { .. }, Transport::Probing) => Some(CoreFault::AlreadyProbing),
-        (Event::Upgraded { .. } | Event::ProbeLost { .. }, Transport::Polling) => {
-            Some(CoreFault::NotProbing)
-        }
-        (
-            Event::Probe { .. } | Event::Upgraded { .. } | Event::ProbeLost { .. },
-            Transport::Socket,
-        ) => Some(CoreFault::AlreadyUpgraded),
-        _ => None,
+    let has_socket = known.on == Transport::Socket;
+    let is_wrong = match event {
+        Event::Post { .. } | Event::PollBegin { .. } => has_socket,
+        Event::PollTake { .. } => has_socket && !known.gets,
+        Event::Frame { .. } | Event::FrameTake { .. } => !has_socket,
+        Event::Probe { .. } => return probe_refusal(known.on),
+        Event::Upgraded { .. } | Event::ProbeLost { .. } => return end_refusal(known.on),
+        _ => false,
+    };
+    if is_wrong {
+        Some(CoreFault::WrongTransport)
+    } else {
+        None
     }
 }
 
 /// A client as it is after an event of it that didn't end it.
 fn after(event: &Event, outcome: &Outcome, before: KnownClient) -> KnownClient {
     let mut after = before;
-    match (event, outcome) {
-        (_, Outcome::Begun) => after.gets = true,
-        (_, Outcome::Payload(_)) | (Event::PollEnd { .. }, _) => after.gets = false,
-        (_, Outcome::Probed(_)) => after.on = Transport::Probing,
-        (Event::Upgraded { .. }, _) => after.on = Transport::Socket,
-        (Event::ProbeLost { .. }, _) => after.on = Transport::Polling,
-        _ => {}
+    match outcome {
+        Outcome::Begun => after.gets = true,
+        Outcome::Payload(_) => after.gets = false,
+        Outcome::Probed(_) => after.on = Transport::Probing,
+        _ => match event {
+            Event::PollEnd { .. } => after.gets = false,
+            Event::Upgraded { .. } => after.on = Transport::Socket,
+            Event::ProbeLost { .. } => after.on = Transport::Polling,
+            _ => {}
+        },
     }
     after
 }
@@ -106,44 +122,62 @@ impl Clients {
         }
     }
 
+    /// Why no client is opened with this id.
+    fn opening_refusal(&self, id: u128) -> Option<CoreFault> {
+        if self.find(id).is_some() {
+            return Some(CoreFault::IdTaken);
+        }
+        if self.list.len() >= MOST_CLIENTS {
+            return Some(CoreFault::TooManyClients);
+        }
+        None
+    }
+
     /// Why an event is refused at once, where this id is drawn next.
     pub fn refusal(&self, event: &Event, id: u128) -> Option<CoreFault> {
-        match (event, client_of(event)) {
-            (_, Some(client)) => match self.find(client) {
+        match client_of(event) {
+            Some(client) => match self.find(client) {
                 Some(known) => refusal_of(event, known),
                 None => Some(CoreFault::UnknownClient),
             },
-            (Event::Opened { .. }, _) if self.find(id).is_some() => Some(CoreFault::IdTaken),
-            (Event::Opened { .. }, _) if self.list.len() >= MOST_CLIENTS => {
-                Some(CoreFault::TooManyClients)
-            }
-            _ => None,
+            None => match event {
+                Event::Opened { .. } => self.opening_refusal(id),
+                _ => None,
+            },
         }
     }
 
     /// Takes in what an event was answered.
     pub fn learn(&mut self, event: &Event, outcome: &Outcome) -> Result<(), AllocError> {
-        match (event, outcome, client_of(event)) {
-            (Event::Opened { socket }, Outcome::Opened(opening), _) => {
-                let (client, gets) = (opening.client, false);
-                let on = if *socket {
-                    Transport::Socket
-                } else {
-                    Transport::Polling
-                };
-                self.list.push(KnownClient { client, on, gets })?;
-            }
-            (_, _, Some(client)) if ends(outcome) => {
-                self.list.retain(|known| known.client != client);
-            }
-            (_, _, Some(client)) => self.change(event, outcome, client),
-            _ => {}
+        if let Outcome::Opened(opening) = outcome {
+            return self.open(event, opening.client);
+        }
+        if let Some(client) = client_of(event) {
+            self.change(event, outcome, client);
         }
         Ok(())
     }
 
-    /// A client that stays changes.
+    /// A client is open from now on.
+    fn open(&mut self, event: &Event, client: u128) -> Result<(), AllocError> {
+        let on = match event {
+            Event::Opened { socket: true } => Transport::Socket,
+            _ => Transport::Polling,
+        };
+        self.list.push(KnownClient {
+            client,
+            on,
+            gets: false,
+        })?;
+        Ok(())
+    }
+
+    /// A client changes or goes.
     fn change(&mut self, event: &Event, outcome: &Outcome, client: u128) {
+        if ends(outcome) {
+            self.list.retain(|known| known.client != client);
+            return;
+        }
         for known in &mut self.list {
             if known.client == client {
                 *known = after(event, outcome, *known);
