@@ -1,8 +1,8 @@
 //! What a loop does with the answers to its connections' events.
 
-use crate::connection::Mode;
 use crate::event_loop::EventLoop;
 use crate::news::Log;
+use crate::tcp_connection::Mode;
 use dispatch::Outcome;
 use effects::{Cause, CoreError, Done};
 use loop_rules::{Pause, Verdict};

@@ -3,8 +3,8 @@
 ghost use Rattle.std.specs.Prelude.{IsTrue};
 ghost use Rattle.loop_rules.specs.Rotas.{IsQuiet};
 
-use crate::connection::{Connection, Mode, Sent};
 use crate::stage::Stream;
+use crate::tcp_connection::{Connection, Mode, Sent};
 use dispatch::Outcome;
 use effects::CoreError;
 use loop_rules::{LookState, Overdue, Part, Pause, Roster, Turn, Verdict, find_overdue};

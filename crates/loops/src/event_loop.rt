@@ -2,7 +2,6 @@
 
 use crate::base::Base;
 use crate::buffered::Buffered;
-use crate::connection::{Connection, Mode, Next};
 use crate::connections::Connections;
 use crate::delays::Delays;
 use crate::fault::ServerFault;
@@ -13,6 +12,7 @@ use crate::reading::Drained;
 use crate::rules::Rules;
 use crate::shared::Shared;
 use crate::stage::Stream;
+use crate::tcp_connection::{Connection, Mode, Next};
 use crate::watch::Watch;
 use crossbeam_channel::Receiver;
 use dispatch::{Event, Outcome};

@@ -6,7 +6,6 @@ mod acceptor;
 mod answers;
 mod base;
 mod buffered;
-mod connection;
 mod connections;
 mod crew;
 mod delays;
@@ -26,6 +25,7 @@ mod rules;
 mod server;
 mod shared;
 mod stage;
+mod tcp_connection;
 mod watch;
 mod worker;
 
