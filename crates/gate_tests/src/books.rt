@@ -1,11 +1,11 @@
 //! Four workers and one book.
 
-use crate::hall::{Hall, Open, ids_of};
-use crate::peers::{Talker, talkers};
+use crate::made::{Open, Seen, Server, ids_behind, new_pass, serve};
+use crate::peers::{Talker, one_that_joins, talkers};
 use crate::tasks::{Task, expect};
 use dispatch::Core;
 use hub::Pass;
-use hub_gate::{Locked, Pool, Queue, Report, Turnstile, WorkerCounts, run_worker};
+use hub_gate::{Locked, Pool, Queue, Turnstile, WorkerCounts, run_worker};
 use journal::{Step, What};
 use relay::RelayApp;
 use room_maps::Room;
@@ -59,108 +59,31 @@ fn last_offset(steps: &[Step]) -> Option<u64> {
     last
 }
 
-/// What these workers did together, and whether each took something.
-fn sums(workers: &[WorkerCounts]) -> (WorkerCounts, bool) {
-    let mut sums = WorkerCounts {
-        commands: 0,
-        taken: 0,
-        peers: 0,
-        faults: 0,
-    };
-    let mut took = true;
-    for worker in workers {
-        sums.commands = sums.commands.wrapping_add(worker.commands);
-        sums.taken = sums.taken.wrapping_add(worker.taken);
-        sums.peers = sums.peers.wrapping_add(worker.peers);
-        sums.faults = sums.faults.wrapping_add(worker.faults);
-        took = took && worker.taken > 0;
-    }
-    (sums, took)
-}
-
 /// Whether four workers served a peer each, and their counts are the totals.
-fn is_right(report: &Report) -> bool {
-    let totals = report.totals;
+fn is_right(seen: Seen) -> bool {
+    let totals = seen.totals;
     let gone = totals.taken.wrapping_add(totals.discarded);
-    let (sums, took) = sums(report.workers.as_slice());
-    totals.commands == sums.commands
-        && totals.taken == sums.taken
+    totals.commands == seen.commands
+        && totals.taken == seen.taken
         && totals.placed == gone.wrapping_add(totals.waiting)
-        && (report.workers.len(), sums.peers, sums.faults) == (4, 4, 0)
-        && took
+        && (seen.workers, seen.peers, seen.faults) == (4, 4, 0)
+        && seen.least_taken > 0
 }
 
-impl<'a, C: Ledger + Send + Sync, T: Ledger + Send + Sync, R: Threads + Wait + Clock + Sync> Hall<
-    'a,
-    C,
-    T,
-    R,
-> {
-    /// Whether four workers that serve a talker each report what they did.
-    pub fn fill_one_book(&mut self) -> bool {
-        let joined = AtomicU64::new(0);
-        let Ok(peers) = talkers(self.alloc, 4, &joined, true) else {
-            return false;
-        };
-        self.serve(peers, 4, &Open, 1_000)
-            .is_ok_and(|report| is_right(&report))
-    }
-
-    /// Whether one worker sees another's join, which is noted, and all passes together have all counts.
-    pub fn see_another(&mut self) -> bool {
-        let (joined, later) = (AtomicU64::new(0), AtomicU64::new(0));
-        let (Some(one), Some(two), Some(own)) = (
-            self.work_for(&joined),
-            self.work_for(&later),
-            self.new_pass(),
-        ) else {
-            return false;
-        };
-        self.look_between((one, two), own, &joined) && self.is_settled()
-    }
-
-    /// Work for a worker with one client that joins.
-    fn work_for<'j>(&mut self, joined: &'j AtomicU64) -> Option<Work<'j, C, T>> {
-        let pass = self.new_pass()?;
-        let peers = talkers(self.alloc, 1, joined, false).ok()?;
-        Some(Work { pass, peers })
-    }
-
-    /// Runs two workers, the second of which looks at the room at its gate, and takes their passes and the
-    /// gate's. Answers whether it saw the other one's join.
-    fn look_between(
-        &mut self,
-        works: (Work<'_, C, T>, Work<'_, C, T>),
-        own: Pass<C, T>,
-        joined: &AtomicU64,
-    ) -> bool {
-        let (rt, alloc, locked) = (self.rt, self.alloc, self.locked);
-        let gate = Looking {
-            rt,
-            alloc,
-            locked,
-            pass: Mutex::new(Some(own)),
-            joined,
-            saw: AtomicU64::new(0),
-        };
-        let (one, two) = works;
-        let (one, two) = thread::join(
-            rt,
-            || work_off(rt, alloc, locked, one, &gate, 0),
-            || work_off(rt, alloc, locked, two, &gate, 1),
-        );
-        self.pass.absorb(one.pass);
-        self.pass.absorb(two.pass);
-        if let Some(own) = gate.pass.lock(rt).take() {
-            self.pass.absorb(own);
-        }
-        two.counts.commands == 3 && gate.saw.load(Ordering::SeqCst) == 1
-    }
-
-    /// Whether the first pass has all counts.
-    fn is_settled(&mut self) -> bool {
-        let mut core = self.locked.look(self.rt, &mut self.pass);
-        core.settle(&mut self.pass).is_ok()
+/// Whether four workers that serve a talker each report what they did.
+pub fn fill_one_book<C: Ledger + Send + Sync, T: Ledger + Send + Sync, R: Threads + Wait + Sync>(
+    rt: &R,
+    alloc: Global,
+    server: &mut Server<C, T>,
+) -> bool {
+    let joined = AtomicU64::new(0);
+    let Ok(peers) = talkers(alloc, 4, &joined) else {
+        return false;
+    };
+    let Server { locked, pass } = server;
+    match serve(rt, alloc, locked, pass, peers, 4, &Open, 1_000) {
+        Ok(seen) => is_right(seen),
+        Err(_) => false,
     }
 }
 
@@ -176,7 +99,10 @@ pub fn is_filled<C: Ledger, T: Ledger>(alloc: Global, core: &Core<C, T>) -> bool
 }
 
 fn has_four_clients<C: Ledger, T: Ledger>(alloc: Global, core: &Core<C, T>) -> bool {
-    core.clients(alloc).is_ok_and(|clients| clients.len() == 4)
+    match core.clients(alloc) {
+        Ok(clients) => clients.len() == 4,
+        Err(_) => false,
+    }
 }
 
 #[test]
@@ -244,6 +170,18 @@ struct Worked<C: Ledger, T: Ledger> {
     counts: WorkerCounts,
 }
 
+/// Work for a worker with one client that joins.
+fn work_for<'a, C: Ledger, T: Ledger, R: Wait>(
+    rt: &R,
+    alloc: Global,
+    server: &mut Server<C, T>,
+    joined: &'a AtomicU64,
+) -> Option<Work<'a, C, T>> {
+    let pass = new_pass(rt, server)?;
+    let peers = one_that_joins(alloc, joined).ok()?;
+    Some(Work { pass, peers })
+}
+
 /// Runs one worker.
 fn work_off<'a, C: Ledger, T: Ledger, R: Wait, G: Turnstile>(
     rt: &R,
@@ -255,7 +193,7 @@ fn work_off<'a, C: Ledger, T: Ledger, R: Wait, G: Turnstile>(
 ) -> Worked<C, T> {
     let Work { pass, peers } = work;
     let mut queue = Queue::new(peers);
-    let mut ids = ids_of(worker as u64);
+    let mut ids = ids_behind((worker as u64).wrapping_mul(20));
     let pool = Pool {
         rt,
         alloc,
@@ -266,6 +204,105 @@ fn work_off<'a, C: Ledger, T: Ledger, R: Wait, G: Turnstile>(
     };
     let (pass, counts) = run_worker(&pool, pass, &mut queue, worker, &mut ids);
     Worked { pass, counts }
+}
+
+/// Runs two workers, each on a thread.
+fn work_both<
+    'a,
+    C: Ledger + Send + Sync,
+    T: Ledger + Send + Sync,
+    R: Threads + Wait + Sync,
+    G: Turnstile + Sync,
+>(
+    rt: &R,
+    alloc: Global,
+    locked: &Locked<C, T>,
+    works: (Work<'a, C, T>, Work<'a, C, T>),
+    gate: &G,
+) -> (Worked<C, T>, Worked<C, T>) {
+    let (one, two) = works;
+    thread::join(
+        rt,
+        || work_off(rt, alloc, locked, one, gate, 0),
+        || work_off(rt, alloc, locked, two, gate, 1),
+    )
+}
+
+/// Runs two workers, the second of which looks at the room at its gate, and takes their passes and the
+/// gate's. Answers whether it saw the other one's join.
+fn look_between<
+    'a,
+    C: Ledger + Send + Sync,
+    T: Ledger + Send + Sync,
+    R: Threads + Wait + Clock + Sync,
+>(
+    rt: &R,
+    alloc: Global,
+    locked: &Locked<C, T>,
+    pass: &mut Pass<C, T>,
+    own: Pass<C, T>,
+    works: (Work<'a, C, T>, Work<'a, C, T>),
+    joined: &AtomicU64,
+) -> bool {
+    let gate = Looking {
+        rt,
+        alloc,
+        locked,
+        pass: Mutex::new(Some(own)),
+        joined,
+        saw: AtomicU64::new(0),
+    };
+    let (one, two) = work_both(rt, alloc, locked, works, &gate);
+    let is_seen = two.counts.commands == 3 && gate.saw.load(Ordering::SeqCst) == 1;
+    pass.absorb(one.pass);
+    pass.absorb(two.pass);
+    if let Some(own) = gate.pass.lock(rt).take() {
+        pass.absorb(own);
+    }
+    is_seen
+}
+
+/// Whether one worker sees another's join, which is noted, and all passes together have all counts.
+fn see_join<'a, C: Ledger + Send + Sync, T: Ledger + Send + Sync, R: Threads + Wait + Clock + Sync>(
+    rt: &R,
+    alloc: Global,
+    server: &mut Server<C, T>,
+    joined: &'a AtomicU64,
+    later: &'a AtomicU64,
+) -> bool {
+    let Some(one) = work_for(rt, alloc, server, joined) else {
+        return false;
+    };
+    let Some(two) = work_for(rt, alloc, server, later) else {
+        return false;
+    };
+    let Some(own) = new_pass(rt, server) else {
+        return false;
+    };
+    let Server { locked, pass } = server;
+    let is_seen = look_between(rt, alloc, locked, pass, own, (one, two), joined);
+    is_seen && is_settled(rt, locked, pass)
+}
+
+/// Whether one worker sees another's join.
+pub fn see_another<
+    C: Ledger + Send + Sync,
+    T: Ledger + Send + Sync,
+    R: Threads + Wait + Clock + Sync,
+>(rt: &R, alloc: Global, server: &mut Server<C, T>) -> bool {
+    let joined = AtomicU64::new(0);
+    let later = AtomicU64::new(0);
+    see_join(rt, alloc, server, &joined, &later)
+}
+
+/// Whether the pass has all counts.
+fn is_settled<C: Ledger, T: Ledger, R: Wait>(
+    rt: &R,
+    locked: &Locked<C, T>,
+    pass: &mut Pass<C, T>,
+) -> bool {
+    let mut core = locked.look(rt, pass);
+    core.settle(pass).is_ok()
 }
 
 #[test]

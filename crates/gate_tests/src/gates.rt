@@ -1,9 +1,10 @@
 //! Two workers that meet at the gate: neither one thread nor a worker that keeps the lock can pass.
 
-use crate::hall::Hall;
+use crate::made::{Server, serve};
 use crate::peers::talkers;
 use crate::tasks::{Task, expect};
 use hub_gate::Turnstile;
+use std::alloc::Global;
 use std::sync::Wait;
 use std::sync::atomic::{AtomicU64, Ordering};
 use std::sync::ledger::Ledger;
@@ -57,26 +58,26 @@ impl<'a, R: Clock> Turnstile for Meeting<'a, R> {
     }
 }
 
-impl<'a, C: Ledger + Send + Sync, T: Ledger + Send + Sync, R: Threads + Wait + Clock + Sync> Hall<
-    'a,
-    C,
-    T,
-    R,
-> {
-    /// Whether two workers meet, before and after their first event.
-    pub fn meet(&mut self) -> bool {
-        let joined = AtomicU64::new(0);
-        let Ok(peers) = talkers(self.alloc, 2, &joined, true) else {
-            return false;
-        };
-        let gate = Meeting {
-            rt: self.rt,
-            before: [AtomicU64::new(0), AtomicU64::new(0)],
-            after: [AtomicU64::new(0), AtomicU64::new(0)],
-            missed: AtomicU64::new(0),
-        };
-        let served = self.serve(peers, 2, &gate, 1_000);
-        served.is_ok_and(|report| report.workers.len() == 2) && gate.is_passed()
+/// Whether two workers meet, before and after their first event.
+pub fn meet<C: Ledger + Send + Sync, T: Ledger + Send + Sync, R: Threads + Wait + Clock + Sync>(
+    rt: &R,
+    alloc: Global,
+    server: &mut Server<C, T>,
+) -> bool {
+    let joined = AtomicU64::new(0);
+    let Ok(peers) = talkers(alloc, 2, &joined) else {
+        return false;
+    };
+    let gate = Meeting {
+        rt,
+        before: [AtomicU64::new(0), AtomicU64::new(0)],
+        after: [AtomicU64::new(0), AtomicU64::new(0)],
+        missed: AtomicU64::new(0),
+    };
+    let Server { locked, pass } = server;
+    match serve(rt, alloc, locked, pass, peers, 2, &gate, 1_000) {
+        Ok(seen) => seen.workers == 2 && gate.is_passed(),
+        Err(_) => false,
     }
 }
 

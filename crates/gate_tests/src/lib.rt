@@ -6,7 +6,7 @@ mod books;
 #[cfg(test)]
 mod gates;
 #[cfg(test)]
-mod hall;
+mod made;
 #[cfg(test)]
 mod peers;
 #[cfg(test)]

@@ -22,7 +22,7 @@ pub enum Stage {
 }
 
 /// A client that connects, joins a room, says 25 things to all, and takes by 1, 2, 3 .. until nothing
-/// waits. It fails where an offset that it took doesn't rise, and where it didn't take as many as it said.
+/// waits. It fails where an offset that it took doesn't rise.
 #[derive(Drop)]
 pub struct Talker<'a> {
     alloc: Global,
@@ -30,23 +30,34 @@ pub struct Talker<'a> {
     client: u128,
     stage: Stage,
     last_offset: u64,
-    offsets: u64,
     joined: &'a AtomicU64,
     talks: bool,
 }
 
 impl<'a> Talker<'a> {
-    /// One that says its things with this letter, or is done once it has joined.
-    fn new(alloc: Global, letter: u8, joined: &'a AtomicU64, talks: bool) -> Talker<'a> {
+    /// One that says its things with this letter.
+    pub fn new(alloc: Global, letter: u8, joined: &'a AtomicU64) -> Talker<'a> {
         Talker {
             alloc,
             letter,
             client: 0,
             stage: Stage::Open,
             last_offset: 0,
-            offsets: 0,
             joined,
-            talks,
+            talks: true,
+        }
+    }
+
+    /// One that is done once it has joined.
+    pub fn that_joins(alloc: Global, joined: &'a AtomicU64) -> Talker<'a> {
+        Talker {
+            alloc,
+            letter: b'a',
+            client: 0,
+            stage: Stage::Open,
+            last_offset: 0,
+            joined,
+            talks: false,
         }
     }
 
@@ -101,7 +112,6 @@ impl<'a> Talker<'a> {
                             return false;
                         }
                         self.last_offset = number;
-                        self.offsets = self.offsets.wrapping_add(1);
                     }
                     digits = 0;
                     number = 0;
@@ -129,10 +139,13 @@ impl<'a> Peer for Talker<'a> {
             Stage::Connect => self.posts("40"),
             Stage::Join => self.posts("42[\"join\",\"r\"]"),
             Stage::Say(number) => {
-                let letter = char::from(self.letter);
-                match format!(in self.alloc; "42[\"all\",\"{letter}{number:02}\"]") {
-                    Ok(text) => self.posts(text.as_str()),
-                    Err(_) => Err(PeerFault::Memory),
+                let mut text = *b"42[\"all\",\"a00\"]";
+                text[10] = self.letter;
+                text[11] = b'0'.wrapping_add(number / 10);
+                text[12] = b'0'.wrapping_add(number % 10);
+                match str::from_utf8(&text) {
+                    Ok(text) => self.posts(text),
+                    Err(_) => Err(PeerFault::Ended),
                 }
             }
             Stage::Take(most) => Ok(Some((Event::PollTake { client, most }, 0))),
@@ -147,7 +160,7 @@ impl<'a> Peer for Talker<'a> {
                 self.go_on();
                 Ok(())
             }
-            Ok(Outcome::Done(done)) if done.closed.is_none() => {
+            Ok(Outcome::Done(_)) => {
                 self.go_on();
                 Ok(())
             }
@@ -159,7 +172,7 @@ impl<'a> Peer for Talker<'a> {
                     Err(PeerFault::Ended)
                 }
             }
-            Ok(Outcome::Nothing) if self.offsets >= u64::from(SAYS) => {
+            Ok(Outcome::Nothing) => {
                 self.stage = Stage::Done;
                 Ok(())
             }
@@ -168,17 +181,26 @@ impl<'a> Peer for Talker<'a> {
     }
 }
 
-/// So many talkers, with the letters from `a` on, or clients that are done once they have joined.
+/// So many talkers, with the letters from `a` on.
 pub fn talkers<'a>(
     alloc: Global,
     count: u8,
     joined: &'a AtomicU64,
-    talks: bool,
 ) -> Result<Vec<Talker<'a>>, AllocError> {
     let mut all = Vec::new(alloc);
     for number in 0..count {
-        all.push(Talker::new(alloc, b'a'.wrapping_add(number), joined, talks))?;
+        all.push(Talker::new(alloc, b'a'.wrapping_add(number), joined))?;
     }
+    Ok(all)
+}
+
+/// One client that is done once it has joined.
+pub fn one_that_joins<'a>(
+    alloc: Global,
+    joined: &'a AtomicU64,
+) -> Result<Vec<Talker<'a>>, AllocError> {
+    let mut all = Vec::new(alloc);
+    all.push(Talker::that_joins(alloc, joined))?;
     Ok(all)
 }
 

@@ -1,18 +1,20 @@
 //! What is done with a locked core of its own, and seen of the core at its end.
 
-use crate::hall::Hall;
-use crate::{books, pools, seals};
+ghost use Rattle.std.specs.Prelude.{◌≡◌};
+
+use crate::made::{Server, new_server};
+use crate::{books, gates, pools, seals};
 use dispatch::Core;
 use effects::{CoreError, CoreFault};
-use hub::Pass;
-use hub_gate::Locked;
 use std::alloc::Global;
+use std::marker::Brand;
 use std::process::Abort;
 use std::sync::Wait;
-use std::sync::ledger::Ledger;
+use std::sync::ledger::{Blank, Ledger};
 use std::thread::Threads;
 use std::time::Clock;
-use usual_core::{Limits, OnLocked, Settings, on_new_locked};
+
+const PARTS: u64 = 65_536;
 
 #[derive(Clone, Copy)]
 pub enum Task {
@@ -32,28 +34,26 @@ pub enum Task {
     SpentTurns,
 }
 
-impl<'a, C: Ledger + Send + Sync, T: Ledger + Send + Sync, R: Threads + Wait + Clock + Sync> Hall<
-    'a,
-    C,
-    T,
-    R,
-> {
-    /// Does a task, and says how many steps were sealed where it was done as it should be.
-    fn does(&mut self, task: Task) -> Option<u64> {
-        match task {
-            Task::OneBook => self.fill_one_book().then_some(0),
-            Task::OneSeesAnother => self.see_another().then_some(0),
-            Task::TwoAtOnce => self.meet().then_some(0),
-            Task::SealedBetween => self.seal_between(),
-            Task::RefusedPools => self.are_refused().then_some(0),
-            Task::PeersThatFail => self.are_lost().then_some(0),
-            Task::SpentTurns => self.is_cut_off().then_some(0),
-        }
+/// Does a task, and says how many steps were sealed where it was done as it should be.
+fn does<C: Ledger + Send + Sync, T: Ledger + Send + Sync, R: Threads + Wait + Clock + Sync>(
+    rt: &R,
+    alloc: Global,
+    server: &mut Server<C, T>,
+    task: Task,
+) -> Option<u64> {
+    match task {
+        Task::OneBook => books::fill_one_book(rt, alloc, server).then_some(0),
+        Task::OneSeesAnother => books::see_another(rt, alloc, server).then_some(0),
+        Task::TwoAtOnce => gates::meet(rt, alloc, server).then_some(0),
+        Task::SealedBetween => seals::seal_between(rt, alloc, server),
+        Task::RefusedPools => pools::are_refused(rt, alloc, server).then_some(0),
+        Task::PeersThatFail => pools::are_lost(rt, alloc, server).then_some(0),
+        Task::SpentTurns => pools::is_cut_off(rt, alloc, server).then_some(0),
     }
 }
 
 /// Whether the core is as the task leaves it, of whose steps so many were sealed.
-fn is_left<C: Ledger, T: Ledger>(
+fn is_left_by<C: Ledger, T: Ledger>(
     alloc: Global,
     core: &Core<C, T>,
     task: Task,
@@ -67,37 +67,32 @@ fn is_left<C: Ledger, T: Ledger>(
     }
 }
 
-#[derive(Drop)]
-struct Doing<'a, R: Threads + Wait + Clock + Sync> {
-    rt: &'a R,
+fn is_left<C: Ledger, T: Ledger>(
+    alloc: Global,
+    server: Server<C, T>,
     task: Task,
+    sealed: u64,
+) -> bool {
+    let core = server.locked.into_core();
+    is_left_by(alloc, &core, task, sealed)
 }
 
-impl<'a, R: Threads + Wait + Clock + Sync> OnLocked for Doing<'a, R> {
-    type Found = bool;
-
-    /// Whether the task is done as it should be.
-    fn run<C: Ledger + Send + Sync, T: Ledger + Send + Sync>(
-        self,
-        alloc: Global,
-        locked: &Locked<C, T>,
-        pass: Pass<C, T>,
-    ) -> bool {
-        let Doing { rt, task } = self;
-        let mut hall = Hall {
-            rt,
-            alloc,
-            locked,
-            pass,
-        };
-        match hall.does(task) {
-            Some(sealed) => {
-                let core = locked.look(rt, &mut hall.pass);
-                is_left(alloc, &core, task, sealed)
-            }
-            None => false,
-        }
-    }
+/// Whether a task is done as it should be, with a core of its own.
+fn run<C: Ledger + Send + Sync, T: Ledger + Send + Sync, R: Threads + Wait + Clock + Sync>(
+    rt: &R,
+    alloc: Global,
+    task: Task,
+    commands: Blank,
+    taken: Blank,
+) -> Result<bool, CoreError>
+    requires commands { (commands.name ≡ C.name) × (commands.parts ≡ C.parts) × (commands.parts ≡ 65536) }
+    requires taken { (taken.name ≡ T.name) × (taken.parts ≡ T.parts) × (taken.parts ≡ 65536) }
+{
+    let mut server = new_server::<C, T>(alloc, commands, taken)?;
+    let Some(sealed) = does(rt, alloc, &mut server, task) else {
+        return Ok(false);
+    };
+    Ok(is_left(alloc, Box::into_inner(server), task, sealed))
 }
 
 fn run_once<R: Threads + Wait + Clock + Sync>(
@@ -105,16 +100,8 @@ fn run_once<R: Threads + Wait + Clock + Sync>(
     alloc: Global,
     task: Task,
 ) -> Result<bool, CoreError> {
-    let usual = Settings::usual(8);
-    let settings = Settings {
-        limits: Limits {
-            capacity: 256,
-            ..usual.limits
-        },
-        ..usual
-    };
-    let (done, _) = on_new_locked(alloc, &settings, Doing { rt, task })?;
-    Ok(done)
+    let (commands, taken) = (Blank::new(PARTS), Blank::new(PARTS));
+    run::<Brand, Brand, _>(rt, alloc, task, commands, taken)
 }
 
 /// Does a task, once more where it failed, since memory may have been refused in the first run.
