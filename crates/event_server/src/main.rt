@@ -2,13 +2,14 @@
 //! script` serves the clients of a script.
 #![tactic(auto)]
 
+use arguments::options::Options;
 use arguments::task::{Task, read_arguments};
 use relay::RelayApp;
 use script::{RunError, run_script};
-use serving::{end_with, processors, serve, tell_refused};
-use std::io;
+use serving::{end_with, listen, processors, serve, tell_refused, wait_for_end};
 use std::io::BufWriter;
 use std::process::ExitCode;
+use std::{io, thread};
 
 /// The program's name.
 const NAME: &str = "event_server";
@@ -16,7 +17,26 @@ const NAME: &str = "event_server";
 fn main(rt: HostRuntime) -> ExitCode {
     match read_arguments(&rt, processors(&rt)) {
         Ok(Task::Script) => end_with(&rt, NAME, play(&rt)),
-        Ok(Task::Serve(options)) => end_with(&rt, NAME, serve(&rt, options, &RelayApp)),
+        Ok(Task::Serve(options)) => {
+            let Options {
+                settings,
+                until_eof,
+                verbose,
+                folder: _,
+            } = options;
+            match listen(&rt, settings, verbose) {
+                Ok(server) => {
+                    if until_eof {
+                        if let Ok(shared) = server.shared() {
+                            // Where no thread can be made, the server ends by a kill alone.
+                            let _ = thread::spawn(&rt, move || wait_for_end(&rt, &shared));
+                        }
+                    }
+                    end_with(&rt, NAME, serve(&rt, server, &RelayApp))
+                }
+                Err(fault) => end_with(&rt, NAME, Err(fault)),
+            }
+        }
         Err(refused) => end_with(&rt, NAME, tell_refused(&rt, &refused)),
     }
 }

@@ -1,5 +1,5 @@
-//! A server as a program: its arguments are read, it tells where it listens, serves any app, and tells
-//! what it did.
+//! A server as a program: it tells where it listens, serves any app, and tells what it did. A program's
+//! `main` reads the arguments, and starts the thread that waits for the end of standard input.
 #![tactic(auto)]
 
 mod error_log;
@@ -8,6 +8,6 @@ mod refused;
 mod served;
 
 pub use error_log::ErrorLog;
-pub use program::{end_with, processors, run_app};
+pub use program::{end_with, processors};
 pub use refused::tell_refused;
-pub use served::{ServeFault, serve};
+pub use served::{Listening, ServeFault, listen, serve, wait_for_end};

@@ -1,12 +1,12 @@
 //! It tells where it listens, serves, and tells what it did.
 
 use crate::error_log::ErrorLog;
-use arguments::options::Options;
 use effects::App;
 use hub_gate::{Report, WorkerCounts};
 use loops::{Server, ServerFault, Shared};
 use script::Answer;
 use settings::Settings;
+use std::io;
 use std::io::Read;
 use std::net::Net;
 use std::process::ExitCode;
@@ -15,7 +15,6 @@ use std::rt::Clock;
 use std::sync::{Arc, Wait};
 use std::thread::Threads;
 use std::time::Duration;
-use std::{io, thread};
 use thiserror::Error;
 
 /// How long what is open may take to end once standard input has ended, in milliseconds.
@@ -36,46 +35,15 @@ impl From<ServerFault> for ServeFault {
     }
 }
 
-/// Serves an app until the server is to end, and answers the program's status. It tells on standard
-/// output where it listens, and at its end what it did.
-pub fn serve<
-    R: Threads
-        + Wait
-        + Clock
-        + RandomSource
-        + Net
-        + Input
-        + Print
-        + Eprint
-        + AllocGlobal
-        + Copy
-        + Drop
-        + Sync
-        + Send
-        + 'static,
-    A: App + Sync,
->(rt: &R, options: Options, app: &A) -> Result<ExitCode, ServeFault> {
-    let Options {
-        settings,
-        until_eof,
-        verbose,
-        folder: _,
-    } = options;
-    let server = listen(rt, settings, verbose)?;
-    if until_eof {
-        end_with_input(rt, &server);
-    }
-    let report = server.run(rt, rt.alloc(), app)?;
-    tell_report(rt, &report)?;
-    Ok(ExitCode::SUCCESS)
-}
+/// A server that listens, and tells standard error of itself.
+pub type Listening<R> = Server<ErrorLog<R>>;
 
 /// Begins to listen, and tells where.
-fn listen<R: Net + Print + Eprint + AllocGlobal + Copy + Drop + Sync>(
+pub fn listen<R: Net + Print + Eprint + AllocGlobal + Copy + Drop + Sync>(
     rt: &R,
     settings: Settings,
     verbose: bool,
-) -> Result<Server<ErrorLog<R>>, ServeFault> {
+) -> Result<Listening<R>, ServeFault> {
     let alloc = rt.alloc();
     let Ok(place) = format!(in alloc; "{}:{}", settings.host, settings.port) else {
         return Err(ServeFault::Server(ServerFault::Memory));
@@ -86,20 +54,29 @@ fn listen<R: Net + Print + Eprint + AllocGlobal + Copy + Drop + Sync>(
     Ok(server)
 }
 
-/// Has the server end once standard input does.
-fn end_with_input<R: Threads + Wait + Clock + Input + Eprint + Copy + Drop + Sync + Send + 'static>(
-    rt: &R,
-    server: &Server<ErrorLog<R>>,
-) {
-    let handle = *rt;
-    if let Ok(shared) = server.shared() {
-        // Where no thread can be made, the server ends by a kill alone.
-        let _ = thread::spawn(rt, move || wait_for_end(&handle, &shared));
-    }
+/// Serves an app until the server is to end, tells what it did, and answers the program's status.
+pub fn serve<
+    R: Threads
+        + Wait
+        + Clock
+        + RandomSource
+        + Print
+        + Eprint
+        + AllocGlobal
+        + Copy
+        + Drop
+        + Sync
+        + Send
+        + 'static,
+    A: App + Sync,
+>(rt: &R, server: Listening<R>, app: &A) -> Result<ExitCode, ServeFault> {
+    let report = server.run(rt, rt.alloc(), app)?;
+    tell_report(rt, &report)?;
+    Ok(ExitCode::SUCCESS)
 }
 
 /// Reads standard input to its end, and has the server end then.
-fn wait_for_end<R: Wait + Clock + Input>(rt: &R, shared: &Arc<Shared>) {
+pub fn wait_for_end<R: Wait + Clock + Input>(rt: &R, shared: &Arc<Shared>) {
     let mut reader = rt.reader();
     let mut piece = [0; 512];
     for _ in 0..u64::MAX {
