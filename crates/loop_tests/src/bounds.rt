@@ -1,9 +1,10 @@
 //! What a server refuses.
 
-use crate::made::{Plan, STOPPED};
+use crate::made::Plan;
 use crate::requests::{
-    BAD, BAD_REQUEST, NOT_FOUND, OPEN, Place, TOO_LARGE, UNAVAILABLE, is_answer, letters,
+    BAD, BAD_REQUEST, NOT_FOUND, OPEN, Place, SUCCESS, TOO_LARGE, UNAVAILABLE, is_answer, letters,
 };
+use crate::tasks::{Task, seen_by};
 use std::alloc::Global;
 use std::io::ErrorKind;
 use std::net::{Net, TcpStream};
@@ -13,17 +14,41 @@ use std::sync::Wait;
 use std::time::Duration;
 use std::{io, thread};
 
-/// Sixteen connections at a time, which is the least.
-pub const CROWDED: Plan = Plan {
+/// One client, who sends two requests, and another one who sends one.
+pub const FULL: Plan = Plan {
     workers: 1,
+    connections: Some(4),
     clients: 1,
-    ..STOPPED
+    capacity: 64,
+    entries: 15,
+    origin: None,
+};
+
+/// A second client is refused.
+pub fn fill<R: Net<Stream = TcpStream> + Abort>(place: &Place<'_, R>) {
+    let rt = place.rt;
+    let client = place.opens().expect(rt, "a client");
+    assert!(rt; place.is_answered(OPEN, UNAVAILABLE, ""));
+    assert!(rt; place.joins(client).is_some());
+}
+
+#[test]
+fn one_client_too_many(rt: HostRuntime) {
+    let seen = seen_by(&rt, Task::Fill);
+    assert!(rt; seen.adds_up(1));
+    assert!(rt; (seen.totals.placed, seen.totals.taken) == (1, 1));
+}
+
+/// Sixteen connections at a time, which is the least; it ends when it is stopped.
+pub const CROWDED: Plan = Plan {
+    connections: None,
+    ..FULL
 };
 
 /// Whether a connection is closed at once, with or without an answer.
 fn is_turned_away(alloc: Global, stream: TcpStream) -> bool {
     match io::read_to_string(alloc, stream) {
-        Ok(text) => text.is_empty() || is_answer(alloc, Some(text.as_str()), UNAVAILABLE, ""),
+        Ok(text) => text.is_empty() || is_answer(alloc, text.as_str(), UNAVAILABLE, ""),
         Err(error) => error.kind() == ErrorKind::ConnectionReset,
     }
 }
@@ -31,7 +56,7 @@ fn is_turned_away(alloc: Global, stream: TcpStream) -> bool {
 /// Opens a client once there is a place for its connection.
 fn opens_soon<R: Net<Stream = TcpStream> + Clock>(place: &Place<'_, R>) -> bool {
     for _ in 0..100 {
-        if place.opens(OPEN).is_some() {
+        if place.opens().is_some() {
             return true;
         }
         thread::sleep(place.rt, Duration::from_millis(50));
@@ -63,11 +88,21 @@ pub fn crowd<R: Net<Stream = TcpStream> + Clock + Wait + Abort>(place: &Place<'_
     place.shared.stop(rt, Duration::from_secs(5));
 }
 
+#[test]
+fn one_connection_too_many(rt: HostRuntime) {
+    let seen = seen_by(&rt, Task::Crowd);
+    assert!(rt; seen.adds_up(1));
+    assert!(rt; (seen.totals.placed, seen.lost) == (0, 0));
+}
+
 /// Ten requests, over a connection each.
 pub const STRICT: Plan = Plan {
+    workers: 2,
     connections: Some(10),
+    clients: 16,
+    capacity: 64,
+    entries: 15,
     origin: Some("http://good.example"),
-    ..STOPPED
 };
 
 /// A request that opens a client, whose head has so many bytes.
@@ -82,7 +117,7 @@ fn check_heads<R: Net<Stream = TcpStream> + Abort>(place: &Place<'_, R>) {
     let longest = long_head(alloc, 16_384).expect(rt, "a head");
     let longer = long_head(alloc, 16_385).expect(rt, "a longer head");
     assert!(rt; longest.len() == 16_384 && longer.len() == 16_385);
-    assert!(rt; place.opens(longest.as_str()).is_some());
+    assert!(rt; place.opens_by(longest.as_str()).is_some());
     assert!(rt; place.is_answered(longer.as_str(), BAD, BAD_REQUEST));
 }
 
@@ -94,7 +129,7 @@ fn long_packet(alloc: Global, count: usize) -> Option<String> {
 
 fn check_bodies<R: Net<Stream = TcpStream> + Abort>(place: &Place<'_, R>) {
     let (rt, alloc) = (place.rt, place.alloc);
-    let client = place.opens(OPEN).expect(rt, "a client");
+    let client = place.opens().expect(rt, "a client");
     assert!(rt; place.joins(client).is_some());
     let longest = long_packet(alloc, 1_000_000).expect(rt, "a body");
     assert!(rt; longest.len() == 1_000_000);
@@ -110,7 +145,7 @@ fn check_origins<R: Net<Stream = TcpStream> + Abort>(place: &Place<'_, R>) {
         "GET /socket.io/?EIO=4&transport=polling HTTP/1.1\r\nHost: localhost\r\nOrigin: http://good.example\r\n\r\n";
     let other =
         "GET /socket.io/?EIO=4&transport=polling HTTP/1.1\r\nHost: localhost\r\nOrigin: http://bad.example\r\n\r\n";
-    assert!(rt; place.opens(good).is_some());
+    assert!(rt; place.opens_by(good).is_some());
     assert!(rt; place.is_answered(other, BAD, BAD_REQUEST));
 }
 
@@ -122,4 +157,11 @@ pub fn check<R: Net<Stream = TcpStream> + Abort>(place: &Place<'_, R>) {
     check_heads(place);
     check_bodies(place);
     check_origins(place);
+}
+
+#[test]
+fn requests_at_their_bounds(rt: HostRuntime) {
+    let seen = seen_by(&rt, Task::Check);
+    assert!(rt; seen.adds_up(2));
+    assert!(rt; (seen.totals.placed, seen.totals.taken, seen.lost) == (1, 1, 0));
 }

@@ -1,7 +1,8 @@
 //! A server with settings of its own.
 
-use crate::made::{Plan, STOPPED};
-use crate::requests::{OPEN, Place, SUCCESS, body_of, opened_with, rest_of};
+use crate::made::Plan;
+use crate::requests::{OPEN, Place, SUCCESS, body_of, opened_with};
+use crate::tasks::{Task, seen_by};
 use session_clock::Timing;
 use settings::Settings;
 use std::alloc::{AllocError, Global};
@@ -13,7 +14,10 @@ use terms::Text;
 pub const PLAN: Plan = Plan {
     workers: 1,
     connections: Some(4),
-    ..STOPPED
+    clients: 16,
+    capacity: 64,
+    entries: 15,
+    origin: None,
 };
 
 /// What a client is told of the numbers.
@@ -41,18 +45,20 @@ fn opens<R: Net<Stream = TcpStream>>(place: &Place<'_, R>) -> Option<u128> {
     )
 }
 
-/// Whether a GET of the client takes the answer to its CONNECT.
-fn takes_answer<R: Net<Stream = TcpStream>>(place: &Place<'_, R>, client: u128) -> Option<bool> {
-    let text = rest_of(place.alloc, place.begins_get(client)?)?;
-    let body = body_of(place.alloc, text.as_str())?;
-    Some(body.starts_with("40/quiz,{\"sid\":\""))
-}
-
 /// A client joins the new namespace, and is pinged soon.
 pub fn play<R: Net<Stream = TcpStream> + Abort>(place: &Place<'_, R>) {
     let rt = place.rt;
     let client = opens(place).expect(rt, "a client");
     assert!(rt; place.posts(client, "40/quiz,"));
-    assert!(rt; takes_answer(place, client) == Some(true));
+    let waiting = place.begins_get(client).expect(rt, "a GET");
+    assert!(rt; place.hears_beginning(waiting, "40/quiz,{\"sid\":\""));
     assert!(rt; place.gets(client, SUCCESS, "2"));
+}
+
+#[test]
+fn settings_of_its_own(rt: HostRuntime) {
+    let seen = seen_by(&rt, Task::Choose);
+    let totals = seen.totals;
+    assert!(rt; seen.adds_up(1));
+    assert!(rt; (totals.placed, totals.taken, totals.dropped) == (1, 1, 0));
 }

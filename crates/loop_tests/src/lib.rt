@@ -12,14 +12,20 @@ mod options;
 #[cfg(test)]
 mod pages;
 #[cfg(test)]
-mod player;
+mod polling;
 #[cfg(test)]
 mod pressure;
 #[cfg(test)]
 mod requests;
 #[cfg(test)]
-mod scenes;
-#[cfg(test)]
-mod server;
+mod returning;
 #[cfg(test)]
 mod sockets;
+#[cfg(test)]
+mod speaking;
+#[cfg(test)]
+mod spread;
+#[cfg(test)]
+mod stopping;
+#[cfg(test)]
+mod tasks;

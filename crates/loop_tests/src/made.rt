@@ -3,7 +3,6 @@
 use hub_gate::{Report, WorkerCounts};
 use journal::{Config, Totals};
 use loops::{Ended, Log};
-use page::Page;
 use settings::{Settings, usual_spaces};
 use std::alloc::{AllocError, Global};
 use std::sync::atomic::{AtomicU64, Ordering};
@@ -15,7 +14,7 @@ pub const HOST: &str = "127.0.0.1";
 #[derive(Clone, Copy)]
 pub struct Plan {
     pub workers: usize,
-    /// After how many connections it ends, if it isn't stopped.
+    /// After how many connections it ends, if it does.
     pub connections: Option<u64>,
     pub clients: usize,
     /// How many entries may wait for a client.
@@ -26,18 +25,8 @@ pub struct Plan {
     pub origin: Option<&'static str>,
 }
 
-/// Two loops, until the server is stopped.
-pub const STOPPED: Plan = Plan {
-    workers: 2,
-    connections: None,
-    clients: 16,
-    capacity: 64,
-    entries: 15,
-    origin: None,
-};
-
 /// The settings of a plan.
-pub fn settings(alloc: Global, plan: &Plan, page: Page) -> Result<Settings, AllocError> {
+pub fn settings(alloc: Global, plan: &Plan) -> Result<Settings, AllocError> {
     let mut settings = Settings::usual(alloc, 0, plan.workers)?;
     if let Some(origin) = plan.origin {
         settings.origins.push(String::from_str(alloc, origin)?)?;
@@ -46,7 +35,6 @@ pub fn settings(alloc: Global, plan: &Plan, page: Page) -> Result<Settings, Allo
     settings.hub = hub(alloc, plan)?;
     settings.together = 1;
     settings.poll_entries = plan.entries;
-    settings.page = page;
     settings.report = Some(1);
     Ok(settings)
 }
@@ -118,65 +106,72 @@ impl Log for Ear<'_> {
     }
 }
 
-/// What is seen of a server's report, and of what it told before.
+/// What is seen of a server's report: its totals, what its workers did together, the commands of its
+/// first two loops, and how many clients were lost and closed.
 #[derive(Clone, Copy)]
-pub struct Seen<'r> {
-    totals: Totals,
-    workers: &'r [WorkerCounts],
-    lost: u64,
-    closed: u64,
-    sockets: u64,
+pub struct Seen {
+    pub totals: Totals,
+    pub workers: usize,
+    pub commands: u64,
+    pub taken: u64,
+    pub faults: usize,
+    pub first: u64,
+    pub second: u64,
+    pub lost: u64,
+    pub closed: u64,
+    pub sockets: u64,
 }
 
-impl<'r> Seen<'r> {
-    pub fn of(report: &'r Report, heard: &Heard) -> Seen<'r> {
+impl Seen {
+    fn with(self, worker: &WorkerCounts) -> Seen {
         Seen {
-            totals: report.totals,
-            workers: report.workers.as_slice(),
-            lost: heard.lost.load(Ordering::SeqCst),
-            closed: heard.closed.load(Ordering::SeqCst),
-            sockets: heard.sockets.load(Ordering::SeqCst),
-        }
-    }
-
-    fn commands_of(&self, worker: usize) -> u64 {
-        self.workers.get(worker).map_or(0, |counts| counts.commands)
-    }
-
-    /// What is counted by this word: entries, those that were dropped at all, clients that were
-    /// lost or closed, those of both that spoke over a WebSocket, or the commands of the first two
-    /// loops.
-    pub fn count(&self, word: &str) -> Option<u64> {
-        match word {
-            "placed" => Some(self.totals.placed),
-            "taken" => Some(self.totals.taken),
-            "dropped" => Some(self.totals.dropped),
-            "any-dropped" => Some(self.totals.dropped.min(1)),
-            "discarded" => Some(self.totals.discarded),
-            "waiting" => Some(self.totals.waiting),
-            "lost" => Some(self.lost),
-            "closed" => Some(self.closed),
-            "sockets" => Some(self.sockets),
-            "first" => Some(self.commands_of(0)),
-            "second" => Some(self.commands_of(1)),
-            _ => None,
+            workers: self.workers.wrapping_add(1),
+            commands: self.commands.wrapping_add(worker.commands),
+            taken: self.taken.wrapping_add(worker.taken),
+            faults: self.faults.wrapping_add(worker.faults),
+            first: if self.workers == 0 {
+                worker.commands
+            } else {
+                self.first
+            },
+            second: if self.workers == 1 {
+                worker.commands
+            } else {
+                self.second
+            },
+            ..self
         }
     }
 
     /// Whether so many loops and the keeper ended well, their counts are the totals, and each entry
     /// that was placed was taken, was discarded or waits.
     pub fn adds_up(&self, loops: usize) -> bool {
-        let (mut commands, mut taken, mut faults) = (0u64, 0u64, 0usize);
-        for worker in self.workers {
-            commands = commands.wrapping_add(worker.commands);
-            taken = taken.wrapping_add(worker.taken);
-            faults = faults.wrapping_add(worker.faults);
-        }
         let totals = self.totals;
         let gone = totals.taken.wrapping_add(totals.discarded);
-        self.workers.len() == loops.wrapping_add(1)
-            && faults == 0
-            && (totals.commands, totals.taken) == (commands, taken)
+        self.workers == loops.wrapping_add(1)
+            && self.faults == 0
+            && totals.commands == self.commands
+            && totals.taken == self.taken
             && totals.placed == gone.wrapping_add(totals.waiting)
     }
+}
+
+/// What is seen of a report, and of what was told before it.
+pub fn seen_of(report: &Report, heard: &Heard) -> Seen {
+    let mut seen = Seen {
+        totals: report.totals,
+        workers: 0,
+        commands: 0,
+        taken: 0,
+        faults: 0,
+        first: 0,
+        second: 0,
+        lost: heard.lost.load(Ordering::SeqCst),
+        closed: heard.closed.load(Ordering::SeqCst),
+        sockets: heard.sockets.load(Ordering::SeqCst),
+    };
+    for worker in report.workers.as_slice() {
+        seen = seen.with(worker);
+    }
+    seen
 }

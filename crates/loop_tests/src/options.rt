@@ -5,7 +5,7 @@ use arguments::options::Options;
 use arguments::task::{Task, task_of};
 use clap::error::ErrorKind;
 use page::Page;
-use std::alloc::{AllocError, Global};
+use std::alloc::Global;
 use std::fs;
 
 /// What arguments ask for.
@@ -16,136 +16,223 @@ enum Asked {
     Nothing(ErrorKind),
 }
 
-/// Arguments behind the program's name, and what they ask for.
-static CASES: [(&str, Asked); 12] = [
-    ("script", Asked::Script),
-    ("", Asked::Nothing(ErrorKind::MissingSubcommand)),
-    ("play", Asked::Nothing(ErrorKind::InvalidSubcommand)),
-    ("script A", Asked::Nothing(ErrorKind::UnknownArgument)),
-    ("--help", Asked::Nothing(ErrorKind::DisplayHelp)),
-    ("serve", Asked::Nothing(ErrorKind::MissingRequiredArgument)),
-    ("serve --port 3000", Asked::Serve),
-    ("serve --port 0", Asked::Nothing(ErrorKind::ValueValidation)),
-    (
-        "serve --port 65536",
-        Asked::Nothing(ErrorKind::ValueValidation),
-    ),
-    (
-        "serve --port 3000 --clients 0",
-        Asked::Nothing(ErrorKind::ValueValidation),
-    ),
-    (
-        "serve --port 3000 --workers 1024",
-        Asked::Nothing(ErrorKind::ValueValidation),
-    ),
-    ("serve --help", Asked::Nothing(ErrorKind::DisplayHelp)),
+/// Arguments, and what they ask for.
+struct Case {
+    words: &'static [&'static str],
+    asked: Asked,
+}
+
+static CASES: [Case; 12] = [
+    Case {
+        words: &["event_server", "script"],
+        asked: Asked::Script,
+    },
+    Case {
+        words: &["event_server"],
+        asked: Asked::Nothing(ErrorKind::MissingSubcommand),
+    },
+    Case {
+        words: &["event_server", "play"],
+        asked: Asked::Nothing(ErrorKind::InvalidSubcommand),
+    },
+    Case {
+        words: &["event_server", "script", "A"],
+        asked: Asked::Nothing(ErrorKind::UnknownArgument),
+    },
+    Case {
+        words: &["event_server", "--help"],
+        asked: Asked::Nothing(ErrorKind::DisplayHelp),
+    },
+    Case {
+        words: &["event_server", "serve"],
+        asked: Asked::Nothing(ErrorKind::MissingRequiredArgument),
+    },
+    Case {
+        words: &["event_server", "serve", "--port", "3000"],
+        asked: Asked::Serve,
+    },
+    Case {
+        words: &["event_server", "serve", "--port", "0"],
+        asked: Asked::Nothing(ErrorKind::ValueValidation),
+    },
+    Case {
+        words: &["event_server", "serve", "--port", "65536"],
+        asked: Asked::Nothing(ErrorKind::ValueValidation),
+    },
+    Case {
+        words: &["event_server", "serve", "--port", "3000", "--clients", "0"],
+        asked: Asked::Nothing(ErrorKind::ValueValidation),
+    },
+    Case {
+        words: &[
+            "event_server",
+            "serve",
+            "--port",
+            "3000",
+            "--workers",
+            "1024",
+        ],
+        asked: Asked::Nothing(ErrorKind::ValueValidation),
+    },
+    Case {
+        words: &["event_server", "serve", "--help"],
+        asked: Asked::Nothing(ErrorKind::DisplayHelp),
+    },
 ];
 
-/// The options of a server, as they are compared: its numbers in the order of their names in
-/// `LONG`, then whether it ends with its input, and whether it tells of each client.
-struct Wanted {
-    line: &'static str,
-    host: &'static str,
-    numbers: [u64; 12],
-    until_eof: bool,
-    verbose: bool,
-    origins: usize,
-    folder: Option<&'static str>,
-}
-
-/// All that may be named.
-static LONG: Wanted = Wanted {
-    line: "serve --port 3000 --host ::1 --workers 3 --connections 5 --clients 6 --capacity 7 --bytes 8 --log 9 --saved 10 --keep 11 --together 14 --poll-entries 12 --report 13 --origin http://a --origin http://b --page folder --until-eof --verbose",
-    host: "::1",
-    numbers: [3000, 3, 5, 6, 7, 8, 9, 10, 11, 14, 12, 13],
-    until_eof: true,
-    verbose: true,
-    origins: 2,
-    folder: Some("folder"),
-};
-
-/// The port alone, where the machine has two processors.
-static SHORT: Wanted = Wanted {
-    line: "serve --port 80",
-    host: "127.0.0.1",
-    numbers: [
-        80, 2, 0, 10_000, 64, 8_388_608, 1_024, 4_096, 120_000, 16, 15, 0,
-    ],
-    until_eof: false,
-    verbose: false,
-    origins: 0,
-    folder: None,
-};
-
-/// The numbers of options, in the same order.
-fn numbers(options: &Options) -> [u64; 12] {
-    let (settings, limits) = (&options.settings, &options.settings.hub);
-    [
-        u64::from(settings.port),
-        settings.workers as u64,
-        settings.connections.unwrap_or(0),
-        limits.clients as u64,
-        limits.capacity as u64,
-        limits.bytes as u64,
-        limits.log as u64,
-        limits.saved as u64,
-        limits.keep,
-        settings.together,
-        settings.poll_entries as u64,
-        settings.report.unwrap_or(0),
-    ]
-}
-
-/// Whether these are the options that are wanted.
-fn are(options: &Options, wanted: &Wanted) -> bool {
-    let folder = match &options.folder {
-        Some(folder) => wanted.folder == Some(folder.as_str()),
-        None => wanted.folder == None,
-    };
-    folder
-        && options.settings.host.as_str() == wanted.host
-        && numbers(options) == wanted.numbers
-        && options.until_eof == wanted.until_eof
-        && options.verbose == wanted.verbose
-        && options.settings.origins.len() == wanted.origins
-}
-
-/// The task that a command line asks for.
-fn task_of_line(alloc: Global, line: &str) -> Result<Result<Task, ErrorKind>, AllocError> {
-    let mut words = Vec::new(alloc);
-    words.push("event_server")?;
-    for word in line.split_whitespace() {
-        words.push(word)?;
-    }
-    Ok(task_of(alloc, words.as_slice(), 2).map_err(|refused| refused.kind()))
-}
-
-fn kind_asked(alloc: Global, line: &str) -> Option<Asked> {
-    match task_of_line(alloc, line).ok()? {
-        Ok(Task::Script) => Some(Asked::Script),
-        Ok(Task::Serve(_)) => Some(Asked::Serve),
-        Err(kind) => Some(Asked::Nothing(kind)),
+fn read(alloc: Global, words: &[&str]) -> Asked {
+    match task_of(alloc, words, 2) {
+        Ok(Task::Script) => Asked::Script,
+        Ok(Task::Serve(_)) => Asked::Serve,
+        Err(refused) => Asked::Nothing(refused.kind()),
     }
 }
 
-fn serves_as(alloc: Global, wanted: &Wanted) -> bool {
-    match task_of_line(alloc, wanted.line) {
-        Ok(Ok(Task::Serve(options))) => are(&options, wanted),
-        _ => false,
+/// The same once more, where memory was refused.
+fn read_twice(alloc: Global, words: &[&str]) -> Asked {
+    let first = read(alloc, words);
+    if first == Asked::Nothing(ErrorKind::OutOfMemory) {
+        read(alloc, words)
+    } else {
+        first
     }
 }
 
 #[test]
 fn arguments(rt: HostRuntime) {
-    for (line, want) in CASES.iter() {
-        assert_eq!(rt; kind_asked(rt.alloc(), line), Some(*want), "of {line}");
+    for case in CASES.iter() {
+        let words = case.words;
+        assert_eq!(rt; read_twice(rt.alloc(), words), case.asked, "of {words:?}");
     }
+}
+
+/// The options of one command line, with all that may be named.
+fn all_options(alloc: Global) -> Option<Options> {
+    let words = [
+        "event_server",
+        "serve",
+        "--port",
+        "3000",
+        "--host",
+        "::1",
+        "--workers",
+        "3",
+        "--connections",
+        "5",
+        "--clients",
+        "6",
+        "--capacity",
+        "7",
+        "--bytes",
+        "8",
+        "--log",
+        "9",
+        "--saved",
+        "10",
+        "--keep",
+        "11",
+        "--together",
+        "14",
+        "--poll-entries",
+        "12",
+        "--origin",
+        "http://a",
+        "--origin",
+        "http://b",
+        "--page",
+        "folder",
+        "--report",
+        "13",
+        "--until-eof",
+        "--verbose",
+    ];
+    match task_of(alloc, &words, 2) {
+        Ok(Task::Serve(options)) => Some(options),
+        _ => None,
+    }
+}
+
+/// Whether these are the options of that command line.
+fn are_all(options: &Options) -> bool {
+    let settings = &options.settings;
+    let limits = &settings.hub;
+    let is_named = settings.host.as_str() == "::1"
+        && settings.port == 3000
+        && settings.workers == 3
+        && settings.together == 14;
+    let is_limited = limits.clients == 6 && limits.capacity == 7 && limits.bytes == 8;
+    let is_kept = limits.log == 9 && limits.saved == 10 && limits.keep == 11;
+    let is_told = settings.report == Some(13) && options.until_eof && options.verbose;
+    let origins = settings.origins.len() == 2;
+    let folder = match &options.folder {
+        Some(folder) => folder.as_str() == "folder",
+        None => false,
+    };
+    is_named
+        && is_limited
+        && is_kept
+        && is_told
+        && origins
+        && folder
+        && settings.connections == Some(5)
+        && settings.poll_entries == 12
 }
 
 #[test]
 fn each_option(rt: HostRuntime) {
-    assert!(rt; serves_as(rt.alloc(), &LONG));
-    assert!(rt; serves_as(rt.alloc(), &SHORT));
+    let alloc = rt.alloc();
+    let read = match all_options(alloc) {
+        Some(options) => Some(options),
+        None => all_options(alloc),
+    };
+    let are_right = match read {
+        Some(options) => are_all(&options),
+        None => false,
+    };
+    assert!(rt; are_right);
+}
+
+/// The options of a command line that names the port alone.
+fn usual_options(alloc: Global) -> Option<Options> {
+    match task_of(alloc, &["event_server", "serve", "--port", "80"], 2) {
+        Ok(Task::Serve(options)) => Some(options),
+        _ => None,
+    }
+}
+
+/// Whether these are the usual options.
+fn are_usual(options: &Options) -> bool {
+    let settings = &options.settings;
+    let limits = &settings.hub;
+    let is_named = settings.host.as_str() == "127.0.0.1"
+        && settings.port == 80
+        && settings.workers == 2
+        && settings.together == 16;
+    let is_limited = limits.clients == 10_000 && limits.capacity == 64 && limits.bytes == 8_388_608;
+    let is_kept = limits.log == 1_024 && limits.saved == 4_096 && limits.keep == 120_000;
+    let is_told = settings.report.is_none() && !options.until_eof && !options.verbose;
+    let origins = settings.origins.is_empty() && options.folder.is_none();
+    is_named
+        && is_limited
+        && is_kept
+        && is_told
+        && origins
+        && settings.connections.is_none()
+        && settings.poll_entries == 15
+}
+
+#[test]
+fn usual(rt: HostRuntime) {
+    let alloc = rt.alloc();
+    let read = match usual_options(alloc) {
+        Some(options) => Some(options),
+        None => usual_options(alloc),
+    };
+    let are_right = match read {
+        Some(options) => are_usual(&options),
+        None => false,
+    };
+    assert!(rt; are_right);
 }
 
 /// Whether the path asks for a file with these bytes.
@@ -164,10 +251,9 @@ fn is_unreadable(read: &Result<Page, FolderFault>) -> bool {
 #[test]
 fn files_of_a_folder(rt: HostRuntime) {
     assert!(rt; fs::create_dir_all(&rt, "made/inner").is_ok());
-    for (path, text) in [("index.html", "<p>"), ("b.txt", "b"), ("inner/c.txt", "c")] {
-        let path = format!(in rt.alloc(); "made/{path}").expect(&rt, "a path");
-        assert!(rt; fs::write(&rt, path.as_str(), text).is_ok());
-    }
+    assert!(rt; fs::write(&rt, "made/index.html", "<p>").is_ok());
+    assert!(rt; fs::write(&rt, "made/b.txt", "b").is_ok());
+    assert!(rt; fs::write(&rt, "made/inner/c.txt", "c").is_ok());
     match read_folder(&rt, "made") {
         Ok(page) => {
             assert!(rt; has(&page, "/", b"<p>") && has(&page, "/b.txt", b"b"));

@@ -1,7 +1,8 @@
 //! A server with a page beside its socket.
 
-use crate::made::{Plan, STOPPED};
+use crate::made::Plan;
 use crate::requests::{BAD, BAD_REQUEST, NOT_FOUND, OPEN, Place, letters, rest_of};
+use crate::tasks::{Task, seen_by};
 use page::{File, Page};
 use std::alloc::Global;
 use std::fmt::Write;
@@ -14,7 +15,14 @@ use std::time::Duration;
 use terms::{Bytes, Text};
 
 /// It ends when it is stopped.
-pub const PLAN: Plan = STOPPED;
+pub const PLAN: Plan = Plan {
+    workers: 2,
+    connections: None,
+    clients: 16,
+    capacity: 64,
+    entries: 15,
+    origin: None,
+};
 
 /// The files of each kind, with their media types.
 static KINDS: [(&str, &str); 16] = [
@@ -36,8 +44,8 @@ static KINDS: [(&str, &str); 16] = [
     ("a%2eb", "application/octet-stream"),
 ];
 
-/// Files of these numbers of lines: none, a piece of what goes out at a time, a line less and a
-/// line more, and some megabytes.
+/// Files of these numbers of lines: none, a piece of what goes out at a time, a line less and a line
+/// more, and some megabytes.
 static LENGTHS: [(&str, u32); 5] = [
     ("0", 0),
     ("8191", 8_191),
@@ -205,7 +213,7 @@ fn read_late<R: Net<Stream = TcpStream> + Clock + Abort>(place: &Place<'_, R>) {
     let asked = request(alloc, "GET", "/400000").expect(rt, "a request");
     let late = place.begins(asked.as_str()).expect(rt, "a connection");
     thread::sleep(rt, Duration::from_millis(300));
-    let client = place.opens(OPEN).expect(rt, "a client");
+    let client = place.opens().expect(rt, "a client");
     assert!(rt; place.joins(client).is_some());
     let text = rest_of(alloc, late).expect(rt, "an answer");
     let body = lines(alloc, 400_000).expect(rt, "a body");
@@ -221,6 +229,13 @@ pub fn play<R: Net<Stream = TcpStream> + Clock + Wait + Abort>(place: &Place<'_,
     ask_elsewhere(place);
     ask_heads(place);
     read_late(place);
-    assert!(rt; place.opens(OPEN).is_some());
+    assert!(rt; place.opens_by(OPEN).is_some());
     place.shared.stop(rt, Duration::from_secs(5));
+}
+
+#[test]
+fn page_beside_the_socket(rt: HostRuntime) {
+    let seen = seen_by(&rt, Task::Browse);
+    assert!(rt; seen.adds_up(2));
+    assert!(rt; (seen.totals.placed, seen.totals.taken) == (1, 1));
 }

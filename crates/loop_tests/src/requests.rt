@@ -24,8 +24,10 @@ pub const TOO_LARGE: &str =
 pub const UNAVAILABLE: &str =
     "HTTP/1.1 503 Service Unavailable\r\nContent-Type: text/plain; charset=UTF-8\r\n";
 
-/// The body of most answers of status 400.
+/// The bodies of status 400.
 pub const BAD_REQUEST: &str = "{\"code\":3,\"message\":\"Bad request\"}";
+
+pub const UNKNOWN: &str = "{\"code\":1,\"message\":\"Session ID unknown\"}";
 
 /// What opens a client that polls.
 pub const OPEN: &str =
@@ -48,22 +50,27 @@ pub struct Session {
     pub pid: u128,
 }
 
-/// Whether a text came that is this answer.
-pub fn is_answer(alloc: Global, text: Option<&str>, head: &str, body: &str) -> bool {
+/// The text of an answer.
+fn answer(alloc: Global, head: &str, body: &str) -> Option<String> {
     let length = body.len();
-    match format!(in alloc; "{head}Content-Length: {length}\r\nConnection: close\r\n\r\n{body}") {
-        Ok(answer) => text == Some(answer.as_str()),
-        Err(_) => false,
+    format!(in alloc; "{head}Content-Length: {length}\r\nConnection: close\r\n\r\n{body}").ok()
+}
+
+/// Whether a text is this answer.
+pub fn is_answer(alloc: Global, text: &str, head: &str, body: &str) -> bool {
+    match answer(alloc, head, body) {
+        Some(answer) => answer.as_str() == text,
+        None => false,
     }
 }
 
 /// The body of an answer that is a success.
 pub fn body_of<'t>(alloc: Global, text: &'t str) -> Option<&'t str> {
     let (_, body) = text.split_once("\r\n\r\n")?;
-    is_answer(alloc, Some(text), SUCCESS, body).then_some(body)
+    is_answer(alloc, text, SUCCESS, body).then_some(body)
 }
 
-/// The client of an open packet.
+/// The client of an open packet with the usual numbers.
 pub fn opened_in(packet: &str, upgrades: &str) -> Option<u128> {
     let told = ",\"pingInterval\":25000,\"pingTimeout\":20000,\"maxPayload\":1000000}";
     opened_with(packet, upgrades, told)
@@ -103,7 +110,7 @@ pub fn rest_of(alloc: Global, stream: TcpStream) -> Option<String> {
 }
 
 impl<R: Net<Stream = TcpStream>> Place<'_, R> {
-    /// A new connection, at which no read and no write waits longer than thirty seconds.
+    /// A new connection, at which no read and no write waits longer than ten seconds.
     pub fn connects(&self) -> Option<TcpStream> {
         let stream = TcpStream::connect(self.rt, (HOST, self.port)).ok()?;
         let most = Some(Duration::from_secs(30));
@@ -125,29 +132,31 @@ impl<R: Net<Stream = TcpStream>> Place<'_, R> {
 
     /// Whether a request gets this answer.
     pub fn is_answered(&self, request: &str, head: &str, body: &str) -> bool {
-        self.hears(self.begins(request), head, body)
-    }
-
-    /// Whether a connection brings this answer, and ends.
-    pub fn hears(&self, stream: Option<TcpStream>, head: &str, body: &str) -> bool {
-        let text = match stream {
-            Some(stream) => rest_of(self.alloc, stream),
-            None => None,
-        };
-        match &text {
-            Some(text) => is_answer(self.alloc, Some(text.as_str()), head, body),
+        match self.asks(request) {
+            Some(text) => is_answer(self.alloc, text.as_str(), head, body),
             None => false,
         }
     }
 
+    /// Opens a client that polls.
+    pub fn opens(&self) -> Option<u128> {
+        self.opens_by(OPEN)
+    }
+
     /// Opens a client that polls, by this request.
-    pub fn opens(&self, request: &str) -> Option<u128> {
+    pub fn opens_by(&self, request: &str) -> Option<u128> {
         let text = self.asks(request)?;
         opened_in(body_of(self.alloc, text.as_str())?, "[\"websocket\"]")
     }
 
+    /// Begins a GET of a client.
+    pub fn begins_get(&self, client: u128) -> Option<TcpStream> {
+        let request = self.get(client)?;
+        self.begins(request.as_str())
+    }
+
     /// The request by which a client asks for what waits.
-    pub fn get(&self, client: u128) -> Option<String> {
+    fn get(&self, client: u128) -> Option<String> {
         format!(in self.alloc;
             "GET /socket.io/?EIO=4&transport=polling&sid={client:032x} HTTP/1.1\r\nHost: localhost\r\n\r\n"
         ).ok()
@@ -161,16 +170,6 @@ impl<R: Net<Stream = TcpStream>> Place<'_, R> {
         ).ok()
     }
 
-    /// Begins a GET of a client.
-    pub fn begins_get(&self, client: u128) -> Option<TcpStream> {
-        self.begins(self.get(client)?.as_str())
-    }
-
-    /// Whether a GET of a client gets this answer.
-    pub fn gets(&self, client: u128, head: &str, body: &str) -> bool {
-        self.hears(self.begins_get(client), head, body)
-    }
-
     /// Whether a payload of a client is answered `ok`.
     pub fn posts(&self, client: u128, body: &str) -> bool {
         match self.post(client, body) {
@@ -179,19 +178,48 @@ impl<R: Net<Stream = TcpStream>> Place<'_, R> {
         }
     }
 
+    /// Whether a GET of a client gets this answer.
+    pub fn gets(&self, client: u128, head: &str, body: &str) -> bool {
+        match self.get(client) {
+            Some(request) => self.is_answered(request.as_str(), head, body),
+            None => false,
+        }
+    }
+
     /// Connects a client that polls to the first namespace.
     pub fn joins(&self, client: u128) -> Option<Session> {
-        if self.posts(client, "40") {
-            self.takes_session(client)
-        } else {
-            None
+        if !self.posts(client, "40") {
+            return None;
         }
+        self.takes_session(client)
     }
 
     /// The session of the answer to a CONNECT, which a GET of a client takes.
     pub fn takes_session(&self, client: u128) -> Option<Session> {
-        let text = self.asks(self.get(client)?.as_str())?;
+        let request = self.get(client)?;
+        let text = self.asks(request.as_str())?;
         session_in(body_of(self.alloc, text.as_str())?)
+    }
+
+    /// Whether a connection brings this success, and ends.
+    pub fn hears(&self, stream: TcpStream, body: &str) -> bool {
+        match rest_of(self.alloc, stream) {
+            Some(text) => is_answer(self.alloc, text.as_str(), SUCCESS, body),
+            None => false,
+        }
+    }
+}
+
+impl<R: Net<Stream = TcpStream>> Place<'_, R> {
+    /// Whether a connection brings a success whose body begins so, and ends.
+    pub fn hears_beginning(&self, stream: TcpStream, beginning: &str) -> bool {
+        let Some(text) = rest_of(self.alloc, stream) else {
+            return false;
+        };
+        match body_of(self.alloc, text.as_str()) {
+            Some(body) => body.starts_with(beginning),
+            None => false,
+        }
     }
 }
 

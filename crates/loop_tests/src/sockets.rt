@@ -28,15 +28,13 @@ fn handshake(alloc: Global, uri: &str, stream: TcpStream) -> Option<Socket> {
 }
 
 impl<R: Net<Stream = TcpStream>> Place<'_, R> {
-    /// A new client over a WebSocket, which has its open packet.
+    /// A new client over a WebSocket, whose open packet waits.
     pub fn speaks(&self) -> Option<Socket> {
         let port = self.port;
         let uri = format!(in self.alloc;
             "ws://{HOST}:{port}/socket.io/?EIO=4&transport=websocket"
         ).ok()?;
-        let mut socket = handshake(self.alloc, uri.as_str(), self.connects()?)?;
-        opened_over(self.alloc, &mut socket)?;
-        Some(socket)
+        handshake(self.alloc, uri.as_str(), self.connects()?)
     }
 
     /// A WebSocket to which a client that polls is to come over.
@@ -65,35 +63,42 @@ pub fn sends(alloc: Global, socket: &mut Socket, bytes: &[u8]) -> bool {
     }
 }
 
-/// The next message, which is a text. On a slow machine a ping may come before it.
-pub fn text_from(alloc: Global, socket: &mut Socket) -> Option<String> {
-    for _ in 0..2 {
-        match socket.read() {
-            Ok(Message::Text(text)) if text.as_str() == "2" => {}
-            Ok(Message::Text(text)) => return String::from_str(alloc, text.as_str()).ok(),
-            _ => return None,
-        }
-    }
-    None
-}
-
-/// Whether the next message is this text, also behind a ping.
-pub fn hears(socket: &mut Socket, text: &str) -> bool {
-    for _ in 0..2 {
-        match socket.read() {
-            Ok(Message::Text(got)) if got.as_str() == text => return true,
-            Ok(Message::Text(got)) if got.as_str() == "2" => {}
-            _ => return false,
-        }
-    }
-    false
-}
-
-/// Whether the next message is binary, and has so many bytes.
-pub fn is_long(socket: &mut Socket, length: usize) -> bool {
+/// The next message, which is a text.
+fn text_from(alloc: Global, socket: &mut Socket) -> Option<String> {
     match socket.read() {
-        Ok(Message::Binary(bytes)) => bytes.as_slice().len() == length,
-        _ => false,
+        Ok(Message::Text(text)) => String::from_str(alloc, text.as_str()).ok(),
+        _ => None,
+    }
+}
+
+/// Whether a message is this text, or nothing where it is a ping.
+fn is_text(message: &Message, text: &str) -> Option<bool> {
+    match message {
+        Message::Text(got) => {
+            if got.as_str() == text {
+                Some(true)
+            } else if got.as_str() == "2" {
+                None
+            } else {
+                Some(false)
+            }
+        }
+        _ => Some(false),
+    }
+}
+
+fn hears_at_once(socket: &mut Socket, text: &str) -> Option<bool> {
+    match socket.read() {
+        Ok(message) => is_text(&message, text),
+        Err(_) => Some(false),
+    }
+}
+
+/// Whether the next message is this text. On a slow machine a ping may come before it.
+pub fn hears(socket: &mut Socket, text: &str) -> bool {
+    match hears_at_once(socket, text) {
+        Some(same) => same,
+        None => hears_at_once(socket, text) == Some(true),
     }
 }
 
@@ -106,7 +111,7 @@ pub fn hears_bytes(socket: &mut Socket, bytes: &[u8]) -> bool {
 }
 
 /// The client of the open packet, which comes next.
-fn opened_over(alloc: Global, socket: &mut Socket) -> Option<u128> {
+pub fn opened_over(alloc: Global, socket: &mut Socket) -> Option<u128> {
     let packet = text_from(alloc, socket)?;
     opened_in(packet.as_str(), "[]")
 }
@@ -120,10 +125,9 @@ pub fn session_over(alloc: Global, socket: &mut Socket, connect: &str) -> Option
     session_in(packet.as_str())
 }
 
-/// Whether bytes wait that were not read.
-pub fn is_sent_more(socket: &Socket) -> bool {
-    let mut byte = [0; 1];
-    matches!(socket.get_ref().peek(&mut byte), Ok(1))
+/// Whether a client that probes comes over.
+pub fn comes_over(alloc: Global, socket: &mut Socket) -> bool {
+    says(alloc, socket, "2probe") && hears(socket, "3probe") && says(alloc, socket, "5")
 }
 
 /// Whether a close is answered by one, and then the stream ends.
