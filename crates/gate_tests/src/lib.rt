@@ -6,6 +6,8 @@ mod books;
 #[cfg(test)]
 mod gates;
 #[cfg(test)]
+mod losses;
+#[cfg(test)]
 mod made;
 #[cfg(test)]
 mod peers;
