@@ -6,7 +6,7 @@ mod books;
 #[cfg(test)]
 mod gates;
 #[cfg(test)]
-mod made;
+mod hall;
 #[cfg(test)]
 mod peers;
 #[cfg(test)]
