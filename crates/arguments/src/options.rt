@@ -1,5 +1,6 @@
 //! The options of a program that serves.
 
+use crate::task::boxed;
 use clap::builder::ValueParser;
 use clap::{Arg, ArgAction, ArgMatches, Command};
 use journal::Config;
@@ -199,13 +200,14 @@ pub(crate) fn read_options(
     alloc: Global,
     matches: &ArgMatches<'_>,
     processors: usize,
-) -> Result<Options, AllocError> {
-    Ok(Options {
+) -> Result<Box<Options>, AllocError> {
+    let options = Options {
         settings: settings(alloc, matches, processors)?,
         folder: folder(alloc, matches)?,
         until_eof: matches.get_flag("until-eof"),
         verbose: matches.get_flag("verbose"),
-    })
+    };
+    boxed(alloc, options)
 }
 
 fn settings(

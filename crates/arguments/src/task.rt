@@ -3,7 +3,7 @@
 use crate::folder::{FolderFault, read_folder};
 use crate::options::{Options, read_options, with_options};
 use clap::error::ErrorKind;
-use clap::{Command, Error};
+use clap::{ArgMatches, Command, Error};
 use std::alloc::{AllocError, Global};
 use std::convert::AsStr;
 use std::rt::{Env, Files};
@@ -15,7 +15,7 @@ pub enum Task {
     /// To serve a script from standard input.
     Script,
     /// To serve clients over TCP.
-    Serve(Options),
+    Serve(Box<Options>),
 }
 
 /// A program whose arguments are read.
@@ -36,6 +36,30 @@ impl Program {
             }
         }
     }
+
+    /// What these words say, the program's name first.
+    fn matches<'a, S: AsStr>(
+        self,
+        alloc: Global,
+        words: &'a [S],
+    ) -> Result<Box<ArgMatches<'a>>, Error> {
+        let matches = self.command(alloc)?.try_get_matches_from(words)?;
+        Ok(boxed(alloc, matches)?)
+    }
+
+    /// The error of arguments that can't be taken.
+    fn refusal(self, alloc: Global, message: &str) -> Result<Error, AllocError> {
+        let mut command = self.command(alloc)?;
+        command.error(ErrorKind::InvalidValue, message)
+    }
+}
+
+/// The value on the heap.
+pub(crate) fn boxed<T: Drop>(alloc: Global, value: T) -> Result<Box<T>, AllocError> {
+    match Box::new(alloc, value) {
+        Ok(boxed) => Ok(boxed),
+        Err(_) => Err(AllocError),
+    }
 }
 
 /// Reads the arguments of `event_server`, where so many threads serve if none says how many. `--help`
@@ -45,10 +69,11 @@ pub fn read_arguments<R: Env + Files + AllocGlobal + Clone + Drop>(
     processors: usize,
 ) -> Result<Task, Error> {
     let words = words(rt, Program::EventServer)?;
-    match task_of(rt.alloc(), words.as_slice(), processors)? {
-        Task::Serve(options) => Ok(Task::Serve(with_page(rt, Program::EventServer, options)?)),
-        task => Ok(task),
+    let mut task = task_of(rt.alloc(), words.as_slice(), processors)?;
+    if let Task::Serve(options) = &mut task {
+        add_page(rt, Program::EventServer, options)?;
     }
+    Ok(task)
 }
 
 /// Reads the arguments of a program of this name that serves and does nothing else. Its options are
@@ -58,27 +83,30 @@ pub fn read_server_arguments<R: Env + Files + AllocGlobal + Clone + Drop>(
     name: &'static str,
     about: &'static str,
     processors: usize,
-) -> Result<Options, Error> {
+) -> Result<Box<Options>, Error> {
     let program = Program::Server(name, about);
     let words = words(rt, program)?;
-    let options = options_of(rt.alloc(), program, words.as_slice(), processors)?;
-    with_page(rt, program, options)
+    let mut options = options_of(rt.alloc(), program, words.as_slice(), processors)?;
+    add_page(rt, program, &mut options)?;
+    Ok(options)
 }
 
-/// The options with the files of their folder.
-fn with_page<R: Files + AllocGlobal + Clone + Drop>(
+/// Reads the files of the folder that the options name, if they name one.
+fn add_page<R: Files + AllocGlobal + Clone + Drop>(
     rt: &R,
     program: Program,
-    options: Options,
-) -> Result<Options, Error> {
-    let mut options = options;
-    if let Some(folder) = &options.folder {
-        options.settings.page = match read_folder(rt, folder.as_str()) {
-            Ok(page) => page,
-            Err(fault) => return Err(bad_folder(rt.alloc(), program, folder.as_str(), &fault)?),
-        };
+    options: &mut Options,
+) -> Result<(), Error> {
+    let Some(folder) = &options.folder else {
+        return Ok(());
+    };
+    match read_folder(rt, folder.as_str()) {
+        Ok(page) => {
+            options.settings.page = page;
+            Ok(())
+        }
+        Err(fault) => Err(bad_folder(rt.alloc(), program, folder.as_str(), &fault)?),
     }
-    Ok(options)
 }
 
 /// The error of a folder that can't be served.
@@ -92,8 +120,7 @@ fn bad_folder(
         return Err(AllocError);
     }
     let message = format!(in alloc; "--page {folder}: {fault}")?;
-    let mut command = program.command(alloc)?;
-    command.error(ErrorKind::InvalidValue, message.as_str())
+    program.refusal(alloc, message.as_str())
 }
 
 /// The arguments as text, the program's name first.
@@ -101,13 +128,16 @@ fn words<R: Env + AllocGlobal>(rt: &R, program: Program) -> Result<Vec<String>, 
     let alloc = rt.alloc();
     match env::args(rt) {
         Ok(words) => Ok(words.collect(alloc)?),
-        Err(error) if error.kind() == io::ErrorKind::OutOfMemory => Err(Error::from(AllocError)),
-        Err(_) => {
-            let message = "invalid UTF-8 was detected in one or more arguments";
-            let mut command = program.command(alloc)?;
-            Err(command.error(ErrorKind::InvalidValue, message)?)
-        }
+        Err(error) => Err(no_text(alloc, program, error.kind())?),
     }
+}
+
+/// The error of arguments that can't be read as text.
+fn no_text(alloc: Global, program: Program, kind: io::ErrorKind) -> Result<Error, AllocError> {
+    if kind == io::ErrorKind::OutOfMemory {
+        return Err(AllocError);
+    }
+    program.refusal(alloc, "invalid UTF-8 was detected in one or more arguments")
 }
 
 /// What these words ask `event_server` for, its name first, where so many threads serve if none says how
@@ -117,7 +147,7 @@ pub fn task_of<'a, S: AsStr>(
     words: &'a [S],
     processors: usize,
 ) -> Result<Task, Error> {
-    let matches = event_server(alloc)?.try_get_matches_from(words)?;
+    let matches = Program::EventServer.matches(alloc, words)?;
     match matches.subcommand_matches("serve") {
         Some(serve) => Ok(Task::Serve(read_options(alloc, serve, processors)?)),
         None => Ok(Task::Script),
@@ -130,20 +160,26 @@ fn options_of<'a, S: AsStr>(
     program: Program,
     words: &'a [S],
     processors: usize,
-) -> Result<Options, Error> {
-    let matches = program.command(alloc)?.try_get_matches_from(words)?;
+) -> Result<Box<Options>, Error> {
+    let matches = program.matches(alloc, words)?;
     Ok(read_options(alloc, &matches, processors)?)
 }
 
 /// `event_server` with its subcommands.
 fn event_server<'a>(alloc: Global) -> Result<Command<'a>, AllocError> {
-    let script = Command::new(alloc, "script").about(
-        "Serves the clients of a script from standard input, and prints the answers",
-    );
-    let serve = Command::new(alloc, "serve").about("Serves browsers and other clients over TCP");
-    Command::new(alloc, "event_server")
+    let program = Command::new(alloc, "event_server")
         .about("A Socket.IO server")
-        .subcommand_required(true)
-        .subcommand(script)?
-        .subcommand(with_options(alloc, serve)?)
+        .subcommand_required(true);
+    program.subcommand(script(alloc))?.subcommand(serve(alloc)?)
+}
+
+fn script<'a>(alloc: Global) -> Command<'a> {
+    Command::new(alloc, "script").about(
+        "Serves the clients of a script from standard input, and prints the answers",
+    )
+}
+
+fn serve<'a>(alloc: Global) -> Result<Command<'a>, AllocError> {
+    let serve = Command::new(alloc, "serve").about("Serves browsers and other clients over TCP");
+    with_options(alloc, serve)
 }

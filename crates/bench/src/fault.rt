@@ -1,65 +1,49 @@
 //! The faults that end a run.
 
-use effects::{CoreError, CoreFault};
+use effects::CoreError;
+use http_edge::EdgeError;
+use hub::NotAll;
+use hub_gate::{PeerFault, ServeError};
 use journal::HubError;
 use std::alloc::AllocError;
+use std::{fmt, io};
 use thiserror::Error;
 
 /// Why a run ended before all its lines were printed.
-#[derive(Clone, Copy, Debug, PartialEq, Eq, Error)]
+#[derive(Clone, Copy, Error)]
 pub enum Fault {
-    /// The arguments are neither none nor two numbers that are large enough.
-    #[error("bad arguments")]
+    #[error("usage: bench [SOCKETS CASTS | BATCHES], 256 sockets at least, and one cast or batch")]
     Arguments,
-    /// An allocation was refused.
     #[error("out of memory")]
-    Memory,
-    /// The hub refused a command that it has to accept.
+    Memory(#[from(alloc)] AllocError),
     #[error("the hub refused a command: {0:?}")]
-    Refused(HubError),
-    /// The core refused an event that it has to accept.
+    Refused(#[from] HubError),
     #[error("the core refused an event: {0:?}")]
-    RefusedEvent(CoreFault),
-    /// A broadcast found no place in an outbox that was emptied in time.
-    #[error("a broadcast was dropped")]
-    Dropped,
-    /// The hub's counts aren't those of its only pass.
-    #[error("the pass lacks a command")]
-    Unsettled,
-    /// A request was not read as it has to be.
-    #[error("a request was not read")]
-    Request,
-    /// Workers did not serve all peers.
-    #[error("a pool of workers failed")]
-    Pool,
-    /// The clock could not be read.
-    #[error("the clock could not be read")]
-    Clock,
-    /// A line could not be written.
-    #[error("device fault while writing")]
-    Writing,
+    RefusedEvent(#[from] CoreError),
+    #[error("a peer failed: {0:?}")]
+    Peer(#[from] PeerFault),
+    #[error("a pool of workers failed: {0}")]
+    Pool(#[from] ServeError),
+    #[error("the pass lacks commands: {0:?}")]
+    Unsettled(#[from] NotAll),
+    #[error("a request was not read: {0:?}")]
+    Request(#[from] EdgeError),
+    #[error("the clock was not read, or a line not written")]
+    Device,
+    /// What was done didn't come to what it has to.
+    #[error("{0}")]
+    Wrong(&'static str),
 }
 
-impl From<HubError> for Fault {
-    fn from(refusal: HubError) -> Fault {
-        match refusal {
-            HubError::Memory => Fault::Memory,
-            refusal => Fault::Refused(refusal),
-        }
+impl From<io::Error> for Fault {
+    fn from(_error: io::Error) -> Fault {
+        Fault::Device
     }
 }
 
-impl From<CoreError> for Fault {
-    fn from(error: CoreError) -> Fault {
-        match error.fault {
-            CoreFault::Memory => Fault::Memory,
-            fault => Fault::RefusedEvent(fault),
-        }
-    }
-}
-
-impl From<AllocError> for Fault {
-    fn from(_refused: AllocError) -> Fault {
-        Fault::Memory
+/// As `main` shows it.
+impl fmt::Debug for Fault {
+    fn fmt<W: fmt::Write>(&self, f: &mut fmt::Formatter<W>) -> fmt::Result {
+        write!(f, "{self}")
     }
 }

@@ -23,7 +23,7 @@ fn main(rt: HostRuntime) -> ExitCode {
                 until_eof,
                 verbose,
                 folder: _,
-            } = options;
+            } = Box::into_inner(options);
             match listen(&rt, settings, verbose) {
                 Ok(server) => {
                     if until_eof {

@@ -2,12 +2,10 @@
 #![tactic(auto)]
 
 #[cfg(test)]
-mod made;
+mod lines;
 #[cfg(test)]
-mod packets;
+mod lists;
 #[cfg(test)]
 mod random;
 #[cfg(test)]
-mod sockets;
-#[cfg(test)]
-mod turns;
+mod refused;

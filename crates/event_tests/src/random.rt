@@ -1,15 +1,7 @@
 //! Random events of all kinds, the same on two cores.
 
-mod agreement;
-mod answers;
-mod apps;
-mod books;
-mod chances;
+mod app;
 mod drawn;
+mod histories;
 mod known;
-mod names;
-mod runs;
-mod sides;
-mod tally;
-mod texts;
-mod turns;
+mod play;

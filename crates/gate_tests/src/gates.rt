@@ -1,19 +1,16 @@
 //! Two workers that meet at the gate: neither one thread nor a worker that keeps the lock can pass.
 
-use crate::made::{Server, serve};
+use crate::hall::{Hall, is_set};
 use crate::peers::talkers;
-use crate::tasks::{Task, expect};
 use hub_gate::Turnstile;
-use std::alloc::Global;
 use std::sync::Wait;
 use std::sync::atomic::{AtomicU64, Ordering};
 use std::sync::ledger::Ledger;
-use std::thread;
 use std::thread::Threads;
-use std::time::{Clock, Duration};
+use std::time::Clock;
 
-/// A gate at which the first two workers meet, before and after their first event, and which records
-/// that each came. It pauses between looks, and gives up after 10,000.
+/// A gate at which the first two workers meet, before and after their first event, and which
+/// records that each came.
 #[derive(Drop)]
 struct Meeting<'a, R: Clock> {
     rt: &'a R,
@@ -28,13 +25,9 @@ impl<'a, R: Clock> Meeting<'a, R> {
             return;
         }
         seats[worker].store(1, Ordering::SeqCst);
-        for _look in 0..10_000u32 {
-            if seats[1 - worker].load(Ordering::SeqCst) == 1 {
-                return;
-            }
-            thread::sleep(self.rt, Duration::from_micros(200));
+        if !is_set(self.rt, &seats[1 - worker]) {
+            self.missed.store(1, Ordering::SeqCst);
         }
-        self.missed.store(1, Ordering::SeqCst);
     }
 
     /// Whether both came, before and after, and neither missed the other.
@@ -58,30 +51,25 @@ impl<'a, R: Clock> Turnstile for Meeting<'a, R> {
     }
 }
 
-/// Whether two workers meet, before and after their first event.
-pub fn meet<C: Ledger + Send + Sync, T: Ledger + Send + Sync, R: Threads + Wait + Clock + Sync>(
-    rt: &R,
-    alloc: Global,
-    server: &mut Server<C, T>,
-) -> bool {
-    let joined = AtomicU64::new(0);
-    let Ok(peers) = talkers(alloc, 2, &joined) else {
-        return false;
-    };
-    let gate = Meeting {
-        rt,
-        before: [AtomicU64::new(0), AtomicU64::new(0)],
-        after: [AtomicU64::new(0), AtomicU64::new(0)],
-        missed: AtomicU64::new(0),
-    };
-    let Server { locked, pass } = server;
-    match serve(rt, alloc, locked, pass, peers, 2, &gate, 1_000) {
-        Ok(seen) => seen.workers == 2 && gate.is_passed(),
-        Err(_) => false,
+impl<'a, C: Ledger + Send + Sync, T: Ledger + Send + Sync, R: Threads + Wait + Clock + Sync> Hall<
+    'a,
+    C,
+    T,
+    R,
+> {
+    /// Whether two workers meet, before and after their first event.
+    pub fn meet(&mut self) -> bool {
+        let joined = AtomicU64::new(0);
+        let Ok(peers) = talkers(self.alloc, 2, &joined, true) else {
+            return false;
+        };
+        let gate = Meeting {
+            rt: self.rt,
+            before: [AtomicU64::new(0), AtomicU64::new(0)],
+            after: [AtomicU64::new(0), AtomicU64::new(0)],
+            missed: AtomicU64::new(0),
+        };
+        let served = self.serve(peers, 2, &gate, 1_000);
+        served.is_ok_and(|report| report.workers.len() == 2) && gate.is_passed()
     }
-}
-
-#[test]
-fn turnstile_two_at_once(rt: HostRuntime) {
-    expect(&rt, Task::TwoAtOnce);
 }

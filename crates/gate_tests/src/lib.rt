@@ -6,9 +6,9 @@ mod books;
 #[cfg(test)]
 mod gates;
 #[cfg(test)]
-mod losses;
+mod hall;
 #[cfg(test)]
-mod made;
+mod losses;
 #[cfg(test)]
 mod peers;
 #[cfg(test)]

@@ -8,199 +8,122 @@ use std::sync::atomic::{AtomicU64, Ordering};
 use terms::Text;
 
 /// How many events a talker sends to all.
-const SAYS: u8 = 25;
+pub const SAYS: u8 = 25;
 
-/// What a peer does next.
-#[derive(Clone, Copy, Debug)]
-pub enum Stage {
-    Open,
-    Connect,
-    Join,
-    Say(u8),
-    Take(usize),
-    Done,
-}
-
-/// A client that connects, joins a room, says 25 things to all, and takes by 1, 2, 3 .. until nothing
-/// waits. It fails where an offset that it took doesn't rise.
+/// A client that connects and joins a room. A talker then says 25 things to all, and takes by 1,
+/// 2, 3 .. until nothing waits. It fails where an offset that it took doesn't rise, and where it
+/// didn't take as many as it said.
 #[derive(Drop)]
 pub struct Talker<'a> {
     alloc: Global,
     letter: u8,
     client: u128,
-    stage: Stage,
+    /// How many of its events were answered.
+    turn: u8,
+    /// How many offsets it took, and the last one.
+    offsets: u8,
     last_offset: u64,
+    /// Where it notes that it has joined.
     joined: &'a AtomicU64,
     talks: bool,
+    is_done: bool,
 }
 
 impl<'a> Talker<'a> {
-    /// One that says its things with this letter.
-    pub fn new(alloc: Global, letter: u8, joined: &'a AtomicU64) -> Talker<'a> {
-        Talker {
-            alloc,
-            letter,
-            client: 0,
-            stage: Stage::Open,
-            last_offset: 0,
-            joined,
-            talks: true,
-        }
+    fn posts(&self, text: &str) -> Result<Event, AllocError> {
+        let body = Text::copy_of(self.alloc, text)?;
+        let client = self.client;
+        Ok(Event::Post { client, body })
     }
 
-    /// One that is done once it has joined.
-    pub fn that_joins(alloc: Global, joined: &'a AtomicU64) -> Talker<'a> {
-        Talker {
-            alloc,
-            letter: b'a',
-            client: 0,
-            stage: Stage::Open,
-            last_offset: 0,
-            joined,
-            talks: false,
-        }
-    }
-
-    fn posts(&self, text: &str) -> Result<Option<(Event, u64)>, PeerFault> {
-        match Text::copy_of(self.alloc, text) {
-            Ok(body) => {
-                let client = self.client;
-                Ok(Some((Event::Post { client, body }, 0)))
-            }
-            Err(_) => Err(PeerFault::Memory),
-        }
-    }
-
-    /// Where its event was worked on.
-    fn go_on(&mut self) {
-        self.stage = match self.stage {
-            Stage::Open => Stage::Connect,
-            Stage::Connect => Stage::Join,
-            Stage::Join => {
-                self.joined.store(1, Ordering::SeqCst);
-                if self.talks {
-                    Stage::Say(0)
-                } else {
-                    Stage::Done
+    fn event(&self) -> Result<Event, AllocError> {
+        let (client, letter) = (self.client, char::from(self.letter));
+        match self.turn {
+            0 => Ok(Event::Opened { socket: false }),
+            1 => self.posts("40"),
+            2 => self.posts("42[\"join\",\"r\"]"),
+            turn => {
+                let number = turn.wrapping_sub(3);
+                if number < SAYS {
+                    let text = format!(in self.alloc; "42[\"all\",\"{letter}{number:02}\"]")?;
+                    return self.posts(text.as_str());
                 }
+                let most = usize::from(number.wrapping_sub(SAYS)).wrapping_add(1);
+                Ok(Event::PollTake { client, most })
             }
-            Stage::Say(number) => {
-                if number.wrapping_add(1) < SAYS {
-                    Stage::Say(number.wrapping_add(1))
-                } else {
-                    Stage::Take(1)
-                }
-            }
-            Stage::Take(most) => Stage::Take(most.wrapping_add(1)),
-            Stage::Done => Stage::Done,
-        };
+        }
     }
 
     /// Whether the offsets in a payload rise, from the last one that came.
     fn offsets_rise(&mut self, payload: &str) -> bool {
-        let mut digits = 0u32;
-        let mut number = 0u64;
-        for byte in payload.as_bytes() {
-            match hexadecimal(*byte) {
-                Some(digit) => {
-                    digits = digits.wrapping_add(1);
-                    number = number.wrapping_mul(16).wrapping_add(digit);
+        for word in payload.split('"').filter(|word| word.len() == 16) {
+            if let Ok(offset) = u64::from_str_radix(word, 16) {
+                if offset <= self.last_offset {
+                    return false;
                 }
-                None => {
-                    if digits == 16 {
-                        if number <= self.last_offset {
-                            return false;
-                        }
-                        self.last_offset = number;
-                    }
-                    digits = 0;
-                    number = 0;
-                }
+                self.last_offset = offset;
+                self.offsets = self.offsets.wrapping_add(1);
             }
         }
         true
     }
-}
 
-/// The value of a hexadecimal digit.
-fn hexadecimal(byte: u8) -> Option<u64> {
-    match byte {
-        b'0'..=b'9' => Some((byte - b'0') as u64),
-        b'a'..=b'f' => Some((byte - b'a') as u64 + 10),
-        _ => None,
+    /// Where its CONNECT, its join or what it said was worked on.
+    fn note_done(&mut self) {
+        if self.turn == 2 {
+            self.joined.store(1, Ordering::SeqCst);
+            self.is_done = !self.talks;
+        }
     }
 }
 
 impl<'a> Peer for Talker<'a> {
     fn next(&mut self) -> Result<Option<(Event, u64)>, PeerFault> {
-        let client = self.client;
-        match self.stage {
-            Stage::Open => Ok(Some((Event::Opened { socket: false }, 0))),
-            Stage::Connect => self.posts("40"),
-            Stage::Join => self.posts("42[\"join\",\"r\"]"),
-            Stage::Say(number) => {
-                let mut text = *b"42[\"all\",\"a00\"]";
-                text[10] = self.letter;
-                text[11] = b'0'.wrapping_add(number / 10);
-                text[12] = b'0'.wrapping_add(number % 10);
-                match str::from_utf8(&text) {
-                    Ok(text) => self.posts(text),
-                    Err(_) => Err(PeerFault::Ended),
-                }
-            }
-            Stage::Take(most) => Ok(Some((Event::PollTake { client, most }, 0))),
-            Stage::Done => Ok(None),
+        if self.is_done {
+            return Ok(None);
         }
+        let event = self.event().map_err(|_| PeerFault::Memory)?;
+        Ok(Some((event, 0)))
     }
 
     fn answer(&mut self, got: &Result<Outcome, CoreError>) -> Result<(), PeerFault> {
         match got {
-            Ok(Outcome::Opened(opening)) => {
-                self.client = opening.client;
-                self.go_on();
-                Ok(())
-            }
-            Ok(Outcome::Done(_)) => {
-                self.go_on();
-                Ok(())
-            }
+            Ok(Outcome::Opened(opening)) => self.client = opening.client,
+            Ok(Outcome::Done(done)) if done.closed.is_none() => self.note_done(),
             Ok(Outcome::Payload(text)) => {
-                self.go_on();
-                if self.offsets_rise(text.as_str()) {
-                    Ok(())
-                } else {
-                    Err(PeerFault::Ended)
+                if !self.offsets_rise(text.as_str()) {
+                    return Err(PeerFault::Ended);
                 }
             }
-            Ok(Outcome::Nothing) => {
-                self.stage = Stage::Done;
-                Ok(())
-            }
-            _ => Err(PeerFault::Ended),
+            Ok(Outcome::Nothing) if self.offsets >= SAYS => self.is_done = true,
+            _ => return Err(PeerFault::Ended),
         }
+        self.turn = self.turn.wrapping_add(1);
+        Ok(())
     }
 }
 
-/// So many talkers, with the letters from `a` on.
+/// So many talkers, with the letters from `a` on, or clients that are done once they have joined.
 pub fn talkers<'a>(
     alloc: Global,
     count: u8,
     joined: &'a AtomicU64,
+    talks: bool,
 ) -> Result<Vec<Talker<'a>>, AllocError> {
     let mut all = Vec::new(alloc);
     for number in 0..count {
-        all.push(Talker::new(alloc, b'a'.wrapping_add(number), joined))?;
+        all.push(Talker {
+            alloc,
+            letter: b'a'.wrapping_add(number),
+            client: 0,
+            turn: 0,
+            offsets: 0,
+            last_offset: 0,
+            joined,
+            talks,
+            is_done: false,
+        })?;
     }
-    Ok(all)
-}
-
-/// One client that is done once it has joined.
-pub fn one_that_joins<'a>(
-    alloc: Global,
-    joined: &'a AtomicU64,
-) -> Result<Vec<Talker<'a>>, AllocError> {
-    let mut all = Vec::new(alloc);
-    all.push(Talker::that_joins(alloc, joined))?;
     Ok(all)
 }
 

@@ -1,11 +1,12 @@
-//! What is done with a locked core of its own, and seen of the core at its end.
+//! What is done with a locked core of its own.
 
 ghost use Rattle.std.specs.Prelude.{◌≡◌};
 
-use crate::made::{Server, new_server};
-use crate::{books, gates, pools, seals};
+use crate::hall::Hall;
 use dispatch::Core;
 use effects::{CoreError, CoreFault};
+use hub::Pass;
+use hub_gate::Locked;
 use std::alloc::Global;
 use std::marker::Brand;
 use std::process::Abort;
@@ -13,8 +14,7 @@ use std::sync::Wait;
 use std::sync::ledger::{Blank, Ledger};
 use std::thread::Threads;
 use std::time::Clock;
-
-const PARTS: u64 = 65_536;
+use usual_core::{Limits, NUMBERS, PARTS, TIMING};
 
 #[derive(Clone, Copy)]
 pub enum Task {
@@ -34,50 +34,51 @@ pub enum Task {
     SpentTurns,
 }
 
-/// Does a task, and says how many steps were sealed where it was done as it should be.
-fn does<C: Ledger + Send + Sync, T: Ledger + Send + Sync, R: Threads + Wait + Clock + Sync>(
-    rt: &R,
-    alloc: Global,
-    server: &mut Server<C, T>,
-    task: Task,
-) -> Option<u64> {
-    match task {
-        Task::OneBook => books::fill_one_book(rt, alloc, server).then_some(0),
-        Task::OneSeesAnother => books::see_another(rt, alloc, server).then_some(0),
-        Task::TwoAtOnce => gates::meet(rt, alloc, server).then_some(0),
-        Task::SealedBetween => seals::seal_between(rt, alloc, server),
-        Task::RefusedPools => pools::are_refused(rt, alloc, server).then_some(0),
-        Task::PeersThatFail => pools::are_lost(rt, alloc, server).then_some(0),
-        Task::SpentTurns => pools::is_cut_off(rt, alloc, server).then_some(0),
+impl<'a, C: Ledger + Send + Sync, T: Ledger + Send + Sync, R: Threads + Wait + Clock + Sync> Hall<
+    'a,
+    C,
+    T,
+    R,
+> {
+    /// Whether a task is done as it should be.
+    fn does(&mut self, task: Task) -> bool {
+        match task {
+            Task::OneBook => self.fill_one_book(),
+            Task::OneSeesAnother => self.see_another(),
+            Task::TwoAtOnce => self.meet(),
+            Task::SealedBetween => self.seal_between().unwrap_or(false),
+            Task::RefusedPools => self.are_refused(),
+            Task::PeersThatFail => self.are_lost(),
+            Task::SpentTurns => self.is_cut_off(),
+        }
     }
 }
 
-/// Whether the core is as the task leaves it, of whose steps so many were sealed.
-fn is_left_by<C: Ledger, T: Ledger>(
+/// A core with no clients, under its lock, and its first pass.
+fn new_locked<C: Ledger, T: Ledger>(
     alloc: Global,
-    core: &Core<C, T>,
-    task: Task,
-    sealed: u64,
-) -> bool {
-    match task {
-        Task::OneBook => books::is_filled(alloc, core),
-        Task::SealedBetween => seals::has_all(core, sealed),
-        Task::PeersThatFail | Task::SpentTurns => pools::is_empty(alloc, core),
-        Task::OneSeesAnother | Task::TwoAtOnce | Task::RefusedPools => true,
+    commands: Blank,
+    taken: Blank,
+) -> Result<(Box<Locked<C, T>>, Pass<C, T>), CoreError>
+    requires commands { (commands.name ≡ C.name)
+        × (commands.parts ≡ C.parts) × (commands.parts ≡ 65536) }
+    requires taken { (taken.name ≡ T.name)
+        × (taken.parts ≡ T.parts) × (taken.parts ≡ 65536) }
+{
+    let limits = Limits {
+        capacity: 256,
+        ..Limits::usual(8)
+    };
+    let Ok(config) = limits.config(alloc, &["/"]) else {
+        return Err(CoreFault::Memory.at_once());
+    };
+    let (core, pass) = Core::new(alloc, config, TIMING, NUMBERS, commands, taken)?;
+    match Box::new(alloc, Locked::new(core)) {
+        Ok(locked) => Ok((locked, pass)),
+        Err(_) => Err(CoreFault::Memory.at_once()),
     }
 }
 
-fn is_left<C: Ledger, T: Ledger>(
-    alloc: Global,
-    server: Server<C, T>,
-    task: Task,
-    sealed: u64,
-) -> bool {
-    let core = server.locked.into_core();
-    is_left_by(alloc, &core, task, sealed)
-}
-
-/// Whether a task is done as it should be, with a core of its own.
 fn run<C: Ledger + Send + Sync, T: Ledger + Send + Sync, R: Threads + Wait + Clock + Sync>(
     rt: &R,
     alloc: Global,
@@ -85,14 +86,20 @@ fn run<C: Ledger + Send + Sync, T: Ledger + Send + Sync, R: Threads + Wait + Clo
     commands: Blank,
     taken: Blank,
 ) -> Result<bool, CoreError>
-    requires commands { (commands.name ≡ C.name) × (commands.parts ≡ C.parts) × (commands.parts ≡ 65536) }
-    requires taken { (taken.name ≡ T.name) × (taken.parts ≡ T.parts) × (taken.parts ≡ 65536) }
+    requires commands { (commands.name ≡ C.name)
+        × (commands.parts ≡ C.parts) × (commands.parts ≡ 65536) }
+    requires taken { (taken.name ≡ T.name)
+        × (taken.parts ≡ T.parts) × (taken.parts ≡ 65536) }
 {
-    let mut server = new_server::<C, T>(alloc, commands, taken)?;
-    let Some(sealed) = does(rt, alloc, &mut server, task) else {
-        return Ok(false);
+    let (locked, pass) = new_locked::<C, T>(alloc, commands, taken)?;
+    let locked = &*locked;
+    let mut hall = Hall {
+        rt,
+        alloc,
+        locked,
+        pass,
     };
-    Ok(is_left(alloc, Box::into_inner(server), task, sealed))
+    Ok(hall.does(task))
 }
 
 fn run_once<R: Threads + Wait + Clock + Sync>(
@@ -105,7 +112,7 @@ fn run_once<R: Threads + Wait + Clock + Sync>(
 }
 
 /// Does a task, once more where it failed, since memory may have been refused in the first run.
-pub fn expect<R: Threads + Wait + Clock + Sync + Abort + AllocGlobal>(rt: &R, task: Task) {
+fn expect<R: Threads + Wait + Clock + Sync + Abort + AllocGlobal>(rt: &R, task: Task) {
     if run_once(rt, rt.alloc(), task) == Ok(true) {
         return;
     }
@@ -115,4 +122,39 @@ pub fn expect<R: Threads + Wait + Clock + Sync + Abort + AllocGlobal>(rt: &R, ta
         "no memory in two runs"
     );
     assert!(rt; again == Ok(true), "it isn't done as it should be");
+}
+
+#[test]
+fn four_workers_one_book(rt: HostRuntime) {
+    expect(&rt, Task::OneBook);
+}
+
+#[test]
+fn one_sees_another(rt: HostRuntime) {
+    expect(&rt, Task::OneSeesAnother);
+}
+
+#[test]
+fn turnstile_two_at_once(rt: HostRuntime) {
+    expect(&rt, Task::TwoAtOnce);
+}
+
+#[test]
+fn sealed_between(rt: HostRuntime) {
+    expect(&rt, Task::SealedBetween);
+}
+
+#[test]
+fn refused_pools(rt: HostRuntime) {
+    expect(&rt, Task::RefusedPools);
+}
+
+#[test]
+fn peers_that_fail(rt: HostRuntime) {
+    expect(&rt, Task::PeersThatFail);
+}
+
+#[test]
+fn turns_that_are_spent(rt: HostRuntime) {
+    expect(&rt, Task::SpentTurns);
 }

@@ -1,6 +1,8 @@
--- A walk over the sockets of a client.
-use Rattle.std.proofs.Common.{◌≡◌, ◌<◌, Bor, List, length, take, sym, ◌∙◌, ap, Option, None, Some}
+-- A walk over the sockets of a client, and one that gathers what each gives.
+use Rattle.std.proofs.Common.{◌≡◌, ℕ, ◌+◌, ◌<◌, Bor, List, [], ◌∷◌, ◌++◌, length, take, get_or, sym, ◌∙◌, ap, Option, None, Some}
 use Rattle.std.specs.Prelude.{slice_index_or}
+use Rattle.std.specs.List.{flat_map}
+use Rattle.std.proofs.lemmas.List.{take_more, flat_map_more}
 use Rattle.std.specs.Iterator.{Yields}
 use Rattle.std.specs.Map.Iter.{TakesFirst, deref}
 use Rattle.std.proofs.Math.Seq.{take-length}
@@ -21,3 +23,10 @@ pub whole : (all : List Socket) (xs : List (Bor Socket)) (s t u : List Socket) (
 whole all xs s t u r start y is step =
     let at = iter_end (deref {X = Socket}) all xs s t u r start y is step in
     ap (λ n. take n all) at.1 ∙ take-length all
+
+-- one more is gathered
+pub gathered : {X A : Type 0} (f : X → List A) (xs : List X) (i : ℕ) (x : X) (old new : List A) → i < length xs → x ≡ get_or xs i x
+    → old ≡ flat_map f (take i xs) → new ≡ old ++ f x → new ≡ flat_map f (take (i + 1) xs)
+gathered f xs i x old new low is so_far step =
+    let more : take (i + 1) xs ≡ take i xs ++ x ∷ [] = take_more xs i x low ∙ ap (λ y. take i xs ++ y ∷ []) (sym is) in
+    step ∙ ap (λ ys. ys ++ f x) so_far ∙ flat_map_more f [] (take i xs) x ∙ ap (flat_map f) (sym more)

@@ -92,8 +92,10 @@ impl<L: Log + Sync + Drop> Server<L> {
         R: Threads + Wait + Clock + RandomSource + Copy + Drop + Sync + Send + 'static,
         A: App + Sync,
     >(self, rt: &R, alloc: Global, app: &A) -> Result<Report, ServerFault>
-        ensures commands { IfOk result (λ r. r.totals.commands ≡ sum_by (λ w. w.commands) r.workers.items) }
-        ensures taken { IfOk result (λ r. r.totals.taken ≡ sum_by (λ w. w.taken) r.workers.items) }
+        ensures commands { IfOk result (λ r.
+            r.totals.commands ≡ sum_by (λ w. w.commands) r.workers.items) }
+        ensures taken { IfOk result (λ r.
+            r.totals.taken ≡ sum_by (λ w. w.taken) r.workers.items) }
     {
         let (commands, taken) = (Blank::new(PARTS), Blank::new(PARTS));
         run_in::<Brand, Brand, R, L, A>(rt, alloc, self, app, commands, taken)
@@ -114,10 +116,13 @@ fn run_in<
     commands: Blank,
     taken: Blank,
 ) -> Result<Report, ServerFault>
-    requires commands { (commands.name ≡ C.name) × (commands.parts ≡ C.parts) × (commands.parts ≡ 65536) }
+    requires commands { (commands.name ≡ C.name)
+        × (commands.parts ≡ C.parts) × (commands.parts ≡ 65536) }
     requires taken { (taken.name ≡ T.name) × (taken.parts ≡ T.parts) × (taken.parts ≡ 65536) }
-    ensures commands { IfOk result (λ r. r.totals.commands ≡ sum_by (λ w. w.commands) r.workers.items) }
-    ensures taken { IfOk result (λ r. r.totals.taken ≡ sum_by (λ w. w.taken) r.workers.items) }
+    ensures commands { IfOk result (λ r.
+        r.totals.commands ≡ sum_by (λ w. w.commands) r.workers.items) }
+    ensures taken { IfOk result (λ r.
+        r.totals.taken ≡ sum_by (λ w. w.taken) r.workers.items) }
 {
     let Server {
         log,
@@ -128,23 +133,30 @@ fn run_in<
         rules,
         making,
     } = server;
-    let (mut core, mut pass) = new_core::<C, T>(alloc, making, commands, taken)?;
-    let looks = core
-        .new_pass()
-        .map_err(|_| ServerFault::Device(Doing::Starting))?;
-    let locked = lock(alloc, core)?;
-    let start = Instant::now(rt).map_err(starting)?;
-    let common = Common {
-        rt: *rt,
-        alloc,
-        log: &log,
-        shared,
-        rules,
-        watch: Watch::new(*rt, start),
-    };
+    let (locked, mut pass, looks) = lock_core::<C, T>(alloc, making, commands, taken)?;
+    let common = common_for(rt, alloc, &log, shared, rules)?;
     let workers = workers_for(&common, ears, &locked, looks)?;
     let ids = sources(rt, alloc, workers.len())?;
     serve_all(rt, &common, &locked, &mut pass, app, acceptor, workers, ids)
+}
+
+/// What the threads of a server take along. Its time begins now.
+fn common_for<'a, R: Clock + Copy, L>(
+    rt: &R,
+    alloc: Global,
+    log: &'a L,
+    shared: Arc<Shared>,
+    rules: Arc<Rules>,
+) -> Result<Common<'a, R, L>, ServerFault> {
+    let start = Instant::now(rt).map_err(starting)?;
+    Ok(Common {
+        rt: *rt,
+        alloc,
+        log,
+        shared,
+        rules,
+        watch: Watch::new(*rt, start),
+    })
 }
 
 /// Accepts and serves in threads of their own until all have ended.
@@ -165,11 +177,12 @@ fn serve_all<
     ids: Vec<DrawnIds<StdRng>>,
 ) -> Result<Report, ServerFault>
     requires { vec_len ids ≡ vec_len workers }
-    ensures commands { IfOk result (λ r. r.totals.commands ≡ pass.old.commands + sum_by (λ w. w.commands) r.workers.items) }
-    ensures taken { IfOk result (λ r. r.totals.taken ≡ pass.old.taken + sum_by (λ w. w.taken) r.workers.items) }
+    ensures commands { IfOk result (λ r. r.totals.commands
+        ≡ pass.old.commands + sum_by (λ w. w.commands) r.workers.items) }
+    ensures taken { IfOk result (λ r. r.totals.taken
+        ≡ pass.old.taken + sum_by (λ w. w.taken) r.workers.items) }
 {
     let accepting = start_accepting(rt, common, acceptor)?;
-    let number = workers.len();
     let pool = Pool {
         rt,
         alloc: common.alloc,
@@ -178,10 +191,33 @@ fn serve_all<
         gate: &Open,
         turns: u64::MAX,
     };
-    let served = serve_peers(&pool, pass, workers, number, ids);
+    let served = serve_pool(&pool, pass, workers, ids);
     common.shared.stop_accepting(rt);
     accepting.join(rt);
-    match served {
+    served
+}
+
+/// Serves until all workers have ended.
+fn serve_pool<
+    C: Ledger + Send + Sync,
+    T: Ledger + Send + Sync,
+    R: Threads + Wait + Clock + Copy + Drop + Sync + Send + 'static,
+    L: Log + Sync,
+    A: App + Sync,
+>(
+    pool: &Pool<'_, R, C, T, A, Open>,
+    pass: &mut Pass<C, T>,
+    workers: Vec<Worker<'_, R, L, C, T>>,
+    ids: Vec<DrawnIds<StdRng>>,
+) -> Result<Report, ServerFault>
+    requires { vec_len ids ≡ vec_len workers }
+    ensures commands { IfOk result (λ r. r.totals.commands
+        ≡ pass.old.commands + sum_by (λ w. w.commands) r.workers.items) }
+    ensures taken { IfOk result (λ r. r.totals.taken
+        ≡ pass.old.taken + sum_by (λ w. w.taken) r.workers.items) }
+{
+    let number = workers.len();
+    match serve_peers(pool, pass, workers, number, ids) {
         Ok(
             Settled {
                 report,
@@ -207,6 +243,25 @@ fn start_accepting<R: Threads + Wait + Clock + Copy + Drop + Send + 'static, L>(
     }
 }
 
+/// A core without clients under its lock, its pass, and one more, with which it is looked at.
+fn lock_core<C: Ledger, T: Ledger>(
+    alloc: Global,
+    making: Box<Making>,
+    commands: Blank,
+    taken: Blank,
+) -> Result<(Box<Locked<C, T>>, Pass<C, T>, Pass<C, T>), ServerFault>
+    requires commands { (commands.name ≡ C.name)
+        × (commands.parts ≡ C.parts) × (commands.parts ≡ 65536) }
+    requires taken { (taken.name ≡ T.name) × (taken.parts ≡ T.parts) × (taken.parts ≡ 65536) }
+    ensures pass { IfOk result (λ made. made.1 ≡ record { commands = 0; taken = 0; parts = 1 }) }
+{
+    let (mut core, pass) = new_core::<C, T>(alloc, making, commands, taken)?;
+    match core.new_pass() {
+        Ok(looks) => Ok((lock(alloc, core)?, pass, looks)),
+        Err(_) => Err(ServerFault::Device(Doing::Starting)),
+    }
+}
+
 /// A core without clients, and its pass.
 fn new_core<C: Ledger, T: Ledger>(
     alloc: Global,
@@ -214,7 +269,8 @@ fn new_core<C: Ledger, T: Ledger>(
     commands: Blank,
     taken: Blank,
 ) -> Result<(Box<Core<C, T>>, Pass<C, T>), ServerFault>
-    requires commands { (commands.name ≡ C.name) × (commands.parts ≡ C.parts) × (commands.parts ≡ 65536) }
+    requires commands { (commands.name ≡ C.name)
+        × (commands.parts ≡ C.parts) × (commands.parts ≡ 65536) }
     requires taken { (taken.name ≡ T.name) × (taken.parts ≡ T.parts) × (taken.parts ≡ 65536) }
     ensures pass { IfOk result (λ made. made.1 ≡ record { commands = 0; taken = 0; parts = 1 }) }
 {

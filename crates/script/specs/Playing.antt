@@ -1,11 +1,9 @@
 -- What one line of a script does to a server, and what it prints.
-use Rattle.std.specs.Prelude.{◌≡◌, ◌≢◌, ◌⊎◌, ℕ, ◌<◌, ◌≤◌, ◌&&◌, Bool, true, false, List, [], ◌++◌, length, codes, decimal, Option, None, Some, Ok, Err}
+use Rattle.std.specs.Prelude.{◌≡◌, ◌⊎◌, ℕ, ◌<◌, ◌≤◌, ◌&&◌, Bool, true, false, List, [], ◌++◌, length, codes, decimal, Option, None, Some, Ok, Err}
 use Rattle.std.specs.Ordering.{nat_cmp}
 use Rattle.std.specs.Map.{update}
 use Rattle.std.specs.Str.{bytes_eq}
 use Rattle.std.specs.BTreeMap.{get_by_text}
-use Rattle.hex.specs.Hex.{encode_lower}
-use Rattle.terms.specs.Bytes.{IsBytes}
 use Rattle.terms.specs.Listing.{ListsRising}
 use Rattle.session_clock.specs.declared.transport.Transport.{Transport}
 use Rattle.room_maps.specs.Membership.{is_in}
@@ -19,8 +17,6 @@ use Rattle.effects.specs.declared.app.Who.{Who}
 use Rattle.effects.specs.App.{PlainVerdict}
 use Rattle.dispatch.specs.declared.event.Event.{Event}
 use Rattle.dispatch.specs.declared.event.Event.TheVariants as event
-use Rattle.dispatch.specs.declared.event.WsFrame.{WsFrame}
-use Rattle.dispatch.specs.declared.event.WsFrame.TheVariants as frame
 use Rattle.dispatch.specs.declared.outcome.Outcome.TheVariants as outcome
 use Rattle.dispatch.specs.Answers.{Answer}
 use Rattle.dispatch.specs.Machine.{Does}
@@ -30,8 +26,9 @@ use Rattle.relay.specs.Counter.{counted_from}
 use Rattle.script.specs.declared.script_line.ScriptLine.{ScriptLine}
 use Rattle.script.specs.declared.script_line.ScriptLine.TheVariants as line
 use Rattle.script.specs.declared.play.Play.{Play}
-use Rattle.script.specs.Events.{event_of, take_of}
-use Rattle.script.specs.Printing.{fault_name, outcome_text, heard_text, ids_text, totals_text}
+use Rattle.script.specs.Events.{IsEventOf}
+use Rattle.script.specs.Printing.{fault_name, outcome_text, ids_text, totals_text}
+use Rattle.script.specs.ScriptLine.{name_in}
 
 -- ---- a server under way
 
@@ -52,14 +49,9 @@ server_of play = record { core = play.core; clients = get_by_text play.clients; 
 -- ---- what is printed
 
 -- what is printed of an event's answer for the client of this name
-abbrev pub told : (name : List ℕ) → Answer → List ℕ
-told name (Ok outcome) = outcome_text name outcome
-told name (Err e) = codes "refused: " ++ fault_name e.fault
-
--- the same of a frame's answer
-abbrev pub told_frame : (name : List ℕ) → Answer → List ℕ
-told_frame name (Ok outcome) = heard_text name outcome
-told_frame name (Err e) = codes "refused: " ++ fault_name e.fault
+abbrev pub told : (name : List ℕ) → Event → Answer → List ℕ
+told name event (Ok outcome) = outcome_text name event outcome
+told name event (Err e) = codes "refused: " ++ fault_name e.fault
 
 -- ---- names
 
@@ -67,12 +59,9 @@ told_frame name (Err e) = codes "refused: " ++ fault_name e.fault
 abbrev pub IsBadLine : Server → (said : List ℕ) → Server → Type 0
 IsBadLine s said t = (said ≡ codes "bad line") × (t ≡ s)
 
--- what is asked for the client of this name; where the name stands for none the line is bad
-abbrev pub ForName : (name : List ℕ) → (ℕ → Type 0) → Server → (said : List ℕ) → Server → Type 0
-ForName name row s said t = elim (s.clients name) [
-  | None ↦ IsBadLine s said t
-  | Some c ↦ row c
-]
+-- the line is of no client, or its name stands for none
+abbrev pub IsOfNone : ScriptLine → (clients : (name : List ℕ) → Option ℕ) → Type 0
+IsOfNone line clients = elim (name_in line) [ None ↦ Unit {0} | Some name ↦ clients name ≡ None ]
 
 -- from now on the name stands for this client, and each other name for what it stood for
 pub record Names (name : List ℕ) (c : ℕ) (s t : Server) : Type 0 where
@@ -149,34 +138,25 @@ module _ (decides : Who → Arrived → List Effect → Type 0) (allows : (space
 
   -- the event happens, and its own answer is printed
   abbrev pub Asks : (name : List ℕ) → Event → Server → (said : List ℕ) → Server → Type 0
-  Asks name event s said t = (answer : Answer) × Happens s event answer t × (said ≡ told name answer)
+  Asks name event s said t = (answer : Answer) × Happens s event answer t × (said ≡ told name event answer)
 
   -- a client is opened, for which the name stands from now on
   abbrev pub Opens : (name : List ℕ) → (socket : Bool) → Server → (said : List ℕ) → Server → Type 0
-  Opens name socket s said t = (answer : Answer) × (m : Server) × Happens s (event.Opened socket) answer m × NamesOpened name answer m t × (said ≡ told name answer)
+  Opens name socket s said t = (answer : Answer) × (m : Server)
+      × Happens s (event.Opened socket) answer m × NamesOpened name answer m t × (said ≡ told name (event.Opened socket) answer)
 
-  -- a frame comes from the client
-  abbrev pub Hears : (name : List ℕ) → (c : ℕ) → WsFrame → Server → (said : List ℕ) → Server → Type 0
-  Hears name c frame s said t = (answer : Answer) × Happens s (event.Frame c frame) answer t × (said ≡ told_frame name answer)
+  -- what the line says of the client of this name happens, as the client speaks; where that is nothing the line is bad
+  abbrev pub AsksOf : ScriptLine → (name : List ℕ) → (c : ℕ) → Server → (said : List ℕ) → Server → Type 0
+  AsksOf line name c s said t = (on : Option Transport) × (happens : Option Event) × Speaks c on s.core × IsEventOf line c on happens
+      × elim happens [ None ↦ IsBadLine s said t | Some event ↦ Asks name event s said t ]
 
-  -- a binary frame comes from the client, if these digits spell its bytes
-  abbrev pub HearsBytes : (name hex : List ℕ) → (c : ℕ) → Server → (said : List ℕ) → Server → Type 0
-  HearsBytes name hex c s said t =
-      ((bytes : List ℕ) × IsBytes bytes × (hex ≡ encode_lower bytes) × Hears name c (frame.Bytes bytes) s said t)
-      ⊎ (((bytes : List ℕ) → IsBytes bytes → hex ≢ encode_lower bytes) × IsBadLine s said t)
+  -- what a line does for the client that it names, and prints; where its name stands for none it is bad
+  abbrev pub RepliesFor : ScriptLine → (name : List ℕ) → Server → (said : List ℕ) → Server → Type 0
+  RepliesFor line name s said t = elim (s.clients name) [ None ↦ IsBadLine s said t | Some c ↦ AsksOf line name c s said t ]
 
-  -- what waits for the client is taken, as it speaks
-  abbrev pub TakesWaiting : (name : List ℕ) → (c most : ℕ) → Server → (said : List ℕ) → Server → Type 0
-  TakesWaiting name c most s said t = (on : Option Transport) × Speaks c on s.core × Asks name (take_of on c most) s said t
-
-  -- what a line does for the client that it names, and prints; a line that is of no client that was opened is bad
+  -- a line that is of no client that was opened is bad
   abbrev pub RepliesForClient : ScriptLine → Server → (said : List ℕ) → Server → Type 0
-  RepliesForClient (line.Text name rest) s said t = ForName name.now (λ c. Asks name.now (event.Post c rest.now) s said t) s said t
-  RepliesForClient (line.Frame name rest) s said t = ForName name.now (λ c. Hears name.now c (frame.Text rest.now) s said t) s said t
-  RepliesForClient (line.Bytes name hex) s said t = ForName name.now (λ c. HearsBytes name.now hex.now c s said t) s said t
-  RepliesForClient (line.Notice word name) s said t = ForName name.now (λ c. Asks name.now (event_of word c) s said t) s said t
-  RepliesForClient (line.Take name most) s said t = ForName name.now (λ c. TakesWaiting name.now c most s said t) s said t
-  RepliesForClient _ s said t = IsBadLine s said t
+  RepliesForClient line s said t = elim (name_in line) [ None ↦ IsBadLine s said t | Some name ↦ RepliesFor line name s said t ]
 
   -- what a line does to the server and prints that always has an answer
   abbrev pub Replies : ScriptLine → Server → (said : List ℕ) → Server → Type 0

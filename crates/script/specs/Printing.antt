@@ -11,6 +11,8 @@ use Rattle.effects.specs.declared.cause.Cause.TheVariants as cause
 use Rattle.effects.specs.declared.fault.CoreFault.{CoreFault}
 use Rattle.effects.specs.declared.fault.CoreFault.TheVariants as fault
 use Rattle.effects.specs.Plain.{PlainDone}
+use Rattle.dispatch.specs.declared.event.Event.{Event}
+use Rattle.dispatch.specs.declared.event.Event.TheVariants as event
 use Rattle.dispatch.specs.declared.event.WsFrame.{WsFrame}
 use Rattle.dispatch.specs.declared.event.WsFrame.TheVariants as frame
 use Rattle.dispatch.specs.declared.outcome.Outcome.{Outcome}
@@ -80,13 +82,13 @@ abbrev pub is_double_get : Option Cause → Bool
 is_double_get (Some cause.DoubleGet) = true
 is_double_get _ = false
 
--- what is told of a payload: it wasn't read where the client was closed for that with no packet worked on
-abbrev pub posted_of : PlainDone → Posted
-posted_of d = record { read = not ((d.packets == 0) && is_unread d.closed); skipped = d.skipped; ignored = d.ignored; closed = d.closed }
+-- a payload wasn't read where it closed the client for what no payload is, before any packet of it was worked on
+abbrev pub is_read : PlainDone → Bool
+is_read d = not ((d.packets == 0) && is_unread d.closed)
 
--- what is told of a frame, which was read also where it is no packet
-abbrev pub heard_of : PlainDone → Posted
-heard_of d = record { read = true; skipped = d.skipped; ignored = d.ignored; closed = d.closed }
+-- what is told of packets that were worked on, where they were read or not
+abbrev pub posted_of : PlainDone → (read : Bool) → Posted
+posted_of d read = record { read = read; skipped = d.skipped; ignored = d.ignored; closed = d.closed }
 
 -- that an effect was skipped, and why
 abbrev pub skipped_text : Option RoomError → List ℕ
@@ -161,24 +163,21 @@ answer_text (answer.Refused fault) = codes "refused: " ++ fault_name fault
 answer_text answer.UnknownNamespace = codes "refused: UnknownNamespace"
 answer_text answer.BadLine = codes "bad line"
 
--- what is printed of an event that was worked on: a second GET that waits has closed the client
-abbrev pub done_text : PlainDone → List ℕ
-done_text d = if is_double_get d.closed then codes "closed: DoubleGet" else posted_text (posted_of d)
+-- what is printed of an event that was worked on: a second GET that waits has closed the client; a frame was read, also
+-- one that is no packet
+abbrev pub done_text : Event → PlainDone → List ℕ
+done_text (event.Frame client frame) d = posted_text (posted_of d true)
+done_text _ d = if is_double_get d.closed then codes "closed: DoubleGet" else posted_text (posted_of d (is_read d))
 
--- what is printed of an outcome for the client of this name
-abbrev pub outcome_text : (name : List ℕ) → Outcome → List ℕ
-outcome_text name (outcome.Opened opening) = name ++ codes " " ++ opening.text
-outcome_text name (outcome.Done done) = done_text done
-outcome_text name outcome.Begun = codes "ok"
-outcome_text name (outcome.Payload text) = name ++ codes " " ++ text
-outcome_text name (outcome.Frames frames) = frames_text name frames
-outcome_text name outcome.Nothing = name ++ codes " -"
-outcome_text name (outcome.Probed text) = name ++ codes " " ++ text
-outcome_text name (outcome.Lost saved) = if saved then codes "ok" else codes "ok, not saved: SavedFull"
-outcome_text name (outcome.Ticked ping closed) = name ++ codes " " ++ due_text ping closed
-outcome_text name (outcome.Swept swept) = swept_text swept
-
--- what is printed of a frame's outcome for the client of this name
-abbrev pub heard_text : (name : List ℕ) → Outcome → List ℕ
-heard_text name (outcome.Done done) = posted_text (heard_of done)
-heard_text name other = outcome_text name other
+-- what is printed of an event's outcome for the client of this name
+abbrev pub outcome_text : (name : List ℕ) → Event → Outcome → List ℕ
+outcome_text name event (outcome.Opened opening) = name ++ codes " " ++ opening.text
+outcome_text name event (outcome.Done done) = done_text event done
+outcome_text name event outcome.Begun = codes "ok"
+outcome_text name event (outcome.Payload text) = name ++ codes " " ++ text
+outcome_text name event (outcome.Frames frames) = frames_text name frames
+outcome_text name event outcome.Nothing = name ++ codes " -"
+outcome_text name event (outcome.Probed text) = name ++ codes " " ++ text
+outcome_text name event (outcome.Lost saved) = if saved then codes "ok" else codes "ok, not saved: SavedFull"
+outcome_text name event (outcome.Ticked ping closed) = name ++ codes " " ++ due_text ping closed
+outcome_text name event (outcome.Swept swept) = swept_text swept

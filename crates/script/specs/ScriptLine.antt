@@ -1,5 +1,5 @@
 -- Which texts are which line of a script.
-use Rattle.std.specs.Prelude.{◌≡◌, ◌≢◌, ℕ, ◌≤◌, ◌<◌, ◌^◌, ◌⊎◌, ◌==◌, ◌||◌, List, ◌∷◌, ◌++◌, length, codes, Some, slice_get, All}
+use Rattle.std.specs.Prelude.{◌≡◌, ◌≢◌, ℕ, ◌≤◌, ◌<◌, ◌^◌, ◌⊎◌, ◌==◌, ◌||◌, List, ◌∷◌, ◌++◌, length, codes, Option, None, Some, slice_get, All}
 use Rattle.std.specs.Borrow.{Bor}
 use Rattle.std.specs.List.{AllPass}
 use Rattle.std.specs.Char.{is_ascii_alphabetic}
@@ -67,6 +67,15 @@ notice_text notice.Upgrade = codes "upgrade"
 notice_text notice.Unprobe = codes "unprobe"
 notice_text notice.Lost = codes "lost"
 notice_text notice.Tick = codes "tick"
+
+-- the name of the client that the line is of, if it is of one that was opened
+abbrev pub name_in : ScriptLine → Option (List ℕ)
+name_in (Text name rest) = Some name.now
+name_in (Frame name rest) = Some name.now
+name_in (ByteFrame name hex) = Some name.now
+name_in (Notice word name) = Some name.now
+name_in (Take name most) = Some name.now
+name_in _ = None
 
 -- the line takes so many entries: 64, or as many as it names, but not 0
 abbrev pub SpellsTake : List ℕ → (name : List ℕ) → (most : ℕ) → Type 0

@@ -1,13 +1,13 @@
 -- The limits of a server.
-use Rattle.std.specs.Prelude.{ℕ, [], ◌∷◌, codes}
+use Rattle.std.specs.Prelude.{ℕ, []}
 use Rattle.eio_wire.specs.declared.handshake.Numbers.{Numbers}
-use Rattle.session_clock.specs.declared.timing.Timing.{Timing}
 use Rattle.journal.specs.Config.{empty_base}
 use Rattle.journal.specs.Plain.{Limits}
 use Rattle.dispatch.specs.Place.{PlainCore}
 use Rattle.script.specs.declared.script_line.Key.{Key}
 use Rattle.script.specs.declared.script_line.Key.TheVariants.{Capacity, Clients, Bytes, Log, Saved, Keep, FirstOffset}
 use Rattle.script.specs.declared.setup.Setup.{Setup}
+use Rattle.settings.specs.Usual as usual
 
 -- the limits where nothing is set
 abbrev pub USUAL : Setup
@@ -23,15 +23,11 @@ with_limit Saved n s = record s { saved = n }
 with_limit Keep n s = record s { keep = n }
 with_limit FirstOffset n s = record s { first_offset = n }
 
--- the limits and the two namespaces
+-- the limits, with the usual namespaces
 abbrev pub limits_of : Setup → Limits
-limits_of s = record { clients = s.clients; capacity = s.capacity; bytes = s.bytes; log = s.log; saved = s.saved; keep = s.keep; first_offset = s.first_offset; spaces = codes "/" ∷ codes "/admin" ∷ [] }
+limits_of s = record { clients = s.clients; capacity = s.capacity; bytes = s.bytes; log = s.log; saved = s.saved; keep = s.keep; first_offset = s.first_offset; spaces = usual.spaces }
 
--- when a client is pinged and given up: pings each 25 s, 20 s for the answer, 45 s to join a namespace
-abbrev pub usual_timing : Timing
-usual_timing = record { ping_interval = 25000; ping_timeout = 20000; connect_timeout = 45000 }
-
--- what a client is told of that, and that a payload has a million bytes at most
+-- what a client is told of the usual timing, and that a payload has a million bytes at most
 abbrev pub usual_numbers : Numbers
 usual_numbers = record { ping_interval = 25000; ping_timeout = 20000; max_payload = 1000000 }
 
@@ -41,6 +37,6 @@ new_core s =
     record {
       hub = record { history = record { base = empty_base s.first_offset; limits = limits_of s; journal = [] }; rest = 65535 };
       lines = [];
-      timing = usual_timing;
+      timing = usual.timing;
       numbers = usual_numbers;
     }

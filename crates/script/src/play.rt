@@ -1,22 +1,17 @@
 //! What a line of a script does to the server.
 
-ghost use Rattle.std.specs.Prelude.{◌≡◌, ◌≢◌, ◌<◌, ℕ, List, [], IfOk, OnOk, IsOkUnless, None, Some, Ok, option_map, length};
+ghost use Rattle.std.specs.Prelude.{◌≡◌, ◌<◌, IfOk, OnOk, IsOkUnless, None, Some, Ok, option_map, length};
 ghost use Rattle.std.specs.BTreeMap.{get_by_text};
-ghost use Rattle.terms.specs.Bytes.{IsBytes};
-ghost use Rattle.hex.specs.Hex.{encode_lower};
-ghost use Rattle.dispatch.specs.declared.event.Event.TheVariants as event;
-ghost use Rattle.dispatch.specs.declared.event.WsFrame.TheVariants as frame_of;
 ghost use Rattle.script.specs.declared.faults.RunError.TheVariants.{Memory};
-ghost use Rattle.script.specs.Playing.{new_server, server_of, Happens, Asks, ForName, Names, Opens, Hears, HearsBytes, TakesWaiting, AsksMembers, Seals, RepliesForClient, Replies, Plays};
-ghost use Rattle.script.specs.Events.{event_of};
-ghost use Rattle.script.specs.Printing.{answer_text, outcome_text, heard_text};
+ghost use Rattle.script.specs.Playing.{new_server, server_of, Happens, Asks, IsOfNone, Names, Opens, AsksMembers, Seals, RepliesForClient, Replies, Plays};
+ghost use Rattle.script.specs.Printing.{answer_text, done_text, outcome_text};
 
-use crate::events::{bytes_of, event_of, take_of};
+use crate::events::event_of;
 use crate::faults::RunError;
-use crate::printing::{Answer, Posted, frame_lines, id_list};
-use crate::script_line::{Notice, ScriptLine};
-use dispatch::{Core, Event, Outcome, WsFrame};
-use effects::{App, Cause, CoreError, CoreFault};
+use crate::printing::{Answer, Posted, frame_lines, id_list, is_read};
+use crate::script_line::{ScriptLine, name_in};
+use dispatch::{Core, Event, Outcome};
+use effects::{App, Cause, CoreError, CoreFault, Done};
 use hub::Pass;
 use journal::HubError;
 use relay::Counter;
@@ -24,7 +19,6 @@ use room_maps::Room;
 use std::alloc::{AllocError, Global};
 use std::collections::BTreeMap;
 use std::sync::ledger::Ledger;
-use terms::Text;
 
 /// A server under way, and the clients that the names stand for.
 #[derive(Drop)]
@@ -59,7 +53,8 @@ impl<C: Ledger, T: Ledger> Play<C, T> {
     ) -> Result<Option<Answer<'a>>, RunError>
         ensures nothing { line.entry ≡ ScriptLine.Nothing → result ≡ Ok None }
         ensures bad { line.entry ≡ ScriptLine.Bad → result ≡ Ok (Some Answer.BadLine) }
-        ensures plays { IfOk result (λ answer. Plays (A.decides app.now) (A.allows app.now) line.entry (server_of self.old) (option_map answer_text answer) (server_of self.new)) }
+        ensures plays { IfOk result (λ answer. Plays (A.decides app.now) (A.allows app.now)
+            line.entry (server_of self.old) (option_map answer_text answer) (server_of self.new)) }
         ensures err { IsOkUnless result Memory }
     {
         match line {
@@ -80,7 +75,8 @@ impl<C: Ledger, T: Ledger> Play<C, T> {
         line: ScriptLine<'a>,
     ) -> Result<Answer<'a>, RunError>
         ensures bad { line.entry ≡ ScriptLine.Bad → result ≡ Ok Answer.BadLine }
-        ensures replies { IfOk result (λ answer. Replies (A.decides app.now) (A.allows app.now) line.entry (server_of self.old) (answer_text answer) (server_of self.new)) }
+        ensures replies { IfOk result (λ answer. Replies (A.decides app.now) (A.allows app.now)
+            line.entry (server_of self.old) (answer_text answer) (server_of self.new)) }
         ensures err { IsOkUnless result Memory }
     {
         match line {
@@ -89,30 +85,35 @@ impl<C: Ledger, T: Ledger> Play<C, T> {
             ScriptLine::Members(space, room) => self.members(alloc, space, room),
             ScriptLine::Totals => Ok(Answer::Totals(self.core.hub().state().totals())),
             ScriptLine::Seal => self.seal(alloc),
-            ScriptLine::Sweep => self.sweep(alloc, app),
+            ScriptLine::Sweep => self.tell(alloc, app, "", &Event::Sweep),
             other => self.reply_for_client(alloc, app, other),
         }
     }
 
-    /// Does what a line asks for the client that it names. Any other line is bad, and so is one whose
-    /// name stands for no client.
+    /// Does what a line asks for of the client that it names. Any other line is bad, and so is one
+    /// whose name stands for no client.
     fn reply_for_client<'a, A: App>(
         &mut self,
         alloc: Global,
         app: &A,
         line: ScriptLine<'a>,
     ) -> Result<Answer<'a>, RunError>
-        ensures bad { line.entry ≡ ScriptLine.Bad → result ≡ Ok Answer.BadLine }
-        ensures replies { IfOk result (λ answer. RepliesForClient (A.decides app.now) (A.allows app.now) line.entry (server_of self.old) (answer_text answer) (server_of self.new)) }
+        ensures bad { IsOfNone line.entry (get_by_text self.old.clients)
+            → result ≡ Ok Answer.BadLine }
+        ensures replies { IfOk result (λ answer.
+            RepliesForClient (A.decides app.now) (A.allows app.now) line.entry
+            (server_of self.old) (answer_text answer) (server_of self.new)) }
         ensures err { IsOkUnless result Memory }
     {
-        match line {
-            ScriptLine::Text(name, rest) => self.text(alloc, app, name, rest),
-            ScriptLine::Frame(name, rest) => self.text_frame(alloc, app, name, rest),
-            ScriptLine::Bytes(name, hex) => self.byte_frame(alloc, app, name, hex),
-            ScriptLine::Notice(notice, name) => self.notice(alloc, app, notice, name),
-            ScriptLine::Take(name, most) => self.take(alloc, app, name, most),
-            _ => Ok(Answer::BadLine),
+        let Some(name) = name_in(line) else {
+            return Ok(Answer::BadLine);
+        };
+        let Some(client) = self.clients.get(name).copied() else {
+            return Ok(Answer::BadLine);
+        };
+        match event_of(alloc, line, client, self.core.transport(client))? {
+            Some(event) => self.tell(alloc, app, name, &event),
+            None => Ok(Answer::BadLine),
         }
     }
 
@@ -123,7 +124,8 @@ impl<C: Ledger, T: Ledger> Play<C, T> {
         app: &A,
         event: &Event,
     ) -> Result<Result<Outcome, CoreError>, RunError>
-        ensures happens { IfOk result (λ answer. Happens (A.decides app.now) (A.allows app.now) (server_of self.old) event.now answer (server_of self.new)) }
+        ensures happens { IfOk result (λ answer. Happens (A.decides app.now) (A.allows app.now)
+            (server_of self.old) event.now answer (server_of self.new)) }
         ensures err { IsOkUnless result Memory }
     {
         let core = &mut self.core;
@@ -133,19 +135,21 @@ impl<C: Ledger, T: Ledger> Play<C, T> {
         }
     }
 
-    /// What a client of this name is answered at an event.
-    fn done<'a, A: App>(
+    /// What the client of this name is answered at an event.
+    fn tell<'a, A: App>(
         &mut self,
         alloc: Global,
         app: &A,
         name: &'a str,
         event: &Event,
     ) -> Result<Answer<'a>, RunError>
-        ensures asks { IfOk result (λ answer. Asks (A.decides app.now) (A.allows app.now) name.entry.now event.now (server_of self.old) (answer_text answer) (server_of self.new)) }
+        ensures asks { IfOk result (λ answer.
+            Asks (A.decides app.now) (A.allows app.now) name.entry.now event.now
+            (server_of self.old) (answer_text answer) (server_of self.new)) }
         ensures err { IsOkUnless result Memory }
     {
         match self.apply(alloc, app, event)? {
-            Ok(outcome) => Ok(answer_of(alloc, name, outcome)?),
+            Ok(outcome) => Ok(answer_to(alloc, name, event, outcome)?),
             Err(error) => Ok(Answer::Refused(error.fault)),
         }
     }
@@ -158,22 +162,25 @@ impl<C: Ledger, T: Ledger> Play<C, T> {
         name: &'a str,
         socket: bool,
     ) -> Result<Answer<'a>, RunError>
-        ensures opens { IfOk result (λ answer. Opens (A.decides app.now) (A.allows app.now) name.entry.now socket (server_of self.old) (answer_text answer) (server_of self.new)) }
+        ensures opens { IfOk result (λ answer. Opens (A.decides app.now) (A.allows app.now)
+            name.entry.now socket (server_of self.old) (answer_text answer) (server_of self.new)) }
         ensures err { IsOkUnless result Memory }
     {
-        match self.apply(alloc, app, &Event::Opened { socket })? {
+        let event = Event::Opened { socket };
+        match self.apply(alloc, app, &event)? {
             Ok(Outcome::Opened(opening)) => {
                 self.call(alloc, name, opening.client)?;
                 Ok(Answer::Opened(name, opening.text))
             }
-            Ok(outcome) => Ok(answer_of(alloc, name, outcome)?),
+            Ok(outcome) => Ok(answer_to(alloc, name, &event, outcome)?),
             Err(error) => Ok(Answer::Refused(error.fault)),
         }
     }
 
     /// From now on the name stands for this client.
     fn call(&mut self, alloc: Global, name: &str, client: u128) -> Result<(), RunError>
-        ensures names { OnOk result (Names name.now client (server_of self.old) (server_of self.new)) }
+        ensures names { OnOk result
+            (Names name.now client (server_of self.old) (server_of self.new)) }
         ensures err { IsOkUnless result Memory }
     {
         let key = String::from_str(alloc, name)?;
@@ -181,125 +188,11 @@ impl<C: Ledger, T: Ledger> Play<C, T> {
         Ok(())
     }
 
-    /// Hands the server a payload from the client of this name.
-    fn text<'a, A: App>(
-        &mut self,
-        alloc: Global,
-        app: &A,
-        name: &'a str,
-        payload: &str,
-    ) -> Result<Answer<'a>, RunError>
-        ensures unknown { get_by_text self.old.clients name.entry.now ≡ None → result ≡ Ok Answer.BadLine }
-        ensures plays { IfOk result (λ answer. ForName name.entry.now (λ c. Asks (A.decides app.now) (A.allows app.now) name.entry.now (event.Post c payload.now) (server_of self.old) (answer_text answer) (server_of self.new)) (server_of self.old) (answer_text answer) (server_of self.new)) }
-        ensures err { IsOkUnless result Memory }
-    {
-        let Some(client) = self.clients.get(name).copied() else {
-            return Ok(Answer::BadLine);
-        };
-        let body = Text::copy_of(alloc, payload)?;
-        self.done(alloc, app, name, &Event::Post { client, body })
-    }
-
-    /// Hands the server a text frame from the client of this name.
-    fn text_frame<'a, A: App>(
-        &mut self,
-        alloc: Global,
-        app: &A,
-        name: &'a str,
-        text: &str,
-    ) -> Result<Answer<'a>, RunError>
-        ensures unknown { get_by_text self.old.clients name.entry.now ≡ None → result ≡ Ok Answer.BadLine }
-        ensures plays { IfOk result (λ answer. ForName name.entry.now (λ c. Hears (A.decides app.now) (A.allows app.now) name.entry.now c (frame_of.Text text.now) (server_of self.old) (answer_text answer) (server_of self.new)) (server_of self.old) (answer_text answer) (server_of self.new)) }
-        ensures err { IsOkUnless result Memory }
-    {
-        let Some(client) = self.clients.get(name).copied() else {
-            return Ok(Answer::BadLine);
-        };
-        let frame = WsFrame::Text(Text::copy_of(alloc, text)?);
-        self.heard(alloc, app, name, client, frame)
-    }
-
-    /// Hands the server a binary frame from the client of this name, where the text has its bytes.
-    fn byte_frame<'a, A: App>(
-        &mut self,
-        alloc: Global,
-        app: &A,
-        name: &'a str,
-        hex: &str,
-    ) -> Result<Answer<'a>, RunError>
-        ensures unknown { get_by_text self.old.clients name.entry.now ≡ None → result ≡ Ok Answer.BadLine }
-        ensures plays { IfOk result (λ answer. ForName name.entry.now (λ c. HearsBytes (A.decides app.now) (A.allows app.now) name.entry.now hex.now c (server_of self.old) (answer_text answer) (server_of self.new)) (server_of self.old) (answer_text answer) (server_of self.new)) }
-        ensures no_bytes { ((bytes : List ℕ) → IsBytes bytes → hex.now ≢ encode_lower bytes) → IfOk result (λ answer. answer ≡ Answer.BadLine) }
-        ensures err { IsOkUnless result Memory }
-    {
-        let Some(client) = self.clients.get(name).copied() else {
-            return Ok(Answer::BadLine);
-        };
-        match bytes_of(alloc, hex)? {
-            Some(bytes) => self.heard(alloc, app, name, client, WsFrame::Bytes(bytes)),
-            None => Ok(Answer::BadLine),
-        }
-    }
-
-    /// What the client of this name is answered at its frame.
-    fn heard<'a, A: App>(
-        &mut self,
-        alloc: Global,
-        app: &A,
-        name: &'a str,
-        client: u128,
-        frame: WsFrame,
-    ) -> Result<Answer<'a>, RunError>
-        ensures hears { IfOk result (λ answer. Hears (A.decides app.now) (A.allows app.now) name.entry.now client frame (server_of self.old) (answer_text answer) (server_of self.new)) }
-        ensures err { IsOkUnless result Memory }
-    {
-        match self.apply(alloc, app, &Event::Frame { client, frame })? {
-            Ok(outcome) => Ok(answer_of_frame(alloc, name, outcome)?),
-            Err(error) => Ok(Answer::Refused(error.fault)),
-        }
-    }
-
-    /// What a line says of the client of this name happens.
-    fn notice<'a, A: App>(
-        &mut self,
-        alloc: Global,
-        app: &A,
-        notice: Notice,
-        name: &'a str,
-    ) -> Result<Answer<'a>, RunError>
-        ensures unknown { get_by_text self.old.clients name.entry.now ≡ None → result ≡ Ok Answer.BadLine }
-        ensures plays { IfOk result (λ answer. ForName name.entry.now (λ c. Asks (A.decides app.now) (A.allows app.now) name.entry.now (event_of notice c) (server_of self.old) (answer_text answer) (server_of self.new)) (server_of self.old) (answer_text answer) (server_of self.new)) }
-        ensures err { IsOkUnless result Memory }
-    {
-        let Some(client) = self.clients.get(name).copied() else {
-            return Ok(Answer::BadLine);
-        };
-        self.done(alloc, app, name, &event_of(notice, client))
-    }
-
-    /// Takes what waits for the client of this name.
-    fn take<'a, A: App>(
-        &mut self,
-        alloc: Global,
-        app: &A,
-        name: &'a str,
-        most: usize,
-    ) -> Result<Answer<'a>, RunError>
-        ensures unknown { get_by_text self.old.clients name.entry.now ≡ None → result ≡ Ok Answer.BadLine }
-        ensures plays { IfOk result (λ answer. ForName name.entry.now (λ c. TakesWaiting (A.decides app.now) (A.allows app.now) name.entry.now c most (server_of self.old) (answer_text answer) (server_of self.new)) (server_of self.old) (answer_text answer) (server_of self.new)) }
-        ensures err { IsOkUnless result Memory }
-    {
-        let Some(client) = self.clients.get(name).copied() else {
-            return Ok(Answer::BadLine);
-        };
-        let event = take_of(self.core.transport(client), client, most);
-        self.done(alloc, app, name, &event)
-    }
-
     /// The sockets of a namespace that are in a room, whose name has at most 64 bytes.
     fn members(&self, alloc: Global, space: &str, room: &str) -> Result<Answer<'static>, RunError>
         ensures long { 64 < length room.now → result ≡ Ok Answer.BadLine }
-        ensures asks { IfOk result (λ answer. AsksMembers space.now room.now (server_of self.entry.now) (answer_text answer)) }
+        ensures asks { IfOk result (λ answer.
+            AsksMembers space.now room.now (server_of self.entry.now) (answer_text answer)) }
         ensures err { IsOkUnless result Memory }
     {
         let Some(room) = Room::read(room) else {
@@ -313,17 +206,10 @@ impl<C: Ledger, T: Ledger> Play<C, T> {
         }
     }
 
-    /// What the server keeps no longer is dropped. That is of no client, and prints no name.
-    fn sweep<A: App>(&mut self, alloc: Global, app: &A) -> Result<Answer<'static>, RunError>
-        ensures asks { IfOk result (λ answer. Asks (A.decides app.now) (A.allows app.now) [] event.Sweep (server_of self.old) (answer_text answer) (server_of self.new)) }
-        ensures err { IsOkUnless result Memory }
-    {
-        self.done(alloc, app, "", &Event::Sweep)
-    }
-
     /// Ends an epoch.
     fn seal(&mut self, alloc: Global) -> Result<Answer<'static>, RunError>
-        ensures seals { IfOk result (λ answer. Seals (server_of self.old) (answer_text answer) (server_of self.new)) }
+        ensures seals { IfOk result (λ answer.
+            Seals (server_of self.old) (answer_text answer) (server_of self.new)) }
         ensures err { IsOkUnless result Memory }
     {
         match self.core.seal(alloc) {
@@ -333,17 +219,19 @@ impl<C: Ledger, T: Ledger> Play<C, T> {
     }
 }
 
-/// What is printed of an outcome for the client of this name. A second GET that waits has closed the
-/// client, and no payload does so for that cause.
-fn answer_of<'a>(alloc: Global, name: &'a str, outcome: Outcome) -> Result<Answer<'a>, AllocError>
-    ensures { IfOk result (λ answer. answer_text answer ≡ outcome_text name.entry.now outcome) }
+/// What is printed of an event's outcome for the client of this name.
+fn answer_to<'a>(
+    alloc: Global,
+    name: &'a str,
+    event: &Event,
+    outcome: Outcome,
+) -> Result<Answer<'a>, AllocError>
+    ensures { IfOk result (λ answer.
+        answer_text answer ≡ outcome_text name.entry.now event.now outcome) }
 {
     match outcome {
         Outcome::Opened(opening) => Ok(Answer::Opened(name, opening.text)),
-        Outcome::Done(done) => match done.closed {
-            Some(Cause::DoubleGet) => Ok(Answer::Closed(Cause::DoubleGet)),
-            _ => Ok(Answer::Posted(Posted::of(&done))),
-        },
+        Outcome::Done(done) => Ok(answer_when_done(event, &done)),
         Outcome::Begun => Ok(Answer::Ok),
         Outcome::Payload(text) => Ok(Answer::Taken(name, Some(text))),
         Outcome::Frames(frames) => {
@@ -359,16 +247,14 @@ fn answer_of<'a>(alloc: Global, name: &'a str, outcome: Outcome) -> Result<Answe
     }
 }
 
-/// What is printed of a frame's outcome for the client of this name.
-fn answer_of_frame<'a>(
-    alloc: Global,
-    name: &'a str,
-    outcome: Outcome,
-) -> Result<Answer<'a>, AllocError>
-    ensures { IfOk result (λ answer. answer_text answer ≡ heard_text name.entry.now outcome) }
+/// What is printed of an event that was worked on. A second GET that waits has closed the client,
+/// and no payload does so for that cause. A frame was read, also one that is no packet.
+fn answer_when_done<'a>(event: &Event, done: &Done) -> Answer<'a>
+    ensures { answer_text result ≡ done_text event.now done.now }
 {
-    match outcome {
-        Outcome::Done(done) => Ok(Answer::Posted(Posted::of_frame(&done))),
-        other => answer_of(alloc, name, other),
+    match (event, done.closed) {
+        (Event::Frame { .. }, _) => Answer::Posted(Posted::of(done, true)),
+        (_, Some(Cause::DoubleGet)) => Answer::Closed(Cause::DoubleGet),
+        _ => Answer::Posted(Posted::of(done, is_read(done))),
     }
 }

@@ -3,7 +3,7 @@
 ghost use Rattle.std.specs.Prelude.{◌≡◌, ◌∷◌, ◌++◌, Some, IfOk, OnOk, if◌then◌else◌, codes, string_bytes};
 ghost use Rattle.eio_wire.specs.Ids.{id_digits};
 ghost use Rattle.script.specs.ScriptLine.{SPACE};
-ghost use Rattle.script.specs.Printing.{cause_name, fault_name, reason_name, ignored_text, ids_text, frame_text, more_text, frames_text, is_unread, posted_of, heard_of};
+ghost use Rattle.script.specs.Printing.{cause_name, fault_name, reason_name, ignored_text, ids_text, frame_text, more_text, frames_text, is_unread, is_read, posted_of};
 
 use dispatch::WsFrame;
 use effects::{Cause, CoreFault, Done};
@@ -69,29 +69,25 @@ pub struct Posted {
 }
 
 impl Posted {
-    /// What is told of a payload that was worked on.
-    pub(crate) fn of(done: &Done) -> Posted
-        ensures { result ≡ posted_of done.now }
+    /// What is told of packets that were worked on, where they were read or not.
+    pub(crate) fn of(done: &Done, read: bool) -> Posted
+        ensures { result ≡ posted_of done.now read }
     {
         Posted {
-            read: done.packets != 0 || !is_unread(done.closed),
+            read,
             skipped: done.skipped,
             ignored: done.ignored,
             closed: done.closed,
         }
     }
+}
 
-    /// What is told of a frame that was heard. One that is no packet was read too.
-    pub(crate) fn of_frame(done: &Done) -> Posted
-        ensures { result ≡ heard_of done.now }
-    {
-        Posted {
-            read: true,
-            skipped: done.skipped,
-            ignored: done.ignored,
-            closed: done.closed,
-        }
-    }
+/// Whether a payload was read. It wasn't where it closed the client for what no payload is, before
+/// any packet of it was worked on.
+pub(crate) fn is_read(done: &Done) -> bool
+    ensures { result ≡ is_read done.now }
+{
+    done.packets != 0 || !is_unread(done.closed)
 }
 
 /// Whether the client was closed for what no payload is.
@@ -117,7 +113,8 @@ pub(crate) fn id_list(alloc: Global, sids: &[Sid]) -> Result<Text, AllocError>
 
 /// Adds a space and an id.
 fn push_id(list: &mut String, sid: Sid) -> Result<(), AllocError>
-    ensures { OnOk result (string_bytes list.new ≡ string_bytes list.old ++ SPACE ∷ id_digits sid) }
+    ensures { OnOk result
+        (string_bytes list.new ≡ string_bytes list.old ++ SPACE ∷ id_digits sid) }
 {
     list.push_str(" ")?;
     list.push_str(ascii_text(&id_text(sid.number())))?;
@@ -144,7 +141,8 @@ fn push_more(
     name: &str,
     frames: &[WsFrame],
 ) -> Result<(), AllocError>
-    ensures { OnOk result (string_bytes lines.new ≡ string_bytes lines.old ++ more_text name.now frames.now) }
+    ensures { OnOk result
+        (string_bytes lines.new ≡ string_bytes lines.old ++ more_text name.now frames.now) }
 {
     for frame in frames {
         lines.push_str("\n")?;
@@ -160,7 +158,8 @@ fn push_frame(
     name: &str,
     frame: &WsFrame,
 ) -> Result<(), AllocError>
-    ensures { OnOk result (string_bytes lines.new ≡ string_bytes lines.old ++ frame_text name.now frame.now) }
+    ensures { OnOk result
+        (string_bytes lines.new ≡ string_bytes lines.old ++ frame_text name.now frame.now) }
 {
     lines.push_str(name)?;
     match frame {

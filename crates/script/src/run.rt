@@ -26,10 +26,10 @@ const PARTS: u64 = 65_536;
 /// How many bytes one read asks for.
 const READ_SIZE: usize = 4096;
 
-/// Reads script lines to the end of the input, plays them to a server with this app, and writes the
-/// answers. What was answered is flushed before each read and at the end. The last line may lack its
-/// LF. Where the limits allow no server, that is the last answer, and the lines after it ask for
-/// nothing.
+/// Reads script lines to the end of the input, plays them to a server with this app, and writes
+/// the answers. What was answered is flushed before each read and at the end. The last line may
+/// lack its LF. Where the limits allow no server, that is the last answer, and the lines after it
+/// ask for nothing.
 pub fn run_script<A: App, R: Read, W: Write>(
     alloc: Global,
     app: &A,
@@ -37,7 +37,8 @@ pub fn run_script<A: App, R: Read, W: Write>(
     writer: &mut W,
 ) -> Result<(), RunError>
     ensures end { OnOk result (IsAtEnd (R.remaining reader.new)) }
-    ensures answered { OnOk result (IsAnswered (A.decides app.now) (A.allows app.now) (R.remaining reader.old) (W.contents writer.old) (W.contents writer.new)) }
+    ensures answered { OnOk result (IsAnswered (A.decides app.now) (A.allows app.now)
+        (R.remaining reader.old) (W.contents writer.old) (W.contents writer.new)) }
 {
     let (commands, taken) = (Blank::new(PARTS), Blank::new(PARTS));
     let served = serve::<Brand, Brand, A, R, W>(alloc, app, reader, writer, commands, taken);
@@ -56,10 +57,12 @@ fn serve<C: Ledger, T: Ledger, A: App, R: Read, W: Write>(
     commands: Blank,
     taken: Blank,
 ) -> Result<(), RunError>
-    requires commands { (commands.name ≡ C.name) × (commands.parts ≡ C.parts) × (commands.parts ≡ 65536) }
+    requires commands { (commands.name ≡ C.name)
+        × (commands.parts ≡ C.parts) × (commands.parts ≡ 65536) }
     requires taken { (taken.name ≡ T.name) × (taken.parts ≡ T.parts) × (taken.parts ≡ 65536) }
     ensures end { OnOk result (IsAtEnd (R.remaining reader.new)) }
-    ensures answered { OnOk result (IsAnswered (A.decides app.now) (A.allows app.now) (R.remaining reader.old) (W.contents writer.old) (W.contents writer.new)) }
+    ensures answered { OnOk result (IsAnswered (A.decides app.now) (A.allows app.now)
+        (R.remaining reader.old) (W.contents writer.old) (W.contents writer.new)) }
 {
     let mut run: Run<C, T> = Run::new(commands, taken);
     answer_all(alloc, app, &mut run, reader, writer)
@@ -74,7 +77,9 @@ fn answer_all<C: Ledger, T: Ledger, A: App, R: Read, W: Write>(
     writer: &mut W,
 ) -> Result<(), RunError>
     ensures end { OnOk result (IsAtEnd (R.remaining reader.new)) }
-    ensures answered { OnOk result (stage_of run.old ≡ Setting USUAL → IsAnswered (A.decides app.now) (A.allows app.now) (R.remaining reader.old) (W.contents writer.old) (W.contents writer.new)) }
+    ensures answered { OnOk result (stage_of run.old ≡ Setting USUAL
+        → IsAnswered (A.decides app.now) (A.allows app.now)
+        (R.remaining reader.old) (W.contents writer.old) (W.contents writer.new)) }
 {
     let mut line = Vec::new(alloc);
     let mut buffer = [0u8; READ_SIZE];
@@ -128,7 +133,10 @@ fn answer_lines<C: Ledger, T: Ledger, A: App, W: Write>(
     writer: &mut W,
 ) -> Result<(), RunError>
     ensures unended { OnOk result (IsUnended line.old.items → IsUnended line.new.items) }
-    ensures answered { OnOk result (IsUnended line.old.items → WritesOn (A.decides app.now) (A.allows app.now) (W.contents writer.old) (W.contents writer.new) (stage_of run.old) line.old.items bytes.now line.new.items (stage_of run.new)) }
+    ensures answered { OnOk result (IsUnended line.old.items
+        → WritesOn (A.decides app.now) (A.allows app.now) (W.contents writer.old)
+        (W.contents writer.new) (stage_of run.old) line.old.items bytes.now
+        line.new.items (stage_of run.new)) }
     ensures err { IfErr result (λ fault. fault ≢ Reading) }
 {
     for byte in bytes {
@@ -147,7 +155,10 @@ fn answer_byte<C: Ledger, T: Ledger, A: App, W: Write>(
     writer: &mut W,
 ) -> Result<(), RunError>
     ensures unended { OnOk result (IsUnended line.old.items → IsUnended line.new.items) }
-    ensures answered { OnOk result (IsUnended line.old.items → WritesOn (A.decides app.now) (A.allows app.now) (W.contents writer.old) (W.contents writer.new) (stage_of run.old) line.old.items (byte ∷ []) line.new.items (stage_of run.new)) }
+    ensures answered { OnOk result (IsUnended line.old.items
+        → WritesOn (A.decides app.now) (A.allows app.now) (W.contents writer.old)
+        (W.contents writer.new) (stage_of run.old) line.old.items (byte ∷ [])
+        line.new.items (stage_of run.new)) }
     ensures err { IfErr result (λ fault. fault ≢ Reading) }
 {
     if byte == b'\n' {
@@ -166,7 +177,9 @@ fn answer_line<C: Ledger, T: Ledger, A: App, W: Write>(
     writer: &mut W,
 ) -> Result<(), RunError>
     ensures emptied { OnOk result (line.new.items ≡ []) }
-    ensures answered { OnOk result (WritesLine (A.decides app.now) (A.allows app.now) (W.contents writer.old) (W.contents writer.new) line.old.items (stage_of run.old) (stage_of run.new)) }
+    ensures answered { OnOk result (WritesLine (A.decides app.now) (A.allows app.now)
+        (W.contents writer.old) (W.contents writer.new) line.old.items
+        (stage_of run.old) (stage_of run.new)) }
     ensures err { IfErr result (λ fault. fault ≢ Reading) }
 {
     print_any(writer, run.answer(alloc, app, read_line(line.as_slice()))?)?;
@@ -176,7 +189,8 @@ fn answer_line<C: Ledger, T: Ledger, A: App, W: Write>(
 
 /// Prints the answer to a line, if there is one.
 fn print_any<W: Write>(writer: &mut W, answer: Option<Answer<'_>>) -> Result<(), RunError>
-    ensures printed { OnOk result (Appends (W.contents writer.old) (W.contents writer.new) (printed (option_map answer_text answer.entry))) }
+    ensures printed { OnOk result (Appends (W.contents writer.old) (W.contents writer.new)
+        (printed (option_map answer_text answer.entry))) }
     ensures err { IsOkUnless result Writing }
 {
     match answer {
@@ -186,7 +200,8 @@ fn print_any<W: Write>(writer: &mut W, answer: Option<Answer<'_>>) -> Result<(),
 }
 
 fn print<W: Write>(writer: &mut W, answer: &Answer<'_>) -> Result<(), RunError>
-    ensures line { OnOk result (Appends (W.contents writer.old) (W.contents writer.new) (answer_text answer.now ++ 10 ∷ [])) }
+    ensures line { OnOk result (Appends (W.contents writer.old) (W.contents writer.new)
+        (answer_text answer.now ++ 10 ∷ [])) }
     ensures err { IsOkUnless result Writing }
 {
     writeln!(writer, "{answer}").map_err(|_| RunError::Writing)
@@ -206,8 +221,10 @@ enum Run<C: Ledger, T: Ledger> {
 impl<C: Ledger, T: Ledger> Run<C, T> {
     /// A script of which no line was read.
     fn new(commands: Blank, taken: Blank) -> Run<C, T>
-        requires commands { (commands.name ≡ C.name) × (commands.parts ≡ C.parts) × (commands.parts ≡ 65536) }
-        requires taken { (taken.name ≡ T.name) × (taken.parts ≡ T.parts) × (taken.parts ≡ 65536) }
+        requires commands { (commands.name ≡ C.name)
+            × (commands.parts ≡ C.parts) × (commands.parts ≡ 65536) }
+        requires taken { (taken.name ≡ T.name)
+            × (taken.parts ≡ T.parts) × (taken.parts ≡ 65536) }
         ensures { stage_of result ≡ Setting USUAL }
     {
         Run::Setting(Setup::usual(), Ledgers::new(commands, taken))
@@ -221,7 +238,8 @@ impl<C: Ledger, T: Ledger> Run<C, T> {
         line: ScriptLine<'a>,
     ) -> Result<Option<Answer<'a>>, RunError>
         ensures nothing { line.entry ≡ ScriptLine.Nothing → result ≡ Ok None }
-        ensures answers { IfOk result (λ answer. Answers (A.decides app.now) (A.allows app.now) line.entry (stage_of self.old) (option_map answer_text answer) (stage_of self.new)) }
+        ensures answers { IfOk result (λ answer. Answers (A.decides app.now) (A.allows app.now)
+            line.entry (stage_of self.old) (option_map answer_text answer) (stage_of self.new)) }
         ensures err { IsOkUnless result Memory }
     {
         match line {
@@ -236,7 +254,8 @@ impl<C: Ledger, T: Ledger> Run<C, T> {
 
     /// Sets a limit, as long as there is no server.
     fn set(&mut self, key: Key, number: u64) -> Option<Answer<'static>>
-        ensures { Sets key number (stage_of self.old) (option_map answer_text result) (stage_of self.new) }
+        ensures { Sets key number
+            (stage_of self.old) (option_map answer_text result) (stage_of self.new) }
     {
         match self {
             Run::Setting(setup, _) => {
@@ -250,7 +269,8 @@ impl<C: Ledger, T: Ledger> Run<C, T> {
 
     /// Makes the server at the first line that isn't about its limits, unless it is refused.
     fn begin(&mut self, alloc: Global) -> Result<Option<CoreFault>, RunError>
-        ensures begins { IfOk result (λ fault. Begins (stage_of self.old) fault (stage_of self.new)) }
+        ensures begins { IfOk result (λ fault.
+            Begins (stage_of self.old) fault (stage_of self.new)) }
         ensures err { IsOkUnless result Memory }
     {
         match replace(self, Run::Over) {
@@ -269,7 +289,8 @@ impl<C: Ledger, T: Ledger> Run<C, T> {
         setup: Setup,
         ledgers: Ledgers<C, T>,
     ) -> Result<Option<CoreFault>, RunError>
-        ensures begins { IfOk result (λ fault. stage_of self.old ≡ Over → Begins (Setting setup) fault (stage_of self.new)) }
+        ensures begins { IfOk result (λ fault. stage_of self.old ≡ Over
+            → Begins (Setting setup) fault (stage_of self.new)) }
         ensures err { IsOkUnless result Memory }
     {
         match setup.server(alloc, ledgers.commands, ledgers.taken) {
@@ -291,7 +312,8 @@ impl<C: Ledger, T: Ledger> Run<C, T> {
         app: &A,
         line: ScriptLine<'a>,
     ) -> Result<Option<Answer<'a>>, RunError>
-        ensures plays { IfOk result (λ answer. PlaysOn (A.decides app.now) (A.allows app.now) line.entry (stage_of self.old) (option_map answer_text answer) (stage_of self.new)) }
+        ensures plays { IfOk result (λ answer. PlaysOn (A.decides app.now) (A.allows app.now)
+            line.entry (stage_of self.old) (option_map answer_text answer) (stage_of self.new)) }
         ensures err { IsOkUnless result Memory }
     {
         match self {

@@ -1,7 +1,7 @@
 //! One line of a script.
 
-ghost use Rattle.std.specs.Prelude.{◌≡◌, ◌≢◌, ◌++◌, ◌∷◌, ◌↔◌, ℕ, List, IsTrue, IfSome, IfNone};
-ghost use Rattle.script.specs.ScriptLine.{IsName, IsNumber, IsWord, IsSilent, IsReadAs, ReadsAs, Spells, IsNoServerLine, IsNoClientLine, IsNoOpenLine, IsNoTakeLine, IsNoNoticeLine, IsNoSendingLine, SPACE, key_text, notice_text};
+ghost use Rattle.std.specs.Prelude.{◌≡◌, ◌≢◌, ◌++◌, ◌∷◌, ◌↔◌, ℕ, List, IsTrue, IfSome, IfNone, option_map};
+ghost use Rattle.script.specs.ScriptLine.{name_in, IsName, IsNumber, IsWord, IsSilent, IsReadAs, ReadsAs, Spells, IsNoServerLine, IsNoClientLine, IsNoOpenLine, IsNoTakeLine, IsNoNoticeLine, IsNoSendingLine, SPACE, key_text, notice_text};
 
 /// How many entries a `take` hands out at most that names no number.
 const MOST_TAKEN: usize = 64;
@@ -70,6 +70,18 @@ pub enum ScriptLine<'a> {
     Nothing,
     /// Any other line.
     Bad,
+}
+
+/// The name of the client that the line is of, if it is of one that was opened.
+pub(crate) fn name_in(line: ScriptLine<'_>) -> Option<&str>
+    ensures { option_map (λ name. name.now) result ≡ name_in line.entry }
+{
+    match line {
+        ScriptLine::Text(name, _) | ScriptLine::Frame(name, _) => Some(name),
+        ScriptLine::Bytes(name, _) | ScriptLine::Take(name, _) => Some(name),
+        ScriptLine::Notice(_, name) => Some(name),
+        _ => None,
+    }
 }
 
 /// Reads a line, which comes without its LF.
@@ -202,8 +214,10 @@ fn is_silent(text: &str) -> bool
 
 /// The name of a line that is this word and a name.
 fn name_after<'a>(word: &str, text: &'a str) -> Option<&'a str>
-    ensures some { IfSome result (λ name. IsName name.now × (text.now ≡ word.now ++ SPACE ∷ name.now)) }
-    ensures none { IfNone result ((name : List ℕ) → IsName name → text.now ≢ word.now ++ SPACE ∷ name) }
+    ensures some { IfSome result (λ name. IsName name.now
+        × (text.now ≡ word.now ++ SPACE ∷ name.now)) }
+    ensures none { IfNone result ((name : List ℕ) → IsName name
+        → text.now ≢ word.now ++ SPACE ∷ name) }
 {
     let name = rest_after(word, text)?;
     if is_name(name) { Some(name) } else { None }
@@ -234,8 +248,10 @@ fn rest_after<'a>(word: &str, text: &'a str) -> Option<&'a str>
 
 /// The number of a line that is this word and a number.
 fn number_after(word: &str, text: &str) -> Option<u64>
-    ensures some { IfSome result (λ number. (digits : List ℕ) × IsNumber digits number × (text.now ≡ word.now ++ SPACE ∷ digits)) }
-    ensures none { IfNone result ((digits : List ℕ) (number : ℕ) → IsNumber digits number → text.now ≢ word.now ++ SPACE ∷ digits) }
+    ensures some { IfSome result (λ number. (digits : List ℕ) × IsNumber digits number
+        × (text.now ≡ word.now ++ SPACE ∷ digits)) }
+    ensures none { IfNone result ((digits : List ℕ) (number : ℕ) → IsNumber digits number
+        → text.now ≢ word.now ++ SPACE ∷ digits) }
 {
     read_number(rest_after(word, text)?)
 }
@@ -244,8 +260,8 @@ fn number_after(word: &str, text: &str) -> Option<u64>
 fn key_and_number_after(word: &str, text: &str) -> Option<(Key, u64)>
     ensures some { IfSome result (λ parts. (digits : List ℕ) × IsNumber digits parts.1
         × (text.now ≡ word.now ++ SPACE ∷ key_text parts.0 ++ SPACE ∷ digits)) }
-    ensures none { IfNone result ((key : Key) (digits : List ℕ) (number : ℕ) → IsNumber digits number
-        → text.now ≢ word.now ++ SPACE ∷ key_text key ++ SPACE ∷ digits) }
+    ensures none { IfNone result ((key : Key) (digits : List ℕ) (number : ℕ)
+        → IsNumber digits number → text.now ≢ word.now ++ SPACE ∷ key_text key ++ SPACE ∷ digits) }
 {
     let (key, digits) = word_and_rest_after(word, text)?;
     Some((read_key(key)?, read_number(digits)?))

@@ -9,27 +9,11 @@ ghost use Rattle.script.specs.Setup.{USUAL, with_limit, limits_of, new_core};
 use crate::script_line::Key;
 use dispatch::Core;
 use effects::{CoreError, CoreFault};
-use eio_wire::Numbers;
 use hub::Pass;
 use journal::Config;
-use session_clock::Timing;
+use settings::{NUMBERS, TIMING, usual_spaces};
 use std::alloc::{AllocError, Global};
 use std::sync::ledger::{Blank, Ledger};
-use terms::Text;
-
-/// What every client is told: pings each 25 s, 20 s for the answer, payloads of a million bytes.
-const NUMBERS: Numbers = Numbers {
-    ping_interval: 25_000,
-    ping_timeout: 20_000,
-    max_payload: 1_000_000,
-};
-
-/// What a client's clock goes by.
-const TIMING: Timing = Timing {
-    ping_interval: 25_000,
-    ping_timeout: 20_000,
-    connect_timeout: 45_000,
-};
 
 /// The limits of a server, of which a script may set each.
 #[derive(Clone, Copy, Debug)]
@@ -74,13 +58,11 @@ impl Setup {
         }
     }
 
-    /// The limits with the names of the two namespaces.
+    /// The limits, with the usual namespaces.
     fn config(self, alloc: Global) -> Result<Config, AllocError>
         ensures { IfOk result (λ config. config ≡ limits_of self) }
     {
-        let mut spaces = Vec::new(alloc);
-        spaces.push(Text::copy_of(alloc, "/")?)?;
-        spaces.push(Text::copy_of(alloc, "/admin")?)?;
+        let spaces = usual_spaces(alloc)?;
         Ok(Config {
             clients: self.clients,
             capacity: self.capacity,
@@ -100,11 +82,14 @@ impl Setup {
         commands: Blank,
         taken: Blank,
     ) -> Result<(Core<C, T>, Pass<C, T>), CoreError>
-        requires commands { (commands.name ≡ C.name) × (commands.parts ≡ C.parts) × (commands.parts ≡ 65536) }
-        requires taken { (taken.name ≡ T.name) × (taken.parts ≡ T.parts) × (taken.parts ≡ 65536) }
+        requires commands { (commands.name ≡ C.name)
+            × (commands.parts ≡ C.parts) × (commands.parts ≡ 65536) }
+        requires taken { (taken.name ≡ T.name)
+            × (taken.parts ≡ T.parts) × (taken.parts ≡ 65536) }
         ensures core { IfOk result (λ made. made.0 ≡ new_core self) }
         ensures allowed { OnOk result (config_refusal (limits_of self) ≡ None) }
-        ensures refused { IfErr result (λ e. (e.fault ≡ fault.Memory) ⊎ (e.fault ≡ fault_of_config (config_refusal (limits_of self)))) }
+        ensures refused { IfErr result (λ e. (e.fault ≡ fault.Memory)
+            ⊎ (e.fault ≡ fault_of_config (config_refusal (limits_of self)))) }
     {
         match self.config(alloc) {
             Ok(config) => Core::new(alloc, config, TIMING, NUMBERS, commands, taken),
