@@ -2,30 +2,22 @@
 #![tactic(auto)]
 
 #[cfg(test)]
-mod bounds;
-#[cfg(test)]
-mod chosen;
-#[cfg(test)]
-mod made;
+mod ids;
 #[cfg(test)]
 mod options;
 #[cfg(test)]
 mod pages;
 #[cfg(test)]
-mod polling;
+mod place;
+#[cfg(test)]
+mod player;
 #[cfg(test)]
 mod pressure;
 #[cfg(test)]
-mod requests;
+mod scenes;
 #[cfg(test)]
-mod returning;
+mod served;
 #[cfg(test)]
-mod sockets;
+mod server;
 #[cfg(test)]
-mod speaking;
-#[cfg(test)]
-mod spread;
-#[cfg(test)]
-mod stopping;
-#[cfg(test)]
-mod tasks;
+mod wire;

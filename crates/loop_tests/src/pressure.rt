@@ -1,181 +1,84 @@
-//! A member that reads nothing for a while.
+//! What is said to a member that reads nothing for a while, and what comes to it then.
 
-use crate::made::Plan;
-use crate::requests::Place;
-use crate::sockets::{Socket, hears, opened_over, says, sends, session_over};
-use crate::tasks::{Task, seen_by};
+use crate::served::Heard;
+use crate::wire::{brings, hears, next_text, says, sends};
 use sio_wire::read_offset;
 use std::alloc::Global;
-use std::net::{Net, TcpStream};
-use std::process::Abort;
-use std::rt::Clock;
-use std::sync::Wait;
+use std::net::TcpStream;
 use std::sync::atomic::Ordering;
-use std::time::Duration;
-use tungstenite::Message;
 
-/// It ends when it is stopped.
-pub const PLAN: Plan = Plan {
-    workers: 2,
-    connections: None,
-    clients: 16,
-    capacity: 4,
-    entries: 15,
-    origin: None,
-};
-
-/// How often the member is spoken to at the most. The server tells what it dropped once a second, in
-/// which a fast one relays some hundreds.
+/// How often the member is spoken to at the most. The server tells what it dropped once a second,
+/// in which a fast one relays some hundreds.
 const MOST: u32 = 100_000;
 
-/// How many bytes a long event has.
+/// How many bytes a long event has, and how its frame begins, to the server and from it.
 const LENGTH: usize = 200_000;
 
-/// What is said to the room, which is to be acknowledged.
-const LONG: &str = "451-7[\"say\",\"r\",{\"_placeholder\":true,\"num\":0}]";
+const FRAME_SAID: &[u8] = b"\x82\xff\0\0\0\0\0\x03\x0d\x40\0\0\0\0";
 
-const SHORT: &str = "428[\"say\",\"r\",\"end\"]";
+const FRAME_HEARD: &[u8] = b"\x82\x7f\0\0\0\0\0\x03\x0d\x40";
+
+/// What is said to the room, which is to be acknowledged.
+const LONG: &str = r#"451-7["say","r",{"_placeholder":true,"num":0}]"#;
+
+const SHORT: &str = r#"428["say","r","end"]"#;
 
 /// How both come to the member, up to the offset.
-const LONG_COMES: &str = "451-[\"say\",\"r\",{\"_placeholder\":true,\"num\":0},\"";
+const LONG_COMES: &str = r#"451-["say","r",{"_placeholder":true,"num":0},""#;
 
-const SHORT_COMES: &str = "42[\"say\",\"r\",\"end\",\"";
+const SHORT_COMES: &str = r#"42["say","r","end",""#;
 
-/// A client over a WebSocket, in a room.
-fn joined<R: Net<Stream = TcpStream> + Abort>(place: &Place<'_, R>, join: &str) -> Socket {
-    let rt = place.rt;
-    let mut socket = place.speaks().expect(rt, "a WebSocket");
-    assert!(rt; opened_over(place.alloc, &mut socket).is_some());
-    assert!(rt; session_over(place.alloc, &mut socket, "40").is_some());
-    assert!(rt; says(place.alloc, &mut socket, join));
-    assert!(rt; hears(&mut socket, "431[]"));
-    socket
+/// A frame of so many zeros.
+fn frame(alloc: Global, start: &[u8]) -> Option<Vec<u8>> {
+    let mut frame = Vec::new(alloc);
+    frame.extend_from_slice(start).ok()?;
+    let length = start.len().checked_add(LENGTH)?;
+    frame.resize(length, 0).ok()?;
+    Some(frame)
 }
 
-/// So many zeros.
-fn zeros(alloc: Global, count: usize) -> Option<Vec<u8>> {
-    let mut bytes = Vec::new(alloc);
-    for _ in 0..count {
-        bytes.push(0).ok()?;
-    }
-    Some(bytes)
-}
-
-/// Speaks to the member until the server tells of an entry that it dropped. Answers whether it did,
-/// and each event was acknowledged.
-fn fills<R>(place: &Place<'_, R>, other: &mut Socket, bytes: &[u8]) -> bool {
+/// Speaks to the member until the server tells of an entry that it dropped. Each event is
+/// acknowledged.
+pub fn fills(alloc: Global, stream: &TcpStream, heard: &Heard) -> Option<()> {
+    let frame = frame(alloc, FRAME_SAID)?;
     for _ in 0..MOST {
-        let said = says(place.alloc, other, LONG) && sends(place.alloc, other, bytes);
-        if !said || !hears(other, "437[]") {
-            return false;
-        }
-        if place.heard.dropped.load(Ordering::SeqCst) > 0 {
-            return true;
+        says(alloc, stream, LONG)?;
+        sends(stream, frame.as_slice())?;
+        hears(alloc, stream, "437[]")?;
+        if heard.dropped.load(Ordering::SeqCst) > 0 {
+            return Some(());
         }
     }
-    false
-}
-
-/// What comes to the member.
-#[derive(Clone, Copy, Debug, PartialEq, Eq)]
-enum Comes {
-    /// The header of a long event, with its offset.
-    Long(u64),
-    /// A short event, with its offset.
-    Short(u64),
-    Nothing,
+    None
 }
 
 fn offset_in(text: &str, start: &str) -> Option<u64> {
     read_offset(text.strip_prefix(start)?.strip_suffix("\"]")?)
 }
 
-fn coming(text: &str) -> Comes {
-    match (offset_in(text, LONG_COMES), offset_in(text, SHORT_COMES)) {
-        (Some(offset), _) => Comes::Long(offset),
-        (None, Some(offset)) => Comes::Short(offset),
-        (None, None) => Comes::Nothing,
+/// The offset of the event that comes next to the member, and whether it was a short one. It is
+/// behind the last one, and the bytes of a long one come too.
+fn next_event(alloc: Global, member: &TcpStream, last: u64) -> Option<(u64, bool)> {
+    let text = next_text(alloc, member)?;
+    if let Some(offset) = offset_in(text.as_str(), SHORT_COMES) {
+        return (offset > last && last > 0).then_some((offset, true));
     }
+    let offset = offset_in(text.as_str(), LONG_COMES)?;
+    brings(alloc, member, frame(alloc, FRAME_HEARD)?.as_slice())?;
+    (offset > last).then_some((offset, false))
 }
 
-/// What a message brings.
-fn brought(message: &Message) -> Comes {
-    match message {
-        Message::Text(text) => coming(text.as_str()),
-        _ => Comes::Nothing,
-    }
-}
-
-/// Whether a message is as many bytes as a long event has.
-fn is_long(message: &Message) -> bool {
-    match message {
-        Message::Binary(bytes) => bytes.as_slice().len() == LENGTH,
-        _ => false,
-    }
-}
-
-/// The event that comes next, without its bytes.
-fn next_text(member: &mut Socket) -> Comes {
-    match member.read() {
-        Ok(message) => brought(&message),
-        Err(_) => Comes::Nothing,
-    }
-}
-
-/// Whether the bytes of a long event come next.
-fn is_whole(member: &mut Socket) -> bool {
-    match member.read() {
-        Ok(message) => is_long(&message),
-        Err(_) => false,
-    }
-}
-
-/// The next event that comes to the member. A long one comes whole.
-fn next_event(member: &mut Socket) -> Comes {
-    match next_text(member) {
-        Comes::Long(offset) => {
-            if is_whole(member) {
-                Comes::Long(offset)
-            } else {
-                Comes::Nothing
-            }
-        }
-        other => other,
-    }
-}
-
-/// Whether the member, who reads again, hears rising offsets up to a short event.
-fn reads_on(alloc: Global, member: &mut Socket, other: &mut Socket) -> bool {
+/// The member, who reads again, hears rising offsets up to a short event.
+pub fn drains(alloc: Global, member: &TcpStream, other: &TcpStream) -> Option<()> {
     let mut last = 0;
     for _ in 0..MOST {
-        if !says(alloc, other, SHORT) || !hears(other, "438[]") {
-            return false;
+        says(alloc, other, SHORT)?;
+        hears(alloc, other, "438[]")?;
+        let (offset, is_short) = next_event(alloc, member, last)?;
+        if is_short {
+            return Some(());
         }
-        match next_event(member) {
-            Comes::Long(offset) if offset > last => last = offset,
-            Comes::Short(offset) => return offset > last && last > 0,
-            _ => return false,
-        }
+        last = offset;
     }
-    false
-}
-
-/// A member reads nothing until an event is dropped, and then all that comes.
-pub fn play<R: Net<Stream = TcpStream> + Clock + Wait + Abort>(place: &Place<'_, R>) {
-    let (rt, alloc) = (place.rt, place.alloc);
-    let mut member = joined(place, "421[\"join\",\"r\"]");
-    let mut other = joined(place, "421[\"join\",\"q\"]");
-    let bytes = zeros(alloc, LENGTH).expect(rt, "bytes");
-    assert!(rt; fills(place, &mut other, bytes.as_slice()));
-    assert!(rt; reads_on(alloc, &mut member, &mut other));
-    place.shared.stop(rt, Duration::ZERO);
-    assert!(rt; place.shared.wait_for_loops(rt, Duration::from_secs(5)));
-}
-
-#[test]
-fn a_member_that_reads_nothing(rt: HostRuntime) {
-    let seen = seen_by(&rt, Task::Press);
-    assert!(rt; seen.adds_up(2));
-    assert!(rt; seen.totals.dropped > 0 && seen.totals.waiting == 0);
-    assert!(rt; (seen.lost, seen.closed, seen.sockets) == (2, 0, 2));
+    None
 }

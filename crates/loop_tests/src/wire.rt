@@ -1,0 +1,142 @@
+//! What goes over a connection: requests and answers over HTTP, and the frames of a WebSocket.
+
+use std::alloc::Global;
+use std::io;
+use std::io::{ErrorKind, Read, Write};
+use std::net::TcpStream;
+
+/// The headers by which a client asks for a WebSocket, and how that is granted.
+pub const UPGRADE: &str =
+    "Upgrade: websocket\r\nConnection: Upgrade\r\nSec-WebSocket-Key: dGhlIHNhbXBsZSBub25jZQ==\r\nSec-WebSocket-Version: 13";
+
+pub const SWITCHED: &[u8] =
+    b"HTTP/1.1 101 Switching Protocols\r\nconnection: Upgrade\r\nupgrade: websocket\r\nsec-websocket-accept: s3pPLMBiTxaQ9kYGzzhZRbK+xOo=\r\n\r\n";
+
+/// The body of most answers of status 400.
+pub const BAD_REQUEST: &str = "{\"code\":3,\"message\":\"Bad request\"}";
+
+/// A request without a body. Its line has the method and the target, and behind these its headers
+/// but for the host, if it has more.
+pub fn request(alloc: Global, line: &str) -> Option<String> {
+    let (method, rest) = line.split_once(' ')?;
+    let (target, headers) = rest.split_once(' ').unwrap_or((rest, ""));
+    let end = if headers.is_empty() { "" } else { "\r\n" };
+    format!(in alloc; "{method} {target} HTTP/1.1\r\nHost: localhost\r\n{headers}{end}\r\n").ok()
+}
+
+/// How the head of an answer begins.
+fn head(status: &str) -> &'static str {
+    match status {
+        "200" => "200 OK\r\nContent-Type: text/plain; charset=UTF-8",
+        "400" => "400 Bad Request\r\nContent-Type: application/json",
+        "404" => "404 Not Found\r\nContent-Type: text/plain; charset=UTF-8",
+        "413" => "413 Payload Too Large\r\nContent-Type: text/plain; charset=UTF-8",
+        "503" => "503 Service Unavailable\r\nContent-Type: text/plain; charset=UTF-8",
+        _ => "",
+    }
+}
+
+/// The body of an answer that has this status.
+pub fn body_of<'t>(alloc: Global, status: &str, text: &'t str) -> Option<&'t str> {
+    let (_, body) = text.split_once("\r\n\r\n")?;
+    let (head, length) = (head(status), body.len());
+    let answer = format!(in alloc;
+        "HTTP/1.1 {head}\r\nContent-Length: {length}\r\nConnection: close\r\n\r\n{body}"
+    );
+    (answer.ok()?.as_str() == text).then_some(body)
+}
+
+/// What comes over a connection until it ends.
+pub fn rest_of(alloc: Global, stream: TcpStream) -> Option<String> {
+    io::read_to_string(alloc, stream).ok()
+}
+
+/// A connection is closed at once, with or without an answer.
+pub fn is_turned_away(alloc: Global, stream: TcpStream) -> Option<()> {
+    let is_so = match io::read_to_string(alloc, stream) {
+        Ok(text) => text.is_empty() || body_of(alloc, "503", text.as_str()) == Some(""),
+        Err(error) => error.kind() == ErrorKind::ConnectionReset,
+    };
+    is_so.then_some(())
+}
+
+/// These bytes could be sent.
+pub fn sends(stream: &TcpStream, bytes: &[u8]) -> Option<()> {
+    let mut writer = stream;
+    writer.write_all(bytes).ok()
+}
+
+/// So many bytes that come over a connection.
+fn bytes_from(alloc: Global, stream: &TcpStream, count: usize) -> Option<Vec<u8>> {
+    let mut bytes = Vec::new(alloc);
+    bytes.resize(count, 0).ok()?;
+    let mut reader = stream;
+    reader.read_exact(bytes.as_mut_slice()).ok()?;
+    Some(bytes)
+}
+
+/// These bytes come next.
+pub fn brings(alloc: Global, stream: &TcpStream, bytes: &[u8]) -> Option<()> {
+    let got = bytes_from(alloc, stream, bytes.len())?;
+    (got.as_slice() == bytes).then_some(())
+}
+
+/// A short text could be sent, in a frame that is masked by zeros.
+pub fn says(alloc: Global, stream: &TcpStream, text: &str) -> Option<()> {
+    let length = u8::try_from(text.len()).ok()?;
+    let start = [0x81, 0x80 | length, 0, 0, 0, 0];
+    let mut frame = Vec::new(alloc);
+    frame.extend_from_slice(&start).ok()?;
+    frame.extend_from_slice(text.as_bytes()).ok()?;
+    sends(stream, frame.as_slice())
+}
+
+/// The short text of the next frame.
+fn text_of_frame(alloc: Global, stream: &TcpStream) -> Option<String> {
+    let head = bytes_from(alloc, stream, 2)?;
+    let length = match head.as_slice() {
+        [0x81, length] if *length <= 125 => usize::from(*length),
+        _ => return None,
+    };
+    String::from_utf8(bytes_from(alloc, stream, length)?).ok()
+}
+
+/// The next short text. On a slow machine a ping may come before it, which is answered.
+pub fn next_text(alloc: Global, stream: &TcpStream) -> Option<String> {
+    let text = text_of_frame(alloc, stream)?;
+    if text.as_str() != "2" {
+        return Some(text);
+    }
+    says(alloc, stream, "3")?;
+    text_of_frame(alloc, stream)
+}
+
+/// This short text comes next.
+pub fn hears(alloc: Global, stream: &TcpStream, text: &str) -> Option<()> {
+    let got = next_text(alloc, stream)?;
+    (got.as_str() == text).then_some(())
+}
+
+/// A close is answered by one, and then the connection ends.
+pub fn closes(alloc: Global, stream: &TcpStream) -> Option<()> {
+    sends(stream, b"\x88\x80\0\0\0\0")?;
+    brings(alloc, stream, b"\x88\0")?;
+    is_ended(stream)
+}
+
+/// A connection has ended, and nothing more came over it.
+pub fn is_ended(stream: &TcpStream) -> Option<()> {
+    let mut byte = [0; 1];
+    let mut reader = stream;
+    let is_so = match reader.read(&mut byte) {
+        Ok(count) => count == 0,
+        Err(error) => error.kind() == ErrorKind::ConnectionReset,
+    };
+    is_so.then_some(())
+}
+
+/// Bytes wait that were not read.
+pub fn is_sent_more(stream: &TcpStream) -> Option<()> {
+    let mut byte = [0; 1];
+    matches!(stream.peek(&mut byte), Ok(1)).then_some(())
+}
