@@ -8,6 +8,8 @@ mod gates;
 #[cfg(test)]
 mod hall;
 #[cfg(test)]
+mod losses;
+#[cfg(test)]
 mod peers;
 #[cfg(test)]
 mod pools;

@@ -1,5 +1,6 @@
 -- A pass that grows over several turns.
-use Rattle.std.proofs.Common.{ℕ, ◌<◌, ◌≤◌, List, [], ◌∷◌, ◌++◌, arith, refl, ◌∙◌, length-append}
+use Rattle.std.proofs.Common.{◌≡◌, ℕ, ◌<◌, ◌≤◌, Bool, true, false, Option, None, Some, Result, List, [], ◌∷◌, ◌++◌, arith, refl, sym, subst, ◌∙◌, length-append}
+use Rattle.std.specs.List.{FoldsTo}
 use Rattle.journal.specs.declared.step.Step.{Step}
 use Rattle.journal.specs.declared.step.What.{What}
 use Rattle.journal.specs.Plain.{PlainBase}
@@ -10,7 +11,22 @@ use Rattle.effects.specs.Following.{TurnsFor}
 use Rattle.dispatch.specs.declared.event.Event.{Event}
 use Rattle.dispatch.specs.declared.event.Event.TheVariants as event
 use Rattle.dispatch.specs.Machine.{IsOf}
-use Rattle.hub_gate.specs.Turns.{Grows}
+use Rattle.dispatch.specs.Answers.{Answer}
+use Rattle.dispatch.specs.Place.{PlainCore}
+use Rattle.effects.specs.declared.app.Arrived.{Arrived}
+use Rattle.effects.specs.declared.app.Effect.{Effect}
+use Rattle.effects.specs.declared.app.Who.{Who}
+use Rattle.effects.specs.App.{PlainVerdict}
+use Rattle.hub_gate.specs.declared.peer.PeerFault.{PeerFault}
+use Rattle.hub_gate.specs.Turns.{Applied, Attempt, Desk, Round, Serves, ServesAll, TellsLost, TellsWhere}
+
+-- a pass that rose, if at all, under the lock: then its numbers are u64s
+pub record Grows (old new : PlainPass) : Type 0 where
+  pub commands : old.commands ≤ new.commands
+  pub commands_fit : old.commands < new.commands → new.commands ≤ 18446744073709551615
+  pub taken : old.taken ≤ new.taken
+  pub taken_fit : old.taken < new.taken → new.taken ≤ 18446744073709551615
+  pub parts : new.parts ≡ old.parts
 
 pub grows_self : (a : PlainPass) → Grows a a
 grows_self a = record {
@@ -76,8 +92,47 @@ some_client (event.TransportLost c) ids = (c, refl)
 some_client (event.Tick c) ids = (c, refl)
 some_client event.Sweep ids = (0, tt)
 
-pub grows_by_turn : (e : Event) (ids : ℕ → ℕ) (before after : PlainHub) (old new : PlainPass) → ((c : ℕ) → IsOf e ids c → TurnsFor c before after old new)
+grows_by_turn : (e : Event) (ids : ℕ → ℕ) (before after : PlainHub) (old new : PlainPass) → ((c : ℕ) → IsOf e ids c → TurnsFor c before after old new)
     → AtLeast before old → AtLeast after new → Grows old new
 grows_by_turn e ids before after old new turns small great =
     let some = some_client e ids in
     grows_by_event some.0 before after old new (turns some.0 some.1) small great
+
+-- ---- over many turns
+
+-- where each step makes a pass grow, so does a run of them
+folds_grow : {D X : Type 0} (R : D → X → D → Type 0) (pass_of : D → PlainPass) → ((d : D) (x : X) (e : D) → R d x e → Grows (pass_of d) (pass_of e))
+    → (old : D) (xs : List X) (new : D) → FoldsTo R old xs new → Grows (pass_of old) (pass_of new)
+folds_grow {D} R pass_of each old [] new run = subst (λ (d : D). Grows (pass_of old) (pass_of d)) run (grows_self (pass_of old))
+folds_grow R pass_of each old (x ∷ xs) new run =
+    grows_trans (pass_of old) (pass_of run.0) (pass_of new) (each old x run.0 run.1) (folds_grow R pass_of each run.0 xs new run.2)
+
+same_grows : (old new : Desk) → new ≡ old → Grows old.pass new.pass
+same_grows old new same = subst (λ (d : Desk). Grows old.pass d.pass) (sym same) (grows_self old.pass)
+
+module _ {decides : Who → Arrived → List Effect → Type 0} {allows : (space payload : List ℕ) → PlainVerdict → Type 0} where
+  applied_grows : (e : Event) (now : ℕ) (before : PlainCore) (old : Desk) (got : Answer) (after : PlainCore) (new : Desk)
+      → Applied decides allows e now before old got after new → Grows old.pass new.pass
+  applied_grows e now before old got after new applied =
+      grows_by_turn e old.ids before.hub after.hub old.pass new.pass applied.turns applied.at_least_before applied.at_least_after
+
+  told_grows : (client now : ℕ) (old new : Desk) → TellsLost decides allows client now old new → Grows old.pass new.pass
+  told_grows client now old new tells =
+      folds_grow (λ (d : Desk) (a : Attempt) (e : Desk). Applied decides allows (event.TransportLost client) now a.before d a.got a.after e) (λ (d : Desk). d.pass)
+      (λ d a e. applied_grows (event.TransportLost client) now a.before d a.got a.after e) old tells.attempts new tells.told
+
+where_grows : (decides : Who → Arrived → List Effect → Type 0) (allows : (space payload : List ℕ) → PlainVerdict → Type 0) (failed : Bool) (lost : Option (ℕ × ℕ)) (old new : Desk)
+    → TellsWhere decides allows failed lost old new → Grows old.pass new.pass
+where_grows decides allows false lost old new same = same_grows old new same
+where_grows decides allows true None old new same = same_grows old new same
+where_grows decides allows true (Some lost) old new tells = told_grows {decides = decides} {allows = allows} lost.0 lost.1 old new tells
+
+module _ {P : Type 0} {gives : P → Result (Option (Event × ℕ)) PeerFault → P → Type 0} {hears : P → Answer → Result (Unit {0}) PeerFault → P → Type 0}
+    {decides : Who → Arrived → List Effect → Type 0} {allows : (space payload : List ℕ) → PlainVerdict → Type 0} where
+  -- by all that is done for one peer
+  pub serves_grow : {turns : ℕ} {old : P × Desk} {failed : Bool} {new : P × Desk}
+      → ServesAll gives hears decides allows turns old failed new → Grows old.1.pass new.1.pass
+  serves_grow {turns} {old} {failed} {new} serves =
+      let talks = folds_grow (Serves gives hears decides allows) (λ (d : P × Desk). d.1.pass)
+      (λ d r e s. applied_grows r.event r.now r.before d.1 r.got r.after e.1 s.applied) old serves.talk.rounds (serves.talk.last, serves.between) serves.talk.talks in
+      grows_trans old.1.pass serves.between.pass new.1.pass talks (where_grows decides allows failed serves.lost serves.between new.1 serves.told)

@@ -1,5 +1,6 @@
 mod Dealing
 mod FactsLemmas
 mod Growth
+mod LossLemmas
 mod PoolLemmas
 mod Rounds

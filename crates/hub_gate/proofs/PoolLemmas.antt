@@ -1,5 +1,5 @@
 -- What the workers of a pool did, put together.
-use Rattle.std.proofs.Common.{◌≡◌, ℕ, zero, suc, List, [], ◌∷◌, ◌++◌, map, Option, None, Some, option_map, refl, sym, ◌∙◌, ap, subst}
+use Rattle.std.proofs.Common.{◌≡◌, ℕ, zero, suc, List, [], ◌∷◌, ◌++◌, map, Option, None, Some, option_map, Result, Ok, Err, IfOk, refl, sym, ◌∙◌, ap, subst}
 use Rattle.std.proofs.lemmas.Option.{slice_get-map}
 use Rattle.std.specs.Iterator.{Drains, Yields}
 use Rattle.std.specs.List.{AllZip, slice_get}
@@ -56,6 +56,11 @@ served {J} {F} {P} {I} peers_of ids_of counts_of Works jobs finished queues ids 
     let found : slice_get queues w ≡ Some (peers_of j.0) = ap (λ (xs : List (List P)). slice_get xs w) (sym queues_are) ∙ slice_get-map peers_of jobs w ∙ ap (option_map peers_of) j.1 in
     let queue : peers_of j.0 ≡ dealt n peers w = deals w (peers_of j.0) found in
     subst (λ (q : List P). Works q own counts) queue (subst (λ (i : I). Works (peers_of j.0) i counts) j.2 (subst (λ (c : WorkerCounts). Works (peers_of j.0) (ids_of j.0) c) f.2 works))
+
+-- what holds of the workers holds of those that a report lists
+pub reported : {S E W : Type 0} (r : Result S E) (w : W) (workers_of : S → W) (Q : W → Type 0) → IfOk r (λ s. workers_of s ≡ w) → Q w → IfOk r (λ s. Q (workers_of s))
+reported (Ok s) w workers_of Q is holds = subst Q (sym is) holds
+reported (Err e) w workers_of Q is holds = tt
 
 -- ---- a queue that was worked off
 

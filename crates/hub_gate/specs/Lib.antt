@@ -1,5 +1,6 @@
 pub mod Dealing
 pub mod Facts
+pub mod Loss
 pub mod Sealing
 pub mod Serving
 pub mod Turns

@@ -17,6 +17,7 @@ use Rattle.dispatch.specs.Machine.{Does, IsOf, listed}
 use Rattle.dispatch.specs.Place.{PlainCore, place}
 use Rattle.hub_gate.specs.declared.peer.PeerFault.{PeerFault}
 use Rattle.hub_gate.specs.Facts.{IsSoundCore}
+use Rattle.hub_gate.specs.Loss.{AreTries}
 
 -- what a worker works with: its pass, and the ids that its source will give
 pub record Desk : Type 0 where
@@ -25,14 +26,6 @@ pub record Desk : Type 0 where
 
 abbrev pub desk : PlainPass → (ids : ℕ → ℕ) → Desk
 desk pass ids = record { pass = pass; ids = ids }
-
--- a pass that rose, if at all, under the lock: then its numbers are u64s
-pub record Grows (old new : PlainPass) : Type 0 where
-  pub commands : old.commands ≤ new.commands
-  pub commands_fit : old.commands < new.commands → new.commands ≤ 18446744073709551615
-  pub taken : old.taken ≤ new.taken
-  pub taken_fit : old.taken < new.taken → new.taken ≤ 18446744073709551615
-  pub parts : new.parts ≡ old.parts
 
 module _ (decides : Who → Arrived → List Effect → Type 0) (allows : (space payload : List ℕ) → PlainVerdict → Type 0) where
   -- the event was applied to a core at its moment, with the worker's ids, and counted in its pass. The core was sound, and
@@ -74,17 +67,12 @@ pub record Attempt : Type 0 where
   pub got : Answer
   pub after : PlainCore
 
--- the last of the attempts was accepted
-abbrev pub IsAccepted : List Attempt → Type 0
-IsAccepted attempts = (before : List Attempt) × (last : Attempt) × (attempts ≡ before ++ last ∷ []) × (is_ok last.got ≡ true)
-
 module _ (decides : Who → Arrived → List Effect → Type 0) (allows : (space payload : List ℕ) → PlainVerdict → Type 0) where
   -- the core was told that the client's connection is lost, up to three times until it accepted that
   pub record TellsLost (client now : ℕ) (old new : Desk) : Type 0 where
     pub attempts : List Attempt
     pub told : FoldsTo (λ (d : Desk) (a : Attempt) (e : Desk). Applied decides allows (event.TransportLost client) now a.before d a.got a.after e) old attempts new
-    pub within : length attempts ≤ 3
-    pub until : IsAccepted attempts ⊎ (length attempts ≡ 3)
+    pub tries : AreTries (map (λ a. a.got) attempts)
 
   -- where there is no such client, nothing was done
   abbrev pub Tells : Option (ℕ × ℕ) → Desk → Desk → Type 0

@@ -2,12 +2,14 @@
 #![tactic(auto)]
 
 mod locked;
+mod loss;
 mod peer;
 mod pool;
 mod serve;
 mod worker;
 
 pub use locked::{Locked, Sealing, mirrors_of};
+pub use loss::{Loss, Telling};
 pub use peer::{Peer, PeerFault, PeerSource, Queue, Turnstile};
 pub use pool::Pool;
 pub use serve::{Report, ServeError, Settled, serve_peers};

@@ -10,7 +10,7 @@ ghost use Rattle.effects.specs.declared.fault.CoreFault.{CoreFault};
 ghost use Rattle.dispatch.specs.Answers.{at_once};
 ghost use Rattle.hub_gate.specs.Facts.{IsSoundCore, IsOfCore};
 ghost use Rattle.hub_gate.specs.Sealing.{Seals};
-ghost use Rattle.hub_gate.specs.Turns.{Applied, Grows, desk};
+ghost use Rattle.hub_gate.specs.Turns.{Applied, desk};
 
 use dispatch::{Core, Event, Outcome};
 use effects::{App, CoreError, CoreFault, IdSource};
@@ -139,10 +139,9 @@ pub(crate) fn apply_counted<C: Ledger, T: Ledger, A: App, I: IdSource>(
 ) -> Result<Outcome, CoreError>
     requires sound { IsSoundCore core.old }
     requires counted { AtLeast core.old.hub pass.old }
-    ensures applied { Applied (A.decides app.now) (A.allows app.now) event.now now
+    ensures { Applied (A.decides app.now) (A.allows app.now) event.now now
         core.old (desk pass.old (I.stream ids.old)) result
         core.new (desk pass.new (I.stream ids.new)) }
-    ensures grows { Grows pass.old pass.new }
 {
     let got = core.apply(alloc, pass, app, event, now, ids);
     core.audit(pass);

@@ -156,11 +156,7 @@ pub fn serve_peers<
     let jobs = make_jobs(pool, queues, ids)?;
     let finished = run_all(pool, jobs)?;
     let workers = gather(pass, finished, counts);
-    let (totals, core) = settle(pool, pass)?;
-    Ok(Settled {
-        report: Report { totals, workers },
-        core,
-    })
+    settle(pool, pass, workers)
 }
 
 /// Deals peer i to queue i modulo their number.
@@ -326,34 +322,24 @@ fn gather<C: Ledger, T: Ledger>(
     counts
 }
 
-/// The core's totals, where the pass has counted all of them, with the core as it was lent.
+/// The report of these workers, where the pass has counted all of the core's totals.
 fn settle<R: Wait, C: Ledger, T: Ledger, A, G>(
     pool: &Pool<R, C, T, A, G>,
     pass: &mut Pass<C, T>,
-) -> Result<(Totals, Snapshot<Core<C, T>>), ServeError>
+    workers: Vec<WorkerCounts>,
+) -> Result<Settled<C, T>, ServeError>
     ensures same { pass.new ≡ pass.old }
-    ensures counted { IfOk result (λ seen. AreCounted pass.old seen.1.value seen.0) }
+    ensures counted { IfOk result (λ s. AreCounted pass.old s.core.value s.report.totals) }
+    ensures workers { IfOk result (λ s. s.report.workers ≡ workers) }
     ensures lacks { IfErr result (IsLackingFor pass.old) }
 {
     let mut guard = pool.locked.look(pool.rt, pass);
     let core = Snapshot::of(&*guard);
-    let totals = totals_of(&mut *guard, pass)?;
-    Ok((totals, core))
-}
-
-/// The core's totals, where the pass has counted all of them.
-fn totals_of<C: Ledger, T: Ledger>(
-    core: &mut Core<C, T>,
-    pass: &mut Pass<C, T>,
-) -> Result<Totals, ServeError>
-    requires { IsSoundCore core.old }
-    ensures same { pass.new ≡ pass.old }
-    ensures counted { IfOk result (λ totals. AreCounted pass.old core.old totals) }
-    ensures lacks { IfErr result (IsLackingFor pass.old) }
-{
-    let settled = core.settle(pass);
-    match settled {
-        Ok(totals) => return Ok(totals),
+    let settled = guard.settle(pass);
+    let totals = match settled {
+        Ok(totals) => totals,
         Err(lack) => return Err(ServeError::NotAll(lack)),
-    }
+    };
+    let report = Report { totals, workers };
+    Ok(Settled { report, core })
 }

@@ -2,10 +2,11 @@
 
 use crate::event_loop::EventLoop;
 use crate::news::Log;
-use crate::tcp_connection::Mode;
 use dispatch::Outcome;
 use effects::{Cause, CoreError, Done};
+use hub_gate::Telling;
 use loop_rules::{Pause, Verdict};
+use peers::is_noop;
 use std::rt::Clock;
 use std::sync::Wait;
 
@@ -13,7 +14,7 @@ impl<R: Wait + Clock + Copy + Drop, L: Log> EventLoop<'_, R, L> {
     /// A connection's event was answered.
     pub(crate) fn hear(&mut self, key: usize, got: &Result<Outcome, CoreError>) {
         let now = self.watch.tell();
-        if self.connections.is_in(key, Mode::Loses) {
+        if self.connections.is_lost(key) {
             self.hear_loss(key, got, now);
             return;
         }
@@ -29,11 +30,15 @@ impl<R: Wait + Clock + Copy + Drop, L: Log> EventLoop<'_, R, L> {
         self.end_turn(key, verdict);
     }
 
-    /// It was told that a client is lost.
+    /// The core was told that a client is lost. Where it refused that, it is told again in the loop's next
+    /// turn.
     fn hear_loss(&mut self, key: usize, got: &Result<Outcome, CoreError>, now: u64) {
         self.note(key, got);
-        self.connections.leave(key, now);
-        self.rest(key, Pause::Done);
+        let pause = match self.connections.hear_loss(key, got, now) {
+            Telling::Again => Pause::More,
+            Telling::Over => Pause::Done,
+        };
+        self.rest(key, pause);
     }
 
     /// Nothing can be due that wasn't, so the core need not be asked.
@@ -61,6 +66,9 @@ impl<R: Wait + Clock + Copy + Drop, L: Log> EventLoop<'_, R, L> {
         let Some(client) = self.connections.client(key) else {
             return;
         };
+        if is_noop(got) {
+            self.note_noop(client);
+        }
         match got {
             Ok(outcome) => self.note_outcome(client, key, outcome),
             Err(error) => self.note_error(client, error),
@@ -73,7 +81,6 @@ impl<R: Wait + Clock + Copy + Drop, L: Log> EventLoop<'_, R, L> {
             Outcome::Done(done) => self.note_done(client, key, done),
             Outcome::Opened(_) => self.note_opened(client, key),
             Outcome::Begun => self.connections.settle(client, key),
-            Outcome::Payload(text) => self.note_payload(client, text.as_str()),
             Outcome::Probed(_) => self.connections.roster.wake(client),
             Outcome::Lost { saved: _ } => self.note_end(client, None),
             Outcome::Ticked {
@@ -134,9 +141,9 @@ impl<R: Wait + Clock + Copy + Drop, L: Log> EventLoop<'_, R, L> {
         self.base.note_opened(client, is_socket, now);
     }
 
-    /// A client was handed a payload.
-    fn note_payload(&mut self, client: u128, payload: &str) {
+    /// A client is told that nothing waits.
+    fn note_noop(&mut self, client: u128) {
         let now = self.watch.tell();
-        self.delays.note_payload(client, payload, now);
+        self.delays.note_noop(client, now);
     }
 }

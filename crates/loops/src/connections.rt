@@ -7,6 +7,7 @@ use crate::stage::Stream;
 use crate::tcp_connection::{Connection, Mode, Sent};
 use dispatch::Outcome;
 use effects::CoreError;
+use hub_gate::Telling;
 use loop_rules::{LookState, Overdue, Part, Pause, Roster, Turn, Verdict, find_overdue};
 use mio::Token;
 use mio::event::Event;
@@ -231,10 +232,10 @@ impl<R: Clock + Drop> Connections<R> {
         }
     }
 
-    /// Whether the connection is in this mode.
-    pub(crate) fn is_in(&self, key: usize, mode: Mode) -> bool {
+    /// Whether the client of a connection is lost, of which the core is to be told.
+    pub(crate) fn is_lost(&self, key: usize) -> bool {
         match self.slots.get(key) {
-            Some(connection) => connection.mode == mode,
+            Some(connection) => matches!(connection.mode, Mode::Loses(_)),
             None => false,
         }
     }
@@ -257,10 +258,16 @@ impl<R: Clock + Drop> Connections<R> {
         }
     }
 
-    /// The client of a connection is told as lost.
-    pub(crate) fn leave(&mut self, key: usize, now: u64) {
-        if let Some(connection) = self.get_mut(key) {
-            connection.leave(now);
+    /// The core was told that the client of a connection is lost, and answered this.
+    pub(crate) fn hear_loss(
+        &mut self,
+        key: usize,
+        got: &Result<Outcome, CoreError>,
+        now: u64,
+    ) -> Telling {
+        match self.get_mut(key) {
+            Some(connection) => connection.hear_loss(got, now),
+            None => Telling::Over,
         }
     }
 
@@ -299,7 +306,7 @@ impl<R: Clock + Drop> Connections<R> {
         };
         match connection.mode {
             Mode::Serves => {}
-            Mode::Loses | Mode::Closes => return Part::Sends,
+            Mode::Loses(_) | Mode::Closes => return Part::Sends,
             Mode::Lingers => return Part::Ends,
         }
         if connection.stage.is_gathering() {

@@ -1,11 +1,9 @@
 //! GETs that are served a little later.
 
 use http_edge::Target;
+use peers::{is_recent, served_from};
 use std::alloc::Global;
 use std::collections::{HashMap, VecDeque};
-
-/// How long a client that was told just so may not be told anew that nothing waits, in milliseconds.
-const PACE: u64 = 100;
 
 /// A connection that is served from a moment on.
 #[derive(Clone, Copy)]
@@ -25,16 +23,6 @@ pub(crate) struct Delays {
     waiting: VecDeque<Delay>,
 }
 
-/// Whether a payload is a lone noop packet.
-fn is_noop(payload: &str) -> bool {
-    payload == "6"
-}
-
-/// Whether a client that was told at this moment was told just so.
-fn is_recent(told: u64, now: u64) -> bool {
-    told.saturating_add(PACE) > now
-}
-
 impl Delays {
     /// Nobody was told, and nobody waits.
     pub(crate) fn new(alloc: Global) -> Delays {
@@ -44,12 +32,10 @@ impl Delays {
         }
     }
 
-    /// A client was handed this payload.
-    pub(crate) fn note_payload(&mut self, client: u128, payload: &str, now: u64) {
-        if is_noop(payload) {
-            // Where there is no memory for it, the client is told so again at once.
-            let _ = self.noops.insert(client, now);
-        }
+    /// A client is told that nothing waits, by a lone noop packet.
+    pub(crate) fn note_noop(&mut self, client: u128, now: u64) {
+        // Where there is no memory for it, the client is told so again at once.
+        let _ = self.noops.insert(client, now);
     }
 
     /// Forgets who wasn't told just so.
@@ -57,16 +43,11 @@ impl Delays {
         self.noops.retain(|_, told| is_recent(*told, now));
     }
 
-    /// From when on a request is served that came now, if it is to wait.
-    pub(crate) fn served_from(&self, target: Target, now: u64) -> Option<u64> {
-        let told = match target {
-            Target::Poll(client) => self.noops.get(&client).copied()?,
-            _ => return None,
-        };
-        if is_recent(told, now) {
-            Some(now.saturating_add(PACE))
-        } else {
-            None
+    /// From when on a request is served that came now.
+    pub(crate) fn served_from(&self, target: Target, now: u64) -> u64 {
+        match target {
+            Target::Poll(client) => served_from(self.noops.get(&client).copied(), now),
+            _ => now,
         }
     }
 

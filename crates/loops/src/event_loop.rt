@@ -345,7 +345,7 @@ impl<'a, R: Wait + Clock + Copy + Drop, L: Log> EventLoop<'a, R, L> {
                 None
             }
             Mode::Serves => self.bring(key, now),
-            Mode::Loses => self.bring_loss(key, now),
+            Mode::Loses(loss) => Some((loss.event(), now)),
             Mode::Closes => {
                 self.rest(key, Pause::Done);
                 None
@@ -369,18 +369,6 @@ impl<'a, R: Wait + Clock + Copy + Drop, L: Log> EventLoop<'a, R, L> {
             Next::Fails => {}
         }
         None
-    }
-
-    /// The event that tells of a lost client.
-    fn bring_loss(&mut self, key: usize, now: u64) -> Option<(Event, u64)> {
-        match self.connections.client(key) {
-            Some(client) => Some((Event::TransportLost { client }, now)),
-            None => {
-                self.pause(key, Pause::Done);
-                self.close(key);
-                None
-            }
-        }
     }
 
     /// Reads and forgets what comes of a connection that has ended.

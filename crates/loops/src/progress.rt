@@ -3,14 +3,7 @@
 use dispatch::{Event, Outcome, WsFrame};
 use effects::CoreError;
 use loop_rules::{Found, left_after_message};
-
-/// The most entries of one take of frames.
-const FRAMES: usize = 64;
-
-/// How long the messages of a probe are: `2probe`, and then `5`.
-const PROBE: usize = 6;
-
-const UPGRADED: usize = 1;
+use peers::{FRAMES_PER_TAKE, PROBE, UPGRADE};
 
 /// For how long what is due to a client isn't asked again, in milliseconds.
 const DUE: u64 = 10;
@@ -94,7 +87,7 @@ impl Progress {
 /// Whether all that waited was taken.
 fn took_all(got: &Result<Outcome, CoreError>) -> bool {
     match got {
-        Ok(Outcome::Frames(frames)) => frames.as_slice().len() < FRAMES,
+        Ok(Outcome::Frames(frames)) => frames.as_slice().len() < FRAMES_PER_TAKE,
         Ok(Outcome::Nothing) => true,
         _ => false,
     }
@@ -119,8 +112,8 @@ fn message_length(event: &Event) -> Option<usize> {
             client: _,
             frame: WsFrame::Bytes(bytes),
         } => Some(bytes.as_slice().len()),
-        Event::Probe { client: _ } => Some(PROBE),
-        Event::Upgraded { client: _ } => Some(UPGRADED),
+        Event::Probe { client: _ } => Some(PROBE.len()),
+        Event::Upgraded { client: _ } => Some(UPGRADE.len()),
         _ => None,
     }
 }

@@ -83,16 +83,14 @@ impl<R: Wait + Clock + Copy + Drop, L: Log> EventLoop<'_, R, L> {
     /// a little later.
     pub(crate) fn serve(&mut self, key: usize, request: Box<Request>, target: Target) {
         let now = self.watch.tell();
-        let later = self.delays.served_from(target, now);
+        let from = self.delays.served_from(target, now);
         let Some(connection) = self.connections.get_mut(key) else {
             return;
         };
         let most = self.base.rules.poll_entries;
         connection.serve(self.base.alloc, request, target, self.watch, most, now);
-        if let Some(from) = later {
-            if self.delays.delay(from, key, connection.generation) {
-                connection.not_before = from;
-            }
+        if from > now && self.delays.delay(from, key, connection.generation) {
+            connection.not_before = from;
         }
         self.connections.note_unsent(key);
     }

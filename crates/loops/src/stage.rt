@@ -23,7 +23,7 @@ pub(crate) type Stream = Box<Buffered<TcpStream>>;
 
 type Poller<R> = PollPeer<OnStream<Stream>, Watch<R>>;
 
-type Speaker<R> = SocketPeer<Replay<Replay<Stream>>, Watch<R>>;
+type Speaker<R> = SocketPeer<Replay<Stream>, Watch<R>>;
 
 /// Who serves a connection.
 #[derive(Drop)]
@@ -51,7 +51,7 @@ impl<R: Clock + Drop> Stage<R> {
                 gathered: _,
             } => Some(stream),
             Stage::Polling(peer) => Some(peer.wire_mut().get_mut()),
-            Stage::Speaking(peer) => Some(peer.stream_mut().get_mut().get_mut()),
+            Stage::Speaking(peer) => Some(peer.stream_mut().get_mut()),
             Stage::Answered(stream) => Some(stream),
             Stage::Downloading {
                 stream,

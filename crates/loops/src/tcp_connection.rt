@@ -7,6 +7,7 @@ use crate::watch::Watch;
 use dispatch::{Event, Outcome};
 use effects::CoreError;
 use http_edge::{EdgeError, Gathered, Request, Target};
+use hub_gate::{Loss, Telling};
 use loop_rules::{Found, Overdue, Pause};
 use page::Page;
 use std::alloc::Global;
@@ -26,8 +27,8 @@ const MUCH_UNSENT: usize = 32_768;
 pub(crate) enum Mode {
     /// It is served.
     Serves,
-    /// Its client is lost, which is to be told.
-    Loses,
+    /// Its client is lost, of which the core is told.
+    Loses(Loss),
     /// What is unsent goes out, and then it ends.
     Closes,
     /// So it did, and what still comes is read and forgotten until the other side ends it.
@@ -42,7 +43,7 @@ pub(crate) struct Connection<R> {
     /// It stands in the list of those with bytes to send.
     pub(crate) unsent: bool,
     pub(crate) mode: Mode,
-    /// Its client is told as lost already.
+    /// The core was told of its loss, and isn't told again.
     told: bool,
     /// The moment at which its present part began: its request, its serving, its end.
     pub(crate) since: u64,
@@ -272,15 +273,23 @@ impl<R: Clock + Drop> Connection<R> {
     pub(crate) fn fail(&mut self, now: u64) {
         self.since = now;
         self.mode = match self.stage.client() {
-            Some(_) => Mode::Loses,
+            Some(client) => Mode::Loses(Loss::new(client)),
             None => Mode::Closes,
         };
     }
 
-    /// Its client is told as lost. It ends once its bytes have gone.
-    pub(crate) fn leave(&mut self, now: u64) {
-        self.told = true;
-        self.end(now);
+    /// The core was told that its client is lost, and answered this. Where that was the last time, it ends
+    /// once its bytes have gone.
+    pub(crate) fn hear_loss(&mut self, got: &Result<Outcome, CoreError>, now: u64) -> Telling {
+        let Mode::Loses(loss) = &mut self.mode else {
+            return Telling::Over;
+        };
+        let telling = loss.hears(got);
+        if telling == Telling::Over {
+            self.told = true;
+            self.end(now);
+        }
+        telling
     }
 
     /// Sends what is unsent.
@@ -340,19 +349,17 @@ impl<R: Clock + Drop> Connection<R> {
     }
 
     /// Its bytes can't be sent. A WebSocket is read no more, so its peer finds that it has ended. An answer
-    /// over HTTP that can't be sent loses its client.
+    /// over HTTP that can't be sent loses its client. One that is lost already isn't lost anew.
     fn after_failure(&mut self, now: u64) -> Sent {
         if self.told || self.stage.client().is_none() {
             return Sent::Remove;
         }
-        if self.stage.is_polling() {
-            self.fail(now);
-            return Sent::Queue;
+        match self.mode {
+            Mode::Loses(_) => self.cut(),
+            _ if self.stage.is_polling() => self.fail(now),
+            Mode::Serves => self.cut(),
+            Mode::Closes | Mode::Lingers => return Sent::Remove,
         }
-        if self.mode != Mode::Serves {
-            return Sent::Remove;
-        }
-        self.cut();
         Sent::Queue
     }
 

@@ -1,5 +1,7 @@
 //! The passing of time.
 
+ghost use Rattle.std.specs.Prelude.{◌≡◌};
+
 use peers::Moments;
 use std::rt::Clock;
 use std::time::Instant;
@@ -20,7 +22,9 @@ impl<R: Clock> Watch<R> {
     }
 
     /// The moment now.
-    pub(crate) fn tell(&mut self) -> u64 {
+    pub(crate) fn tell(&mut self) -> u64
+        ensures { result ≡ self.new.last }
+    {
         if let Ok(passed) = self.start.elapsed(&self.rt) {
             self.last = u64::try_from(passed.as_millis()).unwrap_or(u64::MAX);
         }
@@ -29,6 +33,12 @@ impl<R: Clock> Watch<R> {
 }
 
 impl<R: Clock> Moments for Watch<R> {
+    ghost use Rattle.std.specs.Prelude.{◌≡◌};
+
+    ghost gives = { λ _ now watch. now ≡ watch.last };
+
+    ghost pauses = { λ old new. new ≡ old };
+
     fn now(&mut self) -> u64 {
         self.tell()
     }

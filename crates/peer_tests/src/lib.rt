@@ -12,6 +12,8 @@ mod lost;
 #[cfg(test)]
 mod moments;
 #[cfg(test)]
+mod noops;
+#[cfg(test)]
 mod served;
 #[cfg(test)]
 mod sheet;

@@ -13,7 +13,7 @@ use tungstenite::{NoMask, Role, WebSocket};
 use usual_core::{OnServer, Server, Settings, on_new_server};
 
 /// One whose head was read before.
-pub type Accepted = SocketPeer<Replay<Replay<Spoken>>, Still>;
+pub type Accepted = SocketPeer<Replay<Spoken>, Still>;
 
 /// What the reads of a WebSocket give: a client's frames, masked by zeros, one of them in two pieces.
 static PIECES: [(&str, Piece); 12] = [
@@ -324,7 +324,7 @@ impl OnServer for ComesEarly {
         let rest = Vec::from_slice(alloc, FRAME).ok()?;
         let mut peer = accepted(alloc, self.head, rest, "close")?;
         let end = serve(alloc, server, &mut peer, 1_000);
-        let written = peer.stream().get_ref().get_ref().written.as_slice();
+        let written = peer.stream().get_ref().written.as_slice();
         let mut text = format!(in alloc; "{end:?}").ok()?;
         write_frames(&mut text, written.strip_prefix(SWITCHES).unwrap_or(&[])).ok()?;
         Some(is_open && text.as_str() == "Failed(Ended) opened connected closed")

@@ -7,3 +7,5 @@ pub mod Heard
 pub mod Incoming
 pub mod Spoken
 pub mod Accepted
+pub mod Noops
+pub mod Moments

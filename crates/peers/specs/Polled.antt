@@ -8,24 +8,34 @@ use Rattle.hub_gate.specs.declared.peer.PeerFault.TheVariants as fault
 use Rattle.http_edge.specs.Answer as http
 use Rattle.http_edge.specs.Written.{AppendsFront}
 use Rattle.peers.specs.declared.poll_stage.PollStage.{PollStage}
-use Rattle.peers.specs.Polling.{next_of, after}
+use Rattle.peers.specs.Moments.{PausesIf, IsTimed}
+use Rattle.peers.specs.Noops.{is_noop}
+use Rattle.peers.specs.Polling.{next_of, after, is_idle}
 use Rattle.peers.specs.Replies.{PlainReply, answer_to}
 
--- how far the request has come, the wire that it came by, and how many entries one payload may have
-pub record Polled (W : Type 0) : Type 0 where
+-- how far the request has come, the wire that it came by, its moments, and how many entries one payload may have
+pub record Polled (W M : Type 0) : Type 0 where
   pub stage : PollStage
   pub wire : W
+  pub moments : M
   pub most : ℕ
 
 -- the event of an event and its moment
 abbrev pub event_of : Option (Event × ℕ) → Option Event
 event_of given = option_map (λ pair. pair.0) given
 
-module _ {W : Type 0} where
-  -- the next event is the table's; all else stays as it was
-  abbrev pub Gives : Polled W → Result (Option (Event × ℕ)) PeerFault → Polled W → Type 0
-  Gives old (Ok given) new =
-      ((new.stage, event_of given) ≡ next_of old.most old.stage) × (new.wire ≡ old.wire) × (new.most ≡ old.most)
+module _ {W M : Type 0} (gives : M → ℕ → M → Type 0) (pauses : M → M → Type 0) where
+  -- a GET that waits pauses before it asks again; the next event is the table's, with the moment that was given for it
+  pub record Asks (old : Polled W M) (given : Option (Event × ℕ)) (new : Polled W M) : Type 0 where
+    pub next : (new.stage, event_of given) ≡ next_of old.most old.stage
+    pub kept : (new.wire ≡ old.wire) × (new.most ≡ old.most)
+    pub paused : M
+    pub pauses_first : PausesIf pauses (is_idle old.stage) old.moments paused
+    pub timed : IsTimed gives given paused new.moments
+
+  -- it never fails
+  abbrev pub Gives : Polled W M → Result (Option (Event × ℕ)) PeerFault → Polled W M → Type 0
+  Gives old (Ok given) new = Asks old given new
   Gives old (Err e) new = ⊥
 
 module _ {W : Type 0} (written : W → Option (List ℕ)) (is_broken : W → Bool) where
@@ -43,8 +53,15 @@ module _ {W : Type 0} (written : W → Option (List ℕ)) (is_broken : W → Boo
   Replies None old result new = (result ≡ Ok tt) × (new ≡ old)
   Replies (Some reply) old result new = Writes reply old result new
 
+module _ {W M : Type 0} (written : W → Option (List ℕ)) (is_broken : W → Bool) (pauses : M → M → Type 0) where
+  -- before it is written that nothing waits, the peer pauses, and before no other answer
+  abbrev pub Paces : Option PlainReply → Answer → M → M → Type 0
+  Paces None got old new = new ≡ old
+  Paces (Some reply) got old new = PausesIf pauses (is_noop got) old new
+
   -- the stage and the answer are the tables'
-  pub record Hears (old : Polled W) (got : Answer) (result : Result (Unit {0}) PeerFault) (new : Polled W) : Type 0 where
+  pub record Hears (old : Polled W M) (got : Answer) (result : Result (Unit {0}) PeerFault) (new : Polled W M) : Type 0 where
     pub stage : new.stage ≡ after old.stage got
-    pub answered : Replies (answer_to old.stage got) old.wire result new.wire
+    pub answered : Replies written is_broken (answer_to old.stage got) old.wire result new.wire
+    pub paces : Paces (answer_to old.stage got) got old.moments new.moments
     pub most : new.most ≡ old.most

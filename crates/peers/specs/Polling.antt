@@ -1,5 +1,5 @@
 -- The turns of a request over HTTP: a GET that waits asks again and again.
-use Rattle.std.specs.Prelude.{◌==◌, ◌&&◌, ◌-◌, nat_lt, ℕ, Bool, true, false, Option, None, Some, Ok, Err, cond, codes, bytes_eq}
+use Rattle.std.specs.Prelude.{◌==◌, ◌-◌, ℕ, Bool, true, false, Option, None, Some, Ok, Err, cond}
 use Rattle.effects.specs.declared.fault.CoreFault.{CoreFault}
 use Rattle.effects.specs.declared.fault.CoreFault.TheVariants as fault
 use Rattle.dispatch.specs.declared.event.Event.{Event}
@@ -23,16 +23,18 @@ first_of request.Open = (stage.Opening, event.Opened false)
 first_of (request.Get c) = (stage.Beginning c, event.PollBegin c)
 first_of (request.Post c body) = (stage.Posting c, event.Post c body)
 
--- a GET that waits takes up to so many entries, or ends once it has asked so often
+-- a GET asks for up to so many entries, and may ask so often again
 abbrev pub asks : ℕ → ℕ → ℕ → PollStage × Event
-asks most c left = cond (left == 0) (stage.Ending c, event.PollEnd c) (stage.Taking c (left - 1), event.PollTake c most)
+asks most c left = (stage.Taking c left, event.PollTake c most)
 
 abbrev pub with_event : PollStage × Event → PollStage × Option Event
 with_event step = (step.0, Some step.1)
 
 abbrev pub next_of : ℕ → PollStage → PollStage × Option Event
 next_of most (stage.First r) = with_event (first_of r)
-next_of most (stage.Waits c left) = with_event (asks most c left)
+next_of most (stage.Begun c) = with_event (asks most c (takes - 1))
+next_of most (stage.Waits c left) = with_event (asks most c (left - 1))
+next_of most (stage.Ends c) = (stage.Ending c, Some (event.PollEnd c))
 next_of most other = (other, None)
 
 -- ---- what an answer leads to
@@ -42,7 +44,7 @@ opened_client (Ok (outcome.Opened o)) = Some o.client
 opened_client _ = None
 
 abbrev pub after_begin : ℕ → Answer → PollStage
-after_begin c (Ok outcome.Begun) = stage.Waits c takes
+after_begin c (Ok outcome.Begun) = stage.Begun c
 after_begin c _ = stage.Over (Some c)
 
 -- a refusal that passes
@@ -54,17 +56,22 @@ waits_on fault.Spent = true
 waits_on fault.BadEffect = true
 waits_on _ = false
 
-abbrev pub after_refusal : ℕ → ℕ → CoreFault → PollStage
-after_refusal c left why = cond (waits_on why) (stage.Waits c left) (stage.Over (Some c))
+-- where an event was refused, a GET that was begun waits on so, or is over
+abbrev pub after_refusal : ℕ → CoreFault → PollStage → PollStage
+after_refusal c why on = cond (waits_on why) on (stage.Over (Some c))
+
+-- a GET that found nothing asks again, or ends once it has asked so often
+abbrev pub waits : ℕ → ℕ → PollStage
+waits c left = cond (left == 0) (stage.Ends c) (stage.Waits c left)
 
 abbrev pub after_take : ℕ → ℕ → Answer → PollStage
-after_take c left (Ok outcome.Nothing) = stage.Waits c left
+after_take c left (Ok outcome.Nothing) = waits c left
 after_take c left (Ok _) = stage.Over (Some c)
-after_take c left (Err e) = after_refusal c left e.fault
+after_take c left (Err e) = after_refusal c e.fault (waits c left)
 
 abbrev pub after_end : ℕ → Answer → PollStage
 after_end c (Ok _) = stage.Over (Some c)
-after_end c (Err e) = after_refusal c 0 e.fault
+after_end c (Err e) = after_refusal c e.fault (stage.Ends c)
 
 abbrev pub after : PollStage → Answer → PollStage
 after stage.Opening got = stage.Over (opened_client got)
@@ -78,7 +85,8 @@ after other got = other
 
 -- a GET that waits, or asks, asks no more
 abbrev pub given_up : PollStage → PollStage
-given_up (stage.Waits c left) = stage.Waits c 0
+given_up (stage.Begun c) = stage.Ends c
+given_up (stage.Waits c left) = stage.Ends c
 given_up (stage.Taking c left) = stage.Taking c 0
 given_up other = other
 
@@ -92,17 +100,14 @@ client_of (stage.First r) = client_of_request r
 client_of stage.Opening = None
 client_of (stage.Posting c) = Some c
 client_of (stage.Beginning c) = Some c
+client_of (stage.Begun c) = Some c
 client_of (stage.Waits c left) = Some c
 client_of (stage.Taking c left) = Some c
+client_of (stage.Ends c) = Some c
 client_of (stage.Ending c) = Some c
 client_of (stage.Over c) = c
 
 -- a GET waits that has asked, and may ask again
 abbrev pub is_idle : PollStage → Bool
-is_idle (stage.Waits c left) = nat_lt 0 left && nat_lt left takes
+is_idle (stage.Waits c left) = true
 is_idle _ = false
-
--- a lone noop packet was taken
-abbrev pub is_noop : Answer → Bool
-is_noop (Ok (outcome.Payload text)) = bytes_eq text (codes "6")
-is_noop _ = false

@@ -11,15 +11,17 @@ use Rattle.peers.specs.declared.socket_stage.Incoming.{Incoming}
 use Rattle.peers.specs.declared.socket_stage.Incoming.TheVariants as incoming
 use Rattle.peers.specs.declared.socket_stage.SocketStage.{SocketStage}
 use Rattle.peers.specs.Incoming.{Brings}
+use Rattle.peers.specs.Moments.{IsTimed}
 use Rattle.peers.specs.Polled.{event_of}
 use Rattle.peers.specs.Sent.{AddsFrame}
 use Rattle.peers.specs.Turning.{reads, next_of}
 use Rattle.peers.specs.Heard.{after, to_send, unsent}
 
--- how far the WebSocket has come, and its socket
-pub record Spoken (S : Type 0) : Type 0 where
+-- how far the WebSocket has come, its socket, and its moments
+pub record Spoken (S M : Type 0) : Type 0 where
   pub stage : SocketStage
   pub socket : Socket S
+  pub moments : M
 
 -- the output grew by just these frames, one after another
 abbrev pub AddsFrames : Role → Option (List ℕ) → List WsFrame → Option (List ℕ) → Type 0
@@ -38,11 +40,18 @@ module _ {S : Type 0} (remaining contents : S → Option (List ℕ)) where
   Listens true old came new = Brings remaining contents old came new
   Listens false old came new = (came ≡ incoming.Nothing) × (new ≡ old)
 
-  -- the next event is the table's, for what was read
-  pub record Gives (old : Spoken S) (result : Result (Option (Event × ℕ)) PeerFault) (new : Spoken S) : Type 0 where
+-- an event has the moment that was given for it; where there is none, also after a fault, no moment is asked for
+abbrev pub IsTimedResult : {M : Type 0} → (gives : M → ℕ → M → Type 0) → Result (Option (Event × ℕ)) PeerFault → M → M → Type 0
+IsTimedResult gives (Ok given) old new = IsTimed gives given old new
+IsTimedResult gives (Err why) old new = new ≡ old
+
+module _ {S M : Type 0} (remaining contents : S → Option (List ℕ)) (gives : M → ℕ → M → Type 0) where
+  -- the next event is the table's, for what was read, with the moment that was given for it
+  pub record Gives (old : Spoken S M) (result : Result (Option (Event × ℕ)) PeerFault) (new : Spoken S M) : Type 0 where
     pub came : Incoming
-    pub listens : Listens (reads old.stage) old.socket came new.socket
+    pub listens : Listens remaining contents (reads old.stage) old.socket came new.socket
     pub next : (new.stage, untimed result) ≡ next_of old.stage came
+    pub timed : IsTimedResult gives result old.moments new.moments
 
 module _ {S : Type 0} (contents : S → Option (List ℕ)) where
   -- all frames were sent, in their order; where nothing waited in the socket, just they were written, and nothing waits
@@ -51,13 +60,15 @@ module _ {S : Type 0} (contents : S → Option (List ℕ)) where
       → AddsFrames old.conn.role (contents old.stream) frames (contents new.stream) × (new.output ≡ [])
   Sends frames old (Err why) new = (why ≡ fault.Memory) ⊎ (why ≡ fault.Device)
 
-  -- the stage and the result, once what was to be sent was sent or not
-  abbrev pub heard : SocketStage → Result (Unit {0}) PeerFault → SocketStage × Result (Unit {0}) PeerFault
-  heard s (Ok _) = (s, Ok tt)
-  heard s (Err why) = unsent s why
+-- the stage and the result, once what was to be sent was sent or not
+abbrev pub heard : SocketStage → Result (Unit {0}) PeerFault → SocketStage × Result (Unit {0}) PeerFault
+heard s (Ok _) = (s, Ok tt)
+heard s (Err why) = unsent s why
 
+module _ {S M : Type 0} (contents : S → Option (List ℕ)) where
   -- what the table names was sent, and the stage is the table's
-  pub record Hears (old : Spoken S) (got : Answer) (result : Result (Unit {0}) PeerFault) (new : Spoken S) : Type 0 where
+  pub record Hears (old : Spoken S M) (got : Answer) (result : Result (Unit {0}) PeerFault) (new : Spoken S M) : Type 0 where
     pub sent : Result (Unit {0}) PeerFault
-    pub sends : Sends (to_send old.stage got) old.socket sent new.socket
+    pub sends : Sends contents (to_send old.stage got) old.socket sent new.socket
     pub stage : (new.stage, result) ≡ heard (after old.stage got) sent
+    pub moments : new.moments ≡ old.moments

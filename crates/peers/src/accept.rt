@@ -1,14 +1,13 @@
 //! The opening handshake (RFC 6455, section 4.2).
 
 ghost use Rattle.std.specs.Prelude.{IfSome};
-ghost use Rattle.tungstenite.specs.Heads.{Serves};
-ghost use Rattle.peers.specs.Accepted.{HasMostBytes, HasSocketLimits};
+ghost use Rattle.peers.specs.Accepted.{BeginsWith, HasMostBytes, HasSocketLimits};
 
 use http_edge::Replay;
 use std::alloc::Global;
 use std::io::{Read, Write};
 use tungstenite::handshake::server;
-use tungstenite::{NoCallback, NoMask, WebSocket, WebSocketConfig};
+use tungstenite::{NoCallback, NoMask, Role, WebSocket, WebSocketConfig};
 
 /// The longest message and the longest frame that are read, in bytes: longer than what the core
 /// refuses by itself.
@@ -17,9 +16,8 @@ const LONGEST: usize = 1_048_576;
 /// How many bytes one read asks for. Two such buffers are kept for each socket.
 const READ_SIZE: usize = 1_024;
 
-/// A WebSocket over a stream whose first bytes were read before: the head of its request, and what
-/// came with it.
-pub type AcceptedSocket<S> = WebSocket<Replay<Replay<S>>, NoMask>;
+/// A WebSocket over a stream of which the head of its request was read before.
+pub type AcceptedSocket<S> = WebSocket<Replay<S>, NoMask>;
 
 fn socket_config() -> WebSocketConfig
     ensures { HasSocketLimits result }
@@ -31,19 +29,21 @@ fn socket_config() -> WebSocketConfig
 }
 
 /// Answers the request whose head was read, and gives its WebSocket; else the stream is dropped. The
-/// bytes that were read past the head are the first that the WebSocket reads.
+/// bytes that were read past the head are the first that the WebSocket has.
 pub fn accept_socket<S: Read + Write + Drop>(
     alloc: Global,
     stream: S,
     head: Vec<u8>,
     rest: Vec<u8>,
 ) -> Option<AcceptedSocket<S>>
-    ensures served { IfSome result Serves }
+    ensures served { IfSome result (BeginsWith rest.items) }
     ensures limits { IfSome result (λ socket. HasMostBytes 1048576 socket.conn.config) }
 {
-    let replay = Replay::new(head, Replay::new(rest, stream));
+    let replay = Replay::new(head, stream);
     let config = Some(socket_config());
-    server::start(alloc, replay, NoCallback, config)
+    let accepted = server::start(alloc, replay, NoCallback, config)
         .handshake()
-        .ok()
+        .ok()?;
+    let stream = accepted.into_inner();
+    Some(WebSocket::from_partially_read(alloc, stream, NoMask, rest, Role::Server, config))
 }

@@ -1,12 +1,13 @@
 //! One request over HTTP, as a peer.
 
 ghost use Rattle.std.specs.Prelude.{◌≡◌};
-ghost use Rattle.peers.specs.Polling.{client_of, given_up, is_idle, is_noop};
+ghost use Rattle.peers.specs.Polling.{client_of, given_up, is_idle};
 ghost use Rattle.peers.specs.declared.poll_stage.PollStage.TheVariants as stage;
 ghost use Rattle.peers.specs.Polled.{Writes};
 ghost use Rattle.peers.specs.Replies.{plain_reply};
 
-use crate::moments::Moments;
+use crate::moments::{Moments, pause_if};
+use crate::noops::is_noop;
 use crate::poll_stage::{PollStage, after, given_up, next_of};
 use crate::replies::{Reply, reply_to};
 use crate::requests::PollRequest;
@@ -19,9 +20,8 @@ use std::marker::Model;
 use std::mem;
 
 /// Serves one request over HTTP: its event, the takes of a GET that waits, and the answer. A GET that
-/// waits pauses before it asks again, and before it is answered by a lone noop packet, since a client
-/// that probes a WebSocket is answered so at once, and asks at once again. In a contract it is its
-/// stage, its wire and how many entries one payload may have.
+/// waits pauses before it asks again, and before it is answered by a lone noop packet. In a contract
+/// it is its stage, its wire, its moments and how many entries one payload may have.
 #[derive(Drop)]
 pub struct PollPeer<W, M> {
     alloc: Global,
@@ -34,9 +34,9 @@ pub struct PollPeer<W, M> {
 impl<W, M> Model for PollPeer<W, M> {
     ghost use Rattle.peers.specs.Polled.{Polled};
 
-    ghost Value = { Polled W };
+    ghost Value = { Polled W M };
 
-    ghost view = { λ p. record { stage = p.stage; wire = p.wire; most = p.most } };
+    ghost view = { λ p. record { stage = p.stage; wire = p.wire; moments = p.moments; most = p.most } };
 }
 
 impl<W, M> PollPeer<W, M> {
@@ -51,7 +51,8 @@ impl<W, M> PollPeer<W, M> {
         request: PollRequest,
         most: usize,
     ) -> PollPeer<W, M>
-        ensures { result ≡ record { stage = stage.First request; wire = wire; most = most } }
+        ensures { result
+            ≡ record { stage = stage.First request; wire = wire; moments = moments; most = most } }
     {
         PollPeer {
             alloc,
@@ -114,14 +115,12 @@ impl<W, M: Drop> PollPeer<W, M> {
 impl<W: Wire, M: Moments> Peer for PollPeer<W, M> {
     ghost use Rattle.peers.specs.Polled.{Gives, Hears};
 
-    ghost gives = { Gives };
+    ghost gives = { Gives M.gives M.pauses };
 
-    ghost hears = { Hears W.written W.is_broken };
+    ghost hears = { Hears W.written W.is_broken M.pauses };
 
     fn next(&mut self) -> Result<Option<(Event, u64)>, PeerFault> {
-        if self.stage.is_idle() {
-            self.moments.pause();
-        }
+        pause_if(&mut self.moments, self.stage.is_idle());
         let stage = mem::replace(&mut self.stage, PollStage::Opening);
         let (next, event) = next_of(stage, self.most);
         self.stage = next;
@@ -138,20 +137,8 @@ impl<W: Wire, M: Moments> Peer for PollPeer<W, M> {
         let Some(reply) = reply else {
             return Ok(());
         };
-        if is_noop(got) {
-            self.moments.pause();
-        }
+        pause_if(&mut self.moments, is_noop(got));
         write_reply(self.alloc, &mut self.wire, &reply)
-    }
-}
-
-/// Whether a lone noop packet was taken.
-fn is_noop(got: &Result<Outcome, CoreError>) -> bool
-    ensures { result ≡ is_noop got.now }
-{
-    match got {
-        Ok(Outcome::Payload(text)) => text.as_str() == "6",
-        _ => false,
     }
 }
 

@@ -8,7 +8,7 @@ use dispatch::{Event, Outcome};
 use effects::{CoreError, CoreFault};
 
 /// How often a GET that waits asks, at the most.
-pub(crate) const TAKES: u32 = 1_200;
+const TAKES: u32 = 1_200;
 
 /// How far a request over HTTP has come.
 #[derive(Debug, Drop)]
@@ -21,10 +21,14 @@ pub(crate) enum PollStage {
     Posting { client: u128 },
     /// The GET is being begun.
     Beginning { client: u128 },
-    /// The GET waits, and may ask so often yet.
+    /// The GET was begun, and is to ask for the first time.
+    Begun { client: u128 },
+    /// The GET found nothing, and may ask so often yet.
     Waits { client: u128, left: u32 },
     /// The GET asks, and may ask so often again.
     Taking { client: u128, left: u32 },
+    /// The GET asks no more, which is to be said.
+    Ends { client: u128 },
     /// The GET is being ended.
     Ending { client: u128 },
     /// It was answered, or has nobody to answer.
@@ -48,17 +52,11 @@ fn first_of(request: PollRequest) -> (PollStage, Event)
     }
 }
 
-/// What a GET that waits asks next.
+/// A GET asks, and may ask so often again.
 fn asks(client: u128, left: u32, most: usize) -> (PollStage, Event)
     ensures { result ≡ polling.asks most client left }
 {
-    if left == 0 {
-        return (PollStage::Ending { client }, Event::PollEnd { client });
-    }
-    let taking = PollStage::Taking {
-        client,
-        left: left - 1,
-    };
+    let taking = PollStage::Taking { client, left };
     (taking, Event::PollTake { client, most })
 }
 
@@ -71,9 +69,17 @@ pub(crate) fn next_of(stage: PollStage, most: usize) -> (PollStage, Option<Event
             let (next, event) = first_of(request);
             (next, Some(event))
         }
-        PollStage::Waits { client, left } => {
-            let (next, event) = asks(client, left, most);
+        PollStage::Begun { client } => {
+            let (next, event) = asks(client, TAKES - 1, most);
             (next, Some(event))
+        }
+        PollStage::Waits { client, left } => {
+            let (next, event) = asks(client, left.saturating_sub(1), most);
+            (next, Some(event))
+        }
+        PollStage::Ends { client } => {
+            let event = Event::PollEnd { client };
+            (PollStage::Ending { client }, Some(event))
         }
         other => (other, None),
     }
@@ -93,16 +99,27 @@ fn waits_on(fault: CoreFault) -> bool
     )
 }
 
-/// The stage of a GET that was begun, when its event was refused.
-fn after_refusal(client: u128, left: u32, fault: CoreFault) -> PollStage
-    ensures { result ≡ polling.after_refusal client left fault }
+/// The stage of a GET that was begun, when its event was refused; this one where it waits on.
+fn after_refusal(client: u128, fault: CoreFault, on: PollStage) -> PollStage
+    ensures { result ≡ polling.after_refusal client fault on }
 {
     if waits_on(fault) {
-        PollStage::Waits { client, left }
+        on
     } else {
         PollStage::Over {
             client: Some(client),
         }
+    }
+}
+
+/// The stage of a GET that found nothing, and may ask so often again.
+fn waits(client: u128, left: u32) -> PollStage
+    ensures { result ≡ polling.waits client left }
+{
+    if left == 0 {
+        PollStage::Ends { client }
+    } else {
+        PollStage::Waits { client, left }
     }
 }
 
@@ -138,10 +155,7 @@ fn after_begin(client: u128, got: &Result<Outcome, CoreError>) -> PollStage
     ensures { result ≡ polling.after_begin client got.now }
 {
     match got {
-        Ok(Outcome::Begun) => PollStage::Waits {
-            client,
-            left: TAKES,
-        },
+        Ok(Outcome::Begun) => PollStage::Begun { client },
         _ => PollStage::Over {
             client: Some(client),
         },
@@ -152,11 +166,11 @@ fn after_take(client: u128, left: u32, got: &Result<Outcome, CoreError>) -> Poll
     ensures { result ≡ polling.after_take client left got.now }
 {
     match got {
-        Ok(Outcome::Nothing) => PollStage::Waits { client, left },
+        Ok(Outcome::Nothing) => waits(client, left),
         Ok(_) => PollStage::Over {
             client: Some(client),
         },
-        Err(error) => after_refusal(client, left, error.fault),
+        Err(error) => after_refusal(client, error.fault, waits(client, left)),
     }
 }
 
@@ -167,7 +181,7 @@ fn after_end(client: u128, got: &Result<Outcome, CoreError>) -> PollStage
         Ok(_) => PollStage::Over {
             client: Some(client),
         },
-        Err(error) => after_refusal(client, 0, error.fault),
+        Err(error) => after_refusal(client, error.fault, PollStage::Ends { client }),
     }
 }
 
@@ -176,7 +190,8 @@ pub(crate) fn given_up(stage: PollStage) -> PollStage
     ensures { result ≡ polling.given_up stage }
 {
     match stage {
-        PollStage::Waits { client, left: _ } => PollStage::Waits { client, left: 0 },
+        PollStage::Begun { client } => PollStage::Ends { client },
+        PollStage::Waits { client, left: _ } => PollStage::Ends { client },
         PollStage::Taking { client, left: _ } => PollStage::Taking { client, left: 0 },
         other => other,
     }
@@ -188,15 +203,16 @@ impl PollStage {
         ensures { result ≡ polling.client_of self.now }
     {
         match self {
-            PollStage::First(PollRequest::Open) => None,
-            PollStage::First(PollRequest::Get { client }) => Some(*client),
-            PollStage::First(PollRequest::Post { client, body: _ }) => Some(*client),
-            PollStage::Opening => None,
-            PollStage::Posting { client } => Some(*client),
-            PollStage::Beginning { client } => Some(*client),
-            PollStage::Waits { client, left: _ } => Some(*client),
-            PollStage::Taking { client, left: _ } => Some(*client),
-            PollStage::Ending { client } => Some(*client),
+            PollStage::First(PollRequest::Open) | PollStage::Opening => None,
+            PollStage::First(PollRequest::Get { client })
+            | PollStage::First(PollRequest::Post { client, .. })
+            | PollStage::Posting { client }
+            | PollStage::Beginning { client }
+            | PollStage::Begun { client }
+            | PollStage::Waits { client, .. }
+            | PollStage::Taking { client, .. }
+            | PollStage::Ends { client }
+            | PollStage::Ending { client } => Some(*client),
             PollStage::Over { client } => *client,
         }
     }
@@ -205,9 +221,6 @@ impl PollStage {
     pub(crate) fn is_idle(&self) -> bool
         ensures { result ≡ polling.is_idle self.now }
     {
-        match self {
-            PollStage::Waits { client: _, left } => *left > 0 && *left < TAKES,
-            _ => false,
-        }
+        matches!(self, PollStage::Waits { .. })
     }
 }

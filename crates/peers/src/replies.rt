@@ -4,6 +4,7 @@ ghost use Rattle.std.specs.Prelude.{◌≡◌, [], option_map};
 ghost use Rattle.peers.specs.Replies as replies;
 ghost use Rattle.peers.specs.Replies.{answer_to, is_unread, plain_reply};
 
+use crate::noops::noop;
 use crate::poll_stage::PollStage;
 use dispatch::Outcome;
 use effects::{Cause, CoreError, CoreFault, Done};
@@ -144,33 +145,35 @@ pub(crate) fn reply_to<'g>(
     ensures { option_map plain_reply result ≡ answer_to stage.now got.now }
 {
     match stage {
-        PollStage::First(_) => None,
+        PollStage::First(_)
+        | PollStage::Begun { .. }
+        | PollStage::Waits { .. }
+        | PollStage::Ends { .. }
+        | PollStage::Over { .. } => None,
         PollStage::Opening => match got {
             Ok(Outcome::Opened(opening)) => Some(success(opening.text.as_str())),
             Ok(_) => None,
             Err(error) => reply_to_refusal(error.fault),
         },
-        PollStage::Posting { client: _ } => match got {
+        PollStage::Posting { .. } => match got {
             Ok(Outcome::Done(done)) => Some(reply_to_post(done)),
             Ok(_) => None,
             Err(error) => reply_to_refusal(error.fault),
         },
-        PollStage::Beginning { client: _ } => match got {
+        PollStage::Beginning { .. } => match got {
             Ok(Outcome::Done(done)) => reply_to_begin(done),
             Ok(_) => None,
             Err(error) => reply_to_refusal(error.fault),
         },
-        PollStage::Waits { client: _, left: _ } => None,
-        PollStage::Taking { client: _, left: _ } => match got {
+        PollStage::Taking { .. } => match got {
             Ok(Outcome::Payload(text)) => Some(success(text.as_str())),
             Ok(_) => None,
             Err(error) => reply_to_begun(error.fault),
         },
-        PollStage::Ending { client: _ } => match got {
-            Ok(Outcome::Done(_)) => Some(success("6")),
+        PollStage::Ending { .. } => match got {
+            Ok(Outcome::Done(_)) => Some(success(noop())),
             Ok(_) => None,
             Err(error) => reply_to_begun(error.fault),
         },
-        PollStage::Over { client: _ } => None,
     }
 }

@@ -22,7 +22,7 @@ use tungstenite::{NoMask, WebSocket};
 
 /// Serves one WebSocket by turns: a read, a take of what waits, and a look at what is due. A client
 /// that polls says first that it probes, and then that the probe succeeded; until then its turn is a
-/// read and a look at what is due. In a contract it is its stage and its socket.
+/// read and a look at what is due. In a contract it is its stage, its socket and its moments.
 #[derive(Drop)]
 pub struct SocketPeer<S, M> {
     alloc: Global,
@@ -34,9 +34,9 @@ pub struct SocketPeer<S, M> {
 impl<S, M> Model for SocketPeer<S, M> {
     ghost use Rattle.peers.specs.Spoken.{Spoken};
 
-    ghost Value = { Spoken S };
+    ghost Value = { Spoken S M };
 
-    ghost view = { λ p. record { stage = p.stage; socket = p.socket } };
+    ghost view = { λ p. record { stage = p.stage; socket = p.socket; moments = p.moments } };
 }
 
 impl<S: Drop, M> SocketPeer<S, M> {
@@ -47,7 +47,8 @@ impl<S: Drop, M> SocketPeer<S, M> {
         moments: M,
         request: SocketRequest,
     ) -> SocketPeer<S, M>
-        ensures { result ≡ record { stage = first_stage request; socket = socket } }
+        ensures { result
+            ≡ record { stage = first_stage request; socket = socket; moments = moments } }
     {
         SocketPeer {
             alloc,
@@ -129,7 +130,7 @@ fn send<S: Read + Write + Drop>(
 impl<S: Read + Write + Drop, M: Moments> Peer for SocketPeer<S, M> {
     ghost use Rattle.peers.specs.Spoken.{Gives, Hears};
 
-    ghost gives = { Gives S.remaining S.contents };
+    ghost gives = { Gives S.remaining S.contents M.gives };
 
     ghost hears = { Hears S.contents };
 

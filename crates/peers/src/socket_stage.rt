@@ -8,8 +8,14 @@ use dispatch::{Event, WsFrame};
 use hub_gate::PeerFault;
 use std::alloc::Global;
 
-/// The most entries of one take.
-const MOST: usize = 64;
+/// The most entries of one take of a WebSocket.
+pub const FRAMES_PER_TAKE: usize = 64;
+
+/// The message by which a client probes its WebSocket.
+pub const PROBE: &str = "2probe";
+
+/// The message by which a client that has probed it comes over to it.
+pub const UPGRADE: &str = "5";
 
 /// What a read of a WebSocket brought.
 #[derive(Debug, Drop)]
@@ -143,7 +149,10 @@ fn ticks(client: u128, phase: Phase, idle: bool) -> (SocketStage, Event)
 fn takes(client: u128, idle: bool) -> (SocketStage, Event)
     ensures { result ≡ turning.takes client idle }
 {
-    let event = Event::FrameTake { client, most: MOST };
+    let event = Event::FrameTake {
+        client,
+        most: FRAMES_PER_TAKE,
+    };
     (SocketStage::Taking { client, idle }, event)
 }
 
@@ -156,7 +165,7 @@ fn knocks(client: u128, incoming: &Incoming) -> (SocketStage, Option<Event>)
             let (stage, event) = ticks(client, Phase::Knocks, idle);
             (stage, Some(event))
         }
-        None if says(incoming, "2probe") => {
+        None if says(incoming, PROBE) => {
             (
                 SocketStage::Probing { client },
                 Some(Event::Probe { client }),
@@ -175,7 +184,7 @@ fn probes(client: u128, incoming: &Incoming) -> (SocketStage, Event)
 {
     match rests(incoming) {
         Some(idle) => ticks(client, Phase::Probes, idle),
-        None if says(incoming, "5") => (
+        None if says(incoming, UPGRADE) => (
             SocketStage::Upgrading { client },
             Event::Upgraded { client },
         ),
@@ -244,11 +253,7 @@ pub(crate) fn next_of(
             let event = Event::Opened { socket: true };
             (SocketStage::Opening, Ok(Some(event)))
         }
-        SocketStage::Reads {
-            client,
-            phase,
-            idle: _,
-        } => after_read(client, phase, incoming),
+        SocketStage::Reads { client, phase, .. } => after_read(client, phase, incoming),
         SocketStage::Takes { client } => {
             let (stage, event) = takes(client, false);
             (stage, Ok(Some(event)))
@@ -278,11 +283,7 @@ impl SocketStage {
         ensures { result ≡ turning.is_idle self }
     {
         match self {
-            SocketStage::Reads {
-                client: _,
-                phase: _,
-                idle,
-            } => idle,
+            SocketStage::Reads { idle, .. } => idle,
             _ => false,
         }
     }
@@ -292,7 +293,7 @@ impl SocketStage {
         ensures { result ≡ turning.has_read_nothing self }
     {
         match self {
-            SocketStage::Taking { client: _, idle } => idle,
+            SocketStage::Taking { idle, .. } => idle,
             _ => false,
         }
     }
@@ -302,26 +303,17 @@ impl SocketStage {
         ensures { result ≡ turning.client_of self }
     {
         match self {
-            SocketStage::Opens => None,
-            SocketStage::Opening => None,
-            SocketStage::Reads {
-                client,
-                phase: _,
-                idle: _,
-            } => Some(client),
-            SocketStage::Probing { client } => Some(client),
-            SocketStage::Upgrading { client } => Some(client),
-            SocketStage::Framed { client } => Some(client),
-            SocketStage::Takes { client } => Some(client),
-            SocketStage::Taking { client, idle: _ } => Some(client),
-            SocketStage::Ticks { client, idle: _ } => Some(client),
-            SocketStage::Ticking {
-                client,
-                phase: _,
-                idle: _,
-            } => Some(client),
-            SocketStage::Loses { client } => Some(client),
-            SocketStage::Losing { client } => Some(client),
+            SocketStage::Opens | SocketStage::Opening => None,
+            SocketStage::Reads { client, .. }
+            | SocketStage::Probing { client }
+            | SocketStage::Upgrading { client }
+            | SocketStage::Framed { client }
+            | SocketStage::Takes { client }
+            | SocketStage::Taking { client, .. }
+            | SocketStage::Ticks { client, .. }
+            | SocketStage::Ticking { client, .. }
+            | SocketStage::Loses { client }
+            | SocketStage::Losing { client } => Some(client),
             SocketStage::Over { client } => client,
         }
     }

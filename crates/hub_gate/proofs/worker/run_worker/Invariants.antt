@@ -1,7 +1,8 @@
 use Rattle.std.proofs.Common.{◌≡◌, List, length, map, min}
 use Rattle.std.specs.Iterator.{Yields}
 use Rattle.std.specs.List.{FoldsTo}
-use Rattle.hub_gate.specs.Turns.{Desk, Grows, Handled, ServesAll, desk, failures}
+use Rattle.hub_gate.specs.Turns.{Desk, Handled, ServesAll, desk, failures}
+use Rattle.hub_gate.proofs.Growth.{Grows}
 use Rattle.hub_gate.proofs.worker.run_worker.Given as goal
 
 abbrev pub invariant-peers : goal.invariant-peers

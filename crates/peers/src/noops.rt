@@ -1,0 +1,45 @@
+//! The pace of lone noop packets, by which a client that polls is told that nothing waits. One that
+//! probes a WebSocket is told so at once, and asks at once again.
+
+ghost use Rattle.std.specs.Prelude.{◌≡◌, codes};
+ghost use Rattle.peers.specs.Noops as noops;
+
+use dispatch::Outcome;
+use effects::CoreError;
+
+/// How long a client that was told so isn't told so anew, in milliseconds.
+pub const PACE: u64 = 100;
+
+/// A lone noop packet.
+pub(crate) fn noop() -> &'static str
+    ensures { result.now ≡ codes "6" }
+{
+    "6"
+}
+
+/// Whether an answer tells its client so, by a lone noop packet that was taken.
+pub fn is_noop(got: &Result<Outcome, CoreError>) -> bool
+    ensures { result ≡ noops.is_noop got.now }
+{
+    match got {
+        Ok(Outcome::Payload(text)) => text.as_str() == noop(),
+        _ => false,
+    }
+}
+
+/// Whether a client that was told so at a moment was told so just now.
+pub fn is_recent(told: u64, now: u64) -> bool
+    ensures { result ≡ noops.is_recent told now }
+{
+    now < told.saturating_add(PACE)
+}
+
+/// From when on a GET is served that comes now: a pace later where its client was told so just now.
+pub fn served_from(told: Option<u64>, now: u64) -> u64
+    ensures { result ≡ noops.served_from told now }
+{
+    match told {
+        Some(told) if is_recent(told, now) => now.saturating_add(PACE),
+        _ => now,
+    }
+}
