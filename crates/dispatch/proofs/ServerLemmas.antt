@@ -22,10 +22,11 @@ use Rattle.effects.specs.declared.app.Arrived.{Arrived}
 use Rattle.effects.specs.declared.app.Effect.{Effect}
 use Rattle.effects.specs.declared.app.Who.{Who}
 use Rattle.effects.specs.App.{PlainVerdict}
-use Rattle.effects.specs.Following.{is_clean, is_turn, Follows, TurnsFor}
+use Rattle.effects.specs.Following.{is_clean, is_turn, Follows}
 use Rattle.dispatch.specs.declared.event.Event.{Event}
 use Rattle.dispatch.specs.declared.event.Event.TheVariants as event
 use Rattle.dispatch.specs.Answers.{Answer}
+use Rattle.dispatch.specs.Counting.{TurnsFor}
 use Rattle.dispatch.specs.Machine.{Does, Machine, IsOf}
 use Rattle.dispatch.specs.Place.{Place, PlainCore, Agree, IsClean}
 

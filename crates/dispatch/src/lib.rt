@@ -11,6 +11,7 @@ mod lines;
 mod outcome;
 mod packets;
 mod parking;
+mod peer;
 mod serve;
 mod server;
 mod takes;
@@ -23,4 +24,5 @@ pub use laws::{
     does_in_all_epochs, handed_in_all_epochs, named_once, others_are_spared_in_all_epochs,
 };
 pub use outcome::{Frames, Opening, Outcome};
+pub use peer::{Peer, PeerFault};
 pub use server::Core;

@@ -7,11 +7,12 @@ ghost use Rattle.journal.specs.Config.{config_refusal, empty_base};
 ghost use Rattle.journal.specs.Membership.{is_open};
 ghost use Rattle.journal.specs.Seal.{Seals};
 ghost use Rattle.hub.specs.Pass.{new_pass, AtLeast, GivesPass, Settles};
-ghost use Rattle.effects.specs.Following.{TurnsFor, Spares};
+ghost use Rattle.effects.specs.Following.{Spares};
 ghost use Rattle.connection.specs.Line.{PlainLine};
 ghost use Rattle.dispatch.specs.Place.{line_of, place, Agree, IsClean};
 ghost use Rattle.dispatch.specs.Takes.{IsOn};
 ghost use Rattle.dispatch.specs.Answers.{at_once, fault_of_config};
+ghost use Rattle.dispatch.specs.Counting.{TurnsFor};
 ghost use Rattle.dispatch.specs.Handed.{Turn, turns_after, Handed};
 ghost use Rattle.dispatch.specs.Machine.{Does, Machine, IsOf, listed};
 

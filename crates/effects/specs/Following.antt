@@ -8,7 +8,6 @@ use Rattle.journal.specs.declared.step.What.TheVariants.{Opened, Attached, Recov
 use Rattle.journal.specs.Journal.{History, history}
 use Rattle.journal.specs.Entries.{AllPass, own_entries}
 use Rattle.journal.specs.Outboxes.{placements}
-use Rattle.hub.specs.Pass.{PlainHub, PlainPass, Rises}
 use Rattle.effects.specs.Commands.{is_of}
 
 -- U+001E, which separates the packets of a payload, doesn't stand in the entry's text
@@ -72,16 +71,6 @@ pub record Follows (kind : History → What → Bool) (before after : History) :
   pub journal : after.journal ≡ steps ++ before.journal
   pub own : AreMade kind before steps
   pub clean : AllByRecursion (λ (step : Step). AllPass is_clean (own_entries before.limits step.what)) steps
-
--- the hub went on with such steps, and the pass has counted what it did
-pub record GoesOn (kind : History → What → Bool) (before after : PlainHub) (old new : PlainPass) : Type 0 where
-  pub follows : Follows kind before.history after.history
-  pub rises : Rises before after old new
-  pub rest : after.rest ≡ before.rest
-
--- the hub went on for an event of this client
-abbrev pub TurnsFor : ℕ → (before after : PlainHub) → (old new : PlainPass) → Type 0
-TurnsFor c before after old new = GoesOn (is_turn c) before after old new
 
 -- the client is in one of these lists
 abbrev pub is_listed : ℕ → List (List ℕ) → Bool

@@ -11,7 +11,7 @@ use Rattle.effects.specs.App.{PlainVerdict}
 use Rattle.dispatch.specs.declared.event.Event.{Event}
 use Rattle.dispatch.specs.Answers.{Answer}
 use Rattle.dispatch.specs.Place.{PlainCore}
-use Rattle.hub_gate.specs.declared.peer.PeerFault.{PeerFault}
+use Rattle.dispatch.specs.declared.peer.PeerFault.{PeerFault}
 use Rattle.hub_gate.specs.declared.worker.WorkerCounts.{WorkerCounts}
 use Rattle.hub_gate.specs.Dealing.{dealt}
 use Rattle.hub_gate.specs.Turns.{Desk, Handled, ServesAll, desk, failures}

@@ -6,7 +6,8 @@ use Rattle.effects.specs.declared.app.Arrived.{Arrived}
 use Rattle.effects.specs.declared.app.Effect.{Effect}
 use Rattle.effects.specs.declared.app.Who.{Who}
 use Rattle.effects.specs.App.{PlainVerdict}
-use Rattle.effects.specs.Following.{TurnsFor, Spares}
+use Rattle.effects.specs.Following.{Spares}
+use Rattle.dispatch.specs.Counting.{TurnsFor}
 use Rattle.hub.specs.Pass.{PlainPass, AtLeast}
 use Rattle.dispatch.specs.declared.event.Event.{Event}
 use Rattle.dispatch.specs.declared.event.Event.TheVariants as event
@@ -15,7 +16,7 @@ use Rattle.dispatch.specs.Answers.{Answer}
 use Rattle.dispatch.specs.Handed.{Turn, Handed}
 use Rattle.dispatch.specs.Machine.{Does, IsOf, listed}
 use Rattle.dispatch.specs.Place.{PlainCore, place}
-use Rattle.hub_gate.specs.declared.peer.PeerFault.{PeerFault}
+use Rattle.dispatch.specs.declared.peer.PeerFault.{PeerFault}
 use Rattle.hub_gate.specs.Facts.{IsSoundCore}
 use Rattle.hub_gate.specs.Loss.{AreTries}
 

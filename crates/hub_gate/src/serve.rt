@@ -7,10 +7,10 @@ ghost use Rattle.hub_gate.specs.Dealing.{AreDealt, Appends};
 ghost use Rattle.hub_gate.specs.Facts.{IsSoundCore};
 ghost use Rattle.hub_gate.specs.Serving.{AreCounted, AreServed, IsFromStarting, IsLackingFor, IsRefused, WorksAs};
 
-use crate::peer::{Peer, Queue, Turnstile};
+use crate::peer::{Queue, Turnstile};
 use crate::pool::Pool;
 use crate::worker::{WorkerCounts, run_worker};
-use dispatch::Core;
+use dispatch::{Core, Peer};
 use effects::{App, IdSource};
 use hub::{NotAll, Pass};
 use journal::Totals;

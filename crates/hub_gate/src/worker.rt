@@ -5,9 +5,9 @@ ghost use Rattle.hub_gate.specs.Turns.{Applied, ServesAll, Talks, TellsLost, Wor
 
 use crate::locked::{Turn, apply_counted};
 use crate::loss::{Loss, Telling};
-use crate::peer::{Peer, PeerSource, Turnstile};
+use crate::peer::{PeerSource, Turnstile};
 use crate::pool::Pool;
-use dispatch::{Event, Outcome};
+use dispatch::{Event, Outcome, Peer};
 use effects::{App, CoreError, IdSource};
 use hub::Pass;
 use std::snapshot::Snapshot;

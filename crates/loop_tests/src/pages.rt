@@ -5,8 +5,8 @@ use std::alloc::Global;
 use std::fmt::Write;
 use terms::{Bytes, Text};
 
-/// The files of each kind, with their media types. A file whose name is a number has so many lines:
-/// none, a piece of what goes out at a time, a line less and a line more, and some megabytes.
+/// The files of each kind, with their media types. A file whose name is a number has so many bytes:
+/// none, a piece of what goes out at a time, a little less and a little more, and some megabytes.
 pub static NAMES: [(&str, &str); 21] = [
     ("index.html", "text/html; charset=UTF-8"),
     ("a.html", "text/html; charset=UTF-8"),
@@ -25,24 +25,26 @@ pub static NAMES: [(&str, &str); 21] = [
     ("LICENSE", "application/octet-stream"),
     ("a%2eb", "application/octet-stream"),
     ("0", "application/octet-stream"),
-    ("1023", "application/octet-stream"),
-    ("1024", "application/octet-stream"),
-    ("1025", "application/octet-stream"),
-    ("50000", "application/octet-stream"),
+    ("65528", "application/octet-stream"),
+    ("65536", "application/octet-stream"),
+    ("65544", "application/octet-stream"),
+    ("3200000", "application/octet-stream"),
 ];
 
 /// What stands behind the number of a line.
 const MORE: &str = "|......|......|......|......|......|......|......|......";
 
-/// What a file holds: its own name, or so many lines of 64 bytes, each another one.
+/// What a file holds: its own name, or so many bytes, in lines of 64, each another one. The last
+/// line is cut.
 fn content(alloc: Global, name: &str) -> Option<String> {
-    let Ok(count) = name.parse::<u32>() else {
+    let Ok(length) = name.parse::<usize>() else {
         return String::from_str(alloc, name).ok();
     };
     let mut text = String::new(alloc);
-    for number in 0..count {
+    for number in 0..length / 64 {
         write!(text, "{number:07}{MORE}\n").ok()?;
     }
+    text.push_str(MORE.get(..length % 64)?).ok()?;
     Some(text)
 }
 

@@ -118,7 +118,7 @@ speak A 40; client B; get B; pause 300; stop 300; ended B; gone A
 counts placed 2, taken 2, waiting 0, lost 2, closed 0, sockets 1"#,
     r#"a connection is open over which nothing comes
 server 2
-silent A 1; ask 404 GET /; stop 300; ended A
+silent A 1; pause 100; ask 404 GET /; stop 300; ended A
 counts lost 0, closed 0"#,
 ];
 
@@ -155,9 +155,9 @@ none GET /%2e%2e /%2e%2e/index.html /..%2findex.html /index%2ehtml /a.b //index.
 none GET /index.html/ /index.html%00 /index.html%3fx /Index.html /INDEX.HTML /etc/passwd;
 none GET http://localhost/index.html /socket.io/index.html /<=16054>;
 none POST /index.html; none PUT /index.html; none DELETE /index.html;
-none OPTIONS /index.html; none get /index.html; none HEAD /50001;
-ask 400 GET /index.html<0> Content-Length: 0; file HEAD /50000 50000;
-begin A GET /50000 Content-Length: 0; pause 300; client B; late A 50000;
+none OPTIONS /index.html; none get /index.html; none HEAD /3200001;
+ask 400 GET /index.html<0> Content-Length: 0; file HEAD /3200000 3200000;
+begin A GET /3200000 Content-Length: 0; pause 300; client B; late A 3200000;
 open C; stop 5000
 counts placed 1, taken 1"#,
 ];

@@ -13,7 +13,7 @@ use std::sync::Wait;
 impl<R: Wait + Clock + Copy + Drop, L: Log> EventLoop<'_, R, L> {
     /// A connection's event was answered.
     pub(crate) fn hear(&mut self, key: usize, got: &Result<Outcome, CoreError>) {
-        let now = self.watch.tell();
+        let now = self.base.now();
         if self.connections.is_lost(key) {
             self.hear_loss(key, got, now);
             return;
@@ -82,10 +82,10 @@ impl<R: Wait + Clock + Copy + Drop, L: Log> EventLoop<'_, R, L> {
             Outcome::Opened(_) => self.note_opened(client, key),
             Outcome::Begun => self.connections.settle(client, key),
             Outcome::Probed(_) => self.connections.roster.wake(client),
-            Outcome::Lost { saved: _ } => self.note_end(client, None),
+            Outcome::Lost { .. } => self.note_end(client, None),
             Outcome::Ticked {
-                ping: _,
                 closed: Some(cause),
+                ..
             } => self.note_end(client, Some(*cause)),
             _ => {}
         }
@@ -95,7 +95,7 @@ impl<R: Wait + Clock + Copy + Drop, L: Log> EventLoop<'_, R, L> {
     fn note_error(&mut self, client: u128, error: &CoreError) {
         if error.packets > 0 || error.effects > 0 {
             self.connections.roster.wake(client);
-            self.outbound.note_everyone();
+            self.notes.everyone = true;
         }
     }
 
@@ -105,7 +105,7 @@ impl<R: Wait + Clock + Copy + Drop, L: Log> EventLoop<'_, R, L> {
             self.base.number,
             self.base.rules.loops,
             done.clients.lists(),
-            &mut self.outbound.notes,
+            &mut self.notes,
         );
         if self.current.comes_over {
             self.come_over(client, key);
@@ -127,7 +127,7 @@ impl<R: Wait + Clock + Copy + Drop, L: Log> EventLoop<'_, R, L> {
     /// A client has ended, which its waiting GET is to be told.
     fn note_end(&mut self, client: u128, cause: Option<Cause>) {
         self.connections.roster.wake(client);
-        let now = self.watch.tell();
+        let now = self.base.now();
         self.base.note_end(client, cause, now);
     }
 
@@ -137,13 +137,13 @@ impl<R: Wait + Clock + Copy + Drop, L: Log> EventLoop<'_, R, L> {
         if is_socket {
             self.connections.settle(client, key);
         }
-        let now = self.watch.tell();
+        let now = self.base.now();
         self.base.note_opened(client, is_socket, now);
     }
 
     /// A client is told that nothing waits.
     fn note_noop(&mut self, client: u128) {
-        let now = self.watch.tell();
+        let now = self.base.now();
         self.delays.note_noop(client, now);
     }
 }

@@ -1,30 +1,52 @@
-//! Whose a loop is, and what it goes by.
+//! What a worker goes by.
 
-use crate::inbox::Handed;
+use crate::inbox::{Handed, Inbox};
 use crate::news::Log;
-use crate::outbound::Outbound;
 use crate::rules::Rules;
 use crate::shared::Shared;
+use crate::watch::Watch;
 use effects::Cause;
-use loop_rules::Mail;
-use std::alloc::Global;
+use loop_rules::{Mail, Notes};
+use std::alloc::{AllocError, Global};
 use std::rt::Clock;
 use std::sync::{Arc, Wait};
+use std::time::Duration;
 
-/// Whose a loop is, and what it goes by: through it the loop speaks to the others.
+/// What a worker goes by: through it a loop, or the keeper, speaks to the others.
 #[derive(Drop)]
 pub(crate) struct Base<'a, R, L> {
     pub(crate) rt: R,
     pub(crate) alloc: Global,
     pub(crate) log: &'a L,
-    /// Which loop it is.
+    /// Which worker it is.
     pub(crate) number: usize,
     pub(crate) shared: Arc<Shared>,
     pub(crate) rules: Arc<Rules>,
+    pub(crate) watch: Watch<R>,
+}
+
+impl<'a, R: Clock + Copy, L> Base<'a, R, L> {
+    /// What the worker of this number goes by.
+    pub(crate) fn of_worker(&self, number: usize) -> Result<Base<'a, R, L>, AllocError> {
+        Ok(Base {
+            rt: self.rt,
+            alloc: self.alloc,
+            log: self.log,
+            number,
+            shared: Arc::try_clone(&self.shared)?,
+            rules: Arc::try_clone(&self.rules)?,
+            watch: self.watch,
+        })
+    }
+
+    /// The moment now.
+    pub(crate) fn now(&mut self) -> u64 {
+        self.watch.tell()
+    }
 }
 
 impl<R: Wait + Clock, L: Log> Base<'_, R, L> {
-    /// The loop has begun.
+    /// The worker has begun.
     pub(crate) fn note_begun(&self) {
         self.shared.note_begun(&self.rt);
     }
@@ -47,6 +69,11 @@ impl<R: Wait + Clock, L: Log> Base<'_, R, L> {
     /// Whether what is still open is to end.
     pub(crate) fn is_cutting(&self) -> bool {
         self.shared.is_cutting(&self.rt)
+    }
+
+    /// Waits until no loop is at work, but no longer than so, and tells whether none is.
+    pub(crate) fn wait_for_loops(&self, most: Duration) -> bool {
+        self.shared.wait_for_loops(&self.rt, most)
     }
 
     /// Whether nothing was handed in, so that the loop may sleep until its bell is rung.
@@ -72,9 +99,16 @@ impl<R: Wait + Clock, L: Log> Base<'_, R, L> {
         }
     }
 
-    /// Tells the other loops of their clients.
-    pub(crate) fn send(&self, outbound: &mut Outbound) {
-        outbound.send(&self.rt, self.shared.inboxes());
+    /// Tells each loop of its clients that were noted.
+    pub(crate) fn send(&self, notes: &mut Notes) {
+        let inboxes = self.shared.inboxes();
+        for (inbox, list) in inboxes.iter().zip(notes.lists.iter_mut()) {
+            if notes.everyone {
+                inbox.wake_everyone(&self.rt);
+            }
+            tell(&self.rt, inbox, list);
+        }
+        notes.everyone = false;
     }
 
     /// A client was opened at this moment.
@@ -94,5 +128,13 @@ impl<R: Wait + Clock, L: Log> Base<'_, R, L> {
         self.shared
             .lives()
             .end(&self.rt, self.log, client, cause, now);
+    }
+}
+
+/// Tells a loop of its clients, if there are any.
+fn tell(rt: &impl Wait, inbox: &Inbox, list: &mut Vec<u128>) {
+    if !list.is_empty() {
+        inbox.wake(rt, list.as_slice());
+        list.clear();
     }
 }

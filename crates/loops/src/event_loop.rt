@@ -7,24 +7,20 @@ use crate::delays::Delays;
 use crate::fault::ServerFault;
 use crate::inbox::{Ears, Handed};
 use crate::news::Log;
-use crate::outbound::Outbound;
 use crate::reading::Drained;
-use crate::rules::Rules;
-use crate::shared::Shared;
 use crate::stage::Stream;
 use crate::tcp_connection::{Connection, Mode, Next};
-use crate::watch::Watch;
 use crossbeam_channel::Receiver;
 use dispatch::{Event, Outcome};
 use effects::CoreError;
 use hub_gate::{Peer, PeerFault};
-use loop_rules::{Mail, Pause, Turn};
+use loop_rules::{Mail, Notes, Pause, Turn};
 use mio::net::TcpStream;
 use mio::{Events, Interest, Poll};
 use std::alloc::Global;
 use std::mem;
 use std::rt::Clock;
-use std::sync::{Arc, Wait};
+use std::sync::Wait;
 use std::time::Duration;
 
 /// How many reports of streams one wait takes.
@@ -59,10 +55,10 @@ pub(crate) struct EventLoop<'a, R, L> {
     /// The new connections.
     streams: Receiver<TcpStream>,
     events: Events<Global>,
-    pub(crate) watch: Watch<R>,
     pub(crate) connections: Connections<R>,
     mail: Mail<Handed>,
-    pub(crate) outbound: Outbound,
+    /// The clients of other loops, to be told once a turn.
+    pub(crate) notes: Notes,
     pub(crate) delays: Delays,
     pub(crate) current: Current,
     /// The moment of the next beat.
@@ -104,34 +100,21 @@ impl<R: Wait + Clock + Copy + Drop, L: Log> Peer for EventLoop<'_, R, L> {
 impl<'a, R: Wait + Clock + Copy + Drop, L: Log> EventLoop<'a, R, L> {
     /// A loop without connections.
     pub(crate) fn new(
-        rt: R,
-        alloc: Global,
-        log: &'a L,
-        number: usize,
-        shared: Arc<Shared>,
-        rules: Arc<Rules>,
+        base: Base<'a, R, L>,
         ears: Ears,
-        watch: Watch<R>,
     ) -> Result<EventLoop<'a, R, L>, ServerFault> {
         let Ears { poll, streams } = ears;
-        let outbound = Outbound::new(alloc, rules.loops)?;
+        let alloc = base.alloc;
+        let notes = Notes::new(alloc, base.rules.loops)?;
         let events = Events::with_capacity(alloc, EVENTS)?;
         Ok(EventLoop {
-            base: Base {
-                rt,
-                alloc,
-                log,
-                number,
-                shared,
-                rules,
-            },
+            base,
             poll,
             streams,
             events,
-            watch,
             connections: Connections::new(alloc),
             mail: Mail::new(alloc),
-            outbound,
+            notes,
             delays: Delays::new(alloc),
             current: Current {
                 key: None,
@@ -167,12 +150,12 @@ impl<'a, R: Wait + Clock + Copy + Drop, L: Log> EventLoop<'a, R, L> {
 
     /// Tells the other loops of their clients.
     pub(crate) fn tell_others(&mut self) {
-        self.base.send(&mut self.outbound);
+        self.base.send(&mut self.notes);
     }
 
     /// Sends the bytes of all connections that have some.
     fn send_all(&mut self) {
-        let now = self.watch.tell();
+        let now = self.base.now();
         for _ in 0..u64::MAX {
             let Some(key) = self.connections.pop_unsent() else {
                 return;
@@ -216,7 +199,7 @@ impl<'a, R: Wait + Clock + Copy + Drop, L: Log> EventLoop<'a, R, L> {
 
     /// The time until something is due.
     fn time_to_sleep(&mut self) -> u64 {
-        let now = self.watch.tell();
+        let now = self.base.now();
         let due = match self.delays.first() {
             Some(moment) => self.beat.min(moment),
             None => self.beat,
@@ -245,7 +228,7 @@ impl<'a, R: Wait + Clock + Copy + Drop, L: Log> EventLoop<'a, R, L> {
 
     /// Does what is due. Where all connections are to be looked at, their deadlines are.
     fn do_due(&mut self, everyone: bool) {
-        let now = self.watch.tell();
+        let now = self.base.now();
         self.queue_delayed(now);
         if now >= self.beat || everyone {
             self.beat = now.saturating_add(BEAT);
@@ -298,7 +281,7 @@ impl<'a, R: Wait + Clock + Copy + Drop, L: Log> EventLoop<'a, R, L> {
 
     /// Adds a stream, and has its readiness told. None where that fails: then it is closed.
     fn add(&mut self, stream: Stream) -> Option<usize> {
-        let now = self.watch.tell();
+        let now = self.base.now();
         let mut stream = stream;
         let (token, generation) = self.connections.next_token();
         let interests = Interest::READABLE | Interest::WRITABLE;
@@ -334,7 +317,7 @@ impl<'a, R: Wait + Clock + Copy + Drop, L: Log> EventLoop<'a, R, L> {
 
     /// The next event of a connection, if it has one.
     fn step(&mut self, key: usize) -> Option<(Event, u64)> {
-        let now = self.watch.tell();
+        let now = self.base.now();
         let Some(connection) = self.connections.get_mut(key) else {
             self.pause(key, Pause::Done);
             return None;
@@ -361,7 +344,7 @@ impl<'a, R: Wait + Clock + Copy + Drop, L: Log> EventLoop<'a, R, L> {
     fn bring(&mut self, key: usize, now: u64) -> Option<(Event, u64)> {
         match self.connections.get_mut(key)?.next(now) {
             Next::Brings(event, moment) => {
-                self.current.comes_over = matches!(event, Event::Upgraded { client: _ });
+                self.current.comes_over = matches!(event, Event::Upgraded { .. });
                 return Some((event, moment));
             }
             Next::AsksAgain => self.hear_nothing(key),
@@ -406,7 +389,7 @@ impl<'a, R: Wait + Clock + Copy + Drop, L: Log> EventLoop<'a, R, L> {
             self.connections.note_unsent(key);
             return;
         }
-        let now = self.watch.tell();
+        let now = self.base.now();
         if self.connections.send(key, now) {
             self.close(key);
         }

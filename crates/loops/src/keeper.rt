@@ -1,20 +1,18 @@
 //! The keeper: a peer that brings what the passing of time brings, for all clients.
 
+use crate::base::Base;
+use crate::fault::ServerFault;
 use crate::news::Log;
-use crate::outbound::Outbound;
-use crate::rules::Rules;
-use crate::shared::Shared;
-use crate::watch::Watch;
 use dispatch::{Event, Outcome};
 use effects::{Cause, CoreError};
 use hub::Pass;
 use hub_gate::{Locked, Peer, PeerFault};
 use journal::Totals;
-use loop_rules::loop_of;
+use loop_rules::{Notes, loop_of};
 use std::alloc::Global;
 use std::rt::Clock;
+use std::sync::Wait;
 use std::sync::ledger::Ledger;
-use std::sync::{Arc, Wait};
 use std::time::Duration;
 use std::vec::IntoIter;
 
@@ -41,20 +39,16 @@ enum Duty {
 /// Asks for each client what is due to it, has the hub sweep, and seals its journal.
 #[derive(Drop)]
 pub(crate) struct Keeper<'a, R, L, C: Ledger, T: Ledger> {
-    rt: R,
-    alloc: Global,
-    log: &'a L,
+    base: Base<'a, R, L>,
     locked: &'a Locked<C, T>,
     /// It counts nothing: with it the core is looked at.
     pass: Pass<C, T>,
-    shared: Arc<Shared>,
-    rules: Arc<Rules>,
-    watch: Watch<R>,
     clients: IntoIter<u128, Global>,
     /// The client that was asked about last.
     client: u128,
     duty: Duty,
-    outbound: Outbound,
+    /// The clients for which something was put, to be told once a round.
+    notes: Notes,
     /// The moment at which the totals are told next.
     report: u64,
     begun: bool,
@@ -63,41 +57,30 @@ pub(crate) struct Keeper<'a, R, L, C: Ledger, T: Ledger> {
 impl<'a, R: Wait + Clock + Copy, L: Log, C: Ledger, T: Ledger> Keeper<'a, R, L, C, T> {
     /// The first round is to come.
     pub(crate) fn new(
-        rt: R,
-        alloc: Global,
-        log: &'a L,
+        base: Base<'a, R, L>,
         locked: &'a Locked<C, T>,
         pass: Pass<C, T>,
-        shared: Arc<Shared>,
-        rules: Arc<Rules>,
-        watch: Watch<R>,
-        outbound: Outbound,
-    ) -> Keeper<'a, R, L, C, T> {
-        Keeper {
-            rt,
-            alloc,
-            log,
+    ) -> Result<Keeper<'a, R, L, C, T>, ServerFault> {
+        let notes = Notes::new(base.alloc, base.rules.loops)?;
+        let clients = Vec::new(base.alloc).into_iter();
+        Ok(Keeper {
+            base,
             locked,
             pass,
-            shared,
-            rules,
-            watch,
-            clients: Vec::new(alloc).into_iter(),
+            clients,
             client: 0,
             duty: Duty::Waits,
-            outbound,
+            notes,
             report: 0,
             begun: false,
-        }
+        })
     }
 
     /// Waits for the next round, and tells whether there is one.
     fn rests(&mut self) -> bool {
         for _ in 0..LOOKS {
-            if self
-                .shared
-                .wait_for_loops(&self.rt, Duration::from_millis(ROUND / LOOKS))
-            {
+            let part = Duration::from_millis(ROUND / LOOKS);
+            if self.base.wait_for_loops(part) {
                 return false;
             }
             self.seal();
@@ -108,7 +91,9 @@ impl<'a, R: Wait + Clock + Copy, L: Log, C: Ledger, T: Ledger> Keeper<'a, R, L, 
     /// Seals the journal, where it is long.
     fn seal(&self) {
         // One that can't be sealed for want of memory is sealed at the next look.
-        let _ = self.locked.seal(&self.rt, self.alloc, STEPS, BYTES);
+        let _ = self
+            .locked
+            .seal(&self.base.rt, self.base.alloc, STEPS, BYTES);
     }
 
     /// Lists the clients. Where there is no memory for the list, they are asked about in the next
@@ -120,31 +105,31 @@ impl<'a, R: Wait + Clock + Copy, L: Log, C: Ledger, T: Ledger> Keeper<'a, R, L, 
     fn listed(&mut self) -> Vec<u128> {
         let listed = self
             .locked
-            .look(&self.rt, &mut self.pass)
-            .clients(self.alloc);
+            .look(&self.base.rt, &mut self.pass)
+            .clients(self.base.alloc);
         match listed {
             Ok(clients) => clients,
-            Err(_) => Vec::new(self.alloc),
+            Err(_) => Vec::new(self.base.alloc),
         }
     }
 
     /// Tells the totals, where it is time.
     fn tell_totals(&mut self) {
-        let Some(pause) = self.rules.report else {
+        let Some(pause) = self.base.rules.report else {
             return;
         };
-        let now = self.watch.tell();
+        let now = self.base.now();
         if now < self.report {
             return;
         }
         self.report = now.saturating_add(pause.saturating_mul(1_000));
         let totals = self.totals();
-        self.log.totals(totals);
+        self.base.log.totals(totals);
     }
 
     fn totals(&mut self) -> Totals {
         self.locked
-            .look(&self.rt, &mut self.pass)
+            .look(&self.base.rt, &mut self.pass)
             .hub()
             .state()
             .totals()
@@ -152,15 +137,13 @@ impl<'a, R: Wait + Clock + Copy, L: Log, C: Ledger, T: Ledger> Keeper<'a, R, L, 
 
     /// A client was given up.
     fn note_end(&mut self, cause: Cause) {
-        let now = self.watch.tell();
-        self.shared
-            .lives()
-            .end(&self.rt, self.log, self.client, Some(cause), now);
+        let now = self.base.now();
+        self.base.note_end(self.client, Some(cause), now);
     }
 
     /// Waits for the next round and begins it, and tells whether there is one.
     fn begin_round(&mut self) -> bool {
-        self.outbound.send(&self.rt, self.shared.inboxes());
+        self.base.send(&mut self.notes);
         if !self.rests() {
             return false;
         }
@@ -192,11 +175,11 @@ impl<R: Wait + Clock + Copy, L: Log, C: Ledger, T: Ledger> Peer for Keeper<'_, R
     fn next(&mut self) -> Result<Option<(Event, u64)>, PeerFault> {
         if !self.begun {
             self.begun = true;
-            self.shared.note_begun(&self.rt);
+            self.base.note_begun();
         }
         for _ in 0..u64::MAX {
             if let Some(event) = self.next_of_round() {
-                return Ok(Some((event, self.watch.tell())));
+                return Ok(Some((event, self.base.now())));
             }
             if !self.begin_round() {
                 break;
@@ -208,8 +191,8 @@ impl<R: Wait + Clock + Copy, L: Log, C: Ledger, T: Ledger> Peer for Keeper<'_, R
     fn answer(&mut self, got: &Result<Outcome, CoreError>) -> Result<(), PeerFault> {
         if let Ok(Outcome::Ticked { ping, closed }) = got {
             if *ping || closed.is_some() {
-                let owner = loop_of(self.client, self.rules.loops);
-                self.outbound.note(owner, self.client);
+                let owner = loop_of(self.client, self.base.rules.loops);
+                self.notes.note(owner, self.client);
             }
             if let Some(cause) = closed {
                 self.note_end(*cause);

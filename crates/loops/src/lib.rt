@@ -17,7 +17,6 @@ mod inbox;
 mod keeper;
 mod news;
 mod opening;
-mod outbound;
 mod progress;
 mod reading;
 mod requests;

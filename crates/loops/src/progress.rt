@@ -56,8 +56,8 @@ impl Progress {
     /// What its event asks, when all that was read was brought and the stream had no more, or not.
     pub(crate) fn note_event(&mut self, event: &Event, dry: bool) {
         self.asks = match event {
-            Event::FrameTake { client: _, most: _ } => Asks::Waiting { dry },
-            Event::Tick { client: _ } => Asks::Due,
+            Event::FrameTake { .. } => Asks::Waiting { dry },
+            Event::Tick { .. } => Asks::Due,
             _ => Asks::Other,
         };
     }
@@ -105,15 +105,15 @@ fn is_quiet(got: &Result<Outcome, CoreError>) -> bool {
 fn message_length(event: &Event) -> Option<usize> {
     match event {
         Event::Frame {
-            client: _,
             frame: WsFrame::Text(text),
+            ..
         } => Some(text.as_str().len()),
         Event::Frame {
-            client: _,
             frame: WsFrame::Bytes(bytes),
+            ..
         } => Some(bytes.as_slice().len()),
-        Event::Probe { client: _ } => Some(PROBE.len()),
-        Event::Upgraded { client: _ } => Some(UPGRADE.len()),
+        Event::Probe { .. } => Some(PROBE.len()),
+        Event::Upgraded { .. } => Some(UPGRADE.len()),
         _ => None,
     }
 }

@@ -82,13 +82,13 @@ impl<R: Wait + Clock + Copy + Drop, L: Log> EventLoop<'_, R, L> {
     /// Begins to serve a request. A GET of a client that was told just so that nothing waits is served
     /// a little later.
     pub(crate) fn serve(&mut self, key: usize, request: Box<Request>, target: Target) {
-        let now = self.watch.tell();
+        let now = self.base.now();
         let from = self.delays.served_from(target, now);
         let Some(connection) = self.connections.get_mut(key) else {
             return;
         };
         let most = self.base.rules.poll_entries;
-        connection.serve(self.base.alloc, request, target, self.watch, most, now);
+        connection.serve(self.base.alloc, request, target, self.base.watch, most, now);
         if from > now && self.delays.delay(from, key, connection.generation) {
             connection.not_before = from;
         }

@@ -5,7 +5,8 @@ ghost use Rattle.settings.specs.Wrong.{wrong_setting};
 ghost use Rattle.loops.specs.declared.fault.ServerFault.TheVariants.{BadSetting};
 
 use crate::acceptor::Acceptor;
-use crate::crew::{Common, sources, workers_for};
+use crate::base::Base;
+use crate::crew::{sources, workers_for};
 use crate::drawn::DrawnIds;
 use crate::fault::{Doing, ServerFault, starting};
 use crate::inbox::Ears;
@@ -134,25 +135,26 @@ fn run_in<
         making,
     } = server;
     let (locked, mut pass, looks) = lock_core::<C, T>(alloc, making, commands, taken)?;
-    let common = common_for(rt, alloc, &log, shared, rules)?;
-    let workers = workers_for(&common, ears, &locked, looks)?;
+    let base = base_for(rt, alloc, &log, shared, rules)?;
+    let workers = workers_for(&base, ears, &locked, looks)?;
     let ids = sources(rt, alloc, workers.len())?;
-    serve_all(rt, &common, &locked, &mut pass, app, acceptor, workers, ids)
+    serve_all(&base, &locked, &mut pass, app, acceptor, workers, ids)
 }
 
-/// What the threads of a server take along. Its time begins now.
-fn common_for<'a, R: Clock + Copy, L>(
+/// What the first worker goes by. Its time begins now.
+fn base_for<'a, R: Clock + Copy, L>(
     rt: &R,
     alloc: Global,
     log: &'a L,
     shared: Arc<Shared>,
     rules: Arc<Rules>,
-) -> Result<Common<'a, R, L>, ServerFault> {
+) -> Result<Base<'a, R, L>, ServerFault> {
     let start = Instant::now(rt).map_err(starting)?;
-    Ok(Common {
+    Ok(Base {
         rt: *rt,
         alloc,
         log,
+        number: 0,
         shared,
         rules,
         watch: Watch::new(*rt, start),
@@ -167,8 +169,7 @@ fn serve_all<
     L: Log + Sync,
     A: App + Sync,
 >(
-    rt: &R,
-    common: &Common<'_, R, L>,
+    base: &Base<'_, R, L>,
     locked: &Locked<C, T>,
     pass: &mut Pass<C, T>,
     app: &A,
@@ -182,18 +183,18 @@ fn serve_all<
     ensures taken { IfOk result (λ r. r.totals.taken
         ≡ pass.old.taken + sum_by (λ w. w.taken) r.workers.items) }
 {
-    let accepting = start_accepting(rt, common, acceptor)?;
+    let accepting = start_accepting(base, acceptor)?;
     let pool = Pool {
-        rt,
-        alloc: common.alloc,
+        rt: &base.rt,
+        alloc: base.alloc,
         locked,
         app,
         gate: &Open,
         turns: u64::MAX,
     };
     let served = serve_pool(&pool, pass, workers, ids);
-    common.shared.stop_accepting(rt);
-    accepting.join(rt);
+    base.shared.stop_accepting(&base.rt);
+    accepting.join(&base.rt);
     served
 }
 
@@ -230,14 +231,13 @@ fn serve_pool<
 
 /// Accepts in a thread of its own.
 fn start_accepting<R: Threads + Wait + Clock + Copy + Drop + Send + 'static, L>(
-    rt: &R,
-    common: &Common<'_, R, L>,
+    base: &Base<'_, R, L>,
     acceptor: Box<Acceptor>,
 ) -> Result<JoinHandle<()>, ServerFault> {
-    let shared = Arc::try_clone(&common.shared)?;
-    let handle = *rt;
+    let shared = Arc::try_clone(&base.shared)?;
+    let handle = base.rt;
     let mut acceptor = acceptor;
-    match thread::spawn(rt, move || acceptor.accept_all(&handle, &shared)) {
+    match thread::spawn(&base.rt, move || acceptor.accept_all(&handle, &shared)) {
         Ok(accepting) => Ok(accepting),
         Err(_) => Err(ServerFault::Device(Doing::Starting)),
     }

@@ -46,17 +46,11 @@ impl<R: Clock + Drop> Stage<R> {
     /// The stream, if it is still here.
     pub(crate) fn stream(&mut self) -> Option<&mut Stream> {
         match self {
-            Stage::Gathering {
-                stream,
-                gathered: _,
-            } => Some(stream),
+            Stage::Gathering { stream, .. } => Some(stream),
             Stage::Polling(peer) => Some(peer.wire_mut().get_mut()),
             Stage::Speaking(peer) => Some(peer.stream_mut().get_mut()),
             Stage::Answered(stream) => Some(stream),
-            Stage::Downloading {
-                stream,
-                download: _,
-            } => Some(stream),
+            Stage::Downloading { stream, .. } => Some(stream),
             Stage::Gone => None,
         }
     }
@@ -72,13 +66,7 @@ impl<R: Clock + Drop> Stage<R> {
 
     /// Whether the request is still coming.
     pub(crate) fn is_gathering(&self) -> bool {
-        matches!(
-            self,
-            Stage::Gathering {
-                stream: _,
-                gathered: _
-            }
-        )
+        matches!(self, Stage::Gathering { .. })
     }
 
     /// Whether it is a request over HTTP.
@@ -132,10 +120,7 @@ impl<R: Clock + Drop> Stage<R> {
     /// The stream, which nobody has any more then. None where somebody serves it.
     pub(crate) fn take_stream(&mut self) -> Option<Stream> {
         match mem::replace(self, Stage::Gone) {
-            Stage::Gathering {
-                stream,
-                gathered: _,
-            } => Some(stream),
+            Stage::Gathering { stream, .. } => Some(stream),
             _ => None,
         }
     }
@@ -174,10 +159,7 @@ impl<R: Clock + Drop> Stage<R> {
     /// Whether a file has pieces that are not written yet.
     pub(crate) fn has_more(&self) -> bool {
         match self {
-            Stage::Downloading {
-                stream: _,
-                download,
-            } => !download.is_over(),
+            Stage::Downloading { download, .. } => !download.is_over(),
             _ => false,
         }
     }

@@ -6,7 +6,7 @@ use Rattle.dispatch.specs.declared.event.WsFrame.{WsFrame}
 use Rattle.dispatch.specs.declared.event.WsFrame.TheVariants as frame
 use Rattle.dispatch.specs.declared.outcome.Outcome.TheVariants as outcome
 use Rattle.dispatch.specs.Answers.{Answer}
-use Rattle.hub_gate.specs.declared.peer.PeerFault.{PeerFault}
+use Rattle.dispatch.specs.declared.peer.PeerFault.{PeerFault}
 use Rattle.peers.specs.declared.socket_stage.Phase.{Phase}
 use Rattle.peers.specs.declared.socket_stage.Phase.TheVariants as phase
 use Rattle.peers.specs.declared.socket_heard.Sending.{Sending}

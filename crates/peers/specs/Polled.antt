@@ -3,8 +3,8 @@ use Rattle.std.specs.Prelude.{◌≡◌, ℕ, Bool, true, List, Option, None, So
 use Rattle.std.specs.Io.KnownBytes.{Appends}
 use Rattle.dispatch.specs.declared.event.Event.{Event}
 use Rattle.dispatch.specs.Answers.{Answer}
-use Rattle.hub_gate.specs.declared.peer.PeerFault.{PeerFault}
-use Rattle.hub_gate.specs.declared.peer.PeerFault.TheVariants as fault
+use Rattle.dispatch.specs.declared.peer.PeerFault.{PeerFault}
+use Rattle.dispatch.specs.declared.peer.PeerFault.TheVariants as fault
 use Rattle.http_edge.specs.Answer as http
 use Rattle.http_edge.specs.Written.{AppendsFront}
 use Rattle.peers.specs.declared.poll_stage.PollStage.{PollStage}

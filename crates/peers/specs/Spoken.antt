@@ -5,8 +5,8 @@ use Rattle.websocket.specs.declared.protocol.config.Role.{Role}
 use Rattle.dispatch.specs.declared.event.Event.{Event}
 use Rattle.dispatch.specs.declared.event.WsFrame.{WsFrame}
 use Rattle.dispatch.specs.Answers.{Answer}
-use Rattle.hub_gate.specs.declared.peer.PeerFault.{PeerFault}
-use Rattle.hub_gate.specs.declared.peer.PeerFault.TheVariants as fault
+use Rattle.dispatch.specs.declared.peer.PeerFault.{PeerFault}
+use Rattle.dispatch.specs.declared.peer.PeerFault.TheVariants as fault
 use Rattle.peers.specs.declared.socket_stage.Incoming.{Incoming}
 use Rattle.peers.specs.declared.socket_stage.Incoming.TheVariants as incoming
 use Rattle.peers.specs.declared.socket_stage.SocketStage.{SocketStage}

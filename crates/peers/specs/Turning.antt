@@ -3,7 +3,7 @@ use Rattle.std.specs.Prelude.{ℕ, Bool, true, false, List, Option, None, Some, 
 use Rattle.dispatch.specs.declared.event.Event.{Event}
 use Rattle.dispatch.specs.declared.event.Event.TheVariants as event
 use Rattle.dispatch.specs.declared.event.WsFrame.TheVariants as frame
-use Rattle.hub_gate.specs.declared.peer.PeerFault.{PeerFault}
+use Rattle.dispatch.specs.declared.peer.PeerFault.{PeerFault}
 use Rattle.peers.specs.declared.requests.SocketRequest.{SocketRequest}
 use Rattle.peers.specs.declared.requests.SocketRequest.TheVariants as request
 use Rattle.peers.specs.declared.socket_stage.Incoming.{Incoming}

@@ -6,8 +6,7 @@ ghost use Rattle.peers.specs.Incoming.{Brings, IsCopyOf, IsHeardAs, IsReadAs, Se
 ghost use Rattle.tungstenite.specs.Socket.{Flushed};
 
 use crate::socket_stage::Incoming;
-use dispatch::WsFrame;
-use hub_gate::PeerFault;
+use dispatch::{PeerFault, WsFrame};
 use std::alloc::Global;
 use std::io::{ErrorKind, Read, Write};
 use terms::{Bytes, Text};

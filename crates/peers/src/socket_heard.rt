@@ -4,9 +4,8 @@ ghost use Rattle.std.specs.Prelude.{◌≡◌};
 ghost use Rattle.peers.specs.Heard as heard;
 
 use crate::socket_stage::{Phase, SocketStage};
-use dispatch::{Outcome, WsFrame};
+use dispatch::{Outcome, PeerFault, WsFrame};
 use effects::{CoreError, CoreFault};
-use hub_gate::PeerFault;
 
 /// Whether there is no such client.
 fn is_gone(got: &Result<Outcome, CoreError>) -> bool

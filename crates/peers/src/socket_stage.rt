@@ -4,8 +4,7 @@ ghost use Rattle.std.specs.Prelude.{◌≡◌};
 ghost use Rattle.peers.specs.Turning as turning;
 
 use crate::requests::SocketRequest;
-use dispatch::{Event, WsFrame};
-use hub_gate::PeerFault;
+use dispatch::{Event, PeerFault, WsFrame};
 use std::alloc::Global;
 
 /// The most entries of one take of a WebSocket.
