@@ -7,12 +7,12 @@ mod chats;
 #[cfg(test)]
 mod histories;
 #[cfg(test)]
-mod made;
+mod pieces;
 #[cfg(test)]
 mod player;
 #[cfg(test)]
 mod printing;
 #[cfg(test)]
-mod rig;
+mod slow;
 #[cfg(test)]
 mod words;

@@ -1,15 +1,14 @@
 //! A hub that lines are played to, each of which is answered in text.
 
-ghost use Rattle.std.specs.Prelude.{◌≡◌};
-
 use crate::printing::{write_entries, write_sids, write_totals};
+use crate::slow::Slow;
 use crate::words::Words;
 use hub::{Hub, Pass};
-use journal::{HubError, Totals};
+use journal::{Config, HubError, Totals};
 use room_maps::Sid;
 use std::alloc::Global;
 use std::mem::{replace, swap};
-use std::sync::ledger::{Blank, Ledger};
+use std::sync::ledger::Ledger;
 
 #[derive(Drop)]
 pub struct Player<C: Ledger, T: Ledger> {
@@ -17,30 +16,9 @@ pub struct Player<C: Ledger, T: Ledger> {
     pub hub: Hub<C, T>,
     pub pass: Pass<C, T>,
     /// A second pass.
-    other: Option<Pass<C, T>>,
+    pub other: Option<Pass<C, T>>,
+    pub config: Config,
     pub now: u64,
-}
-
-/// A new hub with these limits.
-pub fn new_player<C: Ledger, T: Ledger>(
-    alloc: Global,
-    limits: &str,
-    commands: Blank,
-    taken: Blank,
-) -> Result<Box<Player<C, T>>, HubError>
-    requires commands { (commands.name ≡ C.name) × (commands.parts ≡ C.parts) × (commands.parts ≡ 65536) }
-    requires taken { (taken.name ≡ T.name) × (taken.parts ≡ T.parts) × (taken.parts ≡ 65536) }
-{
-    let config = Words::of(limits, 0).config(alloc)?;
-    let (hub, pass) = Hub::new(alloc, config, commands, taken)?;
-    let player = Player {
-        alloc,
-        hub,
-        pass,
-        other: None,
-        now: 0,
-    };
-    Ok(Box::new(alloc, player)?)
 }
 
 /// What may be read of a hub and its pass with no allocation, which a refused command leaves as it
@@ -56,6 +34,18 @@ pub struct Look {
 }
 
 impl<C: Ledger, T: Ledger> Player<C, T> {
+    /// What the slow program knows of the hub.
+    pub fn slow(&self) -> Slow<'_> {
+        let state = self.hub.state();
+        Slow {
+            alloc: self.alloc,
+            state,
+            base: state.base(),
+            steps: state.steps(),
+            config: &self.config,
+        }
+    }
+
     /// In how many rooms the sockets are together.
     fn count_rooms(&self) -> usize {
         let (inside, _) = self.hub.state().mirrors();
@@ -66,7 +56,7 @@ impl<C: Ledger, T: Ledger> Player<C, T> {
         count
     }
 
-    pub fn look(&self) -> Look {
+    fn look(&self) -> Look {
         let state = self.hub.state();
         let mut clients = [(None, None, false); 10];
         for id in 0..10usize {
@@ -81,6 +71,13 @@ impl<C: Ledger, T: Ledger> Player<C, T> {
             inside: self.count_rooms(),
             clients,
         }
+    }
+
+    /// What a line is answered.
+    pub fn ask(&mut self, line: &str) -> Result<String, HubError> {
+        let mut answer = String::new(self.alloc);
+        self.play(&Words::of(line, 0), &mut answer)?;
+        Ok(answer)
     }
 
     /// Plays a line and adds its answer. Where memory was refused it is played once more.
@@ -101,11 +98,11 @@ impl<C: Ledger, T: Ledger> Player<C, T> {
             Err(refusal) => refusal,
         };
         if self.look() != before {
-            answer.push_str("  ! changed\n")?;
+            answer.push_str("  ! changed")?;
         }
         match refusal {
             HubError::Memory => Err(HubError::Memory),
-            refusal => Ok(writeln!(answer, "  ! {refusal:?}")?),
+            refusal => Ok(write!(answer, "  ! {refusal:?}")?),
         }
     }
 
@@ -126,23 +123,19 @@ impl<C: Ledger, T: Ledger> Player<C, T> {
     }
 
     fn attach(&mut self, words: &Words<'_>) -> Result<(), HubError> {
-        let (alloc, now) = (self.alloc, self.now);
+        let (alloc, hub, pass, now) = (self.alloc, &mut self.hub, &mut self.pass, self.now);
         let (client, space) = (words.id(1), words.word(2));
-        let (sid, pid) = (words.sid(3), words.pid(4));
-        self.hub
-            .attach(alloc, &mut self.pass, client, space, sid, pid, now)
+        hub.attach(alloc, pass, client, space, words.sid(3), words.pid(4), now)
     }
 
     /// Plays a command that is answered.
     fn act_and_tell(&mut self, words: &Words<'_>, answer: &mut String) -> Result<(), HubError> {
         match words.word(0) {
-            "cast" => self.cast(words, true, answer),
-            "quiet" => self.cast(words, false, answer),
+            "cast" | "quiet" => self.cast(words, answer),
             "take" => self.take(words, answer),
             "skip" => self.skip(words, answer),
             "recover" => self.recover(words, answer),
-            "pull" => self.pull(words, answer),
-            "push" => self.push(words, answer),
+            "pull" | "push" => self.change(words, answer),
             "kick" => self.kick(words, answer),
             "sweep" => self.sweep(answer),
             "seal" => self.seal(answer),
@@ -150,96 +143,74 @@ impl<C: Ledger, T: Ledger> Player<C, T> {
         }
     }
 
-    /// Says something to rooms, logged or not: its offset, how many outboxes got it, how many sockets
-    /// miss it, and the clients that got it.
-    fn cast(
-        &mut self,
-        words: &Words<'_>,
-        logged: bool,
-        answer: &mut String,
-    ) -> Result<(), HubError> {
-        let cast = words.cast(self.alloc, logged)?;
-        let done = self.hub.cast(self.alloc, &mut self.pass, cast, self.now)?;
+    /// Says something to rooms: its offset where it is logged, how many outboxes got it, how many
+    /// sockets miss it, and the clients that got it.
+    fn cast(&mut self, words: &Words<'_>, answer: &mut String) -> Result<(), HubError> {
+        let cast = words.cast(self.alloc)?;
+        let mut done = self.hub.cast(self.alloc, &mut self.pass, cast, self.now)?;
+        done.clients.sort_unstable();
         let (placed, dropped) = (done.placed, done.dropped);
-        writeln!(
+        Ok(write!(
             answer,
             "  {:?} {placed} {dropped} {:?}",
             done.offset, done.clients
-        )?;
-        Ok(())
+        )?)
     }
 
     fn take(&mut self, words: &Words<'_>, answer: &mut String) -> Result<(), HubError> {
-        let (client, most) = (words.id(1), words.number(2) as usize);
-        let entries = self
-            .hub
-            .take(self.alloc, &mut self.pass, client, most, self.now)?;
+        let (alloc, hub, pass) = (self.alloc, &mut self.hub, &mut self.pass);
+        let entries = hub.take(alloc, pass, words.id(1), words.number(2) as usize, self.now)?;
         Ok(write_entries(&entries, answer)?)
     }
 
     /// Takes entries away, and answers how many.
     fn skip(&mut self, words: &Words<'_>, answer: &mut String) -> Result<(), HubError> {
-        let (client, most) = (words.id(1), words.number(2) as usize);
-        let count = self
-            .hub
-            .take_away(self.alloc, &mut self.pass, client, most, self.now)?;
-        Ok(writeln!(answer, "  {count}")?)
+        let (alloc, hub, pass) = (self.alloc, &mut self.hub, &mut self.pass);
+        let most = words.number(2) as usize;
+        let count = hub.take_away(alloc, pass, words.id(1), most, self.now)?;
+        Ok(write!(answer, "  {count}")?)
     }
 
     fn recover(&mut self, words: &Words<'_>, answer: &mut String) -> Result<(), HubError> {
-        let (alloc, now) = (self.alloc, self.now);
-        let (client, space) = (words.id(1), words.word(2));
-        let (pid, offset) = (words.pid(3), words.number(4));
-        let sid = self
-            .hub
-            .recover(alloc, &mut self.pass, client, space, pid, offset, now)?;
-        Ok(writeln!(answer, "  {}", sid.number())?)
+        let (alloc, hub, pass, now) = (self.alloc, &mut self.hub, &mut self.pass, self.now);
+        let (client, space, offset) = (words.id(1), words.word(2), words.number(4));
+        let sid = hub.recover(alloc, pass, client, space, words.pid(3), offset, now)?;
+        Ok(write!(answer, "  {}", sid.number())?)
     }
 
-    /// The sockets of a namespace that are in one of the rooms and in no excepted one join a room.
-    fn pull(&mut self, words: &Words<'_>, answer: &mut String) -> Result<(), HubError> {
-        let (alloc, space, now) = (self.alloc, words.word(1), self.now);
-        let (rooms, excepted) = (words.rooms(alloc, 2)?, words.rooms(alloc, 3)?);
-        let pass = &mut self.pass;
-        let sids = self
-            .hub
-            .sockets_join(alloc, pass, space, rooms, excepted, words.room(4), now)?;
-        Ok(write_sids(&sids, answer)?)
-    }
-
-    /// They leave it.
-    fn push(&mut self, words: &Words<'_>, answer: &mut String) -> Result<(), HubError> {
-        let (alloc, space, now) = (self.alloc, words.word(1), self.now);
-        let (rooms, excepted) = (words.rooms(alloc, 2)?, words.rooms(alloc, 3)?);
-        let pass = &mut self.pass;
-        let sids = self
-            .hub
-            .sockets_leave(alloc, pass, space, rooms, excepted, words.room(4), now)?;
+    /// The sockets of a namespace that are in one of the rooms and in no excepted one join a room, or
+    /// leave it.
+    fn change(&mut self, words: &Words<'_>, answer: &mut String) -> Result<(), HubError> {
+        let (alloc, hub, pass, now) = (self.alloc, &mut self.hub, &mut self.pass, self.now);
+        let (named, but) = (words.rooms(alloc, 2)?, words.rooms(alloc, 3)?);
+        let (space, room) = (words.word(1), words.room(4));
+        let sids = if words.word(0) == "pull" {
+            hub.sockets_join(alloc, pass, space, named, but, room, now)?
+        } else {
+            hub.sockets_leave(alloc, pass, space, named, but, room, now)?
+        };
         Ok(write_sids(&sids, answer)?)
     }
 
     /// They end: the sockets, and the clients that were told.
     fn kick(&mut self, words: &Words<'_>, answer: &mut String) -> Result<(), HubError> {
-        let (alloc, space, now) = (self.alloc, words.word(1), self.now);
-        let (rooms, excepted) = (words.rooms(alloc, 2)?, words.rooms(alloc, 3)?);
-        let pass = &mut self.pass;
-        let done = self
-            .hub
-            .disconnect_sockets(alloc, pass, space, rooms, excepted, now)?;
+        let (alloc, hub, pass, now) = (self.alloc, &mut self.hub, &mut self.pass, self.now);
+        let (named, but) = (words.rooms(alloc, 2)?, words.rooms(alloc, 3)?);
+        let done = hub.disconnect_sockets(alloc, pass, words.word(1), named, but, now)?;
         write_sids(&done.ended, answer)?;
-        Ok(writeln!(answer, "  told {:?}", done.told)?)
+        Ok(write!(answer, " told {:?}", done.told)?)
     }
 
     /// How many of the log's entries and of the saved sessions were dropped.
     fn sweep(&mut self, answer: &mut String) -> Result<(), HubError> {
         let swept = self.hub.sweep(self.alloc, &mut self.pass, self.now)?;
-        Ok(writeln!(answer, "  {} {}", swept.log, swept.saved)?)
+        Ok(write!(answer, "  {} {}", swept.log, swept.saved)?)
     }
 
     /// How many steps were handed out.
     fn seal(&mut self, answer: &mut String) -> Result<(), HubError> {
         let epoch = self.hub.seal(self.alloc)?;
-        Ok(writeln!(answer, "  {}", epoch.steps.len())?)
+        Ok(write!(answer, "  {}", epoch.steps.len())?)
     }
 
     /// Plays what is done with passes.
@@ -263,7 +234,8 @@ impl<C: Ledger, T: Ledger> Player<C, T> {
             }
             "audit" => self.hub.audit(&mut self.pass),
             "settle" => self.settle(answer)?,
-            _ => self.see(words, answer)?,
+            "counted" => write!(answer, "  {} {}", self.pass.commands(), self.pass.taken())?,
+            _ => self.slow().sight().see(words, answer)?,
         }
         Ok(())
     }
@@ -276,7 +248,7 @@ impl<C: Ledger, T: Ledger> Player<C, T> {
     fn settle(&mut self, answer: &mut String) -> Result<(), HubError> {
         match self.hub.settle(&mut self.pass) {
             Ok(totals) => write_totals(totals, answer)?,
-            Err(lacks) => writeln!(answer, "  lacks {} {}", lacks.commands, lacks.taken)?,
+            Err(lacks) => write!(answer, "  lacks {} {}", lacks.commands, lacks.taken)?,
         }
         Ok(())
     }

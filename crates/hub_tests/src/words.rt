@@ -18,18 +18,6 @@ fn number(word: &str) -> u64 {
     word.parse().unwrap_or(0)
 }
 
-fn id(word: &str) -> u128 {
-    word.parse().unwrap_or(0)
-}
-
-/// A room by its name, or a socket's own by `@` and its id.
-fn room(name: &str) -> Room {
-    match name.strip_prefix('@') {
-        Some(sid) => Room::own(Sid::new(id(sid))),
-        None => Room::read(name).unwrap_or(Room::own(Sid::new(0))),
-    }
-}
-
 /// The bytes of an attachment.
 fn part(alloc: Global, numbers: &str) -> Result<Bytes, AllocError> {
     let mut bytes = Vec::new(alloc);
@@ -77,11 +65,15 @@ impl<'a> Words<'a> {
         }
     }
 
-    pub fn id(&self, place: usize) -> u128 {
-        match self.word(place) {
+    fn id_by(&self, word: &str) -> u128 {
+        match word {
             "*" => u128::from(self.star),
-            word => id(word),
+            word => word.parse().unwrap_or(0),
         }
+    }
+
+    pub fn id(&self, place: usize) -> u128 {
+        self.id_by(self.word(place))
     }
 
     pub fn sid(&self, place: usize) -> Sid {
@@ -92,12 +84,20 @@ impl<'a> Words<'a> {
         Pid::new(self.id(place))
     }
 
-    /// A room, which for `*` is the own room of a socket that there is none of.
-    pub fn room(&self, place: usize) -> Room {
-        match self.word(place) {
-            "*" => Room::own(Sid::new(u128::from(self.star.saturating_add(1000)))),
-            name => room(name),
+    /// A room by its name, or a socket's own by `@` and its id. For `*` it's the own room of a socket
+    /// that there is none of.
+    fn room_by(&self, name: &str) -> Room {
+        if name == "*" {
+            return Room::own(Sid::new(u128::from(self.star.saturating_add(1000))));
         }
+        match name.strip_prefix('@') {
+            Some(sid) => Room::own(Sid::new(self.id_by(sid))),
+            None => Room::read(name).unwrap_or(Room::own(Sid::new(0))),
+        }
+    }
+
+    pub fn room(&self, place: usize) -> Room {
+        self.room_by(self.word(place))
     }
 
     /// Rooms with commas between them. One that is called `-` counts for nothing.
@@ -105,7 +105,7 @@ impl<'a> Words<'a> {
         let mut rooms = Vec::new(alloc);
         for name in self.word(place).split(',') {
             if name != "-" {
-                rooms.push(room(name))?;
+                rooms.push(self.room_by(name))?;
             }
         }
         Ok(rooms)
@@ -123,12 +123,13 @@ impl<'a> Words<'a> {
         })
     }
 
-    pub fn cast(&self, alloc: Global, logged: bool) -> Result<Cast, AllocError> {
+    /// A broadcast, which is logged where it is called `cast`.
+    pub fn cast(&self, alloc: Global) -> Result<Cast, AllocError> {
         Ok(Cast {
             space: self.text(alloc, 1)?,
             rooms: self.rooms(alloc, 2)?,
             excepted: self.rooms(alloc, 3)?,
-            logged,
+            logged: self.word(0) == "cast",
             payload: self.text(alloc, 4)?,
             attachments: parts(alloc, self.word(5))?,
         })

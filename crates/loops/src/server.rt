@@ -136,9 +136,7 @@ fn run_in<
     } = server;
     let (locked, mut pass, looks) = lock_core::<C, T>(alloc, making, commands, taken)?;
     let base = base_for(rt, alloc, &log, shared, rules)?;
-    let workers = workers_for(&base, ears, &locked, looks)?;
-    let ids = sources(rt, alloc, workers.len())?;
-    serve_all(&base, &locked, &mut pass, app, acceptor, workers, ids)
+    serve_over(&base, &locked, &mut pass, looks, app, acceptor, ears)
 }
 
 /// What the first worker goes by. Its time begins now.
@@ -159,6 +157,33 @@ fn base_for<'a, R: Clock + Copy, L>(
         rules,
         watch: Watch::new(*rt, start),
     })
+}
+
+/// Accepts, and serves by a loop with each of these ears and by the keeper, until all have ended.
+fn serve_over<
+    'a,
+    C: Ledger + Send + Sync,
+    T: Ledger + Send + Sync,
+    R: Threads + Wait + Clock + RandomSource + Copy + Drop + Sync + Send + 'static,
+    L: Log + Sync,
+    A: App + Sync,
+>(
+    base: &Base<'a, R, L>,
+    locked: &'a Locked<C, T>,
+    pass: &mut Pass<C, T>,
+    looks: Pass<C, T>,
+    app: &A,
+    acceptor: Box<Acceptor>,
+    ears: Vec<Ears>,
+) -> Result<Report, ServerFault>
+    ensures commands { IfOk result (λ r. r.totals.commands
+        ≡ pass.old.commands + sum_by (λ w. w.commands) r.workers.items) }
+    ensures taken { IfOk result (λ r. r.totals.taken
+        ≡ pass.old.taken + sum_by (λ w. w.taken) r.workers.items) }
+{
+    let workers = workers_for(base, ears, locked, looks)?;
+    let ids = sources(&base.rt, base.alloc, workers.len())?;
+    serve_all(base, locked, pass, app, acceptor, workers, ids)
 }
 
 /// Accepts and serves in threads of their own until all have ended.

@@ -1,47 +1,57 @@
-//! A client that is lost and comes back: what it holds, and what it must have by its own account.
+//! A client that is lost and comes back: what it does, what it holds, and what it must have by its own
+//! account.
 
-use journal::HubError;
+use super::drawn::Random;
+use super::tally::Tally;
+use crate::slow::Slow;
+use crate::words::Words;
+use journal::What;
 use recovery::Pid;
 use room_maps::Sid;
-use sio_wire::{Entry, read_offset};
-use std::alloc::Global;
-
-/// What is said, and to whom.
-#[derive(Clone, Copy)]
-pub struct Said {
-    pub space: &'static str,
-    /// Whether it goes to the room `r`, and to the room `s`. Where it goes to neither, it goes to
-    /// all.
-    pub to_r: bool,
-    pub to_s: bool,
-    /// Whether those in the room `s` don't get it.
-    pub but_s: bool,
-    pub logged: bool,
-}
+use sio_wire::read_offset;
+use std::alloc::{AllocError, Global};
 
 /// A client that names truly the last offset that it holds. It begins a new session where the old
 /// one can't come back.
 #[derive(Drop)]
 pub struct Listener {
-    pub space: &'static str,
-    /// Its client of the hub, while it is connected.
-    pub client: Option<u128>,
-    pub sid: Sid,
-    pub pid: Pid,
+    space: &'static str,
+    /// What it does next: it opens a client, brings its session back or attaches another, joins a
+    /// room, takes what waits, or closes its client.
+    next: &'static str,
+    client: u128,
+    /// The id of its socket, and of its session.
+    id: u128,
     /// Whether its session is in the room `r`, and in the room `s`.
-    pub in_r: bool,
-    pub in_s: bool,
+    in_r: bool,
+    in_s: bool,
     /// The offsets that it holds, in order.
-    pub held: Vec<u64>,
+    held: Vec<u64>,
     /// The offsets of what was said to its session, in order.
-    pub due: Vec<u64>,
+    due: Vec<u64>,
     /// The offset that was the next when its session last changed its rooms.
-    pub moved_at: u64,
+    moved_at: u64,
     /// Whether it must hold all that was said: each time that it came back its rooms had stayed the
     /// same since the offset that it named, and no full outbox dropped anything for it.
-    pub is_sure: bool,
+    is_sure: bool,
     /// Whether it forgot what it took since it last came back.
-    pub forgot: bool,
+    forgot: bool,
+}
+
+/// Adds the offsets of those of the events that were logged.
+fn push_offsets(offsets: &mut Vec<u64>, events: &str) -> Result<(), AllocError> {
+    for event in events.split("  ") {
+        if let Some(offset) = offset_of(event) {
+            offsets.push(offset)?;
+        }
+    }
+    Ok(())
+}
+
+/// The offset of an event that was logged.
+fn offset_of(event: &str) -> Option<u64> {
+    let (_, rest) = event.split_once("[\"a\",\"")?;
+    read_offset(rest.strip_suffix("\"]")?)
 }
 
 impl Listener {
@@ -49,9 +59,9 @@ impl Listener {
     pub fn new(alloc: Global, space: &'static str) -> Listener {
         Listener {
             space,
-            client: None,
-            sid: Sid::new(0),
-            pid: Pid::new(0),
+            next: "open",
+            client: 0,
+            id: 0,
             in_r: false,
             in_s: false,
             held: Vec::new(alloc),
@@ -62,103 +72,165 @@ impl Listener {
         }
     }
 
+    /// The last offset that it holds, or 0 where it holds none.
+    fn last(&self) -> u64 {
+        self.held.last().copied().unwrap_or(0)
+    }
+
+    /// Whether it has a session at a client.
+    fn is_connected(&self) -> bool {
+        matches!(self.next, "join" | "take" | "close")
+    }
+
+    /// Adds what it does next, for which it may take an id.
+    pub fn write_line(
+        &self,
+        random: &mut Random,
+        id: u64,
+        is_moving: bool,
+        line: &mut String,
+    ) -> Result<(), AllocError> {
+        let (space, client) = (self.space, self.client);
+        match (self.next, random.below(8)) {
+            ("open", _) => write!(line, "open {id}"),
+            ("recover", _) => write!(line, "recover {client} {space} {} {}", self.id, self.last()),
+            ("attach", _) => write!(line, "attach {client} {space} {id} {id}"),
+            ("close", _) => write!(line, "close {client}"),
+            ("join", 0..=3) => self.write_change("r", line),
+            ("join", 4 | 5) => self.write_change("s", line),
+            ("take", 0) => write!(line, "park {client}"),
+            ("take", 1) if is_moving => self.write_change(random.pick("r|s"), line),
+            _ => write!(line, "take {client} {}", random.below(8)),
+        }
+    }
+
+    /// Its session joins a room, or leaves it where it is in it.
+    fn write_change(&self, room: &str, line: &mut String) -> Result<(), AllocError> {
+        let is_in = if room == "r" { self.in_r } else { self.in_s };
+        let command = if is_in { "leave" } else { "join" };
+        write!(line, "{command} {} {room}", self.id)
+    }
+
+    /// Takes in what its line was answered; where it is lost it forgets so many of the last offsets.
+    /// Says whether that may be.
+    pub fn hear(
+        &mut self,
+        slow: Slow<'_>,
+        words: &Words<'_>,
+        answer: &str,
+        forgets: usize,
+        tally: &mut Tally,
+    ) -> Result<bool, AllocError> {
+        let is_refused = answer.starts_with("  !");
+        match words.word(0) {
+            "recover" if is_refused => self.next = "attach",
+            "park" if is_refused => self.next = "close",
+            _ if is_refused => return Ok(false),
+            "open" => (self.client, self.next) = (words.id(1), "recover"),
+            "recover" => self.come_back(slow, tally),
+            "attach" => self.begin(words.id(3)),
+            "join" | "leave" => self.enter(words.word(2) == "r", slow, tally),
+            "take" => self.hold(answer)?,
+            _ => self.lose(forgets, tally),
+        }
+        Ok(true)
+    }
+
     /// Begins a session, which is in no room.
-    pub fn begin(&mut self, client: u128, sid: Sid, pid: Pid) {
-        (self.client, self.sid, self.pid) = (Some(client), sid, pid);
+    fn begin(&mut self, id: u128) {
+        (self.next, self.id) = ("join", id);
         (self.in_r, self.in_s, self.moved_at) = (false, false, 0);
         (self.is_sure, self.forgot) = (true, false);
         self.held.clear();
         self.due.clear();
     }
 
-    /// The last offset that it holds, or 0 where it holds none.
-    pub fn last(&self) -> u64 {
-        match self.held.last() {
-            Some(offset) => *offset,
-            None => 0,
-        }
-    }
-
-    /// Loses its client, and forgets so many of the last offsets. Says whether it forgot some.
-    pub fn lose(&mut self, count: usize) -> bool {
-        let forgets = count > 0 && !self.held.is_empty();
-        self.client = None;
-        self.forgot = self.forgot || forgets;
-        self.held.truncate(self.held.len().saturating_sub(count));
-        forgets
-    }
-
-    /// Comes back at a client with the session that it has. Says whether it had forgotten what it
-    /// took.
-    pub fn come_back(&mut self, client: u128) -> bool {
-        let forgot = self.forgot;
-        self.client = Some(client);
+    fn come_back(&mut self, slow: Slow<'_>, tally: &mut Tally) {
+        let has_missed = slow.state.waiting(self.client).unwrap_or(0) > 1;
+        tally.raise("missed", u64::from(has_missed));
+        tally.raise("resent", u64::from(has_missed && self.forgot));
         self.is_sure = self.is_sure && self.moved_at <= self.last();
-        self.forgot = false;
-        forgot
+        (self.next, self.forgot) = ("take", false);
+    }
+
+    /// Joins a room, or leaves it where it is in it.
+    fn enter(&mut self, is_r: bool, slow: Slow<'_>, tally: &mut Tally) {
+        tally.raise("moves", u64::from(self.next == "take"));
+        (self.next, self.moved_at) = ("take", slow.next().unwrap_or(0));
+        self.in_r = self.in_r != is_r;
+        self.in_s = self.in_s != !is_r;
     }
 
     /// Holds what was logged of what it took.
-    pub fn hold(&mut self, entries: &[Entry]) -> Result<(), HubError> {
-        for entry in entries {
-            add(&mut self.held, offset_of(entry))?;
-        }
-        Ok(())
+    fn hold(&mut self, taken: &str) -> Result<(), AllocError> {
+        self.next = "take";
+        push_offsets(&mut self.held, taken)
+    }
+
+    /// Loses its client, and forgets so many of the last offsets.
+    fn lose(&mut self, count: usize, tally: &mut Tally) {
+        let forgets = count > 0 && !self.held.is_empty();
+        tally.raise("breaks", 1);
+        tally.raise("forgotten", u64::from(forgets));
+        (self.next, self.forgot) = ("open", self.forgot || forgets);
+        self.held.truncate(self.held.len().saturating_sub(count));
     }
 
     /// Whether this is said to its session.
-    fn is_told(&self, said: Said) -> bool {
-        let is_for_all = !said.to_r && !said.to_s;
-        let is_for_its_rooms = (said.to_r && self.in_r) || (said.to_s && self.in_s);
-        said.space == self.space && (is_for_all || is_for_its_rooms) && !(said.but_s && self.in_s)
+    fn is_told(&self, words: &Words<'_>) -> bool {
+        let (rooms, but) = (words.word(2), words.word(3));
+        let is_in = (self.in_r && rooms.contains('r')) || (self.in_s && rooms.contains('s'));
+        words.word(1) == self.space && (rooms == "-" || is_in) && !(self.in_s && but == "s")
     }
 
-    /// Counts what was said with this offset, where it was said to its session.
-    pub fn hear(&mut self, said: Said, offset: Option<u64>) -> Result<(), HubError> {
-        if self.is_told(said) {
-            add(&mut self.due, offset)?;
+    /// Whether its socket misses the newest step, a broadcast.
+    fn misses(&self, slow: Slow<'_>) -> bool {
+        let sid = Sid::new(self.id);
+        match slow.steps.last() {
+            Some(step) => match &step.what {
+                What::Cast(broadcast) => self.is_connected() && broadcast.dropped.contains(&sid),
+                _ => false,
+            },
+            None => false,
+        }
+    }
+
+    /// Counts what was said with this offset, where it was said to its session. Where its socket misses
+    /// it, it may lack something from here on.
+    pub fn note(
+        &mut self,
+        slow: Slow<'_>,
+        words: &Words<'_>,
+        offset: u64,
+        tally: &mut Tally,
+    ) -> Result<(), AllocError> {
+        if self.is_told(words) {
+            self.due.push(offset)?;
+        }
+        if self.misses(slow) {
+            self.is_sure = false;
+            tally.raise("drops", 1);
         }
         Ok(())
     }
 
-    /// Joins a room, or leaves it, where this is the next offset.
-    pub fn enter(&mut self, is_r: bool, next: u64) {
-        self.moved_at = next;
-        if is_r {
-            self.in_r = !self.in_r;
-        } else {
-            self.in_s = !self.in_s;
+    /// Whether what it holds and what waits for it is what its session has heard, and what was said to
+    /// it is what is due to it, and is heard where nothing may lack: all since the base.
+    pub fn is_right(&self, slow: Slow<'_>, tally: &mut Tally) -> Result<bool, AllocError> {
+        if !self.is_connected() {
+            return Ok(true);
         }
+        tally.raise(if self.is_sure { "sure" } else { "unsure" }, 1);
+        let (mut said, mut got) = (Vec::new(slow.alloc), Vec::new(slow.alloc));
+        let mut waits = String::new(slow.alloc);
+        slow.sight().write_waiting(self.client, &mut waits)?;
+        said.extend_from_slice(&self.due)?;
+        got.extend_from_slice(&self.held)?;
+        push_offsets(&mut got, waits.as_str())?;
+        let start = slow.start();
+        said.retain(|offset| *offset >= start);
+        got.retain(|offset| *offset >= start);
+        let (due, heard) = slow.offsets(Pid::new(self.id))?;
+        Ok(got == heard && said == due && (!self.is_sure || due == heard))
     }
-}
-
-fn add(offsets: &mut Vec<u64>, offset: Option<u64>) -> Result<(), HubError> {
-    if let Some(offset) = offset {
-        offsets.push(offset)?;
-    }
-    Ok(())
-}
-
-/// The offset of an event that was logged.
-pub fn offset_of(entry: &Entry) -> Option<u64> {
-    let text = entry.text.as_str();
-    match offset_after(text, "2[\"a\",\"") {
-        None => offset_after(text, "2/a,[\"a\",\""),
-        offset => offset,
-    }
-}
-
-fn offset_after(text: &str, start: &str) -> Option<u64> {
-    read_offset(text.strip_prefix(start)?.strip_suffix("\"]")?)
-}
-
-/// Those of the offsets that are no smaller than this one.
-pub fn since(alloc: Global, offsets: &[u64], from: u64) -> Result<Vec<u64>, HubError> {
-    let mut later = Vec::new(alloc);
-    for offset in offsets {
-        if *offset >= from {
-            later.push(*offset)?;
-        }
-    }
-    Ok(later)
 }
