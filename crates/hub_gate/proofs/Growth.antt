@@ -18,7 +18,7 @@ use Rattle.effects.specs.declared.app.Effect.{Effect}
 use Rattle.effects.specs.declared.app.Who.{Who}
 use Rattle.effects.specs.App.{PlainVerdict}
 use Rattle.dispatch.specs.declared.peer.PeerFault.{PeerFault}
-use Rattle.hub_gate.specs.Turns.{Applied, Attempt, Desk, Round, Serves, ServesAll, TellsLost, TellsWhere}
+use Rattle.hub_gate.specs.Turns.{Applied, Attempt, Desk, Serves, ServesAll, TellsLost, TellsWhere}
 
 -- a pass that rose, if at all, under the lock: then its numbers are u64s
 pub record Grows (old new : PlainPass) : Type 0 where

@@ -1,11 +1,10 @@
 -- Why the core is told of a loss again.
-use Rattle.std.proofs.Common.{◌≡◌, ℕ, ◌<◌, ◌&&◌, ◌+◌, ◌-◌, List, [], ◌∷◌, ◌++◌, length, map, Bool, true, false, nat_lt, cond, is_err, arith, refl, sym, subst}
+use Rattle.std.proofs.Common.{◌≡◌, ℕ, ◌<◌, ◌&&◌, ◌+◌, ◌-◌, List, [], ◌∷◌, ◌++◌, length, map, Bool, true, false, nat_lt, cond, is_err, arith, refl, subst}
 use Rattle.std.proofs.lemmas.Bool.Decides.{nat_tests}
 use Rattle.std.proofs.lemmas.List.{length-map, map-append}
 use Rattle.std.proofs.lemmas.List.Elements.{All-append, All-cons, All-nil}
 use Rattle.std.specs.List.{All}
 use Rattle.dispatch.specs.Answers.{Answer}
-use Rattle.hub_gate.specs.declared.loss.Telling.{Telling}
 use Rattle.hub_gate.specs.declared.loss.Telling.TheVariants as telling
 use Rattle.hub_gate.specs.Loss.{AreTries, follows}
 use Rattle.hub_gate.specs.Turns.{Attempt}

@@ -1,5 +1,5 @@
 -- What a worker does with its pass, its ids and its peers.
-use Rattle.std.specs.Prelude.{◌≡◌, ◌⊎◌, ℕ, ◌<◌, ◌≤◌, Bool, true, false, Option, Some, None, option_map, Result, Ok, Err, IfOk, is_ok, List, [], ◌∷◌, ◌++◌, length, map, min, sum_by, if◌then◌else◌}
+use Rattle.std.specs.Prelude.{◌≡◌, ◌⊎◌, ℕ, ◌≤◌, Bool, true, false, Option, Some, None, option_map, Result, Ok, Err, IfOk, is_ok, List, [], ◌∷◌, ◌++◌, length, map, min, sum_by, if◌then◌else◌}
 use Rattle.std.specs.Iterator.{Drains}
 use Rattle.std.specs.List.{FoldsTo}
 use Rattle.effects.specs.declared.app.Arrived.{Arrived}

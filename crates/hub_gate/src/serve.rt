@@ -4,7 +4,6 @@ ghost use Rattle.std.specs.Prelude.{◌≡◌, ◌+◌, ◌<◌, ◌≤◌, [], 
 ghost use Rattle.std.specs.List.{AllZip};
 ghost use Rattle.std.specs.Vec.Iter.{into_iter_items};
 ghost use Rattle.hub_gate.specs.Dealing.{AreDealt, Appends};
-ghost use Rattle.hub_gate.specs.Facts.{IsSoundCore};
 ghost use Rattle.hub_gate.specs.Serving.{AreCounted, AreServed, IsFromStarting, IsLackingFor, IsRefused, WorksAs};
 
 use crate::peer::{Queue, Turnstile};

@@ -1,7 +1,6 @@
-use Rattle.std.proofs.Common.{◌≡◌, [], ◌∷◌, ◌++◌, arith, refl, ap, sym, ◌∙◌, subst, length-append}
+use Rattle.std.proofs.Common.{◌≡◌, [], ◌∷◌, ◌++◌, arith, refl, ap, sym, ◌∙◌, length-append}
 use Rattle.std.proofs.lemmas.Fn.{FoldsTo-push}
 use Rattle.std.proofs.lemmas.List.Elements.{All-nil}
-use Rattle.dispatch.specs.declared.event.Event.{Event}
 use Rattle.dispatch.specs.declared.event.Event.TheVariants.{TransportLost}
 use Rattle.hub_gate.specs.declared.loss.Loss.{Loss}
 use Rattle.hub_gate.specs.Turns.{Applied, Attempt, Desk}
