@@ -1,9 +1,9 @@
 //! The faults that end a run.
 
-use effects::CoreError;
+use events::{CoreError, PeerFault};
 use http_edge::EdgeError;
 use hub::NotAll;
-use hub_gate::{PeerFault, ServeError};
+use hub_gate::ServeError;
 use journal::HubError;
 use std::alloc::AllocError;
 use std::{fmt, io};

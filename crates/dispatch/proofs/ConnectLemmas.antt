@@ -15,10 +15,10 @@ use Rattle.journal.specs.declared.error.HubError.TheVariants as hub
 use Rattle.journal.specs.declared.step.What.TheVariants as what
 use Rattle.journal.specs.Journal.{History}
 use Rattle.journal.specs.Membership.{is_open, is_space, place_of, socket_of, sid_of}
-use Rattle.effects.specs.declared.app.Effect.{Effect}
-use Rattle.effects.specs.declared.app.Who.{Who}
-use Rattle.effects.specs.declared.cause.Cause.TheVariants as cause
-use Rattle.effects.specs.App.{PlainVerdict}
+use Rattle.events.specs.declared.app.Effect.{Effect}
+use Rattle.events.specs.declared.app.Who.{Who}
+use Rattle.events.specs.declared.cause.Cause.TheVariants as cause
+use Rattle.events.specs.App.{PlainVerdict}
 use Rattle.effects.specs.Commands.{Makes, IsRefused, IsSeated, seat}
 use Rattle.effects.specs.Effects.{Scene, told_to, ActsInTurn, StopsAfter}
 use Rattle.effects.specs.Following.{is_clean}

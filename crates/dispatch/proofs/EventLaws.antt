@@ -14,23 +14,24 @@ use Rattle.journal.specs.declared.step.What.{What}
 use Rattle.journal.specs.declared.step.What.TheVariants as what
 use Rattle.journal.specs.Journal.{History}
 use Rattle.journal.specs.Membership.{is_open, closes, opens}
-use Rattle.effects.specs.declared.app.Arrived.{Arrived}
-use Rattle.effects.specs.declared.app.Effect.{Effect}
-use Rattle.effects.specs.declared.app.Who.{Who}
-use Rattle.effects.specs.declared.cause.Cause.{Cause}
-use Rattle.effects.specs.declared.cause.Cause.TheVariants as cause
-use Rattle.effects.specs.declared.fault.CoreFault.{CoreFault}
-use Rattle.effects.specs.declared.fault.CoreFault.TheVariants.{UnknownClient, AlreadyProbing, AlreadyUpgraded, NotProbing}
-use Rattle.effects.specs.App.{PlainVerdict}
+use Rattle.events.specs.declared.app.Arrived.{Arrived}
+use Rattle.events.specs.declared.app.Effect.{Effect}
+use Rattle.events.specs.declared.app.Who.{Who}
+use Rattle.events.specs.declared.cause.Cause.{Cause}
+use Rattle.events.specs.declared.cause.Cause.TheVariants as cause
+use Rattle.events.specs.declared.fault.CoreFault.{CoreFault}
+use Rattle.events.specs.declared.fault.CoreFault.TheVariants.{UnknownClient, AlreadyProbing, AlreadyUpgraded, NotProbing}
+use Rattle.events.specs.App.{PlainVerdict}
 use Rattle.effects.specs.Commands.{Makes}
 use Rattle.effects.specs.Following.{is_turn, is_work, Follows, Spares, WorksFor}
-use Rattle.effects.specs.Plain.{PlainDone}
+use Rattle.events.specs.Plain.{PlainDone}
 use Rattle.effects.proofs.StepLemmas.{itself, open-no-more, opened-then, work-on}
-use Rattle.dispatch.specs.declared.event.Event.{Event}
-use Rattle.dispatch.specs.declared.event.Event.TheVariants as event
-use Rattle.dispatch.specs.declared.event.WsFrame.{WsFrame}
-use Rattle.dispatch.specs.declared.outcome.Outcome.TheVariants as outcome
-use Rattle.dispatch.specs.Answers.{Answer, Refused, KeepsWhileOpen, AdvancesLine, ClosesUnread, ForClient}
+use Rattle.events.specs.declared.event.Event.{Event}
+use Rattle.events.specs.declared.event.Event.TheVariants as event
+use Rattle.events.specs.declared.event.WsFrame.{WsFrame}
+use Rattle.events.specs.declared.outcome.Outcome.TheVariants as outcome
+use Rattle.events.specs.Answer.{Answer}
+use Rattle.dispatch.specs.Answers.{Refused, KeepsWhileOpen, AdvancesLine, ClosesUnread, ForClient}
 use Rattle.dispatch.specs.Frames.{is_too_long}
 use Rattle.dispatch.specs.Handed.{Turn, Handed}
 use Rattle.dispatch.specs.Handed as handed
@@ -38,7 +39,7 @@ use Rattle.dispatch.specs.Machine.{IsOf, listed, Opens, Begins, Ends, Takes, Tak
 use Rattle.dispatch.specs.Packets.{Stage, stage}
 use Rattle.dispatch.specs.Parking.{ParksOrCloses}
 use Rattle.dispatch.specs.Place.{Place, line_of, place, KeepsLines, HasLine, LosesLine, Agree}
-use Rattle.dispatch.specs.Upgrade.{Probes, ProbesOn, EndsProbe, EndsProbeOn}
+use Rattle.dispatch.specs.Upgrade.{Upgrades, LosesProbe, Probes, ProbesOn, EndsProbe, EndsProbeOn}
 use Rattle.dispatch.specs.Upkeep.{Ticks, TicksOn, Sweeps}
 use Rattle.dispatch.proofs.HandedLemmas.{Given, taken-given, sent-given, given-turn, handed-open, handed-work}
 use Rattle.dispatch.proofs.PacketLaws.{After, all-after, broken-after}
@@ -108,10 +109,11 @@ module _ (c now : ℕ) (h g : History) (old new : List (ℕ × PlainLine)) (agre
   closes-unread why (Err e) (fails, (is, same, lines)) = works (Err e) (unchanged same) (lines-kept same lines)
 
   -- by the client's line
-  for-client : (row : PlainLine → Type 0) (answer : Answer) → ((line : PlainLine) → line_of old c ≡ Some line → row line → Turned answer) → ForClient c row UnknownClient s answer t → Turned answer
+  for-client : (row : PlainLine → Place → Answer → Place → Type 0) (answer : Answer)
+      → ((line : PlainLine) → line_of old c ≡ Some line → row line s answer t → Turned answer) → ForClient c row s answer t → Turned answer
   for-client row answer each does = on (line_of old c) refl does
     where
-      on : (o : Option PlainLine) → line_of old c ≡ o → elim o as (λ (o : Option PlainLine). Type 0) [ None ↦ Refused UnknownClient s answer t | Some line ↦ row line ] → Turned answer
+      on : (o : Option PlainLine) → line_of old c ≡ o → elim o as (λ (o : Option PlainLine). Type 0) [ None ↦ Refused UnknownClient s answer t | Some line ↦ row line s answer t ] → Turned answer
       on None none is = refused UnknownClient answer is
       on (Some line) is does = each line is does
 
@@ -307,11 +309,12 @@ module _ (now : ℕ) (h g : History) (old new : List (ℕ × PlainLine)) (agree 
       each (Err e) spares = tt
 
   -- a take leaves the client's line
-  take-agrees : (c : ℕ) → Given c answer h g → (row : PlainLine → Type 0) → ((line : PlainLine) → row line → (P : PlainLine → Type 0) × HasLine c P (place h old) (place g new))
-      → is_open g.base g.journal c ≡ is_open h.base h.journal c → ForClient c row UnknownClient (place h old) answer (place g new) → Agree g new
+  take-agrees : (c : ℕ) → Given c answer h g → (row : PlainLine → Place → Answer → Place → Type 0)
+      → ((line : PlainLine) → row line (place h old) answer (place g new) → (P : PlainLine → Type 0) × HasLine c P (place h old) (place g new))
+      → is_open g.base g.journal c ≡ is_open h.base h.journal c → ForClient c row (place h old) answer (place g new) → Agree g new
   take-agrees c given row each stays does = on (line_of old c) refl does
     where
-      on : (o : Option PlainLine) → line_of old c ≡ o → elim o as (λ (o : Option PlainLine). Type 0) [ None ↦ Refused UnknownClient (place h old) answer (place g new) | Some line ↦ row line ] → Agree g new
+      on : (o : Option PlainLine) → line_of old c ≡ o → elim o as (λ (o : Option PlainLine). Type 0) [ None ↦ Refused UnknownClient (place h old) answer (place g new) | Some line ↦ row line (place h old) answer (place g new) ] → Agree g new
       on None none (is, same, lines) = lines-kept c now h g old new agree same lines
       on (Some line) is does =
           let has = each line does in
@@ -322,25 +325,25 @@ module _ (now : ℕ) (h g : History) (old new : List (ℕ × PlainLine)) (agree 
     applied (event.Opened socket) (does, drawn) = opens-applied timing numbers socket does
     applied (event.Post c body) does = of-work _ c (λ d of. of) (λ d. refl) (λ d. refl) (posts-for c now h g old new agree decides allows ids left body answer does)
     applied (event.Frame c frame) does = of-work _ c (λ d of. of) (λ d. refl) (λ d. refl) (hears-for c now h g old new agree decides allows ids left frame answer does)
-    applied (event.PollBegin c) (does, drawn) = of-work _ c (λ d of. of) (λ d. refl) (λ d. refl) (for-client c now h g old new agree _ answer (begins c now h g old new agree answer) does)
-    applied (event.PollEnd c) (does, drawn) = of-work _ c (λ d of. of) (λ d. refl) (λ d. refl) (for-client c now h g old new agree _ answer (ends c now h g old new agree answer) does)
+    applied (event.PollBegin c) (does, drawn) = of-work _ c (λ d of. of) (λ d. refl) (λ d. refl) (for-client c now h g old new agree (Begins now c) answer (begins c now h g old new agree answer) does)
+    applied (event.PollEnd c) (does, drawn) = of-work _ c (λ d of. of) (λ d. refl) (λ d. refl) (for-client c now h g old new agree (Ends c) answer (ends c now h g old new agree answer) does)
     applied (event.PollTake c most) (does, drawn) =
         let given = taken-given now c most (place h old) answer (place g new) does in
-        of-take _ c (λ d of. of) (λ d. refl) (λ d. refl) (take-agrees c given _ (taken answer) (given.2.stays c) does) given
+        of-take _ c (λ d of. of) (λ d. refl) (λ d. refl) (take-agrees c given (Takes now c most) (taken answer) (given.2.stays c) does) given
       where
         taken : (answer : Answer) (line : PlainLine) → Takes now c most line (place h old) answer (place g new) → (P : PlainLine → Type 0) × HasLine c P (place h old) (place g new)
         taken (Ok o) line has = (_, has)
         taken (Err e) line (is, has) = (_, has)
     applied (event.FrameTake c most) (does, drawn) =
         let given = sent-given now c most (place h old) answer (place g new) does in
-        of-take _ c (λ d of. of) (λ d. refl) (λ d. refl) (take-agrees c given _ (taken answer) (given.2.stays c) does) given
+        of-take _ c (λ d of. of) (λ d. refl) (λ d. refl) (take-agrees c given (TakesFrames now c most) (taken answer) (given.2.stays c) does) given
       where
         taken : (answer : Answer) (line : PlainLine) → TakesFrames now c most line (place h old) answer (place g new) → (P : PlainLine → Type 0) × HasLine c P (place h old) (place g new)
         taken (Ok o) line has = (_, has)
         taken (Err e) line (is, has) = (_, has)
-    applied (event.Probe c) (does, drawn) = of-work _ c (λ d of. of) (λ d. refl) (λ d. refl) (for-client c now h g old new agree _ answer (probes c now h g old new agree answer) does)
-    applied (event.Upgraded c) (does, drawn) = of-work _ c (λ d of. of) (λ d. refl) (λ d. refl) (for-client c now h g old new agree _ answer (ends-probe c now h g old new agree Upgraded answer) does)
-    applied (event.ProbeLost c) (does, drawn) = of-work _ c (λ d of. of) (λ d. refl) (λ d. refl) (for-client c now h g old new agree _ answer (ends-probe c now h g old new agree ProbeLost answer) does)
-    applied (event.TransportLost c) (does, drawn) = of-work _ c (λ d of. of) (λ d. refl) (λ d. refl) (for-client c now h g old new agree _ answer (λ line is row. loses c now h g old new agree answer row) does)
-    applied (event.Tick c) (does, drawn) = of-work _ c (λ d of. of) (λ d. refl) (λ d. refl) (for-client c now h g old new agree _ answer (ticks c now h g old new agree answer) does)
+    applied (event.Probe c) (does, drawn) = of-work _ c (λ d of. of) (λ d. refl) (λ d. refl) (for-client c now h g old new agree (Probes c) answer (probes c now h g old new agree answer) does)
+    applied (event.Upgraded c) (does, drawn) = of-work _ c (λ d of. of) (λ d. refl) (λ d. refl) (for-client c now h g old new agree (Upgrades c) answer (ends-probe c now h g old new agree Upgraded answer) does)
+    applied (event.ProbeLost c) (does, drawn) = of-work _ c (λ d of. of) (λ d. refl) (λ d. refl) (for-client c now h g old new agree (LosesProbe c) answer (ends-probe c now h g old new agree ProbeLost answer) does)
+    applied (event.TransportLost c) (does, drawn) = of-work _ c (λ d of. of) (λ d. refl) (λ d. refl) (for-client c now h g old new agree (λ line. Loses now c) answer (λ line is row. loses c now h g old new agree answer row) does)
+    applied (event.Tick c) (does, drawn) = of-work _ c (λ d of. of) (λ d. refl) (λ d. refl) (for-client c now h g old new agree (Ticks now c) answer (ticks c now h g old new agree answer) does)
     applied event.Sweep (does, drawn) = sweeps-applied does

@@ -4,8 +4,8 @@ use Rattle.std.specs.List.{AllZip}
 use Rattle.eio_wire.specs.declared.packet.Packet.{Packet}
 use Rattle.eio_wire.specs.declared.packet.Packet.TheVariants.{Binary}
 use Rattle.sio_wire.specs.declared.entry.Entry.{Entry}
-use Rattle.dispatch.specs.declared.event.WsFrame.{WsFrame}
-use Rattle.dispatch.specs.declared.event.WsFrame.TheVariants as frame
+use Rattle.events.specs.declared.event.WsFrame.{WsFrame}
+use Rattle.events.specs.declared.event.WsFrame.TheVariants as frame
 use Rattle.dispatch.specs.Frames.{IsSentAs, frames_of}
 use Rattle.dispatch.specs.Takes.{packets_of, carried}
 use Rattle.dispatch.proofs.TakeLemmas.{carried-more}

@@ -20,14 +20,15 @@ use Rattle.journal.specs.Membership.{is_open}
 use Rattle.journal.specs.Seal.{PlainEpoch, Seals}
 use Rattle.journal.proofs.EpochsSocketsLemmas.{is_open-step}
 use Rattle.journal.specs.Outboxes.{put, entries_for, begins, taken_by, placements, taken, waiting}
-use Rattle.effects.specs.declared.fault.CoreFault.{CoreFault}
-use Rattle.effects.specs.declared.fault.CoreFault.TheVariants.{UnknownClient, WrongTransport}
+use Rattle.events.specs.declared.fault.CoreFault.{CoreFault}
+use Rattle.events.specs.declared.fault.CoreFault.TheVariants.{UnknownClient, WrongTransport}
 use Rattle.effects.specs.Commands.{Makes}
 use Rattle.effects.specs.Following.{is_work, AreMade, Follows}
-use Rattle.dispatch.specs.declared.event.Event.{Event}
-use Rattle.dispatch.specs.declared.event.Event.TheVariants as event
-use Rattle.dispatch.specs.declared.outcome.Outcome.TheVariants as outcome
-use Rattle.dispatch.specs.Answers.{Answer, Refused, ForClient}
+use Rattle.events.specs.declared.event.Event.{Event}
+use Rattle.events.specs.declared.event.Event.TheVariants as event
+use Rattle.events.specs.declared.outcome.Outcome.TheVariants as outcome
+use Rattle.events.specs.Answer.{Answer}
+use Rattle.dispatch.specs.Answers.{Refused, ForClient}
 use Rattle.dispatch.specs.Frames.{Sends, SendsWaiting, SendsOn, SendsFor}
 use Rattle.dispatch.specs.Machine.{Opens, Takes, TakesFrames}
 use Rattle.dispatch.specs.Place.{Place, HasLine}
@@ -285,11 +286,11 @@ RowOf row s answer t o = elim o [ None ↦ Refused UnknownClient s answer t | So
 abbrev AfterOf : (row : PlainLine → Type 0) → Option PlainLine → Type 0
 AfterOf row o = elim o [ None ↦ ⊥ | Some line ↦ row line ]
 
-by-client : (c : ℕ) (row : PlainLine → Type 0) (s : Place) (answer : Answer) (t : Place) → ((line : PlainLine) → row line → Given c answer s.history t.history)
-    → ForClient c row UnknownClient s answer t → Given c answer s.history t.history
+by-client : (c : ℕ) (row : PlainLine → Place → Answer → Place → Type 0) (s : Place) (answer : Answer) (t : Place)
+    → ((line : PlainLine) → row line s answer t → Given c answer s.history t.history) → ForClient c row s answer t → Given c answer s.history t.history
 by-client c row s answer t each does = by (s.lines c) does
   where
-    by : (o : Option PlainLine) → RowOf row s answer t o → Given c answer s.history t.history
+    by : (o : Option PlainLine) → RowOf (λ line. row line s answer t) s answer t o → Given c answer s.history t.history
     by None refused = rw refused.0 ([], refl, gives-none c s.history t.history refused.1)
     by (Some line) does = each line does
 
@@ -345,11 +346,11 @@ given-turn named c answer h g opened none given d turns was = by (c == d) refl
       opened = rw (opened d) (given.2.begun d ∙ was.opened);
     }
 
-pub taken-given : (now c most : ℕ) (s : Place) (answer : Answer) (t : Place) → ForClient c (λ line. Takes now c most line s answer t) UnknownClient s answer t → Given c answer s.history t.history
-taken-given now c most s answer t does = by-client c (λ line. Takes now c most line s answer t) s answer t (λ line row. take-given now c most line s answer t row) does
+pub taken-given : (now c most : ℕ) (s : Place) (answer : Answer) (t : Place) → ForClient c (Takes now c most) s answer t → Given c answer s.history t.history
+taken-given now c most s answer t does = by-client c (Takes now c most) s answer t (λ line row. take-given now c most line s answer t row) does
 
-pub sent-given : (now c most : ℕ) (s : Place) (answer : Answer) (t : Place) → ForClient c (λ line. TakesFrames now c most line s answer t) UnknownClient s answer t → Given c answer s.history t.history
-sent-given now c most s answer t does = by-client c (λ line. TakesFrames now c most line s answer t) s answer t (λ line row. frames-given now c most line s answer t row) does
+pub sent-given : (now c most : ℕ) (s : Place) (answer : Answer) (t : Place) → ForClient c (TakesFrames now c most) s answer t → Given c answer s.history t.history
+sent-given now c most s answer t does = by-client c (TakesFrames now c most) s answer t (λ line row. frames-given now c most line s answer t row) does
 
 pub handed-open : (timing : Timing) (numbers : Numbers) (now : ℕ) (socket : Bool) (c : ℕ) (s : Place) (answer : Answer) (t : Place)
     → Opens timing numbers now socket c s answer t → (d : ℕ) (turns : List Turn) → Handed d turns s.history → Handed d ((event.Opened socket, answer) ∷ turns) t.history

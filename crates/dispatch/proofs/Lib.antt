@@ -1,16 +1,5 @@
 mod ConnectLemmas
-mod EpochAccounts
-mod EpochCasts
-mod EpochEffects
-mod EpochLaws
-mod EpochLists
-mod EpochMachine
-mod EpochPackets
-mod EpochRooms
-mod EpochSound
-mod EpochSteps
-mod EpochTakes
-mod EventLaws
+pub mod EventLaws
 mod FrameLemmas
 mod HandedLemmas
 mod PacketLaws

@@ -18,16 +18,16 @@ use Rattle.journal.specs.declared.step.What.TheVariants as what
 use Rattle.journal.specs.Journal.{History}
 use Rattle.journal.specs.Membership.{is_open, is_space, place_of, socket_of, closes, opens}
 use Rattle.journal.specs.Entries.{AllPass, own_entries}
-use Rattle.effects.specs.declared.app.Arrived.{Arrived}
-use Rattle.effects.specs.declared.app.Effect.{Effect}
-use Rattle.effects.specs.declared.app.Who.{Who}
-use Rattle.effects.specs.declared.cause.Cause.{Cause}
-use Rattle.effects.specs.declared.cause.Cause.TheVariants as cause
-use Rattle.effects.specs.declared.fault.CoreError.{CoreError}
-use Rattle.effects.specs.declared.fault.CoreFault.{CoreFault}
-use Rattle.effects.specs.declared.fault.CoreFault.TheVariants.{Memory}
-use Rattle.effects.specs.declared.fault.Stopped.{Stopped}
-use Rattle.effects.specs.App.{PlainVerdict, IsCleanArrival, AllClean}
+use Rattle.events.specs.declared.app.Arrived.{Arrived}
+use Rattle.events.specs.declared.app.Effect.{Effect}
+use Rattle.events.specs.declared.app.Who.{Who}
+use Rattle.events.specs.declared.cause.Cause.{Cause}
+use Rattle.events.specs.declared.cause.Cause.TheVariants as cause
+use Rattle.events.specs.declared.fault.CoreError.{CoreError}
+use Rattle.events.specs.declared.fault.CoreFault.{CoreFault}
+use Rattle.events.specs.declared.fault.CoreFault.TheVariants.{Memory}
+use Rattle.events.specs.declared.fault.Stopped.{Stopped}
+use Rattle.events.specs.App.{PlainVerdict, IsCleanArrival, AllClean}
 use Rattle.effects.specs.Commands.{Makes, IsSeated, seat, return_of}
 use Rattle.effects.specs.Effects.{Scene, told_to, Closes}
 use Rattle.effects.specs.Following.{is_clean, is_work, is_turn, is_cast, WorksFor}

@@ -19,12 +19,12 @@ use Rattle.connection.specs.Line.{PlainLine, ForEachHistory, Advances, book_in}
 use Rattle.journal.specs.declared.socket.Socket.{Socket}
 use Rattle.journal.specs.Journal.{History}
 use Rattle.journal.specs.Membership.{place_of, is_open, is_space, sid_of, has_id, socket_with, sockets, sockets_of, socket_of}
-use Rattle.effects.specs.declared.app.Arrived.{Arrived}
-use Rattle.effects.specs.declared.app.Effect.{Effect}
-use Rattle.effects.specs.declared.app.Who.{Who}
-use Rattle.effects.specs.App.{PlainVerdict}
+use Rattle.events.specs.declared.app.Arrived.{Arrived}
+use Rattle.events.specs.declared.app.Effect.{Effect}
+use Rattle.events.specs.declared.app.Who.{Who}
+use Rattle.events.specs.App.{PlainVerdict}
 use Rattle.effects.specs.Commands.{IsSeated}
-use Rattle.effects.specs.declared.cause.Cause.TheVariants as cause
+use Rattle.events.specs.declared.cause.Cause.TheVariants as cause
 use Rattle.effects.specs.Effects.{Scene}
 use Rattle.dispatch.specs.Packets.{Stage, Upshot, ClosesFor, Serves, DrawsNone, AsksToConnect, ServesJoined, Works, GoesOn, with_line, RefusesFrame, TakesText, ReadsBinary}
 

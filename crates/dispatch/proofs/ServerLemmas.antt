@@ -18,14 +18,14 @@ use Rattle.journal.proofs.SealListsLemmas.{all-append}
 use Rattle.journal.specs.Totals.{commands, handed_out}
 use Rattle.hub.specs.Pass.{PlainHub, PlainBooks, PlainPass}
 use Rattle.hub.proofs.CountingLemmas.{commands-grow, handed_out-grows}
-use Rattle.effects.specs.declared.app.Arrived.{Arrived}
-use Rattle.effects.specs.declared.app.Effect.{Effect}
-use Rattle.effects.specs.declared.app.Who.{Who}
-use Rattle.effects.specs.App.{PlainVerdict}
+use Rattle.events.specs.declared.app.Arrived.{Arrived}
+use Rattle.events.specs.declared.app.Effect.{Effect}
+use Rattle.events.specs.declared.app.Who.{Who}
+use Rattle.events.specs.App.{PlainVerdict}
 use Rattle.effects.specs.Following.{is_clean, is_turn, Follows}
-use Rattle.dispatch.specs.declared.event.Event.{Event}
-use Rattle.dispatch.specs.declared.event.Event.TheVariants as event
-use Rattle.dispatch.specs.Answers.{Answer}
+use Rattle.events.specs.declared.event.Event.{Event}
+use Rattle.events.specs.declared.event.Event.TheVariants as event
+use Rattle.events.specs.Answer.{Answer}
 use Rattle.dispatch.specs.Counting.{TurnsFor}
 use Rattle.dispatch.specs.Machine.{Does, Machine, IsOf}
 use Rattle.dispatch.specs.Place.{Place, PlainCore, Agree, IsClean}

@@ -13,12 +13,12 @@ use Rattle.journal.specs.Journal.{History, history, with_step}
 use Rattle.journal.specs.Membership.{opens, closes, is_open}
 use Rattle.journal.proofs.EpochsSocketsLemmas.{is_open-step}
 use Rattle.journal.specs.Entries.{AllPass, own_entries}
-use Rattle.effects.specs.declared.app.Arrived.{Arrived}
-use Rattle.effects.specs.declared.app.Effect.{Effect}
-use Rattle.effects.specs.declared.app.Who.{Who}
-use Rattle.effects.specs.declared.fault.CoreError.{CoreError}
-use Rattle.effects.specs.declared.fault.CoreFault.TheVariants.{IdTaken}
-use Rattle.effects.specs.App.{PlainVerdict}
+use Rattle.events.specs.declared.app.Arrived.{Arrived}
+use Rattle.events.specs.declared.app.Effect.{Effect}
+use Rattle.events.specs.declared.app.Who.{Who}
+use Rattle.events.specs.declared.fault.CoreError.{CoreError}
+use Rattle.events.specs.declared.fault.CoreFault.TheVariants.{IdTaken}
+use Rattle.events.specs.App.{PlainVerdict}
 use Rattle.effects.specs.Commands.{StopsAt}
 use Rattle.effects.specs.Following.{is_clean, is_cast, is_turn, is_work, AreMade, Follows, Spares, WorksFor}
 use Rattle.effects.proofs.StepLemmas.{follows-on, spares-on}

@@ -11,10 +11,10 @@ use Rattle.session_clock.specs.Upgrade.{transport, probe_refusal, unprobed_refus
 use Rattle.connection.specs.History.{Call, Probed, clock_calls}
 use Rattle.connection.specs.Line.{PlainLine, ForEachHistory, HasHistory, Advances}
 use Rattle.journal.specs.Journal.{History}
-use Rattle.effects.specs.declared.fault.CoreFault.TheVariants.{UnknownClient}
-use Rattle.dispatch.specs.declared.outcome.Outcome.TheVariants as outcome
-use Rattle.dispatch.specs.Answers.{Answer, at_once, Refused, ForClient}
-use Rattle.effects.specs.Plain.{nothing_done}
+use Rattle.events.specs.declared.outcome.Outcome.TheVariants as outcome
+use Rattle.events.specs.Answer.{Answer, at_once}
+use Rattle.dispatch.specs.Answers.{Refused, ForClient}
+use Rattle.events.specs.Plain.{nothing_done}
 use Rattle.dispatch.specs.Place.{Place, line_of, place, KeepsOthers, KeepsLines}
 use Rattle.dispatch.specs.Takes.{IsOn}
 use Rattle.dispatch.specs.Upgrade.{fault_of_clock, ProbesOn, Probes, EndsProbeOn, EndsProbe}
@@ -102,7 +102,7 @@ module _ (c : ℕ) (h : History) (old new : List (ℕ × PlainLine)) (line after
   pub probes-for : (text : List ℕ) → text ≡ codes "3probe" → (said : Said) → HasHistory line → ForEachHistory line (λ o h. said ≡ ok_unless (probe_refusal (transport o (clock_calls h))))
       → OnOk said (Advances line (Probed ∷ []) after) → OnErr said (after ≡ line)
       → OnOk said (answer ≡ Ok (outcome.Probed text)) → IfErr said (λ e. answer ≡ Err (at_once (fault_of_clock e)))
-      → ForClient c (λ l. Probes c l (place h old) answer (place h new)) UnknownClient (place h old) answer (place h new)
+      → ForClient c (Probes c) (place h old) answer (place h new)
   probes-for text pong (Ok x) reached from advances same ok err =
       rw (known, ForClient) (probes (Ok x) c line (place h old) answer (place h new) reached from (λ is. (ok ∙ ap (λ (x : List ℕ). Ok (outcome.Probed x)) pong, (refl, (rw has advances, others)))) (λ e is. absurd (cc is)))
   probes-for text pong (Err e) reached from advances same ok err =
@@ -111,7 +111,7 @@ module _ (c : ℕ) (h : History) (old new : List (ℕ × PlainLine)) (line after
   pub ends-for : (end : Call) (said : Said) → HasHistory line → ForEachHistory line (λ o h. said ≡ ok_unless (unprobed_refusal (transport o (clock_calls h))))
       → OnOk said (Advances line (end ∷ []) after) → OnErr said (after ≡ line)
       → OnOk said (answer ≡ Ok (outcome.Done nothing_done)) → IfErr said (λ e. answer ≡ Err (at_once (fault_of_clock e)))
-      → ForClient c (λ l. EndsProbe end c l (place h old) answer (place h new)) UnknownClient (place h old) answer (place h new)
+      → ForClient c (EndsProbe end c) (place h old) answer (place h new)
   ends-for end (Ok x) reached from advances same ok err =
       rw (known, ForClient) (ends-probe (Ok x) c line (place h old) answer (place h new) end reached from (λ is. (ok, (refl, (rw has advances, others)))) (λ e is. absurd (cc is)))
   ends-for end (Err e) reached from advances same ok err =

@@ -4,8 +4,8 @@ use Rattle.session_clock.specs.declared.timing.Due.{Due}
 use Rattle.connection.specs.History.{Ticked}
 use Rattle.connection.specs.Line.{PlainLine, Advances}
 use Rattle.journal.specs.Journal.{History}
-use Rattle.effects.specs.declared.fault.CoreFault.TheVariants.{UnknownClient}
-use Rattle.dispatch.specs.Answers.{Answer, ForClient, AdvancesLine}
+use Rattle.events.specs.Answer.{Answer}
+use Rattle.dispatch.specs.Answers.{ForClient, AdvancesLine}
 use Rattle.dispatch.specs.Place.{Place, line_of, place, KeepsOthers}
 use Rattle.dispatch.specs.Parking.{Parks, ParksOrCloses}
 use Rattle.dispatch.specs.Upkeep.{IsDue, TicksOn, Ticks}
@@ -17,7 +17,7 @@ parked-or-closed false h g now c closed = inr closed
 
 -- what is due to a client that is known is done
 pub ticks : (now c : ℕ) (line : PlainLine) (h : History) (old : List (ℕ × PlainLine)) (answer : Answer) (t : Place) (told due : Due) → line_of old c ≡ Some line → told ≡ due → IsDue told now line
-    → TicksOn due now c line (place h old) answer t → ForClient c (λ l. Ticks now c l (place h old) answer t) UnknownClient (place h old) answer t
+    → TicksOn due now c line (place h old) answer t → ForClient c (Ticks now c) (place h old) answer t
 ticks now c line h old answer t told due known is says row = rw (known, ForClient) (due, rw is at says, row)
 
 -- the line with the tick on it

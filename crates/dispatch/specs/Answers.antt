@@ -1,26 +1,18 @@
 -- How an event is answered, and what it leaves of the lines.
-use Rattle.std.specs.Prelude.{◌≡◌, ℕ, List, Option, None, Some, Result, Ok, Err}
+use Rattle.std.specs.Prelude.{◌≡◌, ℕ, List, Option, None, Some, Ok, Err}
 use Rattle.connection.specs.History.{Call}
 use Rattle.connection.specs.Line.{PlainLine, Advances}
 use Rattle.journal.specs.declared.error.HubError.{HubError}
 use Rattle.journal.specs.declared.step.What.TheVariants as what
-use Rattle.effects.specs.declared.cause.Cause.{Cause}
-use Rattle.effects.specs.declared.fault.CoreError.{CoreError}
-use Rattle.effects.specs.declared.fault.CoreFault.{CoreFault}
-use Rattle.effects.specs.declared.fault.CoreFault.TheVariants.{Memory, BadConfig}
+use Rattle.events.specs.declared.cause.Cause.{Cause}
+use Rattle.events.specs.declared.fault.CoreError.{CoreError}
+use Rattle.events.specs.declared.fault.CoreFault.{CoreFault}
+use Rattle.events.specs.declared.fault.CoreFault.TheVariants.{Memory, UnknownClient, BadConfig}
 use Rattle.effects.specs.Commands.{Makes, StopsAt}
-use Rattle.effects.specs.Plain.{PlainDone, nothing_done}
-use Rattle.dispatch.specs.declared.outcome.Outcome.{Outcome}
-use Rattle.dispatch.specs.declared.outcome.Outcome.TheVariants as outcome
+use Rattle.events.specs.Plain.{PlainDone, nothing_done}
+use Rattle.events.specs.Answer.{Answer, at_once}
+use Rattle.events.specs.declared.outcome.Outcome.TheVariants as outcome
 use Rattle.dispatch.specs.Place.{Place, HasLine, LosesLine, KeepsLines}
-
--- how an event is answered
-abbrev pub Answer : Type 0
-Answer = Result Outcome CoreError
-
--- nothing of the event was done
-abbrev pub at_once : CoreFault → CoreError
-at_once fault = record { fault = fault; packets = 0; effects = 0 }
 
 -- why there is no core: the limits allow no hub, or there is no memory
 abbrev pub fault_of_config : Option HubError → CoreFault
@@ -54,8 +46,8 @@ ClosesUnread now c why s (Ok _) t = ⊥
 ClosesUnread now c why s (Err e) t = StopsAt s.history now (what.Closed c) e.fault × ChangesNone e s t
 
 -- an event of a client that has no line is refused
-abbrev pub ForClient : ℕ → (PlainLine → Type 0) → CoreFault → Place → Answer → Place → Type 0
-ForClient c row fault s answer t = elim (s.lines c) [
-  | None ↦ Refused fault s answer t
-  | Some line ↦ row line
+abbrev pub ForClient : ℕ → (PlainLine → Place → Answer → Place → Type 0) → Place → Answer → Place → Type 0
+ForClient c row s answer t = elim (s.lines c) [
+  | None ↦ Refused UnknownClient s answer t
+  | Some line ↦ row line s answer t
 ]

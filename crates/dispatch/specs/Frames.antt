@@ -10,11 +10,11 @@ use Rattle.session_clock.specs.declared.transport.Transport.TheVariants.{Socket}
 use Rattle.sio_wire.specs.declared.entry.Entry.{Entry}
 use Rattle.connection.specs.Line.{PlainLine, Advances}
 use Rattle.journal.specs.Journal.{History}
-use Rattle.effects.specs.declared.fault.CoreFault.{CoreFault}
-use Rattle.effects.specs.declared.fault.CoreFault.TheVariants.{WrongTransport}
-use Rattle.dispatch.specs.declared.event.WsFrame.{WsFrame}
-use Rattle.dispatch.specs.declared.event.WsFrame.TheVariants as frame
-use Rattle.dispatch.specs.declared.outcome.Outcome.TheVariants as outcome
+use Rattle.events.specs.declared.fault.CoreFault.{CoreFault}
+use Rattle.events.specs.declared.fault.CoreFault.TheVariants.{WrongTransport}
+use Rattle.events.specs.declared.event.WsFrame.{WsFrame}
+use Rattle.events.specs.declared.event.WsFrame.TheVariants as frame
+use Rattle.events.specs.declared.outcome.Outcome.TheVariants as outcome
 use Rattle.dispatch.specs.Takes.{IsOn, IsPingDue, handed, carried, Take, Counts, FailsToCount, TakesNone, IsShort, ping_calls}
 
 -- ---- a frame that comes

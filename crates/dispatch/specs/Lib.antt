@@ -1,6 +1,5 @@
 pub mod Answers
 pub mod Counting
-pub mod Epochs
 pub mod Frames
 pub mod Handed
 pub mod Machine

@@ -11,25 +11,26 @@ use Rattle.connection.specs.History.{GetBegan, GetEnded}
 use Rattle.connection.specs.Line.{PlainLine, LeadsTo}
 use Rattle.journal.specs.declared.error.HubError.TheVariants as hub
 use Rattle.journal.specs.declared.step.What.TheVariants as what
-use Rattle.effects.specs.declared.app.Arrived.{Arrived}
-use Rattle.effects.specs.declared.app.Effect.{Effect}
-use Rattle.effects.specs.declared.app.Who.{Who}
-use Rattle.effects.specs.declared.cause.Cause.TheVariants as cause
-use Rattle.effects.specs.declared.fault.CoreFault.TheVariants.{Memory, UnknownClient, WrongTransport}
-use Rattle.effects.specs.App.{PlainVerdict}
-use Rattle.effects.specs.Cause.{cause_of_wire}
+use Rattle.events.specs.declared.app.Arrived.{Arrived}
+use Rattle.events.specs.declared.app.Effect.{Effect}
+use Rattle.events.specs.declared.app.Who.{Who}
+use Rattle.events.specs.declared.cause.Cause.TheVariants as cause
+use Rattle.events.specs.declared.fault.CoreFault.TheVariants.{Memory, UnknownClient, WrongTransport}
+use Rattle.events.specs.App.{PlainVerdict}
+use Rattle.events.specs.Cause.{cause_of_wire}
 use Rattle.effects.specs.Commands.{Makes, IsRefused, StopsAt}
 use Rattle.effects.specs.Runs.{Runs}
-use Rattle.dispatch.specs.declared.event.Event.{Event}
-use Rattle.dispatch.specs.declared.event.Event.TheVariants as event
-use Rattle.dispatch.specs.declared.event.WsFrame.{WsFrame}
-use Rattle.dispatch.specs.declared.outcome.Outcome.{Outcome}
-use Rattle.dispatch.specs.declared.outcome.Outcome.TheVariants as outcome
-use Rattle.dispatch.specs.Answers.{Answer, at_once, Refused, ChangesNone, KeepsWhileOpen, AdvancesLine, ClosesUnread, ForClient}
+use Rattle.events.specs.declared.event.Event.{Event}
+use Rattle.events.specs.declared.event.Event.TheVariants as event
+use Rattle.events.specs.declared.event.WsFrame.{WsFrame}
+use Rattle.events.specs.declared.outcome.Outcome.{Outcome}
+use Rattle.events.specs.declared.outcome.Outcome.TheVariants as outcome
+use Rattle.events.specs.Answer.{Answer, at_once}
+use Rattle.dispatch.specs.Answers.{Refused, ChangesNone, KeepsWhileOpen, AdvancesLine, ClosesUnread, ForClient}
 use Rattle.dispatch.specs.Frames.{is_too_long, IsFrameOf, IsNoFrame, SendsFor}
 use Rattle.dispatch.specs.Packets.{Stage, stage, HandlesInTurn, BreaksAfter}
 use Rattle.effects.specs.Effects.{Scene}
-use Rattle.effects.specs.Plain.{nothing_done}
+use Rattle.events.specs.Plain.{nothing_done}
 use Rattle.journal.specs.Journal.{History}
 use Rattle.dispatch.specs.Place.{Place, HasLine, LosesLine}
 use Rattle.dispatch.specs.Takes.{IsOn, Polls, IsGetting, TakesFor}
@@ -166,15 +167,15 @@ module _ (decides : Who → Arrived → List Effect → Type 0) (allows : (space
   Does timing numbers (event.Opened socket) s ids answer t ids' = Opens timing numbers now socket (ids 0) s answer t × (ids' ≡ (λ k. ids (k + 1)))
   Does timing numbers (event.Post c body) s ids answer t ids' = PostsFor c body s ids answer t ids'
   Does timing numbers (event.Frame c frame) s ids answer t ids' = HearsFor c frame s ids answer t ids'
-  Does timing numbers (event.PollBegin c) s ids answer t ids' = ForClient c (λ line. Begins now c line s answer t) UnknownClient s answer t × (ids' ≡ ids)
-  Does timing numbers (event.PollEnd c) s ids answer t ids' = ForClient c (λ line. Ends c line s answer t) UnknownClient s answer t × (ids' ≡ ids)
-  Does timing numbers (event.PollTake c most) s ids answer t ids' = ForClient c (λ line. Takes now c most line s answer t) UnknownClient s answer t × (ids' ≡ ids)
-  Does timing numbers (event.FrameTake c most) s ids answer t ids' = ForClient c (λ line. TakesFrames now c most line s answer t) UnknownClient s answer t × (ids' ≡ ids)
-  Does timing numbers (event.Probe c) s ids answer t ids' = ForClient c (λ line. Probes c line s answer t) UnknownClient s answer t × (ids' ≡ ids)
-  Does timing numbers (event.Upgraded c) s ids answer t ids' = ForClient c (λ line. Upgrades c line s answer t) UnknownClient s answer t × (ids' ≡ ids)
-  Does timing numbers (event.ProbeLost c) s ids answer t ids' = ForClient c (λ line. LosesProbe c line s answer t) UnknownClient s answer t × (ids' ≡ ids)
-  Does timing numbers (event.TransportLost c) s ids answer t ids' = ForClient c (λ line. Loses now c s answer t) UnknownClient s answer t × (ids' ≡ ids)
-  Does timing numbers (event.Tick c) s ids answer t ids' = ForClient c (λ line. Ticks now c line s answer t) UnknownClient s answer t × (ids' ≡ ids)
+  Does timing numbers (event.PollBegin c) s ids answer t ids' = ForClient c (Begins now c) s answer t × (ids' ≡ ids)
+  Does timing numbers (event.PollEnd c) s ids answer t ids' = ForClient c (Ends c) s answer t × (ids' ≡ ids)
+  Does timing numbers (event.PollTake c most) s ids answer t ids' = ForClient c (Takes now c most) s answer t × (ids' ≡ ids)
+  Does timing numbers (event.FrameTake c most) s ids answer t ids' = ForClient c (TakesFrames now c most) s answer t × (ids' ≡ ids)
+  Does timing numbers (event.Probe c) s ids answer t ids' = ForClient c (Probes c) s answer t × (ids' ≡ ids)
+  Does timing numbers (event.Upgraded c) s ids answer t ids' = ForClient c (Upgrades c) s answer t × (ids' ≡ ids)
+  Does timing numbers (event.ProbeLost c) s ids answer t ids' = ForClient c (LosesProbe c) s answer t × (ids' ≡ ids)
+  Does timing numbers (event.TransportLost c) s ids answer t ids' = ForClient c (λ line. Loses now c) s answer t × (ids' ≡ ids)
+  Does timing numbers (event.Tick c) s ids answer t ids' = ForClient c (Ticks now c) s answer t × (ids' ≡ ids)
   Does timing numbers event.Sweep s ids answer t ids' = Sweeps now s answer t × (ids' ≡ ids)
 
 -- ---- the machine

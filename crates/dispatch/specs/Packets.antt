@@ -25,20 +25,20 @@ use Rattle.journal.specs.declared.error.HubError.TheVariants as hub
 use Rattle.journal.specs.declared.step.What.{What}
 use Rattle.journal.specs.declared.step.What.TheVariants as what
 use Rattle.journal.specs.Membership.{place_of, is_space, is_open, socket_of}
-use Rattle.effects.specs.declared.app.Arrived.{Arrived}
-use Rattle.effects.specs.declared.app.Arrived.TheVariants as arrived
-use Rattle.effects.specs.declared.app.Effect.{Effect}
-use Rattle.effects.specs.declared.app.Who.{Who}
-use Rattle.effects.specs.declared.cause.Cause.{Cause}
-use Rattle.effects.specs.declared.cause.Cause.TheVariants as cause
-use Rattle.effects.specs.declared.fault.CoreFault.{CoreFault}
-use Rattle.effects.specs.declared.fault.CoreFault.TheVariants.{Memory}
-use Rattle.effects.specs.App.{PlainVerdict, Accepted, Refused, IsCleanArrival, AllClean}
-use Rattle.effects.specs.Cause.{cause_of_sio}
+use Rattle.events.specs.declared.app.Arrived.{Arrived}
+use Rattle.events.specs.declared.app.Arrived.TheVariants as arrived
+use Rattle.events.specs.declared.app.Effect.{Effect}
+use Rattle.events.specs.declared.app.Who.{Who}
+use Rattle.events.specs.declared.cause.Cause.{Cause}
+use Rattle.events.specs.declared.cause.Cause.TheVariants as cause
+use Rattle.events.specs.declared.fault.CoreFault.{CoreFault}
+use Rattle.events.specs.declared.fault.CoreFault.TheVariants.{Memory}
+use Rattle.events.specs.App.{PlainVerdict, Accepted, Refused, IsCleanArrival, AllClean}
+use Rattle.events.specs.Cause.{cause_of_sio}
 use Rattle.effects.specs.Commands.{Makes, IsRefused, StopsAt, CannotReturn, IsSeated, seat, return_of}
 use Rattle.effects.specs.Effects.{Scene, told_to, counted, Closes, ActsInTurn, StopsAfter}
-use Rattle.effects.specs.declared.fault.CoreError.{CoreError}
-use Rattle.effects.specs.declared.fault.Stopped.{Stopped}
+use Rattle.events.specs.declared.fault.CoreError.{CoreError}
+use Rattle.events.specs.declared.fault.Stopped.{Stopped}
 use Rattle.effects.specs.Runs.{Runs}
 use Rattle.effects.specs.Scene.{seen, IsSameEvent}
 use Rattle.effects.specs.declared.scene.Scene as values

@@ -13,11 +13,11 @@ use Rattle.connection.specs.Line.{PlainLine, ForEachHistory, Advances}
 use Rattle.journal.specs.declared.step.What.TheVariants.{Took}
 use Rattle.journal.specs.Journal.{History}
 use Rattle.journal.specs.Outboxes.{waiting}
-use Rattle.effects.specs.declared.fault.CoreFault.{CoreFault}
-use Rattle.effects.specs.declared.fault.CoreFault.TheVariants.{Memory, WrongTransport}
+use Rattle.events.specs.declared.fault.CoreFault.{CoreFault}
+use Rattle.events.specs.declared.fault.CoreFault.TheVariants.{Memory, WrongTransport}
 use Rattle.effects.specs.Commands.{Makes, StopsAt}
-use Rattle.dispatch.specs.declared.outcome.Outcome.{Outcome}
-use Rattle.dispatch.specs.declared.outcome.Outcome.TheVariants as outcome
+use Rattle.events.specs.declared.outcome.Outcome.{Outcome}
+use Rattle.events.specs.declared.outcome.Outcome.TheVariants as outcome
 
 -- ---- what is read from a line
 

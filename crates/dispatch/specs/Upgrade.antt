@@ -6,11 +6,12 @@ use Rattle.session_clock.specs.declared.transport.Transport.{Transport}
 use Rattle.session_clock.specs.declared.transport.Transport.TheVariants.{Polling, Probing, Socket}
 use Rattle.connection.specs.History.{Probed, Upgraded, ProbeLost, Call}
 use Rattle.connection.specs.Line.{PlainLine}
-use Rattle.effects.specs.declared.fault.CoreFault.{CoreFault}
-use Rattle.effects.specs.declared.fault.CoreFault.TheVariants.{Memory, AlreadyProbing, AlreadyUpgraded, NotProbing}
-use Rattle.dispatch.specs.declared.outcome.Outcome.TheVariants as outcome
-use Rattle.effects.specs.Plain.{nothing_done}
-use Rattle.dispatch.specs.Answers.{Answer, Refused, AdvancesLine}
+use Rattle.events.specs.declared.fault.CoreFault.{CoreFault}
+use Rattle.events.specs.declared.fault.CoreFault.TheVariants.{Memory, AlreadyProbing, AlreadyUpgraded, NotProbing}
+use Rattle.events.specs.declared.outcome.Outcome.TheVariants as outcome
+use Rattle.events.specs.Plain.{nothing_done}
+use Rattle.events.specs.Answer.{Answer}
+use Rattle.dispatch.specs.Answers.{Refused, AdvancesLine}
 use Rattle.dispatch.specs.Place.{Place}
 use Rattle.dispatch.specs.Takes.{IsOn}
 

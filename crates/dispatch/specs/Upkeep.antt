@@ -7,10 +7,11 @@ use Rattle.session_clock.specs.Heartbeat.{due}
 use Rattle.connection.specs.History.{Ticked, clock_calls}
 use Rattle.connection.specs.Line.{PlainLine, ForEachHistory}
 use Rattle.journal.specs.declared.step.What.TheVariants as what
-use Rattle.effects.specs.declared.cause.Cause.TheVariants as cause
+use Rattle.events.specs.declared.cause.Cause.TheVariants as cause
 use Rattle.effects.specs.Commands.{Makes, StopsAt, Drops}
-use Rattle.dispatch.specs.declared.outcome.Outcome.TheVariants as outcome
-use Rattle.dispatch.specs.Answers.{Answer, at_once, ChangesNone, AdvancesLine}
+use Rattle.events.specs.declared.outcome.Outcome.TheVariants as outcome
+use Rattle.events.specs.Answer.{Answer, at_once}
+use Rattle.dispatch.specs.Answers.{ChangesNone, AdvancesLine}
 use Rattle.dispatch.specs.Parking.{ParksOrCloses, FailsToPark}
 use Rattle.dispatch.specs.Place.{Place, LosesLine, KeepsLines}
 

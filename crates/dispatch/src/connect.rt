@@ -7,10 +7,9 @@ ghost use Rattle.effects.specs.Scene.{seen, Plays};
 ghost use Rattle.dispatch.specs.Packets.{Draws, IsFresh, IsFreeIn, Refuses, Connects, ConnectsAs, AsksApp, digits_of, Names, Returning, AsksToConnect};
 
 use crate::packets::close_for;
-use effects::{
-    App, Cause, CoreFault, Effect, IdSource, Scene, Stopped, Verdict, Who, act_all, commands,
-};
+use effects::{Scene, act_all, commands};
 use eio_wire::read_id;
+use events::{App, Cause, CoreFault, Effect, IdSource, Stopped, Verdict, Who};
 use recovery::Pid;
 use room_maps::Sid;
 use sio_wire::{

@@ -3,21 +3,20 @@
 ghost use Rattle.std.specs.Prelude.{◌≡◌, ◌≢◌, ◌⊎◌, ◌++◌, ◌∷◌, [], true, codes, IfOk, IfErr, OnOk, if◌then◌else◌};
 ghost use Rattle.std.specs.List.{AllZip};
 ghost use Rattle.journal.specs.Membership.{is_open};
-ghost use Rattle.dispatch.specs.declared.event.WsFrame.TheVariants as frame_of;
+ghost use Rattle.events.specs.declared.event.WsFrame.TheVariants as frame_of;
 ghost use Rattle.dispatch.specs.Answers.{ForClient};
 ghost use Rattle.dispatch.specs.Frames.{is_too_long, IsFrameOf, IsNoFrame, IsSentAs, frames_of, SendsWaiting, SendsFor};
 ghost use Rattle.dispatch.specs.Machine.{HearsFor, TakesFrames};
 ghost use Rattle.dispatch.specs.Place.{place, Agree};
 ghost use Rattle.dispatch.specs.Takes.{handed, carried};
 
-use crate::event::WsFrame;
 use crate::lines::transport_of;
-use crate::outcome::{Frames, Outcome};
 use crate::takes::count;
 use crate::turns::{close_unread, work_on};
 use connection::Line;
-use effects::{App, Cause, CoreError, CoreFault, IdSource, Visit};
+use effects::Visit;
 use eio_wire::{Packet, WireError, read_packet};
+use events::{App, Cause, CoreError, CoreFault, Frames, IdSource, Outcome, WsFrame};
 use hub_state::State;
 use session_clock::Transport;
 use sio_wire::Entry;
@@ -182,9 +181,7 @@ pub(crate) fn take(
     most: usize,
 ) -> Result<Outcome, CoreError>
     requires { Agree state.old lines.old.entries }
-    ensures { ForClient visit.client (λ line. TakesFrames visit.moment visit.client most line
-        (place state.old lines.old.entries) result (place state.new lines.new.entries))
-        CoreFault.UnknownClient
+    ensures { ForClient visit.client (TakesFrames visit.moment visit.client most)
         (place state.old lines.old.entries) result (place state.new lines.new.entries) }
 {
     let Some(line) = lines.get_mut(&visit.client) else {

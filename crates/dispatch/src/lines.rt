@@ -6,7 +6,7 @@ ghost use Rattle.dispatch.specs.Place.{line_of};
 ghost use Rattle.dispatch.specs.Takes.{IsOn};
 
 use connection::Line;
-use effects::CoreFault;
+use events::CoreFault;
 use session_clock::Transport;
 use std::collections::BTreeMap;
 

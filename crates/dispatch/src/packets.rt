@@ -13,8 +13,9 @@ use crate::connect::connect;
 use crate::parking::park_or_close;
 use crate::serve::serve_joined;
 use connection::Line;
-use effects::{App, Cause, CoreError, CoreFault, IdSource, Scene, Stopped, Tally, Visit};
+use effects::{Scene, Tally, Visit};
 use eio_wire::Packet;
+use events::{App, Cause, CoreError, CoreFault, IdSource, Stopped};
 use hub_state::State;
 use sio_wire::{Kind, SioError, SioPacket};
 

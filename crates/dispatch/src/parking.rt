@@ -4,7 +4,8 @@ ghost use Rattle.std.specs.Prelude.{◌≡◌, true};
 ghost use Rattle.journal.specs.Membership.{is_open};
 ghost use Rattle.dispatch.specs.Parking.{Parks};
 
-use effects::{CoreFault, Visit, commands};
+use effects::{Visit, commands};
+use events::CoreFault;
 use hub_state::State;
 
 /// Saves the sessions of a client, and says so, or closes it where they have no place.

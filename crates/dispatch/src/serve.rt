@@ -8,9 +8,8 @@ ghost use Rattle.effects.specs.Scene.{seen, Plays};
 ghost use Rattle.dispatch.specs.Packets.{IsFresh, Decides, Leaves, TakesAck, HearsEvent, Serves, ServesJoined};
 
 use crate::packets::close_for;
-use effects::{
-    Answer, App, Arrived, Cause, CoreFault, Message, Scene, Stopped, Who, act_all, commands,
-};
+use effects::{Scene, act_all, commands};
+use events::{Answer, App, Arrived, Cause, CoreFault, Message, Stopped, Who};
 use sio_wire::{Attachments, Header, Kind, SioPacket};
 use terms::Text;
 

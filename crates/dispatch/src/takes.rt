@@ -9,10 +9,10 @@ ghost use Rattle.connection.specs.Line.{Advances};
 ghost use Rattle.dispatch.specs.Place.{IsClean};
 ghost use Rattle.dispatch.specs.Takes.{packets_of, handed, carried, Counts, FailsToCount, TellsNoop, ping_calls, Carries, TakesWaiting, TakesFor, AllWhole};
 
-use crate::outcome::Outcome;
 use connection::Line;
-use effects::{CoreFault, Visit, commands};
+use effects::{Visit, commands};
 use eio_wire::{Packet, WireError, write_payload};
+use events::{CoreFault, Outcome};
 use hub_state::State;
 use session_clock::Transport;
 use sio_wire::Entry;

@@ -10,13 +10,13 @@ ghost use Rattle.dispatch.specs.Machine.{Opens, Begins, Ends, Takes, Loses, Work
 
 use crate::greeting::Greeting;
 use crate::lines::{forget, put, transport_of};
-use crate::outcome::{Opening, Outcome};
 use crate::packets::handle_all;
 use crate::parking::park_or_close;
 use crate::takes;
 use connection::Line;
-use effects::{App, Cause, CoreError, CoreFault, Done, IdSource, Tally, Visit, commands};
+use effects::{Tally, Visit, commands};
 use eio_wire::{Packet, WireError, open_text, read_payload};
+use events::{App, Cause, CoreError, CoreFault, Done, IdSource, Opening, Outcome};
 use hub_state::State;
 use session_clock::Transport;
 use std::alloc::Global;
@@ -148,9 +148,7 @@ pub(crate) fn begin(
     lines: &mut BTreeMap<u128, Line>,
 ) -> Result<Outcome, CoreError>
     requires { Agree state.old lines.old.entries }
-    ensures { ForClient visit.client (λ line. Begins visit.moment visit.client line
-        (place state.old lines.old.entries) result (place state.new lines.new.entries))
-        CoreFault.UnknownClient
+    ensures { ForClient visit.client (Begins visit.moment visit.client)
         (place state.old lines.old.entries) result (place state.new lines.new.entries) }
 {
     let Some(line) = lines.get_mut(&visit.client) else {
@@ -172,9 +170,8 @@ pub(crate) fn end(
     lines: &mut BTreeMap<u128, Line>,
     client: u128,
 ) -> Result<Outcome, CoreError>
-    ensures { (h : History) → ForClient client (λ line. Ends client line
-        (place h lines.old.entries) result (place h lines.new.entries))
-        CoreFault.UnknownClient (place h lines.old.entries) result (place h lines.new.entries) }
+    ensures { (h : History) → ForClient client (Ends client)
+        (place h lines.old.entries) result (place h lines.new.entries) }
 {
     let Some(line) = lines.get_mut(&client) else {
         return Err(CoreFault::UnknownClient.at_once());
@@ -192,9 +189,7 @@ pub(crate) fn take(
 ) -> Result<Outcome, CoreError>
     requires agree { Agree state.old lines.old.entries }
     requires clean { IsClean state.old }
-    ensures { ForClient visit.client (λ line. Takes visit.moment visit.client most line
-        (place state.old lines.old.entries) result (place state.new lines.new.entries))
-        CoreFault.UnknownClient
+    ensures { ForClient visit.client (Takes visit.moment visit.client most)
         (place state.old lines.old.entries) result (place state.new lines.new.entries) }
 {
     let Some(line) = lines.get_mut(&visit.client) else {
@@ -214,9 +209,7 @@ pub(crate) fn lose(
     lines: &mut BTreeMap<u128, Line>,
 ) -> Result<Outcome, CoreError>
     requires { Agree state.old lines.old.entries }
-    ensures { ForClient visit.client (λ line. Loses visit.moment visit.client
-        (place state.old lines.old.entries) result (place state.new lines.new.entries))
-        CoreFault.UnknownClient
+    ensures { ForClient visit.client (λ line. Loses visit.moment visit.client)
         (place state.old lines.old.entries) result (place state.new lines.new.entries) }
 {
     let Some(_) = lines.get(&visit.client) else {

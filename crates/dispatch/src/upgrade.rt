@@ -2,14 +2,14 @@
 
 ghost use Rattle.std.specs.Prelude.{◌≡◌, Ok, Err, IfErr, OnOk};
 ghost use Rattle.journal.specs.Journal.{History};
-ghost use Rattle.dispatch.specs.Answers.{at_once, ForClient};
+ghost use Rattle.events.specs.Answer.{at_once};
+ghost use Rattle.dispatch.specs.Answers.{ForClient};
 ghost use Rattle.dispatch.specs.Place.{place};
-ghost use Rattle.effects.specs.Plain.{nothing_done};
+ghost use Rattle.events.specs.Plain.{nothing_done};
 ghost use Rattle.dispatch.specs.Upgrade.{fault_of_clock, Probes, Upgrades, LosesProbe};
 
-use crate::outcome::Outcome;
 use connection::Line;
-use effects::{CoreError, CoreFault, Done};
+use events::{CoreError, CoreFault, Done, Outcome};
 use session_clock::ClockError;
 use std::alloc::Global;
 use std::collections::BTreeMap;
@@ -33,9 +33,8 @@ pub(crate) fn probe(
     lines: &mut BTreeMap<u128, Line>,
     client: u128,
 ) -> Result<Outcome, CoreError>
-    ensures { (h : History) → ForClient client (λ line. Probes client line
-        (place h lines.old.entries) result (place h lines.new.entries))
-        CoreFault.UnknownClient (place h lines.old.entries) result (place h lines.new.entries) }
+    ensures { (h : History) → ForClient client (Probes client)
+        (place h lines.old.entries) result (place h lines.new.entries) }
 {
     let Some(line) = lines.get_mut(&client) else {
         return Err(CoreFault::UnknownClient.at_once());
@@ -74,9 +73,8 @@ pub(crate) fn upgrade(
     lines: &mut BTreeMap<u128, Line>,
     client: u128,
 ) -> Result<Outcome, CoreError>
-    ensures { (h : History) → ForClient client (λ line. Upgrades client line
-        (place h lines.old.entries) result (place h lines.new.entries))
-        CoreFault.UnknownClient (place h lines.old.entries) result (place h lines.new.entries) }
+    ensures { (h : History) → ForClient client (Upgrades client)
+        (place h lines.old.entries) result (place h lines.new.entries) }
 {
     let Some(line) = lines.get_mut(&client) else {
         return Err(CoreFault::UnknownClient.at_once());
@@ -90,9 +88,8 @@ pub(crate) fn probe_lost(
     lines: &mut BTreeMap<u128, Line>,
     client: u128,
 ) -> Result<Outcome, CoreError>
-    ensures { (h : History) → ForClient client (λ line. LosesProbe client line
-        (place h lines.old.entries) result (place h lines.new.entries))
-        CoreFault.UnknownClient (place h lines.old.entries) result (place h lines.new.entries) }
+    ensures { (h : History) → ForClient client (LosesProbe client)
+        (place h lines.old.entries) result (place h lines.new.entries) }
 {
     let Some(line) = lines.get_mut(&client) else {
         return Err(CoreFault::UnknownClient.at_once());

@@ -8,10 +8,10 @@ ghost use Rattle.dispatch.specs.Place.{line_of, place, Agree};
 ghost use Rattle.dispatch.specs.Upkeep.{Ticks, Sweeps};
 
 use crate::lines::forget;
-use crate::outcome::Outcome;
 use crate::parking::park_or_close;
 use connection::Line;
-use effects::{Cause, CoreError, CoreFault, Visit, commands};
+use effects::{Visit, commands};
+use events::{Cause, CoreError, CoreFault, Outcome};
 use hub_state::State;
 use session_clock::Due;
 use std::collections::BTreeMap;
@@ -23,9 +23,7 @@ pub(crate) fn tick(
     lines: &mut BTreeMap<u128, Line>,
 ) -> Result<Outcome, CoreError>
     requires { Agree state.old lines.old.entries }
-    ensures { ForClient visit.client (λ line. Ticks visit.moment visit.client line
-        (place state.old lines.old.entries) result (place state.new lines.new.entries))
-        CoreFault.UnknownClient
+    ensures { ForClient visit.client (Ticks visit.moment visit.client)
         (place state.old lines.old.entries) result (place state.new lines.new.entries) }
 {
     let Some(line) = lines.get_mut(&visit.client) else {

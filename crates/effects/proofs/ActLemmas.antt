@@ -12,18 +12,18 @@ use Rattle.journal.specs.Casting.{refusal_of, IsCast}
 use Rattle.journal.specs.Journal.{History}
 use Rattle.journal.specs.Membership.{is_open, ends, connects, closes}
 use Rattle.journal.proofs.SocketsLemmas.{neither}
-use Rattle.effects.specs.declared.app.Effect.{Effect}
-use Rattle.effects.specs.declared.app.Effect.TheVariants.{Join, Leave, Emit, EmitAsk, Reply, Disconnect, AllJoin, AllLeave, AllEnd}
-use Rattle.effects.specs.declared.app.Reply as reply
-use Rattle.effects.specs.declared.app.Who.{Who}
+use Rattle.events.specs.declared.app.Effect.{Effect}
+use Rattle.events.specs.declared.app.Effect.TheVariants.{Join, Leave, Emit, EmitAsk, Reply, Disconnect, AllJoin, AllLeave, AllEnd}
+use Rattle.events.specs.declared.app.Reply as reply
+use Rattle.events.specs.declared.app.Who.{Who}
 use Rattle.effects.specs.declared.tally.Tally.{Tally}
-use Rattle.effects.specs.declared.cause.Cause.{Cause}
-use Rattle.effects.specs.declared.cause.Cause.TheVariants.{OutboxFull}
-use Rattle.effects.specs.declared.fault.CoreFault.{CoreFault}
+use Rattle.events.specs.declared.cause.Cause.{Cause}
+use Rattle.events.specs.declared.cause.Cause.TheVariants.{OutboxFull}
+use Rattle.events.specs.declared.fault.CoreFault.{CoreFault}
 use Rattle.effects.specs.Commands.{Makes, StopsAt, DoesOr, IsSeated}
 use Rattle.effects.specs.Effects.{Scene, scene, cast_of, Emits, IsReply, Replies, FailsToReply, Closes, is_bad, is_wrong, told_to, goodbye, dismissed, all_joined, all_left, ChangesRooms, SaysGoodbye, Acts, ActsInTurn, Stops, Fails, FailsAt, StandsWith}
-use Rattle.effects.specs.Emission.{PlainEmission}
-use Rattle.effects.specs.Plain.{PlainDone, one_more, told}
+use Rattle.events.specs.Emission.{PlainEmission}
+use Rattle.events.specs.Plain.{PlainDone, one_more, told}
 use Rattle.effects.proofs.StepLemmas.{itself, open-still, open-no-more, seated-still, seated-among}
 
 -- ---- the client and its socket

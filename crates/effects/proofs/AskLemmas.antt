@@ -11,11 +11,11 @@ use Rattle.connection.specs.Line.{PlainLine, LeadsTo, ForEachHistory, Advances}
 use Rattle.sio_wire.specs.declared.entry.Entry.{Entry}
 use Rattle.journal.specs.declared.error.HubError.TheVariants as hub
 use Rattle.journal.specs.declared.step.What.TheVariants as what
-use Rattle.effects.specs.declared.app.Inquiry as inquiry
-use Rattle.effects.specs.declared.app.Who.{Who}
-use Rattle.effects.specs.declared.cause.Cause.TheVariants.{OutboxFull}
-use Rattle.effects.specs.declared.fault.CoreFault.{CoreFault}
-use Rattle.effects.specs.declared.fault.CoreFault.TheVariants.{Memory}
+use Rattle.events.specs.declared.app.Inquiry as inquiry
+use Rattle.events.specs.declared.app.Who.{Who}
+use Rattle.events.specs.declared.cause.Cause.TheVariants.{OutboxFull}
+use Rattle.events.specs.declared.fault.CoreFault.{CoreFault}
+use Rattle.events.specs.declared.fault.CoreFault.TheVariants.{Memory}
 use Rattle.effects.specs.Commands.{IsRefused, StopsAt}
 use Rattle.effects.specs.Effects.{Scene, Closes, IsInquiry, IsNextId, told_to, asked_in_vain, Asks, FailsAt, FailsToAsk}
 use Rattle.effects.proofs.StepLemmas.{itself}

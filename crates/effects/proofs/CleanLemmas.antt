@@ -31,8 +31,8 @@ use Rattle.journal.specs.Casting.{refusal_of, IsCastOf}
 use Rattle.journal.specs.Membership.{place_of, is_space}
 use Rattle.journal.specs.Outboxes.{answer, farewell}
 use Rattle.journal.proofs.SocketsLemmas.{neither}
-use Rattle.effects.specs.declared.app.Inquiry as inquiry
-use Rattle.effects.specs.declared.app.Reply as reply
+use Rattle.events.specs.declared.app.Inquiry as inquiry
+use Rattle.events.specs.declared.app.Reply as reply
 use Rattle.effects.specs.Effects.{IsReply, IsInquiry, is_unsendable, reply_header, inquiry_header}
 use Rattle.effects.specs.Following.{is_clean}
 

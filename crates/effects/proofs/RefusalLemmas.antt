@@ -6,7 +6,8 @@ use Rattle.journal.specs.declared.error.HubError.TheVariants as hub
 use Rattle.journal.specs.declared.step.What.{What}
 use Rattle.journal.specs.Journal.{History, moment_at}
 use Rattle.journal.specs.Command.{refusal, is_found_late, IsErrorOf, Does}
-use Rattle.effects.specs.Commands.{StopsAt, IsFault, fault_of}
+use Rattle.events.specs.Fault.{IsFault, fault_of}
+use Rattle.effects.specs.Commands.{StopsAt}
 
 -- an error that is the refusal, or else want of memory, stops the event where it is a fault
 pub stops : (h : History) (now : ℕ) (what : What) (e : HubError) → e ≡ unwrap_or (refusal h (moment_at h now) what) hub.Memory → IsFault e → StopsAt h now what (fault_of e)

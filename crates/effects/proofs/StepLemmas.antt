@@ -19,7 +19,7 @@ use Rattle.journal.specs.Entries.{AllPass, own_entries}
 use Rattle.journal.proofs.EpochsSocketsLemmas.{is_open-step}
 use Rattle.journal.proofs.MembershipLemmas.{is_open-opened, sockets-quiet, socket_with-quiet}
 use Rattle.journal.proofs.SocketsLemmas.{neither}
-use Rattle.effects.specs.declared.app.Who.{Who}
+use Rattle.events.specs.declared.app.Who.{Who}
 use Rattle.effects.specs.Commands.{is_of, IsSeated}
 use Rattle.effects.specs.Effects.{is_among}
 use Rattle.effects.specs.Following.{is_clean, is_turn, is_work, AreMade, is_cast, CastsNothing, Follows, is_listed, Spares, WorksFor}

@@ -8,14 +8,14 @@ use Rattle.journal.specs.Journal.{History}
 use Rattle.journal.specs.Membership.{is_open}
 use Rattle.journal.specs.Entries.{AllPass, own_entries}
 use Rattle.journal.proofs.SocketsLemmas.{neither}
-use Rattle.effects.specs.declared.app.Effect.{Effect}
-use Rattle.effects.specs.declared.app.Effect.TheVariants.{Join, Leave, Emit, EmitAsk, Reply, Disconnect, AllJoin, AllLeave, AllEnd}
-use Rattle.effects.specs.declared.app.Who.{Who}
-use Rattle.effects.specs.declared.cause.Cause.{Cause}
-use Rattle.effects.specs.declared.cause.Cause.TheVariants.{OutboxFull}
-use Rattle.effects.specs.declared.fault.CoreFault.{CoreFault}
-use Rattle.effects.specs.declared.fault.Stopped.{Stopped}
-use Rattle.effects.specs.App.{IsCleanEffect, AllClean}
+use Rattle.events.specs.declared.app.Effect.{Effect}
+use Rattle.events.specs.declared.app.Effect.TheVariants.{Join, Leave, Emit, EmitAsk, Reply, Disconnect, AllJoin, AllLeave, AllEnd}
+use Rattle.events.specs.declared.app.Who.{Who}
+use Rattle.events.specs.declared.cause.Cause.{Cause}
+use Rattle.events.specs.declared.cause.Cause.TheVariants.{OutboxFull}
+use Rattle.events.specs.declared.fault.CoreFault.{CoreFault}
+use Rattle.events.specs.declared.fault.Stopped.{Stopped}
+use Rattle.events.specs.App.{IsCleanEffect, AllClean}
 use Rattle.effects.specs.Commands.{Makes, IsSeated}
 use Rattle.effects.specs.Effects.{Scene, Closes, is_bad, is_wrong, is_unsendable, told_to, goodbye, dismissed, all_joined, all_left, cast_of, ChangesRooms, SaysGoodbye, Acts, ActsInTurn, Stops, StopsAfter, Fails, StandsWith}
 use Rattle.effects.specs.Following.{is_clean, is_work, is_turn, is_cast, WorksFor}

@@ -14,9 +14,10 @@ use Rattle.journal.specs.Command.{refusal}
 use Rattle.journal.specs.Log.{log}
 use Rattle.journal.specs.Sessions.{sessions}
 use Rattle.journal.specs.Membership.{place_of, is_space, is_open, sockets, is_connected, sid_of}
-use Rattle.effects.specs.declared.app.Who.{Who}
-use Rattle.effects.specs.declared.fault.CoreFault.{CoreFault}
-use Rattle.effects.specs.declared.fault.CoreFault.TheVariants.{Memory, IdTaken, TooManyClients, Spent, UnknownClient}
+use Rattle.events.specs.declared.app.Who.{Who}
+use Rattle.events.specs.declared.fault.CoreFault.{CoreFault}
+use Rattle.events.specs.Fault.{IsFault, fault_of}
+use Rattle.events.specs.declared.fault.CoreFault.TheVariants.{Memory, IdTaken, TooManyClients, Spent, UnknownClient}
 
 -- the command that makes this step is accepted, and the journal is one step longer
 abbrev pub Makes : History → ℕ → What → History → Type 0
@@ -26,26 +27,10 @@ Makes h now what g = (refusal h (moment_at h now) what ≡ None) × (g ≡ with_
 abbrev pub IsRefused : History → ℕ → What → HubError → Type 0
 IsRefused h now what e = refusal h (moment_at h now) what ≡ Some e
 
--- a refusal that ends the event
-abbrev pub IsFault : HubError → Type 0
-IsFault hub.Memory = Unit {0}
-IsFault hub.IdTaken = Unit {0}
-IsFault hub.TooManyClients = Unit {0}
-IsFault hub.Spent = Unit {0}
-IsFault _ = ⊥
-
 -- an answer to a change of rooms: the rooms don't allow it, which ends no event, or it ends the event
 abbrev pub IsRoomChange : HubError → Type 0
 IsRoomChange (hub.RoomRefused e) = Unit {0}
 IsRoomChange e = IsFault e
-
--- the fault by its name; no other refusal ends an event
-abbrev pub fault_of : HubError → CoreFault
-fault_of hub.Memory = Memory
-fault_of hub.IdTaken = IdTaken
-fault_of hub.TooManyClients = TooManyClients
-fault_of hub.Spent = Spent
-fault_of _ = UnknownClient
 
 -- the command that makes this step isn't done: for want of memory, or it is refused for a reason that ends the event
 abbrev pub StopsAt : History → ℕ → What → CoreFault → Type 0

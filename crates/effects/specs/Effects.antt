@@ -21,22 +21,22 @@ use Rattle.ack_book.specs.Book.{ask_refusal}
 use Rattle.ack_book.specs.Questions.{next_id}
 use Rattle.connection.specs.History.{Call, Asked, Answered, Left, book_calls}
 use Rattle.connection.specs.Line.{PlainLine, ForEachHistory, Advances}
-use Rattle.effects.specs.declared.app.Effect.{Effect}
-use Rattle.effects.specs.declared.app.Effect.TheVariants.{Join, Leave, Emit, EmitAsk, Reply, Disconnect, AllJoin, AllLeave, AllEnd}
-use Rattle.effects.specs.declared.app.Inquiry as inquiry
-use Rattle.effects.specs.declared.app.Reply as reply
-use Rattle.effects.specs.declared.app.Who.{Who}
-use Rattle.effects.specs.declared.cause.Cause.{Cause}
-use Rattle.effects.specs.declared.cause.Cause.TheVariants.{OutboxFull}
-use Rattle.effects.specs.declared.fault.CoreFault.{CoreFault}
-use Rattle.effects.specs.declared.fault.CoreFault.TheVariants.{Memory, Spent, BadEffect}
-use Rattle.effects.specs.Emission.{PlainEmission}
-use Rattle.effects.specs.Selection.{PlainSelection}
+use Rattle.events.specs.declared.app.Effect.{Effect}
+use Rattle.events.specs.declared.app.Effect.TheVariants.{Join, Leave, Emit, EmitAsk, Reply, Disconnect, AllJoin, AllLeave, AllEnd}
+use Rattle.events.specs.declared.app.Inquiry as inquiry
+use Rattle.events.specs.declared.app.Reply as reply
+use Rattle.events.specs.declared.app.Who.{Who}
+use Rattle.events.specs.declared.cause.Cause.{Cause}
+use Rattle.events.specs.declared.cause.Cause.TheVariants.{OutboxFull}
+use Rattle.events.specs.declared.fault.CoreFault.{CoreFault}
+use Rattle.events.specs.declared.fault.CoreFault.TheVariants.{Memory, Spent, BadEffect}
+use Rattle.events.specs.Emission.{PlainEmission}
+use Rattle.events.specs.Selection.{PlainSelection}
 use Rattle.journal.specs.Membership.{is_open, place_of}
 use Rattle.effects.specs.Commands.{Makes, IsRefused, StopsAt, DoesOr, IsSeated}
-use Rattle.effects.specs.declared.fault.Stopped.{Stopped}
+use Rattle.events.specs.declared.fault.Stopped.{Stopped}
 use Rattle.effects.specs.declared.tally.Tally.{Tally}
-use Rattle.effects.specs.Plain.{PlainDone, one_more, noted, told}
+use Rattle.events.specs.Plain.{PlainDone, one_more, noted, told}
 use Rattle.effects.specs.Runs.{Runs}
 
 -- where an event stands between two effects of a packet: the hub's history, the client's line, what was done of the event,

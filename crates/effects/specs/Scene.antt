@@ -1,6 +1,6 @@
 -- What contracts see of the values that an event of one client works on.
 use Rattle.std.specs.Prelude.{◌≡◌, ℕ, Result, OnOk, IfErr}
-use Rattle.effects.specs.declared.fault.CoreFault.{CoreFault}
+use Rattle.events.specs.declared.fault.CoreFault.{CoreFault}
 use Rattle.effects.specs.declared.scene.Scene as values
 use Rattle.effects.specs.Effects.{Scene, scene}
 

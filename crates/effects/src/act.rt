@@ -9,16 +9,13 @@ ghost use Rattle.effects.specs.Effects.{is_unsendable, is_wrong, cast_of, Closes
 ghost use Rattle.effects.specs.Runs.{Runs};
 ghost use Rattle.effects.specs.Scene.{seen, DoesOrFails, IsSameEvent};
 
-use crate::app::{Effect, Reply, Who};
 use crate::ask::ask;
-use crate::cause::Cause;
 use crate::commands;
-use crate::emission::Emission;
 use crate::entry::reply_entry;
-use crate::fault::{CoreFault, Stopped};
 use crate::rooms::{end_all, join, join_all, leave, leave_all};
 use crate::scene::Scene;
 use crate::visit::Visit;
+use events::{Cause, CoreFault, Effect, Emission, Reply, Stopped, Who};
 use journal::Cast;
 use sio_wire::{Attachments, Entry, disconnect_text};
 use std::alloc::Global;

@@ -7,15 +7,13 @@ ghost use Rattle.effects.specs.Effects.{is_unsendable, IsOpenFor, IsNextId, HasN
 ghost use Rattle.effects.specs.Scene.{seen, DoesOrFails, IsSameEvent};
 
 use crate::act::close_for;
-use crate::app::{Inquiry, Who};
-use crate::cause::Cause;
 use crate::commands;
 use crate::entry::inquiry_entry;
-use crate::fault::CoreFault;
 use crate::scene::Scene;
 use crate::visit::Visit;
 use ack_book::AckError;
 use connection::Line;
+use events::{Cause, CoreFault, Inquiry, Who};
 use room_maps::Sid;
 use std::alloc::Global;
 

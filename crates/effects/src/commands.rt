@@ -6,13 +6,12 @@ ghost use Rattle.journal.specs.declared.error.HubError.TheVariants as hub;
 ghost use Rattle.journal.specs.declared.step.What.{What};
 ghost use Rattle.journal.specs.Membership.{place_of, is_space, is_open, is_connected, sid_of, socket_of};
 ghost use Rattle.journal.specs.Outboxes.{waiting};
-ghost use Rattle.effects.specs.declared.app.Who.{Who};
+ghost use Rattle.events.specs.declared.app.Who.{Who};
 ghost use Rattle.effects.specs.Commands.{Makes, StopsAt, DoesOrStops, DoesOr, IsSeated, seat, return_of, CannotReturn, Drops};
 ghost use Rattle.effects.specs.Effects.{told_to};
 
-use crate::app::Who;
-use crate::fault::CoreFault;
 use crate::visit::Visit;
+use events::{CoreFault, Who};
 use hub_state::State;
 use journal::{HubError, Swept};
 use recovery::Pid;

@@ -5,8 +5,7 @@ ghost use Rattle.sio_wire.specs.declared.header.Header.{Header};
 ghost use Rattle.sio_wire.specs.Header.{Plain};
 ghost use Rattle.effects.specs.Effects.{is_unsendable, IsReply, IsInquiry};
 
-use crate::app::{Inquiry, Reply};
-use crate::fault::CoreFault;
+use events::{CoreFault, Inquiry, Reply};
 use sio_wire::{Attachments, Entry, Header, Kind, write_header};
 use std::alloc::Global;
 use terms::Text;

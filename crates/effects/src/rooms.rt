@@ -12,13 +12,11 @@ ghost use Rattle.effects.specs.Effects.{scene, all_joined, all_left, is_among, C
 ghost use Rattle.effects.specs.Scene.{DoesOrFails};
 
 use crate::act::retain_others;
-use crate::app::Who;
-use crate::fault::CoreFault;
 use crate::scene::Scene;
-use crate::selection::Selection;
 use crate::tally::Tally;
 use crate::visit::Visit;
 use connection::Line;
+use events::{CoreFault, Selection, Who};
 use journal::{Dismissed, HubError};
 use room_maps::{Room, Sid};
 

@@ -1,10 +1,9 @@
 //! What was done of an event so far.
 
 ghost use Rattle.std.specs.Prelude.{◌≡◌, ◌+◌, min, None, Some, is_some, true, false};
-ghost use Rattle.effects.specs.Plain.{nothing_done, one_more, noted};
+ghost use Rattle.events.specs.Plain.{nothing_done, one_more, noted};
 
-use crate::cause::Cause;
-use crate::done::Done;
+use events::{Cause, Done};
 use room_maps::RoomError;
 use std::alloc::Global;
 

@@ -1,7 +1,6 @@
 //! Events as lines of text, and as text what they are answered.
 
-use dispatch::{Event, Outcome, WsFrame};
-use effects::{CoreError, Done};
+use events::{CoreError, Done, Event, Outcome, WsFrame};
 use std::alloc::{AllocError, Global};
 use terms::{Bytes, Text};
 

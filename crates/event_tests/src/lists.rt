@@ -4,8 +4,8 @@
 //! space. The last line has what the core tells of itself then.
 
 use crate::lines::{Line, write_answer};
-use dispatch::{Core, Event, Outcome};
-use effects::CoreError;
+use dispatch::Core;
+use events::{CoreError, Event, Outcome};
 use hub::Pass;
 use relay::RelayApp;
 use std::alloc::{AllocError, Global};

@@ -1,7 +1,7 @@
 //! A payload whose growths are refused.
 
 use crate::lines::Line;
-use effects::{CoreError, CoreFault};
+use events::{CoreError, CoreFault};
 use hub_state::State;
 use relay::RelayApp;
 use room_maps::Room;

@@ -3,8 +3,9 @@
 ghost use Rattle.std.specs.Prelude.{IfOk, vec_len, ◌≡◌};
 
 use dispatch::Core;
+use events::Peer;
 use hub::Pass;
-use hub_gate::{Locked, Peer, Pool, Report, ServeError, Turnstile, serve_peers};
+use hub_gate::{Locked, Pool, Report, ServeError, Turnstile, serve_peers};
 use relay::RelayApp;
 use std::alloc::{AllocError, Global};
 use std::sync::atomic::{AtomicU64, Ordering};

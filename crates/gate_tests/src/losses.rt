@@ -1,8 +1,6 @@
 //! How often the core is told of a lost client.
 
-use dispatch::{Event, Outcome};
-use effects::{CoreError, CoreFault};
-use hub_gate::{Loss, Telling};
+use events::{CoreError, CoreFault, Event, Loss, Outcome, Telling};
 
 /// The answers of a core that refuses so many times, and then accepts.
 fn answer(refusals: u64, tries: u64) -> Result<Outcome, CoreError> {

@@ -1,8 +1,6 @@
 //! Peers that play clients, each from its first event to its end.
 
-use dispatch::{Event, Outcome};
-use effects::CoreError;
-use hub_gate::{Peer, PeerFault};
+use events::{CoreError, Event, Outcome, Peer, PeerFault};
 use std::alloc::{AllocError, Global};
 use std::sync::atomic::{AtomicU64, Ordering};
 use terms::Text;

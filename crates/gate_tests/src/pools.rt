@@ -2,9 +2,9 @@
 
 use crate::hall::{Hall, Open, ids_of};
 use crate::peers::{Failing, talkers};
-use dispatch::Event;
+use events::{Event, Peer};
 use hub::{NotAll, Pass};
-use hub_gate::{Peer, Report, ServeError};
+use hub_gate::{Report, ServeError};
 use relay::RelayApp;
 use std::alloc::{AllocError, Global};
 use std::sync::Wait;

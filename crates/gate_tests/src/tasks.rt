@@ -4,7 +4,7 @@ ghost use Rattle.std.specs.Prelude.{◌≡◌};
 
 use crate::hall::Hall;
 use dispatch::Core;
-use effects::{CoreError, CoreFault};
+use events::{CoreError, CoreFault};
 use hub::Pass;
 use hub_gate::Locked;
 use std::alloc::Global;

@@ -8,16 +8,16 @@ use Rattle.journal.specs.Journal.{total}
 use Rattle.journal.specs.Totals.{commands, handed_out, handed_out_by}
 use Rattle.hub.specs.Pass.{PlainHub, PlainPass, AtLeast, commands_of, taken_of}
 use Rattle.dispatch.specs.Counting.{TurnsFor}
-use Rattle.dispatch.specs.declared.event.Event.{Event}
-use Rattle.dispatch.specs.declared.event.Event.TheVariants as event
+use Rattle.events.specs.declared.event.Event.{Event}
+use Rattle.events.specs.declared.event.Event.TheVariants as event
 use Rattle.dispatch.specs.Machine.{IsOf}
-use Rattle.dispatch.specs.Answers.{Answer}
+use Rattle.events.specs.Answer.{Answer}
 use Rattle.dispatch.specs.Place.{PlainCore}
-use Rattle.effects.specs.declared.app.Arrived.{Arrived}
-use Rattle.effects.specs.declared.app.Effect.{Effect}
-use Rattle.effects.specs.declared.app.Who.{Who}
-use Rattle.effects.specs.App.{PlainVerdict}
-use Rattle.dispatch.specs.declared.peer.PeerFault.{PeerFault}
+use Rattle.events.specs.declared.app.Arrived.{Arrived}
+use Rattle.events.specs.declared.app.Effect.{Effect}
+use Rattle.events.specs.declared.app.Who.{Who}
+use Rattle.events.specs.App.{PlainVerdict}
+use Rattle.events.specs.declared.peer.PeerFault.{PeerFault}
 use Rattle.hub_gate.specs.Turns.{Applied, Attempt, Desk, Serves, ServesAll, TellsLost, TellsWhere}
 
 -- a pass that rose, if at all, under the lock: then its numbers are u64s

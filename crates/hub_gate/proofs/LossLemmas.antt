@@ -4,9 +4,9 @@ use Rattle.std.proofs.lemmas.Bool.Decides.{nat_tests}
 use Rattle.std.proofs.lemmas.List.{length-map, map-append}
 use Rattle.std.proofs.lemmas.List.Elements.{All-append, All-cons, All-nil}
 use Rattle.std.specs.List.{All}
-use Rattle.dispatch.specs.Answers.{Answer}
-use Rattle.hub_gate.specs.declared.loss.Telling.TheVariants as telling
-use Rattle.hub_gate.specs.Loss.{AreTries, follows}
+use Rattle.events.specs.Answer.{Answer}
+use Rattle.events.specs.declared.loss.Telling.TheVariants as telling
+use Rattle.events.specs.Loss.{AreTries, follows}
 use Rattle.hub_gate.specs.Turns.{Attempt}
 
 again_by : (refused more : Bool) → cond (refused && more) telling.Again telling.Over ≡ telling.Again → (refused ≡ true) × (more ≡ true)

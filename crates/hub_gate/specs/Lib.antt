@@ -1,6 +1,5 @@
 pub mod Dealing
 pub mod Facts
-pub mod Loss
 pub mod Sealing
 pub mod Serving
 pub mod Turns

@@ -3,7 +3,7 @@ use Rattle.std.specs.Prelude.{◌≡◌, ◌⊎◌, ℕ, ◌<◌, ◌≤◌, Lis
 use Rattle.journal.specs.declared.step.Step.{Step}
 use Rattle.journal.specs.Seal.{PlainEpoch, SealsAs}
 use Rattle.journal.specs.Totals.{held}
-use Rattle.effects.specs.declared.fault.CoreError.{CoreError}
+use Rattle.events.specs.declared.fault.CoreError.{CoreError}
 use Rattle.dispatch.specs.Place.{PlainCore}
 
 -- a journal has fewer steps than that, and entries of fewer bytes in them

@@ -4,14 +4,14 @@ use Rattle.std.specs.List.{FoldsTo}
 use Rattle.journal.specs.declared.totals.Totals.{Totals}
 use Rattle.hub.specs.declared.pass.NotAll.{NotAll}
 use Rattle.hub.specs.Pass.{PlainPass, Settles, new_pass}
-use Rattle.effects.specs.declared.app.Arrived.{Arrived}
-use Rattle.effects.specs.declared.app.Effect.{Effect}
-use Rattle.effects.specs.declared.app.Who.{Who}
-use Rattle.effects.specs.App.{PlainVerdict}
-use Rattle.dispatch.specs.declared.event.Event.{Event}
-use Rattle.dispatch.specs.Answers.{Answer}
+use Rattle.events.specs.declared.app.Arrived.{Arrived}
+use Rattle.events.specs.declared.app.Effect.{Effect}
+use Rattle.events.specs.declared.app.Who.{Who}
+use Rattle.events.specs.App.{PlainVerdict}
+use Rattle.events.specs.declared.event.Event.{Event}
+use Rattle.events.specs.Answer.{Answer}
 use Rattle.dispatch.specs.Place.{PlainCore}
-use Rattle.dispatch.specs.declared.peer.PeerFault.{PeerFault}
+use Rattle.events.specs.declared.peer.PeerFault.{PeerFault}
 use Rattle.hub_gate.specs.declared.worker.WorkerCounts.{WorkerCounts}
 use Rattle.hub_gate.specs.Dealing.{dealt}
 use Rattle.hub_gate.specs.Turns.{Desk, Handled, ServesAll, desk, failures}

@@ -2,23 +2,23 @@
 use Rattle.std.specs.Prelude.{◌≡◌, ◌⊎◌, ℕ, ◌≤◌, Bool, true, false, Option, Some, None, option_map, Result, Ok, Err, IfOk, is_ok, List, [], ◌∷◌, ◌++◌, length, map, min, sum_by, if◌then◌else◌}
 use Rattle.std.specs.Iterator.{Drains}
 use Rattle.std.specs.List.{FoldsTo}
-use Rattle.effects.specs.declared.app.Arrived.{Arrived}
-use Rattle.effects.specs.declared.app.Effect.{Effect}
-use Rattle.effects.specs.declared.app.Who.{Who}
-use Rattle.effects.specs.App.{PlainVerdict}
+use Rattle.events.specs.declared.app.Arrived.{Arrived}
+use Rattle.events.specs.declared.app.Effect.{Effect}
+use Rattle.events.specs.declared.app.Who.{Who}
+use Rattle.events.specs.App.{PlainVerdict}
 use Rattle.effects.specs.Following.{Spares}
 use Rattle.dispatch.specs.Counting.{TurnsFor}
 use Rattle.hub.specs.Pass.{PlainPass, AtLeast}
-use Rattle.dispatch.specs.declared.event.Event.{Event}
-use Rattle.dispatch.specs.declared.event.Event.TheVariants as event
-use Rattle.dispatch.specs.declared.outcome.Outcome.TheVariants as outcome
-use Rattle.dispatch.specs.Answers.{Answer}
+use Rattle.events.specs.declared.event.Event.{Event}
+use Rattle.events.specs.declared.event.Event.TheVariants as event
+use Rattle.events.specs.declared.outcome.Outcome.TheVariants as outcome
+use Rattle.events.specs.Answer.{Answer}
 use Rattle.dispatch.specs.Handed.{Turn, Handed}
 use Rattle.dispatch.specs.Machine.{Does, IsOf, listed}
 use Rattle.dispatch.specs.Place.{PlainCore, place}
-use Rattle.dispatch.specs.declared.peer.PeerFault.{PeerFault}
+use Rattle.events.specs.declared.peer.PeerFault.{PeerFault}
 use Rattle.hub_gate.specs.Facts.{IsSoundCore}
-use Rattle.hub_gate.specs.Loss.{AreTries}
+use Rattle.events.specs.Loss.{AreTries}
 
 -- what a worker works with: its pass, and the ids that its source will give
 pub record Desk : Type 0 where

@@ -6,14 +6,14 @@ ghost use Rattle.room_maps.specs.Mirror.{IsMirrored};
 ghost use Rattle.journal.specs.Membership.{rooms};
 ghost use Rattle.journal.specs.Totals.{held};
 ghost use Rattle.hub.specs.Pass.{new_pass, AtLeast};
-ghost use Rattle.effects.specs.declared.fault.CoreFault.{CoreFault};
-ghost use Rattle.dispatch.specs.Answers.{at_once};
+ghost use Rattle.events.specs.declared.fault.CoreFault.{CoreFault};
+ghost use Rattle.events.specs.Answer.{at_once};
 ghost use Rattle.hub_gate.specs.Facts.{IsSoundCore, IsOfCore};
 ghost use Rattle.hub_gate.specs.Sealing.{Seals};
 ghost use Rattle.hub_gate.specs.Turns.{Applied, desk};
 
-use dispatch::{Core, Event, Outcome};
-use effects::{App, CoreError, CoreFault, IdSource};
+use dispatch::Core;
+use events::{App, CoreError, CoreFault, Event, IdSource, Outcome};
 use hub::Pass;
 use journal::{Epoch, HubError};
 use room_maps::{Room, Sid};

@@ -9,8 +9,8 @@ ghost use Rattle.hub_gate.specs.Serving.{AreCounted, AreServed, IsFromStarting, 
 use crate::peer::{Queue, Turnstile};
 use crate::pool::Pool;
 use crate::worker::{WorkerCounts, run_worker};
-use dispatch::{Core, Peer};
-use effects::{App, IdSource};
+use dispatch::Core;
+use events::{App, IdSource, Peer};
 use hub::{NotAll, Pass};
 use journal::Totals;
 use std::alloc::{AllocError, Global};

@@ -4,11 +4,9 @@ ghost use Rattle.std.specs.Prelude.{◌≡◌, ◌+◌, option_map};
 ghost use Rattle.hub_gate.specs.Turns.{Applied, ServesAll, Talks, TellsLost, WorksOff, client_of, desk};
 
 use crate::locked::{Turn, apply_counted};
-use crate::loss::{Loss, Telling};
 use crate::peer::{PeerSource, Turnstile};
 use crate::pool::Pool;
-use dispatch::{Event, Outcome, Peer};
-use effects::{App, CoreError, IdSource};
+use events::{App, CoreError, Event, IdSource, Loss, Outcome, Peer, Telling};
 use hub::Pass;
 use std::snapshot::Snapshot;
 use std::sync::Wait;

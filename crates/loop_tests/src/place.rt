@@ -2,7 +2,6 @@
 
 use crate::served::Heard;
 use crate::wire::sends;
-use loops::Shared;
 use std::alloc::Global;
 use std::net::{Net, TcpStream};
 use std::rt::Clock;
@@ -10,6 +9,7 @@ use std::sync::Wait;
 use std::sync::atomic::Ordering;
 use std::thread;
 use std::time::Duration;
+use tcp_server::Shared;
 
 #[derive(Drop)]
 pub struct Place<'a, R> {

@@ -5,10 +5,10 @@ use crate::pages::page;
 use crate::scenes::Scene;
 use hub_gate::Report;
 use journal::Totals;
-use loops::{Ended, Log, ServerFault};
 use settings::Settings;
 use std::alloc::Global;
 use std::sync::atomic::{AtomicU64, Ordering};
+use tcp_server::{Ended, Log, ServerFault};
 use terms::Text;
 
 /// The settings of a server with so many loops, and with those that are named, as `clients=1`.

@@ -6,7 +6,6 @@ use crate::player::Player;
 use crate::scenes::{BOUNDS, PAGE, PATIENT, POLLING, PRESSED, SPEAKING, STOPPING, Scene};
 use crate::served::{Ear, Heard, fault_of, settings};
 use hub_gate::Report;
-use loops::{Server, ServerFault, Shared};
 use relay::RelayApp;
 use std::alloc::Global;
 use std::net::{Net, TcpStream};
@@ -15,6 +14,7 @@ use std::rt::Clock;
 use std::sync::{Arc, Wait};
 use std::thread;
 use std::thread::Threads;
+use tcp_server::{Server, ServerFault, Shared};
 
 /// Plays steps, and answers with the first that is not so; then the server is stopped.
 fn play<R: Net<Stream = TcpStream> + Clock + Wait>(

@@ -1,13 +1,11 @@
 //! What a request is answered with, for what its events were answered with. No core serves it.
 
 use crate::sheet::{Sheet, Still};
-use dispatch::{Opening, Outcome};
-use effects::CoreFault::{
+use events::CoreFault::{
     self, BadEffect, IdTaken, Memory, NotProbing, Spent, TooManyClients, UnknownClient,
     WrongTransport,
 };
-use effects::{Cause, CoreError, Done};
-use hub_gate::{Peer, PeerFault};
+use events::{Cause, CoreError, Done, Opening, Outcome, Peer, PeerFault};
 use peers::{PollPeer, PollRequest};
 use std::alloc::{AllocError, Global};
 use terms::Text;

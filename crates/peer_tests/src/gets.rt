@@ -2,7 +2,7 @@
 
 use crate::served::{End, serve};
 use crate::sheet::{Sheet, Still};
-use dispatch::Event;
+use events::Event;
 use peers::{PollPeer, PollRequest};
 use relay::RelayApp;
 use std::alloc::Global;

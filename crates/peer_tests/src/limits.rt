@@ -2,9 +2,7 @@
 //! stream. No core serves them.
 
 use crate::sockets::{Accepted, HEAD, accepted};
-use dispatch::{Event, Opening, Outcome, WsFrame};
-use effects::CoreError;
-use hub_gate::{Peer, PeerFault};
+use events::{CoreError, Event, Opening, Outcome, Peer, PeerFault, WsFrame};
 use std::alloc::{AllocError, Global};
 use terms::Text;
 

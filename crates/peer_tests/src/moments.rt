@@ -1,8 +1,7 @@
 //! The moments of a request's events, and the pauses between them.
 
 use crate::sheet::{Counted, Sheet};
-use dispatch::Outcome;
-use hub_gate::{Peer, PeerFault};
+use events::{Outcome, Peer, PeerFault};
 use peers::{PollPeer, PollRequest};
 use std::alloc::Global;
 use std::cell::Cell;

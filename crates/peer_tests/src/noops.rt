@@ -1,7 +1,6 @@
 //! The pace of lone noop packets.
 
-use dispatch::Outcome;
-use effects::CoreFault;
+use events::{CoreFault, Outcome};
 use peers::{is_noop, is_recent, served_from};
 use std::alloc::{AllocError, Global};
 use terms::Text;

@@ -1,6 +1,6 @@
 //! How a peer is served by a core.
 
-use hub_gate::{Peer, PeerFault};
+use events::{Peer, PeerFault};
 use relay::RelayApp;
 use std::alloc::Global;
 use std::sync::ledger::Ledger;

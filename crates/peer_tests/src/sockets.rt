@@ -3,7 +3,7 @@
 use crate::served::serve;
 use crate::sheet::Still;
 use crate::spoken::{Piece, Spoken};
-use dispatch::Event;
+use events::Event;
 use http_edge::Replay;
 use peers::{SocketPeer, SocketRequest, accept_socket};
 use relay::RelayApp;

@@ -9,9 +9,9 @@ use Rattle.tungstenite.specs.declared.message.Message.{Message}
 use Rattle.tungstenite.specs.declared.message.Message.TheVariants as message
 use Rattle.tungstenite.specs.Socket.{Socket, Reads, Flushed}
 use Rattle.websocket.specs.declared.error.ProtocolError.TheVariants as protocol
-use Rattle.dispatch.specs.declared.event.WsFrame.{WsFrame}
-use Rattle.dispatch.specs.declared.event.WsFrame.TheVariants as frame
-use Rattle.dispatch.specs.declared.peer.PeerFault.TheVariants as fault
+use Rattle.events.specs.declared.event.WsFrame.{WsFrame}
+use Rattle.events.specs.declared.event.WsFrame.TheVariants as frame
+use Rattle.events.specs.declared.peer.PeerFault.TheVariants as fault
 use Rattle.peers.specs.declared.socket_stage.Incoming.{Incoming}
 use Rattle.peers.specs.declared.socket_stage.Incoming.TheVariants as incoming
 

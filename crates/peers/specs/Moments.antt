@@ -1,6 +1,6 @@
 -- What a peer asks of its moments.
 use Rattle.std.specs.Prelude.{◌≡◌, ℕ, Bool, true, false, Option, None, Some}
-use Rattle.dispatch.specs.declared.event.Event.{Event}
+use Rattle.events.specs.declared.event.Event.{Event}
 
 -- a peer pauses here, or its moments stay as they are
 abbrev pub PausesIf : {M : Type 0} → (pauses : M → M → Type 0) → Bool → M → M → Type 0

@@ -1,7 +1,7 @@
 -- The pace of lone noop packets, by which a client that polls is told that nothing waits.
 use Rattle.std.specs.Prelude.{ℕ, ◌+◌, nat_lt, min, Bool, false, Option, None, Some, Ok, cond, codes, bytes_eq}
-use Rattle.dispatch.specs.declared.outcome.Outcome.TheVariants as outcome
-use Rattle.dispatch.specs.Answers.{Answer}
+use Rattle.events.specs.declared.outcome.Outcome.TheVariants as outcome
+use Rattle.events.specs.Answer.{Answer}
 
 -- a lone noop packet was taken
 abbrev pub is_noop : Answer → Bool

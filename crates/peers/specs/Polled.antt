@@ -1,10 +1,10 @@
 -- What the calls of a peer do that serves one request over HTTP.
 use Rattle.std.specs.Prelude.{◌≡◌, ℕ, Bool, true, List, Option, None, Some, Result, Ok, Err, option_map}
 use Rattle.std.specs.Io.KnownBytes.{Appends}
-use Rattle.dispatch.specs.declared.event.Event.{Event}
-use Rattle.dispatch.specs.Answers.{Answer}
-use Rattle.dispatch.specs.declared.peer.PeerFault.{PeerFault}
-use Rattle.dispatch.specs.declared.peer.PeerFault.TheVariants as fault
+use Rattle.events.specs.declared.event.Event.{Event}
+use Rattle.events.specs.Answer.{Answer}
+use Rattle.events.specs.declared.peer.PeerFault.{PeerFault}
+use Rattle.events.specs.declared.peer.PeerFault.TheVariants as fault
 use Rattle.http_edge.specs.Answer as http
 use Rattle.http_edge.specs.Written.{AppendsFront}
 use Rattle.peers.specs.declared.poll_stage.PollStage.{PollStage}

@@ -1,11 +1,11 @@
 -- The turns of a request over HTTP: a GET that waits asks again and again.
 use Rattle.std.specs.Prelude.{◌==◌, ◌-◌, ℕ, Bool, true, false, Option, None, Some, Ok, Err, cond}
-use Rattle.effects.specs.declared.fault.CoreFault.{CoreFault}
-use Rattle.effects.specs.declared.fault.CoreFault.TheVariants as fault
-use Rattle.dispatch.specs.declared.event.Event.{Event}
-use Rattle.dispatch.specs.declared.event.Event.TheVariants as event
-use Rattle.dispatch.specs.declared.outcome.Outcome.TheVariants as outcome
-use Rattle.dispatch.specs.Answers.{Answer}
+use Rattle.events.specs.declared.fault.CoreFault.{CoreFault}
+use Rattle.events.specs.declared.fault.CoreFault.TheVariants as fault
+use Rattle.events.specs.declared.event.Event.{Event}
+use Rattle.events.specs.declared.event.Event.TheVariants as event
+use Rattle.events.specs.declared.outcome.Outcome.TheVariants as outcome
+use Rattle.events.specs.Answer.{Answer}
 use Rattle.peers.specs.declared.requests.PollRequest.{PollRequest}
 use Rattle.peers.specs.declared.requests.PollRequest.TheVariants as request
 use Rattle.peers.specs.declared.poll_stage.PollStage.{PollStage}

@@ -8,8 +8,8 @@ use Rattle.websocket.specs.declared.protocol.config.Role.{Role}
 use Rattle.websocket.specs.declared.protocol.frame.coding.OpCode.{OpCode}
 use Rattle.websocket.specs.declared.protocol.frame.coding.OpCode.TheVariants.{Data}
 use Rattle.websocket.specs.declared.protocol.frame.coding.Data.TheVariants as kind
-use Rattle.dispatch.specs.declared.event.WsFrame.{WsFrame}
-use Rattle.dispatch.specs.declared.event.WsFrame.TheVariants as frame
+use Rattle.events.specs.declared.event.WsFrame.{WsFrame}
+use Rattle.events.specs.declared.event.WsFrame.TheVariants as frame
 
 -- the message that a frame stands for
 abbrev pub message_of : WsFrame → Content

@@ -2,11 +2,11 @@
 use Rattle.std.specs.Prelude.{◌≡◌, ◌⊎◌, ℕ, Bool, true, false, List, [], ◌∷◌, Option, Result, Ok, Err}
 use Rattle.tungstenite.specs.Socket.{Socket}
 use Rattle.websocket.specs.declared.protocol.config.Role.{Role}
-use Rattle.dispatch.specs.declared.event.Event.{Event}
-use Rattle.dispatch.specs.declared.event.WsFrame.{WsFrame}
-use Rattle.dispatch.specs.Answers.{Answer}
-use Rattle.dispatch.specs.declared.peer.PeerFault.{PeerFault}
-use Rattle.dispatch.specs.declared.peer.PeerFault.TheVariants as fault
+use Rattle.events.specs.declared.event.Event.{Event}
+use Rattle.events.specs.declared.event.WsFrame.{WsFrame}
+use Rattle.events.specs.Answer.{Answer}
+use Rattle.events.specs.declared.peer.PeerFault.{PeerFault}
+use Rattle.events.specs.declared.peer.PeerFault.TheVariants as fault
 use Rattle.peers.specs.declared.socket_stage.Incoming.{Incoming}
 use Rattle.peers.specs.declared.socket_stage.Incoming.TheVariants as incoming
 use Rattle.peers.specs.declared.socket_stage.SocketStage.{SocketStage}

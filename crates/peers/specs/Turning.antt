@@ -1,9 +1,9 @@
 -- The turns of a WebSocket (Engine.IO protocol 4, "WebSocket" and "Upgrade"): a read, a take, and a look at the time.
 use Rattle.std.specs.Prelude.{ℕ, Bool, true, false, List, Option, None, Some, Result, Ok, Err, cond, codes, bytes_eq}
-use Rattle.dispatch.specs.declared.event.Event.{Event}
-use Rattle.dispatch.specs.declared.event.Event.TheVariants as event
-use Rattle.dispatch.specs.declared.event.WsFrame.TheVariants as frame
-use Rattle.dispatch.specs.declared.peer.PeerFault.{PeerFault}
+use Rattle.events.specs.declared.event.Event.{Event}
+use Rattle.events.specs.declared.event.Event.TheVariants as event
+use Rattle.events.specs.declared.event.WsFrame.TheVariants as frame
+use Rattle.events.specs.declared.peer.PeerFault.{PeerFault}
 use Rattle.peers.specs.declared.requests.SocketRequest.{SocketRequest}
 use Rattle.peers.specs.declared.requests.SocketRequest.TheVariants as request
 use Rattle.peers.specs.declared.socket_stage.Incoming.{Incoming}

@@ -3,11 +3,11 @@
 ghost use Rattle.std.specs.Prelude.{◌≡◌, ◌⊎◌, [], OnOk, IfErr, IfOk};
 ghost use Rattle.tungstenite.specs.Connection.{write_step};
 ghost use Rattle.tungstenite.specs.Socket.{Writes, content_of};
-ghost use Rattle.dispatch.specs.declared.event.WsFrame.TheVariants as frames;
-ghost use Rattle.dispatch.specs.declared.peer.PeerFault.TheVariants.{Memory, Device};
+ghost use Rattle.events.specs.declared.event.WsFrame.TheVariants as frames;
+ghost use Rattle.events.specs.declared.peer.PeerFault.TheVariants.{Memory, Device};
 ghost use Rattle.peers.specs.Sent.{AddsFrame, message_of};
 
-use dispatch::{PeerFault, WsFrame};
+use events::{PeerFault, WsFrame};
 use std::alloc::{AllocError, Global};
 use std::io::{Read, Write};
 use tungstenite::{Error, MaskKeys, Message, WebSocket};

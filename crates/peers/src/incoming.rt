@@ -1,12 +1,12 @@
 //! What comes over a WebSocket.
 
 ghost use Rattle.std.specs.Prelude.{◌≡◌};
-ghost use Rattle.dispatch.specs.declared.event.WsFrame.TheVariants as frames;
+ghost use Rattle.events.specs.declared.event.WsFrame.TheVariants as frames;
 ghost use Rattle.peers.specs.Incoming.{Brings, IsCopyOf, IsHeardAs, IsReadAs, Settles, of_error, would_block};
 ghost use Rattle.tungstenite.specs.Socket.{Flushed};
 
 use crate::socket_stage::Incoming;
-use dispatch::{PeerFault, WsFrame};
+use events::{PeerFault, WsFrame};
 use std::alloc::Global;
 use std::io::{ErrorKind, Read, Write};
 use terms::{Bytes, Text};

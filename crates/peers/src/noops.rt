@@ -4,8 +4,7 @@
 ghost use Rattle.std.specs.Prelude.{◌≡◌, codes};
 ghost use Rattle.peers.specs.Noops as noops;
 
-use dispatch::Outcome;
-use effects::CoreError;
+use events::{CoreError, Outcome};
 
 /// How long a client that was told so isn't told so anew, in milliseconds.
 pub const PACE: u64 = 100;

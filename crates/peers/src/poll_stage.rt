@@ -4,8 +4,7 @@ ghost use Rattle.std.specs.Prelude.{◌≡◌};
 ghost use Rattle.peers.specs.Polling as polling;
 
 use crate::requests::PollRequest;
-use dispatch::{Event, Outcome};
-use effects::{CoreError, CoreFault};
+use events::{CoreError, CoreFault, Event, Outcome};
 
 /// How often a GET that waits asks, at the most.
 const TAKES: u32 = 1_200;

@@ -6,8 +6,7 @@ ghost use Rattle.peers.specs.Replies.{answer_to, is_unread, plain_reply};
 
 use crate::noops::noop;
 use crate::poll_stage::PollStage;
-use dispatch::Outcome;
-use effects::{Cause, CoreError, CoreFault, Done};
+use events::{Cause, CoreError, CoreFault, Done, Outcome};
 use http_edge::{EdgeError, Refusal, Status, Target, refusal_body};
 
 /// An answer over HTTP.

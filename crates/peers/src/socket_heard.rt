@@ -4,8 +4,7 @@ ghost use Rattle.std.specs.Prelude.{◌≡◌};
 ghost use Rattle.peers.specs.Heard as heard;
 
 use crate::socket_stage::{Phase, SocketStage};
-use dispatch::{Outcome, PeerFault, WsFrame};
-use effects::{CoreError, CoreFault};
+use events::{CoreError, CoreFault, Outcome, PeerFault, WsFrame};
 
 /// Whether there is no such client.
 fn is_gone(got: &Result<Outcome, CoreError>) -> bool

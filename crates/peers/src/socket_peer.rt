@@ -1,7 +1,7 @@
 //! One WebSocket, as a peer.
 
 ghost use Rattle.std.specs.Prelude.{◌≡◌, [], OnOk, IfErr, ◌⊎◌};
-ghost use Rattle.dispatch.specs.declared.peer.PeerFault.TheVariants.{Memory, Device};
+ghost use Rattle.events.specs.declared.peer.PeerFault.TheVariants.{Memory, Device};
 ghost use Rattle.peers.specs.Heard.{frames_of};
 ghost use Rattle.peers.specs.Turning.{client_of, first_stage, has_read_nothing, is_idle};
 ghost use Rattle.peers.specs.Spoken.{AddsFrames, Sends};
@@ -12,8 +12,7 @@ use crate::moments::Moments;
 use crate::requests::SocketRequest;
 use crate::socket_heard::{Sending, after, to_send, unsent};
 use crate::socket_stage::{Incoming, SocketStage, first_stage, next_of};
-use dispatch::{Event, Outcome, Peer, PeerFault, WsFrame};
-use effects::CoreError;
+use events::{CoreError, Event, Outcome, Peer, PeerFault, WsFrame};
 use std::alloc::Global;
 use std::io::{Read, Write};
 use std::marker::Model;

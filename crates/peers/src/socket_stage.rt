@@ -4,7 +4,7 @@ ghost use Rattle.std.specs.Prelude.{◌≡◌};
 ghost use Rattle.peers.specs.Turning as turning;
 
 use crate::requests::SocketRequest;
-use dispatch::{Event, PeerFault, WsFrame};
+use events::{Event, PeerFault, WsFrame};
 use std::alloc::Global;
 
 /// The most entries of one take of a WebSocket.

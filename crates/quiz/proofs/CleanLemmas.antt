@@ -5,10 +5,10 @@ use Rattle.std.proofs.Math.Dec.{eqb}
 use Rattle.std.proofs.lemmas.Bool.{eqb-false}
 use Rattle.std.proofs.lemmas.List.Elements.{All-nil, All-cons}
 use Rattle.eio_wire.specs.Payload.{IsWhole}
-use Rattle.effects.specs.App.{AllClean, IsCleanArrival}
-use Rattle.effects.specs.declared.app.Arrived.{Arrived}
-use Rattle.effects.specs.declared.app.Arrived.TheVariants.{Event, Answer}
-use Rattle.effects.specs.declared.app.Effect.{Effect}
+use Rattle.events.specs.App.{AllClean, IsCleanArrival}
+use Rattle.events.specs.declared.app.Arrived.{Arrived}
+use Rattle.events.specs.declared.app.Arrived.TheVariants.{Event, Answer}
+use Rattle.events.specs.declared.app.Effect.{Effect}
 use Rattle.quiz.specs.Quiz.{begins_with, ask, tell, reply, decided}
 
 holds_none : List ℕ → Bool

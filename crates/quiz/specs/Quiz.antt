@@ -2,11 +2,11 @@
 use Rattle.std.specs.Prelude.{◌≡◌, ℕ, Bool, true, false, if◌then◌else◌, List, [], ◌∷◌, ◌++◌, codes, bytes_eq, Option, Some, None, Result, Ok, Err, slice_get}
 use Rattle.sio_wire.specs.declared.error.SioError.{SioError}
 use Rattle.sio_wire.specs.JsonFields.{names_at}
-use Rattle.effects.specs.App.{PlainVerdict, Accepted, Refused}
-use Rattle.effects.specs.declared.app.Arrived.{Arrived}
-use Rattle.effects.specs.declared.app.Arrived.TheVariants.{Event, Answer}
-use Rattle.effects.specs.declared.app.Effect.{Effect}
-use Rattle.effects.specs.declared.app.Effect.TheVariants as effect
+use Rattle.events.specs.App.{PlainVerdict, Accepted, Refused}
+use Rattle.events.specs.declared.app.Arrived.{Arrived}
+use Rattle.events.specs.declared.app.Arrived.TheVariants.{Event, Answer}
+use Rattle.events.specs.declared.app.Effect.{Effect}
+use Rattle.events.specs.declared.app.Effect.TheVariants as effect
 
 -- every client may connect
 abbrev pub Allows : PlainVerdict → Type 0

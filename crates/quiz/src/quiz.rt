@@ -4,7 +4,7 @@ ghost use Rattle.std.specs.Prelude.{◌≡◌, [], IfOk, slice_get};
 ghost use Rattle.quiz.specs.Quiz as table;
 ghost use Rattle.quiz.specs.Quiz.{begins_with, is_text, decided};
 
-use effects::{App, Arrived, Effect, Emission, Inquiry, Reply, Verdict, Who};
+use events::{App, Arrived, Effect, Emission, Inquiry, Reply, Verdict, Who};
 use sio_wire::{Attachments, SioError, names};
 use std::alloc::{AllocError, Global};
 use terms::Text;

@@ -4,11 +4,11 @@ use Rattle.std.specs.Prelude.{codes, if◌then◌else◌, IfOk}
 use Rattle.std.specs.List.{AllByRecursion}
 use Rattle.std.proofs.lemmas.List.Elements.{All-nil, All-cons}
 use Rattle.eio_wire.specs.Payload.{IsWhole}
-use Rattle.effects.specs.App.{IsCleanArrival, IsCleanEffect, AllClean}
-use Rattle.effects.specs.declared.app.Message.{Message}
-use Rattle.effects.specs.declared.app.Arrived.{Arrived}
-use Rattle.effects.specs.declared.app.Arrived.TheVariants.{Event}
-use Rattle.effects.specs.declared.app.Effect.{Effect}
+use Rattle.events.specs.App.{IsCleanArrival, IsCleanEffect, AllClean}
+use Rattle.events.specs.declared.app.Message.{Message}
+use Rattle.events.specs.declared.app.Arrived.{Arrived}
+use Rattle.events.specs.declared.app.Arrived.TheVariants.{Event}
+use Rattle.events.specs.declared.app.Effect.{Effect}
 use Rattle.relay.specs.declared.word.Word.{Word}
 use Rattle.relay.specs.declared.word.Word.TheVariants.{Join, Leave, Say, Two, But, Quiet, All, Ask, Bye, Pull, Push, Kick, Other}
 use Rattle.relay.specs.Relay.{effects_of, effect_for, to_two, to_one_but, pull, push, listed, farewell, reply, texts_of, word_in, room_in}

@@ -3,13 +3,13 @@ use Rattle.std.specs.Prelude.{◌≡◌, ◌≢◌, ℕ, Bool, true, false, if�
 use Rattle.sio_wire.specs.declared.error.SioError.{SioError}
 use Rattle.sio_wire.specs.JsonFields.{names_at}
 use Rattle.room_maps.specs.Room.{own_room}
-use Rattle.effects.specs.App.{PlainVerdict, Accepted, Refused}
-use Rattle.effects.specs.declared.app.Who.{Who}
-use Rattle.effects.specs.declared.app.Message.{Message}
-use Rattle.effects.specs.declared.app.Arrived.{Arrived}
-use Rattle.effects.specs.declared.app.Arrived.TheVariants.{Event, Answer}
-use Rattle.effects.specs.declared.app.Effect.{Effect}
-use Rattle.effects.specs.declared.app.Effect.TheVariants as effect
+use Rattle.events.specs.App.{PlainVerdict, Accepted, Refused}
+use Rattle.events.specs.declared.app.Who.{Who}
+use Rattle.events.specs.declared.app.Message.{Message}
+use Rattle.events.specs.declared.app.Arrived.{Arrived}
+use Rattle.events.specs.declared.app.Arrived.TheVariants.{Event, Answer}
+use Rattle.events.specs.declared.app.Effect.{Effect}
+use Rattle.events.specs.declared.app.Effect.TheVariants as effect
 use Rattle.relay.specs.declared.word.Word.{Word}
 use Rattle.relay.specs.declared.word.Word.TheVariants as word
 

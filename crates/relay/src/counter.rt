@@ -2,7 +2,7 @@
 
 ghost use Rattle.std.specs.Prelude.{◌≡◌};
 
-use effects::IdSource;
+use events::IdSource;
 use std::marker::Model;
 
 /// Gives the numbers from 1 on, each once, but for the greatest u128, at which it stays. In a

@@ -7,7 +7,7 @@ ghost use Rattle.relay.specs.Relay as table;
 ghost use Rattle.relay.specs.Relay.{texts_of};
 
 use crate::word::{Word, room_in, word_in};
-use effects::{App, Arrived, Effect, Emission, Inquiry, Message, Reply, Selection, Verdict, Who};
+use events::{App, Arrived, Effect, Emission, Inquiry, Message, Reply, Selection, Verdict, Who};
 use room_maps::Room;
 use sio_wire::{Attachments, SioError, names};
 use std::alloc::{AllocError, Global};

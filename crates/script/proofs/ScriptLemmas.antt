@@ -5,10 +5,10 @@ use Rattle.std.proofs.lemmas.List.Elements.{All-nil, All-push}
 use Rattle.std.proofs.lemmas.List.Splits.{slice_split_at, slice_split_none}
 use Rattle.std.specs.Result.{OnOk}
 use Rattle.std.specs.Io.KnownBytes.{Appends, Consumes, Keeps, IsAtEnd}
-use Rattle.effects.specs.declared.app.Arrived.{Arrived}
-use Rattle.effects.specs.declared.app.Effect.{Effect}
-use Rattle.effects.specs.declared.app.Who.{Who}
-use Rattle.effects.specs.App.{PlainVerdict}
+use Rattle.events.specs.declared.app.Arrived.{Arrived}
+use Rattle.events.specs.declared.app.Effect.{Effect}
+use Rattle.events.specs.declared.app.Who.{Who}
+use Rattle.events.specs.App.{PlainVerdict}
 use Rattle.script.specs.Setup.{USUAL}
 use Rattle.script.specs.Script.{Stage, Setting, AnswersBytes, IsAnswered, IsUnended, Continues, WritesOn, WritesLine, Script, LF, lines_of, printed}
 

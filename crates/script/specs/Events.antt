@@ -4,9 +4,9 @@ use Rattle.terms.specs.Bytes.{IsBytes}
 use Rattle.hex.specs.Hex.{encode_lower}
 use Rattle.session_clock.specs.declared.transport.Transport.{Transport}
 use Rattle.session_clock.specs.declared.transport.Transport.TheVariants.{Socket}
-use Rattle.dispatch.specs.declared.event.Event.{Event}
-use Rattle.dispatch.specs.declared.event.Event.TheVariants as event
-use Rattle.dispatch.specs.declared.event.WsFrame.TheVariants as frame
+use Rattle.events.specs.declared.event.Event.{Event}
+use Rattle.events.specs.declared.event.Event.TheVariants as event
+use Rattle.events.specs.declared.event.WsFrame.TheVariants as frame
 use Rattle.script.specs.declared.script_line.Notice.{Notice}
 use Rattle.script.specs.declared.script_line.Notice.TheVariants as notice
 use Rattle.script.specs.declared.script_line.ScriptLine.{ScriptLine}

@@ -11,14 +11,14 @@ use Rattle.connection.specs.Line.{PlainLine}
 use Rattle.journal.specs.Membership.{place_of, is_open, is_space, is_in_space, rooms}
 use Rattle.journal.specs.Seal.{IsSealed}
 use Rattle.journal.specs.Totals as counted
-use Rattle.effects.specs.declared.app.Arrived.{Arrived}
-use Rattle.effects.specs.declared.app.Effect.{Effect}
-use Rattle.effects.specs.declared.app.Who.{Who}
-use Rattle.effects.specs.App.{PlainVerdict}
-use Rattle.dispatch.specs.declared.event.Event.{Event}
-use Rattle.dispatch.specs.declared.event.Event.TheVariants as event
-use Rattle.dispatch.specs.declared.outcome.Outcome.TheVariants as outcome
-use Rattle.dispatch.specs.Answers.{Answer}
+use Rattle.events.specs.declared.app.Arrived.{Arrived}
+use Rattle.events.specs.declared.app.Effect.{Effect}
+use Rattle.events.specs.declared.app.Who.{Who}
+use Rattle.events.specs.App.{PlainVerdict}
+use Rattle.events.specs.declared.event.Event.{Event}
+use Rattle.events.specs.declared.event.Event.TheVariants as event
+use Rattle.events.specs.declared.outcome.Outcome.TheVariants as outcome
+use Rattle.events.specs.Answer.{Answer}
 use Rattle.dispatch.specs.Machine.{Does}
 use Rattle.dispatch.specs.Place.{PlainCore, line_of, place}
 use Rattle.dispatch.specs.Takes.{IsOn}

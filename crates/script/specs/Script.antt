@@ -5,12 +5,12 @@ use Rattle.std.specs.Borrow.{Bor}
 use Rattle.std.specs.declared.sync.ledger.Ledger.{Ghosts}
 use Rattle.std.specs.Io.KnownBytes.{Appends, Consumes}
 use Rattle.journal.specs.Config.{config_refusal}
-use Rattle.effects.specs.declared.app.Arrived.{Arrived}
-use Rattle.effects.specs.declared.app.Effect.{Effect}
-use Rattle.effects.specs.declared.app.Who.{Who}
-use Rattle.effects.specs.declared.fault.CoreFault.{CoreFault}
-use Rattle.effects.specs.declared.fault.CoreFault.TheVariants.{BadConfig}
-use Rattle.effects.specs.App.{PlainVerdict}
+use Rattle.events.specs.declared.app.Arrived.{Arrived}
+use Rattle.events.specs.declared.app.Effect.{Effect}
+use Rattle.events.specs.declared.app.Who.{Who}
+use Rattle.events.specs.declared.fault.CoreFault.{CoreFault}
+use Rattle.events.specs.declared.fault.CoreFault.TheVariants.{BadConfig}
+use Rattle.events.specs.App.{PlainVerdict}
 use Rattle.script.specs.declared.script_line.Key.{Key}
 use Rattle.script.specs.declared.script_line.ScriptLine.{ScriptLine}
 use Rattle.script.specs.declared.script_line.ScriptLine.TheVariants as line

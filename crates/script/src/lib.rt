@@ -2,9 +2,9 @@
 //! writer.
 #![tactic(auto)]
 
-mod events;
 mod faults;
 mod ledgers;
+mod notices;
 mod play;
 mod printing;
 mod run;

@@ -6,12 +6,12 @@ ghost use Rattle.script.specs.declared.faults.RunError.TheVariants.{Memory};
 ghost use Rattle.script.specs.Playing.{new_server, server_of, Happens, Asks, IsOfNone, Names, Opens, AsksMembers, Seals, RepliesForClient, Replies, Plays};
 ghost use Rattle.script.specs.Printing.{answer_text, done_text, outcome_text};
 
-use crate::events::event_of;
 use crate::faults::RunError;
+use crate::notices::event_of;
 use crate::printing::{Answer, Posted, frame_lines, id_list, is_read};
 use crate::script_line::{ScriptLine, name_in};
-use dispatch::{Core, Event, Outcome};
-use effects::{App, Cause, CoreError, CoreFault, Done};
+use dispatch::Core;
+use events::{App, Cause, CoreError, CoreFault, Done, Event, Outcome};
 use hub::Pass;
 use journal::HubError;
 use relay::Counter;

@@ -5,9 +5,8 @@ ghost use Rattle.eio_wire.specs.Ids.{id_digits};
 ghost use Rattle.script.specs.ScriptLine.{SPACE};
 ghost use Rattle.script.specs.Printing.{cause_name, fault_name, reason_name, ignored_text, ids_text, frame_text, more_text, frames_text, is_unread, is_read, posted_of};
 
-use dispatch::WsFrame;
-use effects::{Cause, CoreFault, Done};
 use eio_wire::id_text;
+use events::{Cause, CoreFault, Done, WsFrame};
 use journal::{Swept, Totals};
 use room_maps::{RoomError, Sid};
 use std::alloc::{AllocError, Global};

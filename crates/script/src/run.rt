@@ -13,7 +13,7 @@ use crate::play::Play;
 use crate::printing::Answer;
 use crate::script_line::{Key, ScriptLine, read_line};
 use crate::setup::Setup;
-use effects::{App, CoreFault};
+use events::{App, CoreFault};
 use std::alloc::Global;
 use std::io::{ErrorKind, Read, Write};
 use std::marker::Brand;

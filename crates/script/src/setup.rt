@@ -1,14 +1,14 @@
 //! What a script's server is made with.
 
 ghost use Rattle.std.specs.Prelude.{◌≡◌, ◌⊎◌, IfOk, IfErr, OnOk, None};
-ghost use Rattle.effects.specs.declared.fault.CoreFault.TheVariants as fault;
+ghost use Rattle.events.specs.declared.fault.CoreFault.TheVariants as fault;
 ghost use Rattle.journal.specs.Config.{config_refusal};
 ghost use Rattle.dispatch.specs.Answers.{fault_of_config};
 ghost use Rattle.script.specs.Setup.{USUAL, with_limit, limits_of, new_core};
 
 use crate::script_line::Key;
 use dispatch::Core;
-use effects::{CoreError, CoreFault};
+use events::{CoreError, CoreFault};
 use hub::Pass;
 use journal::Config;
 use settings::{NUMBERS, TIMING, usual_spaces};

@@ -1,8 +1,8 @@
 //! What a server tells of itself on standard error.
 
 use journal::Totals;
-use loops::{Ended, Log};
 use script::Answer;
+use tcp_server::{Ended, Log};
 
 /// Tells standard error of a server. Where that fails, nothing is told.
 #[derive(Clone, Copy, Drop)]

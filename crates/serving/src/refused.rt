@@ -3,14 +3,14 @@
 ghost use Rattle.std.specs.Prelude.{◌≡◌, ◌≢◌, ◌⊎◌, Err, IsOkAnd, MatchResult};
 ghost use Rattle.std.specs.Process.{exit_status};
 ghost use Rattle.clap.specs.Words.{kind_of};
-ghost use Rattle.loops.specs.declared.fault.ServerFault.TheVariants.{Memory};
+ghost use Rattle.tcp_streams.specs.declared.fault.ServerFault.TheVariants.{Memory};
 ghost use Rattle.serving.specs.declared.served.ServeFault.TheVariants as fault;
 
 use crate::served::ServeFault;
 use clap::Error;
 use clap::error::ErrorKind;
-use loops::ServerFault;
 use std::process::ExitCode;
+use tcp_server::ServerFault;
 
 /// Shows the text of a parse without matches, and gives the status: 0 for help, 2 for bad arguments.
 pub fn tell_refused<R: Print + Eprint>(rt: &R, refused: &Error) -> Result<ExitCode, ServeFault>

@@ -1,9 +1,8 @@
 //! It tells where it listens, serves, and tells what it did.
 
 use crate::error_log::ErrorLog;
-use effects::App;
+use events::App;
 use hub_gate::{Report, WorkerCounts};
-use loops::{Server, ServerFault, Shared};
 use script::Answer;
 use settings::Settings;
 use std::io;
@@ -15,6 +14,7 @@ use std::rt::Clock;
 use std::sync::{Arc, Wait};
 use std::thread::Threads;
 use std::time::Duration;
+use tcp_server::{Server, ServerFault, Shared};
 use thiserror::Error;
 
 /// How long what is open may take to end once standard input has ended, in milliseconds.

@@ -2,7 +2,7 @@
 
 ghost use Rattle.relay.specs.Counter.{counted_from};
 
-use effects::IdSource;
+use events::IdSource;
 
 /// Ids that count up from `next`, which may be set back.
 #[derive(Clone, Copy)]

@@ -4,8 +4,8 @@ ghost use Rattle.std.specs.Prelude.{◌≡◌};
 
 use crate::ids::Ids;
 use crate::settings::{PARTS, Settings};
-use dispatch::{Core, Event, Outcome};
-use effects::{App, CoreError, CoreFault};
+use dispatch::Core;
+use events::{App, CoreError, CoreFault, Event, Outcome};
 use hub::Pass;
 use hub_gate::Locked;
 use journal::Totals;

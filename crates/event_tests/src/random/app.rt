@@ -1,9 +1,9 @@
 //! An app that sometimes wants what can't be done.
 
 ghost use Rattle.std.specs.Prelude.{IfOk, IfSome};
-ghost use Rattle.effects.specs.App.{AllClean, IsCleanEffect};
+ghost use Rattle.events.specs.App.{AllClean, IsCleanEffect};
 
-use effects::{App, Arrived, Effect, Emission, Inquiry, Reply, Selection, Verdict, Who};
+use events::{App, Arrived, Effect, Emission, Inquiry, Reply, Selection, Verdict, Who};
 use relay::RelayApp;
 use room_maps::{Room, Sid};
 use sio_wire::Attachments;

@@ -3,7 +3,7 @@
 use crate::random::drawn::Random;
 use crate::random::known::{BYTES, CAPACITY, MOST_CLIENTS};
 use crate::random::play::{Play, turn};
-use effects::CoreFault;
+use events::CoreFault;
 use std::alloc::{AllocError, Global};
 use std::sync::ledger::Ledger;
 use usual_core::{Limits, OnServer, Server, Settings, on_new_server};

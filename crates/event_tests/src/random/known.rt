@@ -3,8 +3,8 @@
 
 use crate::lines::Line;
 use crate::random::play::Play;
-use dispatch::{Core, Outcome};
-use effects::CoreError;
+use dispatch::Core;
+use events::{CoreError, Outcome};
 use hub_state::State;
 use journal::Totals;
 use room_maps::{Room, Sid};

@@ -1,5 +1,5 @@
 use Rattle.std.proofs.Common.{◌≡◌, ◌++◌, map, take}
-use Rattle.dispatch.specs.declared.event.WsFrame.TheVariants.{Bytes}
+use Rattle.events.specs.declared.event.WsFrame.TheVariants.{Bytes}
 use Rattle.dispatch.proofs.frames.push_entry.Given as goal
 
 abbrev pub invariant-loop-part : goal.invariant-loop-part

@@ -1,5 +1,5 @@
 use Rattle.std.proofs.Common.{rules}
-use Rattle.effects.specs.declared.app.Who.{Who}
+use Rattle.events.specs.declared.app.Who.{Who}
 use Rattle.effects.specs.Scene.{seen}
 use Rattle.effects.proofs.ActLemmas.{stands-seated}
 use Rattle.dispatch.proofs.PacketLemmas.{seated-at, joined}

@@ -1,8 +1,8 @@
 use Rattle.std.proofs.Common.{ℕ, List, [], ◌∷◌, ◌++◌, ◌∙◌, ap, rules}
-use Rattle.effects.specs.Selection.{PlainSelection}
+use Rattle.events.specs.Selection.{PlainSelection}
 use Rattle.effects.specs.declared.tally.Tally.{Tally}
 use Rattle.effects.specs.Effects.{scene, dismissed, is_among}
-use Rattle.effects.specs.Plain.{told, one_more}
+use Rattle.events.specs.Plain.{told, one_more}
 use Rattle.effects.proofs.ActLemmas.{told-is}
 use Rattle.effects.proofs.rooms.end_all.Goals as goal
 

@@ -1,7 +1,7 @@
 use Rattle.std.proofs.Common.{ap, rules}
 use Rattle.std.proofs.lemmas.Result.{IfErr-weaker, on_ok_weaker}
 use Rattle.effects.specs.Effects.{all_left}
-use Rattle.effects.specs.Selection.{PlainSelection}
+use Rattle.events.specs.Selection.{PlainSelection}
 use Rattle.effects.proofs.rooms.leave_all.Goals as goal
 
 pub returns : goal.returns

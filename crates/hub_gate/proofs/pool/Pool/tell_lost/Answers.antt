@@ -1,8 +1,8 @@
 use Rattle.std.proofs.Common.{◌≡◌, [], ◌∷◌, ◌++◌, arith, refl, ap, sym, ◌∙◌, length-append}
 use Rattle.std.proofs.lemmas.Fn.{FoldsTo-push}
 use Rattle.std.proofs.lemmas.List.Elements.{All-nil}
-use Rattle.dispatch.specs.declared.event.Event.TheVariants.{TransportLost}
-use Rattle.hub_gate.specs.declared.loss.Loss.{Loss}
+use Rattle.events.specs.declared.event.Event.TheVariants.{TransportLost}
+use Rattle.events.specs.declared.loss.Loss.{Loss}
 use Rattle.hub_gate.specs.Turns.{Applied, Attempt, Desk}
 use Rattle.hub_gate.proofs.LossLemmas.{refused_more, told_again, tries_end}
 use Rattle.hub_gate.proofs.pool.Pool.tell_lost.Goals as goal

@@ -1,6 +1,6 @@
 use Rattle.std.proofs.Common.{◌≡◌, ◌+◌, ◌<◌, List, length, map, true, is_err}
 use Rattle.std.specs.List.{All, FoldsTo}
-use Rattle.dispatch.specs.declared.event.Event.TheVariants.{TransportLost}
+use Rattle.events.specs.declared.event.Event.TheVariants.{TransportLost}
 use Rattle.hub_gate.specs.Turns.{Applied, Attempt, Desk, desk}
 use Rattle.hub_gate.proofs.pool.Pool.tell_lost.Given as goal
 

@@ -1,0 +1,11 @@
+mod EpochAccounts
+mod EpochCasts
+mod EpochEffects
+mod EpochLaws
+mod EpochLists
+mod EpochMachine
+mod EpochPackets
+mod EpochRooms
+mod EpochSound
+mod EpochSteps
+mod EpochTakes

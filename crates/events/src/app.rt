@@ -1,0 +1,148 @@
+//! What the server asks of the app, and where the ids come from.
+
+ghost use Rattle.std.specs.Prelude.{◌≡◌, ◌+◌, ℕ, List, IfOk};
+ghost use Rattle.events.specs.declared.app.Arrived.{Arrived};
+ghost use Rattle.events.specs.declared.app.Effect.{Effect};
+ghost use Rattle.events.specs.declared.app.Who.{Who};
+ghost use Rattle.events.specs.App.{PlainVerdict, plain_verdict, IsCleanVerdict, IsCleanArrival, AllClean};
+
+use crate::emission::Emission;
+use crate::selection::Selection;
+use room_maps::{Room, Sid};
+use sio_wire::Attachments;
+use std::alloc::{AllocError, Global};
+use terms::Text;
+
+/// The socket that an event came from.
+#[derive(Debug, Drop)]
+pub struct Who {
+    /// The session id of its Engine.IO connection.
+    pub client: u128,
+    /// The name of its namespace.
+    pub space: Text,
+    /// Its session id.
+    pub sid: Sid,
+}
+
+/// What the app says of a CONNECT.
+#[derive(Drop)]
+pub enum Verdict {
+    /// The socket is connected, and these effects follow.
+    Accept(Vec<Effect>),
+    /// It isn't, and the client is told so with this message.
+    Refuse(Text),
+}
+
+/// What arrived from a socket.
+#[derive(Debug, Drop)]
+pub enum Arrived {
+    /// An event.
+    Event(Message),
+    /// The answer to a question.
+    Answer(Answer),
+}
+
+/// An event that arrived.
+#[derive(Debug, Drop)]
+pub struct Message {
+    /// The event's name and data as a JSON array.
+    pub payload: Text,
+    /// What the placeholders of the payload stand for.
+    pub attachments: Attachments,
+    /// Whether an acknowledgement is asked for.
+    pub asked: bool,
+}
+
+/// An answer that arrived.
+#[derive(Debug, Drop)]
+pub struct Answer {
+    /// The tag of the question.
+    pub tag: u64,
+    /// The answer's data as a JSON array.
+    pub payload: Text,
+    /// What the placeholders of the payload stand for.
+    pub attachments: Attachments,
+}
+
+/// What the app wants done. All of it is done in the namespace of the socket that it is asked
+/// about.
+#[derive(Drop)]
+pub enum Effect {
+    /// The socket joins a room.
+    Join(Room),
+    /// The socket leaves a room.
+    Leave(Room),
+    /// An event is sent to the sockets of some rooms.
+    Emit(Emission),
+    /// The socket is asked a question, whose answer the app gets.
+    EmitAsk(Inquiry),
+    /// The event that arrived is acknowledged.
+    Reply(Reply),
+    /// The socket is told so and disconnected.
+    Disconnect,
+    /// All these sockets join a room, or none does.
+    AllJoin(Selection, Room),
+    /// All these sockets leave a room, or none does.
+    AllLeave(Selection, Room),
+    /// All these sockets are told so and disconnected. Where the acting socket is among them, no
+    /// effect may follow.
+    AllEnd(Selection),
+}
+
+/// An event that asks for an acknowledgement.
+#[derive(Drop)]
+pub struct Inquiry {
+    /// The event as a JSON array.
+    pub payload: Text,
+    /// What the placeholders of the payload stand for.
+    pub attachments: Attachments,
+    /// What the answer is handed to the app with.
+    pub tag: u64,
+    /// How long an answer is waited for, in milliseconds.
+    pub wait: u64,
+}
+
+/// The acknowledgement of an event.
+#[derive(Drop)]
+pub struct Reply {
+    /// The answer's data as a JSON array.
+    pub payload: Text,
+    /// What the placeholders of the payload stand for.
+    pub attachments: Attachments,
+}
+
+/// The app. Which answers it may give is its own definition.
+pub trait App {
+    ghost allows: { Self → (space payload : List ℕ) → PlainVerdict → Type 0 };
+
+    ghost decides: { Self → Who → Arrived → List Effect → Type 0 };
+
+    /// Whether a client may connect to a namespace, with the payload that it sent.
+    fn connects(&self, alloc: Global, space: &str, payload: &str) -> Result<Verdict, AllocError>
+        ensures allowed { IfOk result (λ verdict.
+            allows self.now space.now payload.now (plain_verdict verdict)) }
+        ensures clean { IfOk result (λ verdict.
+            IsCleanVerdict payload.now (plain_verdict verdict)) };
+
+    /// What is done where something arrived from a socket.
+    fn decides(
+        &self,
+        alloc: Global,
+        who: &Who,
+        arrived: &Arrived,
+    ) -> Result<Vec<Effect>, AllocError>
+        ensures decided { IfOk result (λ effects.
+            decides self.now who.now arrived.now effects.items) }
+        ensures clean { IfOk result (λ effects.
+            IsCleanArrival arrived.now → AllClean effects.items) };
+}
+
+/// Where the ids come from: the numbers that it will give are known to it.
+pub trait IdSource {
+    ghost stream: { Self → ℕ → ℕ };
+
+    /// The next number.
+    fn draw(&mut self) -> u128
+        ensures first { result ≡ stream self.old 0 }
+        ensures rest { stream self.new ≡ (λ k. stream self.old (k + 1)) };
+}

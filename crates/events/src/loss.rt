@@ -1,0 +1,63 @@
+//! How often the core is told of a lost client.
+
+ghost use Rattle.std.specs.Prelude.{◌≡◌, ◌-◌};
+ghost use Rattle.events.specs.Loss.{follows, most_tries};
+
+use crate::event::Event;
+use crate::fault::CoreError;
+use crate::outcome::Outcome;
+
+/// How often the core is told of a loss, at the most.
+const TRIES: u32 = 3;
+
+/// Whether the core is told of a loss once more.
+#[derive(Clone, Copy, Debug, PartialEq, Eq)]
+pub enum Telling {
+    /// It refused that, and is told again.
+    Again,
+    /// It accepted that, or was told as often as it may be.
+    Over,
+}
+
+/// The loss of a client, of which the core is told until it accepts that, up to three times.
+#[derive(Clone, Copy, Debug, PartialEq, Eq)]
+pub struct Loss {
+    client: u128,
+    /// How often the core may be told yet.
+    left: u32,
+}
+
+impl Loss {
+    /// The core wasn't told of it yet.
+    pub fn new(client: u128) -> Loss
+        ensures { result ≡ record { client = client; left = most_tries } }
+    {
+        Loss {
+            client,
+            left: TRIES,
+        }
+    }
+
+    /// What the core is told.
+    pub fn event(&self) -> Event
+        ensures { result ≡ Event.TransportLost self.now.client }
+    {
+        Event::TransportLost {
+            client: self.client,
+        }
+    }
+
+    /// The core was told, and answered this.
+    pub fn hears(&mut self, got: &Result<Outcome, CoreError>) -> Telling
+        ensures told { self.new ≡ record self.old { left = self.old.left - 1 } }
+        ensures telling { result ≡ follows self.old.left got.now }
+    {
+        let is_last = self.left <= 1;
+        self.left = self.left.saturating_sub(1);
+        if got.is_ok() || is_last {
+            Telling::Over
+        } else {
+            Telling::Again
+        }
+    }
+}

@@ -1,0 +1,77 @@
+//! GETs that are served a little later.
+
+use http_edge::Target;
+use peers::{is_recent, served_from};
+use std::alloc::Global;
+use std::collections::{HashMap, VecDeque};
+
+/// A connection that is served from a moment on.
+#[derive(Clone, Copy)]
+struct Delay {
+    from: u64,
+    key: usize,
+    generation: u32,
+}
+
+/// GETs that are served a little later: those of clients that were told just so that nothing waits,
+/// since such a client asks at once again.
+#[derive(Drop)]
+pub struct Delays {
+    /// When a client was last told so, by a lone noop packet.
+    noops: HashMap<u128, u64>,
+    /// Those that wait, in the order of their moments.
+    waiting: VecDeque<Delay>,
+}
+
+impl Delays {
+    /// Nobody was told, and nobody waits.
+    pub fn new(alloc: Global) -> Delays {
+        Delays {
+            noops: HashMap::new(alloc),
+            waiting: VecDeque::new(alloc),
+        }
+    }
+
+    /// A client is told that nothing waits, by a lone noop packet.
+    pub fn note_noop(&mut self, client: u128, now: u64) {
+        // Where there is no memory for it, the client is told so again at once.
+        let _ = self.noops.insert(client, now);
+    }
+
+    /// Forgets who wasn't told just so.
+    pub fn forget_old(&mut self, now: u64) {
+        self.noops.retain(|_, told| is_recent(*told, now));
+    }
+
+    /// From when on a request is served that came now.
+    pub fn served_from(&self, target: Target, now: u64) -> u64 {
+        match target {
+            Target::Poll(client) => served_from(self.noops.get(&client).copied(), now),
+            _ => now,
+        }
+    }
+
+    /// A connection waits until this moment. Answers whether there was memory for it.
+    pub fn delay(&mut self, from: u64, key: usize, generation: u32) -> bool {
+        let delay = Delay {
+            from,
+            key,
+            generation,
+        };
+        self.waiting.push_back(delay).is_ok()
+    }
+
+    /// The moment of the first one that waits.
+    pub fn first(&self) -> Option<u64> {
+        Some(self.waiting.front()?.from)
+    }
+
+    /// The key and the generation of the first one, if its moment has come. It waits no more.
+    pub fn pop_due(&mut self, now: u64) -> Option<(usize, u32)> {
+        if self.first()? > now {
+            return None;
+        }
+        let delay = self.waiting.pop_front()?;
+        Some((delay.key, delay.generation))
+    }
+}

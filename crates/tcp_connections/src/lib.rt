@@ -1,0 +1,15 @@
+//! The connections of one loop over TCP: what each is about, who serves it, and which of them have
+//! something to do.
+#![tactic(auto)]
+
+mod connections;
+mod delays;
+mod progress;
+mod stage;
+mod tcp_connection;
+mod watch;
+
+pub use connections::Connections;
+pub use delays::Delays;
+pub use tcp_connection::{Connection, Mode, Next};
+pub use watch::Watch;

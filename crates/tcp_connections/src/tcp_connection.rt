@@ -1,0 +1,381 @@
+//! One connection.
+
+use crate::progress::Progress;
+use crate::stage::{Stage, answered_fault, downloading, stage_for};
+use crate::watch::Watch;
+use events::{CoreError, Event, Loss, Outcome, Telling};
+use http_edge::{EdgeError, Gathered, Request, Target};
+use loop_rules::{Found, Overdue, Pause};
+use page::Page;
+use std::alloc::Global;
+use std::net::Shutdown;
+use std::rt::Clock;
+use std::sync::Arc;
+use tcp_streams::{Drained, Reading, Stream, drain, read_request};
+
+/// A connection with more bytes unsent than this is not served until they have gone.
+const MOST_UNSENT: usize = 65_536;
+
+/// So many bytes are sent when their connection's turn ends, while they are at hand in the processor's
+/// caches. Fewer wait for the end of the loop's turn, so that more may go out with them.
+const MUCH_UNSENT: usize = 32_768;
+
+/// What a connection is about.
+#[derive(Clone, Copy, Debug, PartialEq, Eq)]
+pub enum Mode {
+    /// It is served.
+    Serves,
+    /// Its client is lost, of which the core is told.
+    Loses(Loss),
+    /// What is unsent goes out, and then it ends.
+    Closes,
+    /// So it did, and what still comes is read and forgotten until the other side ends it.
+    Lingers,
+}
+
+/// One connection.
+#[derive(Drop)]
+pub struct Connection<R> {
+    /// Tells it from an earlier one with the same key.
+    pub generation: u32,
+    /// It stands in the list of those with bytes to send.
+    pub unsent: bool,
+    pub mode: Mode,
+    /// The core was told of its loss, and isn't told again.
+    told: bool,
+    /// The moment at which its present part began: its request, its serving, its end.
+    pub since: u64,
+    /// The moment at which its bytes last went on.
+    moved: u64,
+    /// It waits for this moment before it is served.
+    pub not_before: u64,
+    progress: Progress,
+    pub stage: Stage<R>,
+}
+
+/// What a connection does next.
+#[derive(Drop)]
+pub enum Next {
+    /// It brings an event, at this moment.
+    Brings(Event, u64),
+    /// It asks what is due, a moment after that was asked.
+    AsksAgain,
+    /// Its turn is over.
+    Pauses(Pause),
+    /// It failed.
+    Fails,
+}
+
+/// What follows once a connection's bytes were sent.
+#[derive(Clone, Copy, Debug, PartialEq, Eq)]
+pub enum Sent {
+    Nothing,
+    /// So few bytes are left that it may be served again.
+    Fits,
+    /// It is to be looked at.
+    Queue,
+    /// It is over.
+    Remove,
+}
+
+impl<R: Clock + Drop> Connection<R> {
+    /// Its request is coming. None where there is no memory for it.
+    pub fn new(
+        alloc: Global,
+        stream: Stream,
+        generation: u32,
+        now: u64,
+    ) -> Option<Box<Connection<R>>> {
+        let connection = Connection {
+            generation,
+            unsent: false,
+            mode: Mode::Serves,
+            told: false,
+            since: now,
+            moved: now,
+            not_before: 0,
+            progress: Progress::new(0),
+            stage: Stage::Gathering {
+                stream,
+                gathered: Gathered::new(alloc),
+            },
+        };
+        Box::new(alloc, connection).ok()
+    }
+
+    /// The stream, if it is still here.
+    pub fn stream(&mut self) -> Option<&mut Stream> {
+        self.stage.stream()
+    }
+
+    /// Its stream was reported readable, and whether the other side has sent its last byte.
+    pub fn note_readable(&mut self, ended: bool) {
+        if let Some(stream) = self.stream() {
+            stream.note_readable(ended);
+        }
+    }
+
+    /// How many of its bytes wait to be sent.
+    fn unsent(&mut self) -> usize {
+        match self.stream() {
+            Some(stream) => stream.unsent(),
+            None => 0,
+        }
+    }
+
+    /// Whether so much is unsent that it is not to be served.
+    pub fn is_full(&mut self) -> bool {
+        self.unsent() > MOST_UNSENT
+    }
+
+    /// Whether so much is unsent that it is to be sent at once.
+    pub fn has_much_unsent(&mut self) -> bool {
+        self.unsent() >= MUCH_UNSENT
+    }
+
+    /// Does what is to be done with it, where it took too long or is to end.
+    pub fn part_with(&mut self, overdue: Overdue, now: u64) {
+        match overdue {
+            Overdue::GiveUp => self.stage.give_up(),
+            Overdue::Cut => self.cut(),
+            Overdue::Fail => {
+                self.cut();
+                self.fail(now);
+            }
+            Overdue::Nothing | Overdue::Close | Overdue::Look => {}
+        }
+    }
+
+    /// Reads what has come of the request.
+    pub fn read(&mut self, alloc: Global) -> Reading {
+        match &mut self.stage {
+            Stage::Gathering { stream, gathered } => read_request(alloc, stream, gathered),
+            _ => Reading::Waits,
+        }
+    }
+
+    /// Answers where no request was read. It ends then.
+    pub fn refuse(&mut self, alloc: Global, fault: EdgeError, now: u64) {
+        if let Some(stream) = self.stage.take_stream() {
+            self.stage = answered_fault(alloc, stream, fault);
+        }
+        self.end(now);
+    }
+
+    /// Answers by the file that a request asks for. It ends then.
+    pub fn hand_out(&mut self, alloc: Global, page: Arc<Page>, request: Box<Request>, now: u64) {
+        if let Some(stream) = self.stage.take_stream() {
+            self.stage = downloading(alloc, stream, page, request);
+        }
+        self.end(now);
+    }
+
+    /// Begins to serve a request. A payload over HTTP has at most so many entries.
+    pub fn serve(
+        &mut self,
+        alloc: Global,
+        request: Box<Request>,
+        target: Target,
+        watch: Watch<R>,
+        most: usize,
+        now: u64,
+    ) {
+        self.progress = Progress::new(request.rest.len());
+        if let Some(mut stream) = self.stage.take_stream() {
+            // The head, and the rest with it.
+            let _ = stream.take_read();
+            self.stage = stage_for(alloc, stream, request, target, watch, most);
+        }
+        self.since = now;
+        if self.stage.is_over() {
+            self.end(now);
+        }
+    }
+
+    /// What it does next. It ends where it has no event any more.
+    pub fn next(&mut self, now: u64) -> Next {
+        if self.is_full() {
+            return Next::Pauses(Pause::Full);
+        }
+        if self.not_before > now {
+            return Next::Pauses(Pause::Early);
+        }
+        if self.stage.is_waiting() && self.drain() == Drained::Ended {
+            self.fail(now);
+            return Next::Fails;
+        }
+        match self.stage.next() {
+            Ok(Some((event, moment))) => self.bring(event, moment),
+            Ok(None) => {
+                self.end(now);
+                Next::Pauses(Pause::Done)
+            }
+            Err(_) => {
+                self.fail(now);
+                Next::Fails
+            }
+        }
+    }
+
+    /// Brings an event, unless what it asks was asked just so.
+    fn bring(&mut self, event: Event, moment: u64) -> Next {
+        let read = match self.stream() {
+            Some(stream) => stream.take_read(),
+            None => 0,
+        };
+        self.progress.note_read(read, &event);
+        let dry = self.stage.has_read_nothing() || self.has_brought_all();
+        self.progress.note_event(&event, dry);
+        if self.progress.asks_again(moment) {
+            Next::AsksAgain
+        } else {
+            Next::Brings(event, moment)
+        }
+    }
+
+    /// Whether it brought all that it read, and its stream has no more, as far as is known.
+    pub fn has_brought_all(&mut self) -> bool {
+        self.progress.has_brought_all()
+            && match self.stream() {
+                Some(stream) => stream.is_drained(),
+                None => true,
+            }
+    }
+
+    /// Hears the answer to its event, and tells what that says of its look. It fails where it could not.
+    pub fn hear(&mut self, got: &Result<Outcome, CoreError>, now: u64) -> Option<Found> {
+        if !self.stage.answer(got) {
+            self.fail(now);
+            return None;
+        }
+        if self.stage.is_idle() {
+            Some(Found::Idle)
+        } else {
+            Some(self.progress.found(got))
+        }
+    }
+
+    /// It is served no more, and ends once its bytes have gone.
+    pub fn end(&mut self, now: u64) {
+        self.mode = Mode::Closes;
+        self.since = now;
+    }
+
+    /// It has failed: its client is lost, if it has one.
+    pub fn fail(&mut self, now: u64) {
+        self.since = now;
+        self.mode = match self.stage.client() {
+            Some(client) => Mode::Loses(Loss::new(client)),
+            None => Mode::Closes,
+        };
+    }
+
+    /// The core was told that its client is lost, and answered this. Where that was the last time, it ends
+    /// once its bytes have gone.
+    pub fn hear_loss(&mut self, got: &Result<Outcome, CoreError>, now: u64) -> Telling {
+        let Mode::Loses(loss) = &mut self.mode else {
+            return Telling::Over;
+        };
+        let telling = loss.hears(got);
+        if telling == Telling::Over {
+            self.told = true;
+            self.end(now);
+        }
+        telling
+    }
+
+    /// Sends what is unsent.
+    pub fn send(&mut self, now: u64) -> Sent {
+        if self.stage.write_more().is_err() {
+            return self.after_failure(now);
+        }
+        let Some(stream) = self.stream() else {
+            return Sent::Remove;
+        };
+        match stream.send() {
+            Ok(count) => {
+                let left = stream.unsent();
+                if count > 0 || left == 0 {
+                    self.moved = now;
+                }
+                self.after_send(left, now)
+            }
+            Err(_) => self.after_failure(now),
+        }
+    }
+
+    fn after_send(&mut self, left: usize, now: u64) -> Sent {
+        if self.stage.has_more() {
+            // The next piece has its turn after those of others.
+            return if left == 0 {
+                Sent::Queue
+            } else {
+                Sent::Nothing
+            };
+        }
+        if left == 0 && self.mode == Mode::Closes {
+            return self.part(now);
+        }
+        if left <= MOST_UNSENT {
+            Sent::Fits
+        } else {
+            Sent::Nothing
+        }
+    }
+
+    /// All bytes have gone. A request over HTTP was read whole, and its stream is closed at once;
+    /// else it is read on, since a stream that is closed with bytes unread takes back what was sent.
+    fn part(&mut self, now: u64) -> Sent {
+        self.since = now;
+        if self.stage.is_polling() {
+            return Sent::Remove;
+        }
+        self.mode = Mode::Lingers;
+        match self.stream() {
+            Some(stream) => match stream.get_mut().shutdown(Shutdown::Write) {
+                Ok(()) => Sent::Queue,
+                Err(_) => Sent::Remove,
+            },
+            None => Sent::Remove,
+        }
+    }
+
+    /// Its bytes can't be sent. A WebSocket is read no more, so its peer finds that it has ended. An answer
+    /// over HTTP that can't be sent loses its client. One that is lost already isn't lost anew.
+    fn after_failure(&mut self, now: u64) -> Sent {
+        if self.told || self.stage.client().is_none() {
+            return Sent::Remove;
+        }
+        match self.mode {
+            Mode::Loses(_) => self.cut(),
+            _ if self.stage.is_polling() => self.fail(now),
+            Mode::Serves => self.cut(),
+            Mode::Closes | Mode::Lingers => return Sent::Remove,
+        }
+        Sent::Queue
+    }
+
+    /// Nothing more is read of it, or sent.
+    fn cut(&mut self) {
+        if let Some(stream) = self.stream() {
+            stream.cut();
+        }
+    }
+
+    /// For how long none of its bytes to be sent has gone, if there are any.
+    pub fn stalled(&mut self, now: u64) -> Option<u64> {
+        if self.unsent() > 0 {
+            Some(now.saturating_sub(self.moved))
+        } else {
+            None
+        }
+    }
+
+    /// Reads and forgets what comes.
+    pub fn drain(&mut self) -> Drained {
+        match self.stream() {
+            Some(stream) => drain(stream),
+            None => Drained::Ended,
+        }
+    }
+}

@@ -1,0 +1,137 @@
+//! What a worker goes by.
+
+use events::Cause;
+use loop_rules::{Mail, Notes};
+use std::alloc::{AllocError, Global};
+use std::rt::Clock;
+use std::sync::{Arc, Wait};
+use std::time::Duration;
+use tcp_connections::Watch;
+use tcp_streams::{Handed, Inbox, Log, Rules, Shared};
+
+/// What a worker goes by: through it a loop, or the keeper, speaks to the others.
+#[derive(Drop)]
+pub struct Base<'a, R, L> {
+    pub rt: R,
+    pub alloc: Global,
+    pub log: &'a L,
+    /// Which worker it is.
+    pub number: usize,
+    pub shared: Arc<Shared>,
+    pub rules: Arc<Rules>,
+    pub watch: Watch<R>,
+}
+
+impl<'a, R: Clock + Copy, L> Base<'a, R, L> {
+    /// What the worker of this number goes by.
+    pub fn of_worker(&self, number: usize) -> Result<Base<'a, R, L>, AllocError> {
+        Ok(Base {
+            rt: self.rt,
+            alloc: self.alloc,
+            log: self.log,
+            number,
+            shared: Arc::try_clone(&self.shared)?,
+            rules: Arc::try_clone(&self.rules)?,
+            watch: self.watch,
+        })
+    }
+
+    /// The moment now.
+    pub fn now(&mut self) -> u64 {
+        self.watch.tell()
+    }
+}
+
+impl<R: Wait + Clock, L: Log> Base<'_, R, L> {
+    /// The worker has begun.
+    pub fn note_begun(&self) {
+        self.shared.note_begun(&self.rt);
+    }
+
+    /// The loop has ended.
+    pub fn note_ended(&self) {
+        self.shared.note_loop_ended(&self.rt);
+    }
+
+    /// A connection was closed.
+    pub fn note_closed(&self) {
+        self.shared.note_closed(&self.rt);
+    }
+
+    /// Whether nothing is open, and nothing more will be.
+    pub fn is_over(&self) -> bool {
+        self.shared.is_over(&self.rt)
+    }
+
+    /// Whether what is still open is to end.
+    pub fn is_cutting(&self) -> bool {
+        self.shared.is_cutting(&self.rt)
+    }
+
+    /// Waits until no loop is at work, but no longer than so, and tells whether none is.
+    pub fn wait_for_loops(&self, most: Duration) -> bool {
+        self.shared.wait_for_loops(&self.rt, most)
+    }
+
+    /// Whether nothing was handed in, so that the loop may sleep until its bell is rung.
+    pub fn falls_asleep(&self) -> bool {
+        match self.shared.inboxes().get(self.number) {
+            Some(inbox) => inbox.falls_asleep(&self.rt),
+            None => true,
+        }
+    }
+
+    /// Takes all that was handed in, into a mail that is empty.
+    pub fn take(&self, mail: &mut Mail<Handed>) {
+        if let Some(inbox) = self.shared.inboxes().get(self.number) {
+            inbox.take(&self.rt, mail);
+        }
+    }
+
+    /// Hands a request to another loop, and tells whether it was taken.
+    pub fn hand(&self, owner: usize, handed: Handed) -> bool {
+        match self.shared.inboxes().get(owner) {
+            Some(inbox) => inbox.hand(&self.rt, handed),
+            None => false,
+        }
+    }
+
+    /// Tells each loop of its clients that were noted.
+    pub fn send(&self, notes: &mut Notes) {
+        let inboxes = self.shared.inboxes();
+        for (inbox, list) in inboxes.iter().zip(notes.lists.iter_mut()) {
+            if notes.everyone {
+                inbox.wake_everyone(&self.rt);
+            }
+            tell(&self.rt, inbox, list);
+        }
+        notes.everyone = false;
+    }
+
+    /// A client was opened at this moment.
+    pub fn note_opened(&self, client: u128, socket: bool, now: u64) {
+        self.shared
+            .lives()
+            .note_opened(&self.rt, client, socket, now);
+    }
+
+    /// A client has come over to its WebSocket.
+    pub fn note_upgraded(&self, client: u128) {
+        self.shared.lives().note_upgraded(&self.rt, client);
+    }
+
+    /// A client has ended at this moment, of which the log is told.
+    pub fn note_end(&self, client: u128, cause: Option<Cause>, now: u64) {
+        self.shared
+            .lives()
+            .end(&self.rt, self.log, client, cause, now);
+    }
+}
+
+/// Tells a loop of its clients, if there are any.
+fn tell(rt: &impl Wait, inbox: &Inbox, list: &mut Vec<u128>) {
+    if !list.is_empty() {
+        inbox.wake(rt, list.as_slice());
+        list.clear();
+    }
+}

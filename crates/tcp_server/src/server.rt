@@ -1,0 +1,332 @@
+//! A server, from its listening to its totals.
+
+ghost use Rattle.std.specs.Prelude.{◌≡◌, ◌+◌, None, Err, IfOk, IfSome, OnOk, vec_len, sum_by};
+ghost use Rattle.settings.specs.Wrong.{wrong_setting};
+ghost use Rattle.tcp_streams.specs.declared.fault.ServerFault.TheVariants.{BadSetting};
+
+use crate::crew::{sources, workers_for};
+use crate::drawn::DrawnIds;
+use crate::worker::{Open, Worker};
+use dispatch::Core;
+use events::{App, CoreError, CoreFault};
+use hub::Pass;
+use hub_gate::{Locked, Pool, Report, ServeError, Settled, serve_peers};
+use rand::rngs::StdRng;
+use settings::{Setting, Settings};
+use std::alloc::Global;
+use std::marker::Brand;
+use std::net::Net;
+use std::random::RandomSource;
+use std::rt::Clock;
+use std::sync::ledger::{Blank, Ledger};
+use std::sync::{Arc, Wait};
+use std::thread;
+use std::thread::{JoinHandle, Threads};
+use std::time::Instant;
+use tcp_connections::Watch;
+use tcp_loops::Base;
+use tcp_streams::{
+    Acceptor, Doing, Ears, Log, Making, Rules, ServerFault, Shared, acceptor_for, ears_for,
+    rules_and_making, shared_by, starting,
+};
+
+/// How many threads may count what they do.
+const PARTS: u64 = 65_536;
+
+/// A server that listens. Where it is dropped, it listens no more.
+#[derive(Drop)]
+pub struct Server<L> {
+    log: L,
+    port: u16,
+    acceptor: Box<Acceptor>,
+    ears: Vec<Ears>,
+    shared: Arc<Shared>,
+    rules: Arc<Rules>,
+    making: Box<Making>,
+}
+
+impl<L: Log + Sync + Drop> Server<L> {
+    /// Begins to listen. The log is told of what happens.
+    pub fn listen<R: Net>(
+        rt: &R,
+        alloc: Global,
+        settings: Settings,
+        log: L,
+    ) -> Result<Server<L>, ServerFault>
+        ensures right { OnOk result (wrong_setting settings ≡ None) }
+        ensures wrong { IfSome (wrong_setting settings) (λ setting. result ≡ Err (BadSetting setting)) }
+    {
+        if let Some(setting) = settings.wrong() {
+            return Err(ServerFault::BadSetting(setting));
+        }
+        let (port, acceptor, bell) = acceptor_for(rt, alloc, &settings)?;
+        let (ears, inboxes) = ears_for(rt, alloc, settings.workers)?;
+        let shared = shared_by(alloc, inboxes, bell, log.hears_clients())?;
+        let (rules, making) = rules_and_making(alloc, settings)?;
+        Ok(Server {
+            log,
+            port,
+            acceptor,
+            ears,
+            shared,
+            rules,
+            making,
+        })
+    }
+
+    /// The port at which it listens: where the settings name port 0, one that the system chose.
+    pub fn port(&self) -> u16 {
+        self.port
+    }
+
+    /// What all threads share, by which the server can be stopped.
+    pub fn shared(&self) -> Result<Arc<Shared>, ServerFault> {
+        Ok(Arc::try_clone(&self.shared)?)
+    }
+
+    /// Serves until it is stopped, or had as many connections as it was to have; then all threads have
+    /// ended, and their counts add up to the hub's totals. The last worker is the keeper.
+    pub fn run<
+        R: Threads + Wait + Clock + RandomSource + Copy + Drop + Sync + Send + 'static,
+        A: App + Sync,
+    >(self, rt: &R, alloc: Global, app: &A) -> Result<Report, ServerFault>
+        ensures commands { IfOk result (λ r.
+            r.totals.commands ≡ sum_by (λ w. w.commands) r.workers.items) }
+        ensures taken { IfOk result (λ r.
+            r.totals.taken ≡ sum_by (λ w. w.taken) r.workers.items) }
+    {
+        let (commands, taken) = (Blank::new(PARTS), Blank::new(PARTS));
+        run_in::<Brand, Brand, R, L, A>(rt, alloc, self, app, commands, taken)
+    }
+}
+
+fn run_in<
+    C: Ledger + Send + Sync,
+    T: Ledger + Send + Sync,
+    R: Threads + Wait + Clock + RandomSource + Copy + Drop + Sync + Send + 'static,
+    L: Log + Sync + Drop,
+    A: App + Sync,
+>(
+    rt: &R,
+    alloc: Global,
+    server: Server<L>,
+    app: &A,
+    commands: Blank,
+    taken: Blank,
+) -> Result<Report, ServerFault>
+    requires commands { (commands.name ≡ C.name)
+        × (commands.parts ≡ C.parts) × (commands.parts ≡ 65536) }
+    requires taken { (taken.name ≡ T.name) × (taken.parts ≡ T.parts) × (taken.parts ≡ 65536) }
+    ensures commands { IfOk result (λ r.
+        r.totals.commands ≡ sum_by (λ w. w.commands) r.workers.items) }
+    ensures taken { IfOk result (λ r.
+        r.totals.taken ≡ sum_by (λ w. w.taken) r.workers.items) }
+{
+    let Server {
+        log,
+        port: _port,
+        acceptor,
+        ears,
+        shared,
+        rules,
+        making,
+    } = server;
+    let (locked, mut pass, looks) = lock_core::<C, T>(alloc, making, commands, taken)?;
+    let base = base_for(rt, alloc, &log, shared, rules)?;
+    serve_over(&base, &locked, &mut pass, looks, app, acceptor, ears)
+}
+
+/// What the first worker goes by. Its time begins now.
+fn base_for<'a, R: Clock + Copy, L>(
+    rt: &R,
+    alloc: Global,
+    log: &'a L,
+    shared: Arc<Shared>,
+    rules: Arc<Rules>,
+) -> Result<Base<'a, R, L>, ServerFault> {
+    let start = Instant::now(rt).map_err(starting)?;
+    Ok(Base {
+        rt: *rt,
+        alloc,
+        log,
+        number: 0,
+        shared,
+        rules,
+        watch: Watch::new(*rt, start),
+    })
+}
+
+/// Accepts, and serves by a loop with each of these ears and by the keeper, until all have ended.
+fn serve_over<
+    'a,
+    C: Ledger + Send + Sync,
+    T: Ledger + Send + Sync,
+    R: Threads + Wait + Clock + RandomSource + Copy + Drop + Sync + Send + 'static,
+    L: Log + Sync,
+    A: App + Sync,
+>(
+    base: &Base<'a, R, L>,
+    locked: &'a Locked<C, T>,
+    pass: &mut Pass<C, T>,
+    looks: Pass<C, T>,
+    app: &A,
+    acceptor: Box<Acceptor>,
+    ears: Vec<Ears>,
+) -> Result<Report, ServerFault>
+    ensures commands { IfOk result (λ r. r.totals.commands
+        ≡ pass.old.commands + sum_by (λ w. w.commands) r.workers.items) }
+    ensures taken { IfOk result (λ r. r.totals.taken
+        ≡ pass.old.taken + sum_by (λ w. w.taken) r.workers.items) }
+{
+    let workers = workers_for(base, ears, locked, looks)?;
+    let ids = sources(&base.rt, base.alloc, workers.len())?;
+    serve_all(base, locked, pass, app, acceptor, workers, ids)
+}
+
+/// Accepts and serves in threads of their own until all have ended.
+fn serve_all<
+    C: Ledger + Send + Sync,
+    T: Ledger + Send + Sync,
+    R: Threads + Wait + Clock + Copy + Drop + Sync + Send + 'static,
+    L: Log + Sync,
+    A: App + Sync,
+>(
+    base: &Base<'_, R, L>,
+    locked: &Locked<C, T>,
+    pass: &mut Pass<C, T>,
+    app: &A,
+    acceptor: Box<Acceptor>,
+    workers: Vec<Worker<'_, R, L, C, T>>,
+    ids: Vec<DrawnIds<StdRng>>,
+) -> Result<Report, ServerFault>
+    requires { vec_len ids ≡ vec_len workers }
+    ensures commands { IfOk result (λ r. r.totals.commands
+        ≡ pass.old.commands + sum_by (λ w. w.commands) r.workers.items) }
+    ensures taken { IfOk result (λ r. r.totals.taken
+        ≡ pass.old.taken + sum_by (λ w. w.taken) r.workers.items) }
+{
+    let accepting = start_accepting(base, acceptor)?;
+    let pool = Pool {
+        rt: &base.rt,
+        alloc: base.alloc,
+        locked,
+        app,
+        gate: &Open,
+        turns: u64::MAX,
+    };
+    let served = serve_pool(&pool, pass, workers, ids);
+    base.shared.stop_accepting(&base.rt);
+    accepting.join(&base.rt);
+    served
+}
+
+/// Serves until all workers have ended.
+fn serve_pool<
+    C: Ledger + Send + Sync,
+    T: Ledger + Send + Sync,
+    R: Threads + Wait + Clock + Copy + Drop + Sync + Send + 'static,
+    L: Log + Sync,
+    A: App + Sync,
+>(
+    pool: &Pool<'_, R, C, T, A, Open>,
+    pass: &mut Pass<C, T>,
+    workers: Vec<Worker<'_, R, L, C, T>>,
+    ids: Vec<DrawnIds<StdRng>>,
+) -> Result<Report, ServerFault>
+    requires { vec_len ids ≡ vec_len workers }
+    ensures commands { IfOk result (λ r. r.totals.commands
+        ≡ pass.old.commands + sum_by (λ w. w.commands) r.workers.items) }
+    ensures taken { IfOk result (λ r. r.totals.taken
+        ≡ pass.old.taken + sum_by (λ w. w.taken) r.workers.items) }
+{
+    let number = workers.len();
+    match serve_peers(pool, pass, workers, number, ids) {
+        Ok(
+            Settled {
+                report,
+                core: _core,
+            },
+        ) => Ok(report),
+        Err(error) => Err(fault_of(error)),
+    }
+}
+
+/// What stopped the pool of threads.
+fn fault_of(error: ServeError) -> ServerFault {
+    match error {
+        ServeError::Memory => ServerFault::Memory,
+        ServeError::NotAll(_) => ServerFault::Books,
+        _ => ServerFault::Device(Doing::Starting),
+    }
+}
+
+/// Accepts in a thread of its own.
+fn start_accepting<R: Threads + Wait + Clock + Copy + Drop + Send + 'static, L>(
+    base: &Base<'_, R, L>,
+    acceptor: Box<Acceptor>,
+) -> Result<JoinHandle<()>, ServerFault> {
+    let shared = Arc::try_clone(&base.shared)?;
+    let handle = base.rt;
+    let mut acceptor = acceptor;
+    match thread::spawn(&base.rt, move || acceptor.accept_all(&handle, &shared)) {
+        Ok(accepting) => Ok(accepting),
+        Err(_) => Err(ServerFault::Device(Doing::Starting)),
+    }
+}
+
+/// A core without clients under its lock, its pass, and one more, with which it is looked at.
+fn lock_core<C: Ledger, T: Ledger>(
+    alloc: Global,
+    making: Box<Making>,
+    commands: Blank,
+    taken: Blank,
+) -> Result<(Box<Locked<C, T>>, Pass<C, T>, Pass<C, T>), ServerFault>
+    requires commands { (commands.name ≡ C.name)
+        × (commands.parts ≡ C.parts) × (commands.parts ≡ 65536) }
+    requires taken { (taken.name ≡ T.name) × (taken.parts ≡ T.parts) × (taken.parts ≡ 65536) }
+    ensures pass { IfOk result (λ made. made.1 ≡ record { commands = 0; taken = 0; parts = 1 }) }
+{
+    let (mut core, pass) = new_core::<C, T>(alloc, making, commands, taken)?;
+    match core.new_pass() {
+        Ok(looks) => Ok((lock(alloc, core)?, pass, looks)),
+        Err(_) => Err(ServerFault::Device(Doing::Starting)),
+    }
+}
+
+/// A core without clients, and its pass.
+fn new_core<C: Ledger, T: Ledger>(
+    alloc: Global,
+    making: Box<Making>,
+    commands: Blank,
+    taken: Blank,
+) -> Result<(Box<Core<C, T>>, Pass<C, T>), ServerFault>
+    requires commands { (commands.name ≡ C.name)
+        × (commands.parts ≡ C.parts) × (commands.parts ≡ 65536) }
+    requires taken { (taken.name ≡ T.name) × (taken.parts ≡ T.parts) × (taken.parts ≡ 65536) }
+    ensures pass { IfOk result (λ made. made.1 ≡ record { commands = 0; taken = 0; parts = 1 }) }
+{
+    let Making {
+        hub,
+        timing,
+        numbers,
+    } = Box::into_inner(making);
+    let made = Core::new(alloc, hub, timing, numbers, commands, taken);
+    let (core, pass) = made.map_err(refused)?;
+    Ok((Box::new(alloc, core)?, pass))
+}
+
+/// Why there is no core.
+fn refused(error: CoreError) -> ServerFault {
+    match error.fault {
+        CoreFault::Memory => ServerFault::Memory,
+        _ => ServerFault::BadSetting(Setting::Limits),
+    }
+}
+
+/// Puts a core under its lock.
+fn lock<C: Ledger, T: Ledger>(
+    alloc: Global,
+    core: Box<Core<C, T>>,
+) -> Result<Box<Locked<C, T>>, ServerFault> {
+    Ok(Box::new(alloc, Locked::new(Box::into_inner(core)))?)
+}

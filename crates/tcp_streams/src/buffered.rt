@@ -1,0 +1,156 @@
+//! A stream that never waits, and sends what was written at one call.
+
+ghost use Rattle.std.specs.Prelude.{◌≤◌, length};
+
+use mio::net::TcpStream;
+use std::alloc::Global;
+use std::io::{ErrorKind, Read, Write};
+use std::{io, mem};
+
+/// A buffer that grew past this, in bytes, is given back once it is empty.
+const KEPT: usize = 200_000;
+
+/// What a connection reads and writes.
+pub type Stream = Box<Buffered<TcpStream>>;
+
+/// Reads from a stream whose reads do not wait, and keeps what is written until `send`.
+#[derive(Drop)]
+pub struct Buffered<S> {
+    alloc: Global,
+    stream: S,
+    // The stream has no byte until it is reported ready again.
+    drained: bool,
+    // The other side has sent its last byte, so that a short read is no sign of a drained stream.
+    ended: bool,
+    // Nothing more is read of it, or sent.
+    cut: bool,
+    // How many bytes were read since this was last asked.
+    read: usize,
+    output: Vec<u8>,
+    sent: usize,
+    ghost in_output: { sent ≤ length output.items },
+}
+
+impl<S> Buffered<S> {
+    /// Nothing was read or written yet.
+    pub fn new(alloc: Global, stream: S) -> Buffered<S> {
+        Buffered {
+            alloc,
+            stream,
+            drained: false,
+            ended: false,
+            cut: false,
+            read: 0,
+            output: Vec::new(alloc),
+            sent: 0,
+        }
+    }
+
+    /// The stream was reported readable, and whether its other side has sent its last byte.
+    pub fn note_readable(&mut self, ended: bool) {
+        self.drained = false;
+        if ended {
+            self.ended = true;
+        }
+    }
+
+    /// Whether it has no byte to be read, as far as is known.
+    pub fn is_drained(&self) -> bool {
+        self.drained
+    }
+
+    /// How many bytes were read since this was last asked.
+    pub fn take_read(&mut self) -> usize {
+        mem::replace(&mut self.read, 0)
+    }
+
+    /// From now on each read tells the end of the stream, and nothing is sent.
+    pub fn cut(&mut self) {
+        self.cut = true;
+        self.forget();
+    }
+
+    /// How many bytes wait to be sent.
+    pub fn unsent(&self) -> usize {
+        self.output.len() - self.sent
+    }
+
+    /// The stream itself.
+    pub fn get_mut(&mut self) -> &mut S {
+        &mut self.stream
+    }
+
+    fn forget(&mut self) {
+        self.sent = 0;
+        if self.output.capacity() > KEPT {
+            self.output = Vec::new(self.alloc);
+        } else {
+            self.output.clear();
+        }
+    }
+}
+
+impl<S: Write> Buffered<S> {
+    /// Sends what waits, as far as the stream takes it, and tells how many bytes that were.
+    pub fn send(&mut self) -> io::Result<usize> {
+        let mut total: usize = 0;
+        for _ in 0..usize::MAX {
+            if self.sent >= self.output.len() {
+                self.forget();
+                return Ok(total);
+            }
+            match self.stream.write(&self.output[self.sent..]) {
+                Ok(0) => return Err(io::Error::from(ErrorKind::WriteZero)),
+                Ok(count) => {
+                    self.sent += count;
+                    total = total.saturating_add(count);
+                }
+                Err(error) if error.kind() == ErrorKind::WouldBlock => return Ok(total),
+                Err(error) => return Err(error),
+            }
+        }
+        Ok(total)
+    }
+}
+
+impl<S: Read> Read for Buffered<S> {
+    fn read(&mut self, buf: &mut [u8]) -> io::Result<usize> {
+        if self.cut {
+            return Ok(0);
+        }
+        if self.drained {
+            return Err(io::Error::from(ErrorKind::WouldBlock));
+        }
+        match self.stream.read(buf) {
+            Ok(count) => {
+                if count < buf.len() && !self.ended {
+                    self.drained = true;
+                }
+                self.read = self.read.saturating_add(count);
+                Ok(count)
+            }
+            Err(error) => {
+                if error.kind() == ErrorKind::WouldBlock {
+                    self.drained = true;
+                }
+                Err(error)
+            }
+        }
+    }
+}
+
+impl<S> Write for Buffered<S> {
+    fn write(&mut self, buf: &[u8]) -> io::Result<usize> {
+        if self.cut {
+            return Ok(buf.len());
+        }
+        if self.output.extend_from_slice(buf).is_err() {
+            return Err(io::Error::from(ErrorKind::OutOfMemory));
+        }
+        Ok(buf.len())
+    }
+
+    fn flush(&mut self) -> io::Result<()> {
+        Ok(())
+    }
+}

@@ -1,0 +1,82 @@
+//! A file on its way to a client.
+
+use crate::buffered::Buffered;
+use http_edge::Request;
+use page::{File, Page};
+use std::alloc::Global;
+use std::io;
+use std::io::{ErrorKind, Write};
+use std::sync::Arc;
+
+/// How many bytes of a file are put into a connection's buffer at a time.
+const PIECE: usize = 65_536;
+
+/// A file that goes out piece by piece, so that a client that reads slowly has no more than one piece in
+/// memory.
+#[derive(Drop)]
+pub struct Download {
+    page: Arc<Page>,
+    path: String,
+    /// How many of its bytes were written.
+    written: usize,
+    /// All of its bytes were written.
+    over: bool,
+}
+
+/// Whether a request asks for a file of the page (RFC 9110, sections 9.3.1 and 9.3.2).
+pub fn asks_for_file(page: &Page, request: &Request) -> bool {
+    let method = request.method.as_str();
+    (method == "GET" || method == "HEAD") && page.look_up(request.path.as_str()).is_some()
+}
+
+impl Download {
+    /// The file that a request asks for, of which just the head was written. A HEAD asks for no more.
+    pub fn begin<S>(
+        alloc: Global,
+        stream: &mut Buffered<S>,
+        page: Arc<Page>,
+        request: Box<Request>,
+    ) -> io::Result<Download> {
+        write_head(alloc, stream, page.look_up(request.path.as_str()))?;
+        let Request { method, path, .. } = Box::into_inner(request);
+        Ok(Download {
+            page,
+            path,
+            written: 0,
+            over: method.as_str() == "HEAD",
+        })
+    }
+
+    /// Whether all was written.
+    pub fn is_over(&self) -> bool {
+        self.over
+    }
+
+    /// Writes the next piece, if there is one.
+    pub fn write_piece<S>(&mut self, stream: &mut Buffered<S>) -> io::Result<()> {
+        if self.over {
+            return Ok(());
+        }
+        let Some(file) = self.page.look_up(self.path.as_str()) else {
+            self.over = true;
+            return Ok(());
+        };
+        let bytes = file.bytes.as_slice();
+        let start = self.written.min(bytes.len());
+        let end = start.saturating_add(PIECE).min(bytes.len());
+        let _ = stream.write(&bytes[start..end])?;
+        self.written = end;
+        self.over = end == bytes.len();
+        Ok(())
+    }
+}
+
+/// Writes the head of the answer that a file is.
+fn write_head<S>(alloc: Global, stream: &mut Buffered<S>, file: Option<&File>) -> io::Result<()> {
+    let Some(file) = file else {
+        return Err(io::Error::from(ErrorKind::NotFound));
+    };
+    let head = file.head(alloc)?;
+    let _ = stream.write(head.as_str().as_bytes())?;
+    Ok(())
+}

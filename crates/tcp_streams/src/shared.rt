@@ -1,0 +1,183 @@
+//! What all threads of a server share, beside the core.
+
+use crate::inbox::Inbox;
+use crate::news::Lives;
+use mio::Waker;
+use std::rt::Clock;
+use std::sync::{Condvar, CondvarTimeouts, Mutex, Wait};
+use std::time::Duration;
+
+/// What all threads of a server share, beside the core.
+#[derive(Drop)]
+pub struct Shared {
+    inboxes: Vec<Inbox>,
+    acceptor: Waker,
+    lives: Lives,
+    standing: Mutex<Standing>,
+    changed: Condvar,
+}
+
+/// How far a server is.
+#[derive(Clone, Copy)]
+struct Standing {
+    /// The connections that are open, those on their way to a loop among them.
+    open: u64,
+    /// The workers that have begun, the keeper among them.
+    begun: usize,
+    /// The loops at work.
+    loops: usize,
+    /// No more connections are accepted.
+    closing: bool,
+    /// What is still open is to end.
+    cutting: bool,
+}
+
+impl Standing {
+    /// One more connection is open, if it has a place among so many.
+    fn accept(&mut self, most: u64) -> bool {
+        let has_place = self.open < most;
+        if has_place {
+            self.open = self.open.saturating_add(1);
+        }
+        has_place
+    }
+
+    /// A connection was closed. Answers whether all is over.
+    fn close(&mut self) -> bool {
+        self.open = self.open.saturating_sub(1);
+        self.is_over()
+    }
+
+    /// Whether nothing is open, and nothing more will be.
+    fn is_over(&self) -> bool {
+        self.closing && self.open == 0
+    }
+
+    /// A worker has begun.
+    fn begin(&mut self) {
+        self.begun = self.begun.saturating_add(1);
+    }
+
+    /// A loop has ended.
+    fn end_loop(&mut self) {
+        self.loops = self.loops.saturating_sub(1);
+    }
+}
+
+impl Shared {
+    /// Nothing is open yet, and each loop is at work.
+    pub fn new(inboxes: Vec<Inbox>, acceptor: Waker, lives: Lives) -> Shared {
+        let standing = Standing {
+            open: 0,
+            begun: 0,
+            loops: inboxes.len(),
+            closing: false,
+            cutting: false,
+        };
+        Shared {
+            inboxes,
+            acceptor,
+            lives,
+            standing: Mutex::new(standing),
+            changed: Condvar::new(),
+        }
+    }
+
+    /// What others hand to each loop.
+    pub fn inboxes(&self) -> &[Inbox] {
+        self.inboxes.as_slice()
+    }
+
+    /// The clients that are there, if somebody hears of them.
+    pub fn lives(&self) -> &Lives {
+        &self.lives
+    }
+
+    /// A connection was accepted. Answers whether it has a place among so many.
+    pub fn note_accepted(&self, rt: &impl Wait, most: u64) -> bool {
+        self.standing.lock(rt).accept(most)
+    }
+
+    /// A connection was closed.
+    pub fn note_closed(&self, rt: &impl Wait) {
+        let is_over = self.standing.lock(rt).close();
+        if is_over {
+            self.wake_everyone(rt);
+        }
+    }
+
+    /// No more connections are accepted.
+    pub fn note_closing(&self, rt: &impl Wait) {
+        self.standing.lock(rt).closing = true;
+        self.wake_everyone(rt);
+    }
+
+    /// No more connections are to be accepted.
+    pub fn stop_accepting(&self, rt: &impl Wait) {
+        self.note_closing(rt);
+        // A bell that can't be rung leaves the acceptor waiting for one more connection.
+        let _ = self.acceptor.wake();
+    }
+
+    /// The server is to end: it accepts no more, and what is open gets a while to end.
+    pub fn stop<R: Wait + Clock>(&self, rt: &R, grace: Duration) {
+        self.stop_accepting(rt);
+        self.wait_for_loops(rt, grace);
+        self.standing.lock(rt).cutting = true;
+        self.wake_everyone(rt);
+    }
+
+    /// Whether no more connections are accepted.
+    pub fn is_closing(&self, rt: &impl Wait) -> bool {
+        self.standing.lock(rt).closing
+    }
+
+    /// Whether what is still open is to end.
+    pub fn is_cutting(&self, rt: &impl Wait) -> bool {
+        self.standing.lock(rt).cutting
+    }
+
+    /// Whether nothing is open, and nothing more will be.
+    pub fn is_over(&self, rt: &impl Wait) -> bool {
+        self.standing.lock(rt).is_over()
+    }
+
+    /// A worker has begun.
+    pub fn note_begun(&self, rt: &impl Wait) {
+        self.standing.lock(rt).begin();
+        self.changed.notify_all();
+    }
+
+    /// Waits until each loop and the keeper have begun, but no longer than so, and tells whether they
+    /// have.
+    pub fn wait_for_workers<R: Wait + Clock>(&self, rt: &R, most: Duration) -> bool {
+        let workers = self.inboxes.len().saturating_add(1);
+        let guard = self.standing.lock(rt);
+        let (guard, _) = self
+            .changed
+            .wait_timeout_while(rt, guard, most, |standing| standing.begun < workers);
+        guard.begun >= workers
+    }
+
+    /// A loop has ended.
+    pub fn note_loop_ended(&self, rt: &impl Wait) {
+        self.standing.lock(rt).end_loop();
+        self.changed.notify_all();
+    }
+
+    /// Waits until no loop is at work, but no longer than so, and tells whether none is.
+    pub fn wait_for_loops<R: Wait + Clock>(&self, rt: &R, most: Duration) -> bool {
+        let guard = self.standing.lock(rt);
+        let (guard, _) = self
+            .changed
+            .wait_timeout_while(rt, guard, most, |standing| standing.loops > 0);
+        guard.loops == 0
+    }
+
+    /// Has each loop look at all of its connections.
+    pub fn wake_everyone(&self, rt: &impl Wait) {
+        for inbox in self.inboxes.iter() {
+            inbox.wake_everyone(rt);
+        }
+    }
+}
