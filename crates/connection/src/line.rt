@@ -25,7 +25,6 @@ use std::marker::Model;
 ///
 /// Contracts see the parts of `PlainLine`, and speak of histories: how the line was opened, and the
 /// calls since then that lead to these parts. Every line has such a history.
-#[derive(Drop)]
 pub struct Line {
     assembler: Assembler,
     clock: Clock,
@@ -35,6 +34,19 @@ pub struct Line {
     ping: bool,
     /// The questions to each socket that was asked one.
     books: BTreeMap<Sid, AckBook>,
+}
+
+/// Written out, so that a crate above takes the drop of all that lies in it by this one call.
+impl Drop for Line {
+    fn drop(self) {
+        let Self {
+            assembler: _,
+            clock: _,
+            getting: _,
+            ping: _,
+            books: _,
+        } = self;
+    }
 }
 
 impl Model for Line {

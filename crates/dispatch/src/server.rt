@@ -36,11 +36,21 @@ use std::sync::ledger::{Blank, Ledger};
 /// The hub, and a line for each of its open clients. In a contract it is the hub's value, the lines
 /// by their clients, and what each new client is told. Each core has a line for just the open
 /// clients, and U+001E, which separates the packets of a payload, stands in no entry of it.
-#[derive(Drop)]
 pub struct Core<C: Ledger, T: Ledger> {
     hub: Hub<C, T>,
     lines: BTreeMap<u128, Line>,
     greeting: Greeting,
+}
+
+/// Written out, so that a crate above takes the drop of all that lies in it by this one call.
+impl<C: Ledger, T: Ledger> Drop for Core<C, T> {
+    fn drop(self) {
+        let Self {
+            hub: _,
+            lines: _,
+            greeting: _,
+        } = self;
+    }
 }
 
 impl<C: Ledger, T: Ledger> Model for Core<C, T> {

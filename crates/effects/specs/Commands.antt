@@ -17,7 +17,7 @@ use Rattle.journal.specs.Membership.{place_of, is_space, is_open, sockets, is_co
 use Rattle.events.specs.declared.app.Who.{Who}
 use Rattle.events.specs.declared.fault.CoreFault.{CoreFault}
 use Rattle.events.specs.Fault.{IsFault, fault_of}
-use Rattle.events.specs.declared.fault.CoreFault.TheVariants.{Memory, IdTaken, TooManyClients, Spent, UnknownClient}
+use Rattle.events.specs.declared.fault.CoreFault.TheVariants.{Memory}
 
 -- the command that makes this step is accepted, and the journal is one step longer
 abbrev pub Makes : History → ℕ → What → History → Type 0

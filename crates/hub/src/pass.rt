@@ -13,10 +13,19 @@ use std::sync::ledger::Ledger;
 ///
 /// In a contract it is these two amounts and its parts, and the amounts are exact. A pass that is
 /// dropped takes what it counted out of the sum.
-#[derive(Drop)]
 pub struct Pass<C: Ledger, T: Ledger> {
     pub(crate) commands: Part<C>,
     pub(crate) taken: Part<T>,
+}
+
+/// Written out, so that a crate above takes the drop of all that lies in it by this one call.
+impl<C: Ledger, T: Ledger> Drop for Pass<C, T> {
+    fn drop(self) {
+        let Self {
+            commands: _,
+            taken: _,
+        } = self;
+    }
 }
 
 impl<C: Ledger, T: Ledger> Model for Pass<C, T> {

@@ -51,7 +51,6 @@ use std::marker::Model;
 
 /// What a hub holds. In a contract it is its base, its limits and its journal, the newest step
 /// first: all else is what these say.
-#[derive(Drop)]
 pub struct State {
     limits: Limits,
     base: Base,
@@ -67,6 +66,25 @@ pub struct State {
     /// The broadcasts that a session which comes back may have missed.
     log: PacketLog,
     counts: Counts,
+}
+
+/// Written out, so that a crate above takes the drop of all that lies in it by this one call.
+impl Drop for State {
+    fn drop(self) {
+        let Self {
+            limits: _,
+            base: _,
+            journal: _,
+            last: _,
+            clients: _,
+            seats: _,
+            pids: _,
+            rooms: _,
+            saved: _,
+            log: _,
+            counts: _,
+        } = self;
+    }
 }
 
 impl Model for State {

@@ -14,7 +14,6 @@ use std::rt::Clock;
 use tcp_streams::{BELL, Stream};
 
 /// The connections of a loop. Each has a key.
-#[derive(Drop)]
 pub struct Connections<R> {
     slots: Slab<Box<Connection<R>>>,
     generation: u32,
@@ -24,6 +23,19 @@ pub struct Connections<R> {
     unsent: Vec<usize>,
     /// There was no memory to note one that has bytes to send.
     overlooked: bool,
+}
+
+/// Written out, so that a crate above takes the drop of all that lies in it by this one call.
+impl<R: Drop> Drop for Connections<R> {
+    fn drop(self) {
+        let Self {
+            slots: _,
+            generation: _,
+            roster: _,
+            unsent: _,
+            overlooked: _,
+        } = self;
+    }
 }
 
 /// The token of a connection: its key, and what tells it from an earlier one with that key.

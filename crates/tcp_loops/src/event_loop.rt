@@ -39,7 +39,6 @@ pub(crate) struct Current {
 }
 
 /// A loop over many connections.
-#[derive(Drop)]
 pub struct EventLoop<'a, R, L> {
     pub(crate) base: Base<'a, R, L>,
     pub(crate) poll: Poll,
@@ -55,6 +54,25 @@ pub struct EventLoop<'a, R, L> {
     /// The moment of the next beat.
     beat: u64,
     begun: bool,
+}
+
+/// Written out, so that a crate above takes the drop of all that lies in it by this one call.
+impl<R: Drop, L> Drop for EventLoop<'_, R, L> {
+    fn drop(self) {
+        let Self {
+            base: _,
+            poll: _,
+            streams: _,
+            events: _,
+            connections: _,
+            mail: _,
+            notes: _,
+            delays: _,
+            current: _,
+            beat: _,
+            begun: _,
+        } = self;
+    }
 }
 
 impl<R: Wait + Clock + Copy + Drop, L: Log> Peer for EventLoop<'_, R, L> {

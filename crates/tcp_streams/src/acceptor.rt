@@ -45,7 +45,6 @@ pub struct Bounds {
 }
 
 /// Accepts connections, and gives so many to each loop in turn.
-#[derive(Drop)]
 pub struct Acceptor {
     alloc: Global,
     poll: Poll,
@@ -57,6 +56,21 @@ pub struct Acceptor {
     refused: VecDeque<TcpStream>,
     /// How many were given so far.
     given: u64,
+}
+
+/// Written out, so that a crate above takes the drop of all that lies in it by this one call.
+impl Drop for Acceptor {
+    fn drop(self) {
+        let Self {
+            alloc: _,
+            poll: _,
+            listener: _,
+            events: _,
+            bounds: _,
+            refused: _,
+            given: _,
+        } = self;
+    }
 }
 
 /// What became of an attempt to accept.

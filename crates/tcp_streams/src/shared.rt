@@ -8,13 +8,25 @@ use std::sync::{Condvar, CondvarTimeouts, Mutex, Wait};
 use std::time::Duration;
 
 /// What all threads of a server share, beside the core.
-#[derive(Drop)]
 pub struct Shared {
     inboxes: Vec<Inbox>,
     acceptor: Waker,
     lives: Lives,
     standing: Mutex<Standing>,
     changed: Condvar,
+}
+
+/// Written out, so that a crate above takes the drop of all that lies in it by this one call.
+impl Drop for Shared {
+    fn drop(self) {
+        let Self {
+            inboxes: _,
+            acceptor: _,
+            lives: _,
+            standing: _,
+            changed: _,
+        } = self;
+    }
 }
 
 /// How far a server is.
