@@ -1,4 +1,4 @@
-//! What the app is asked, and what its effects do to the hub.
+//! What the app's effects do to the hub, and to the line of the client whose event it is.
 #![tactic(auto)]
 
 mod act;
