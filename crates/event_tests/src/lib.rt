@@ -6,6 +6,4 @@ mod lines;
 #[cfg(test)]
 mod lists;
 #[cfg(test)]
-mod random;
-#[cfg(test)]
 mod refused;

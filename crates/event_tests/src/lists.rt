@@ -1,7 +1,7 @@
 //! Lists of events with what each is answered, as text.
 //!
 //! A line has a moment and an event, and behind `=` the answer, which goes on in lines that begin with a
-//! space. The last line has what the core tells of itself then.
+//! space, or `next` and the id that is drawn next. The last line has what the core tells of itself then.
 
 use crate::lines::{Line, write_answer};
 use dispatch::Core;
@@ -70,7 +70,25 @@ const WRONG_GETS: &str = r#"
  clients [1, 3] speak Some(Socket) None books true true sealed 4 4 0
 "#;
 
-static LISTS: [&str; 3] = [CONVERSATION, OVER_TO_A_WEBSOCKET, WRONG_GETS];
+/// Ids that are in use are drawn again: that of a client, of a socket, and of a session that is saved.
+const IDS_AGAIN: &str = r#"
+0 open = opened 1
+0 post 1 40 = done 1 1 skipped:None ignored:false closed:None to:[]
+next 1
+0 open = refused:IdTaken 0 0
+next 4
+0 open = opened 4
+next 2
+0 post 4 3|40|42["x"] = refused:IdTaken 1 0
+0 lost 1 = lost saved:true
+next 2
+0 post 4 40 = refused:IdTaken 0 0
+next 1
+0 open = opened 1
+ clients [1, 4] speak Some(Polling) None books true true sealed 5 5 0
+"#;
+
+static LISTS: [&str; 4] = [CONVERSATION, OVER_TO_A_WEBSOCKET, WRONG_GETS, IDS_AGAIN];
 
 /// The event that a line has, with its moment.
 fn event_in(line: &'static str) -> Option<&'static str> {
@@ -141,14 +159,36 @@ impl OnServer for Answered {
         alloc: Global,
         server: &mut Server<C, T>,
     ) -> Result<String, AllocError> {
-        let events = events_of(alloc, self.0)?;
-        let Server { core, pass, ids } = server;
-        let answers = core.apply_all(alloc, pass, &RelayApp, &events, ids)?;
         let mut text = String::new(alloc);
-        write_answers(&mut text, self.0, &answers)?;
+        for part in self.0.split("\nnext ") {
+            // The first part has no id before it.
+            let events = match part.split_once('\n') {
+                Some((id, events)) if !id.is_empty() => {
+                    server.ids.next = id.parse().unwrap_or(0);
+                    write!(text, "\nnext {id}")?;
+                    events
+                }
+                _ => part,
+            };
+            answer_all(alloc, server, events, &mut text)?;
+        }
+        let Server { core, pass, .. } = server;
         write_look(&mut text, alloc, core, pass)?;
         Ok(text)
     }
+}
+
+/// Has a core answer these events, and writes them with their answers.
+fn answer_all<C: Ledger, T: Ledger>(
+    alloc: Global,
+    server: &mut Server<C, T>,
+    list: &'static str,
+    text: &mut String,
+) -> Result<(), AllocError> {
+    let events = events_of(alloc, list)?;
+    let Server { core, pass, ids } = server;
+    let answers = core.apply_all(alloc, pass, &RelayApp, &events, ids)?;
+    write_answers(text, list, &answers)
 }
 
 /// Whether a list is answered as it stands, in one of two runs: at most one allocation is refused.

@@ -1,7 +1,7 @@
 //! The scripts of a corpus, one after another.
 
 use crate::variants::{sealed, without_last_feed, without_seals};
-use relay::RelayApp;
+use crate::wild_app::WildApp;
 use script::{RunError, run_script};
 use std::alloc::Global;
 use std::io::Write;
@@ -46,12 +46,12 @@ fn play_each_way<W: Write>(alloc: Global, script: &[u8], writer: &mut W) -> Resu
 fn printed_by(alloc: Global, script: &[u8]) -> Result<Vec<u8>, RunError> {
     let mut begun = Vec::new(alloc);
     let mut reader = script;
-    if run_script(alloc, &RelayApp, &mut reader, &mut begun).is_ok() {
+    if run_script(alloc, &WildApp, &mut reader, &mut begun).is_ok() {
         return Ok(begun);
     }
     let mut printed = Vec::new(alloc);
     let mut reader = script;
-    run_script(alloc, &RelayApp, &mut reader, &mut printed)?;
+    run_script(alloc, &WildApp, &mut reader, &mut printed)?;
     Ok(if printed.starts_with(&begun) {
         printed
     } else {

@@ -1,5 +1,5 @@
-//! Plays a corpus of scripts to servers of the demonstration app: standard input has them one after
-//! another, each below a line `--- NAME`. Prints that line and what the script prints.
+//! Plays a corpus of scripts to servers of the demonstration app, which here wants what can't be done of some events:
+//! standard input has them one after another, each below a line `--- NAME`. Prints that line and what the script prints.
 //!
 //! A script is played three times: as it stands, without its last LF, and with a seal after each line
 //! from its first `open` on, unless it seals itself. Where that prints otherwise, but for the lines
@@ -8,6 +8,7 @@
 
 mod corpus;
 mod variants;
+mod wild_app;
 
 use corpus::play_all;
 use script::RunError;

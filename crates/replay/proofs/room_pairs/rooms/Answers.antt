@@ -1,8 +1,0 @@
-use Rattle.std.proofs.Common.{◌∙◌}
-use Rattle.replay.proofs.RoomsLemmas.{rooms-next}
-use Rattle.replay.proofs.room_pairs.rooms.Goals as goal
-
-pub loop-index-preserved : goal.loop-index-preserved
-loop-index-preserved c =
-    rooms-next _ _ _ c.index-steps-index.result c.loop-index-test.true c.index-steps-index.is _ _ _
-    (c.deref-in-loop-index.ensures.value ∙ c.in_ok-ended.ensures) (rw c.deref.ensures.value c.loop-index.invariant) c.in_ok-pairs-2.ensures

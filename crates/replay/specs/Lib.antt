@@ -1,3 +1,0 @@
-pub mod Rooms
-pub mod Log
-pub mod Outboxes

@@ -1,0 +1,57 @@
+"""What apps want of a CONNECT and of an event."""
+from wire import id_text, is_text
+
+
+class Relay:
+    """The demonstration app (docs/SCRIPTS.md)."""
+
+    def connects(self, payload):
+        """The effects of a CONNECT, or None where it is refused."""
+        return None if payload == '{"token":"no"}' else []
+
+    def decides(self, sid, header):
+        texts = [it if is_text(it) else None for it in header.tree]
+        effects = self.first(texts[0], room_in(texts, 1), room_in(texts, 2), id_text(sid))
+        return effects + [("reply",)] * (header.id is not None) + [("bye",)] * (texts[0] == "bye")
+
+    @staticmethod
+    def first(name, room, second, own):
+        """What an event of this name wants before it is acknowledged, where its rooms are known."""
+        alone = {"all": [("emit", [], [], True)], "ask": [("ask",)]}
+        with_one = {
+            "join": ("join", room), "leave": ("leave", room), "say": ("emit", [room], [own], True),
+            "quiet": ("emit", [room], [own], False), "kick": ("end", [room], [own]),
+        }
+        with_two = {
+            "two": ("emit", [room, second], [own], True), "but": ("emit", [room], [second, own], True),
+            "pull": ("pull", [room], second), "push": ("push", [room], second),
+        }
+        if name in with_one and room is not None:
+            return [with_one[name]]
+        if name in with_two and room is not None and second is not None:
+            return [with_two[name]]
+        return alone.get(name, [])
+
+
+def room_in(texts, place):
+    text = texts[place] if place < len(texts) else None
+    return text if text is not None and len(text.encode()) <= 64 else None
+
+
+class Wild(Relay):
+    """The demonstration app, but for some events and some CONNECTs, of which it wants what can't be done."""
+
+    def connects(self, payload):
+        return self.wild(payload, id_text(7)) or super().connects(payload)
+
+    def decides(self, sid, header):
+        return self.wild(header.payload, id_text(sid)) or super().decides(sid, header)
+
+    @staticmethod
+    def wild(wish, own):
+        late, join = [("bye",), ("join", id_text(7))], [("join", id_text(7))]
+        return {
+            '["over"]': [("end", [], []), ("end", [], [])], '["gone"]': [("end", [id_text(0)], [])], '["own"]': [("leave", own)],
+            '["late"]': late, '{"do":"late"}': late, '{"do":"join"}': join, '["mute"]': [("no array",)],
+            '["vague"]': [("no array",)], '["again"]': [("no array",)],
+        }.get(wish)

@@ -1,0 +1,259 @@
+"""Chats: what a hub answers to each line of commands (crates/hub_script)."""
+from hub import Entry, Hub, Refused
+from wire import id_text
+
+LIMITS = ("clients", "capacity", "bytes", "log", "saved", "keep", "first_offset")
+# What a chat that begins with `both` plays first: two clients with a socket each, both in the room `r`.
+BOTH = ("open 1", "open 2", "attach 1 / 3 4", "attach 2 / 5 6", "join 3 r", "join 5 r", "take 1 64", "take 2 64")
+
+
+def number(word):
+    return int(word) if word.isdigit() and word.isascii() else 0
+
+
+def some(value, form="{}"):
+    return "None" if value is None else f"Some({form.format(value)})"
+
+
+def listed(numbers):
+    return "[" + ", ".join(map(str, numbers)) + "]"
+
+
+def entry_text(entry):
+    return "  " + " ".join([entry.text, *(listed(part) for part in entry.parts)])
+
+
+def sids_text(sids):
+    return " ".join([f"  {len(sids)}:", *map(str, sids)])
+
+
+def room_by(name):
+    return id_text(number(name[1:])) if name.startswith("@") else name
+
+
+def rooms_by(names):
+    return [room_by(name) for name in names.split(",") if name != "-"]
+
+
+def parts_by(word):
+    return [bytes(int(it) for it in part.split(".")) for part in word.split(",")] if word else []
+
+
+class Chat:
+    """A hub and its passes. A pass is how many commands and entries it has counted."""
+
+    def __init__(self, line):
+        words = line.split(" ")
+        limits = {name: number(word) for name, word in zip(LIMITS, words[1:])}
+        self.hub, self.now = Hub(spaces=words[8].split(","), **limits), 0
+        self.counted, self.other, self.passes = [0, 0], None, 1
+
+    def play(self, line):
+        """What a line is answered."""
+        words = line.split(" ")
+        take = lambda place: words[place] if place < len(words) else ""
+        before = self.hub.counts["commands"], self.hub.counts["taken"]
+        try:
+            answer = getattr(self, f"play_{words[0]}")(take)
+        except Refused as refused:
+            answer = f"  ! {refused}"
+        self.counted[0] += self.hub.counts["commands"] - before[0]
+        self.counted[1] += self.hub.counts["taken"] - before[1]
+        return answer or ""
+
+    # Commands.
+
+    def play_open(self, word):
+        self.hub.open(number(word(1)), self.now)
+
+    def play_park(self, word):
+        self.hub.park(number(word(1)), self.now)
+
+    def play_close(self, word):
+        self.hub.close(number(word(1)), self.now)
+
+    def play_end(self, word):
+        self.hub.end(number(word(1)), self.now)
+
+    def play_join(self, word):
+        self.hub.join(number(word(1)), room_by(word(2)), self.now)
+
+    def play_leave(self, word):
+        self.hub.leave(number(word(1)), room_by(word(2)), self.now)
+
+    def play_attach(self, word):
+        self.hub.attach(number(word(1)), word(2), number(word(3)), number(word(4)), self.now)
+
+    def play_tell(self, word):
+        self.hub.tell(number(word(1)), Entry(word(2), parts_by(word(3))), self.now)
+
+    def play_cast(self, word):
+        before, is_logged = self.hub.counts["placed"], word(0) == "cast"
+        rooms, excepted = rooms_by(word(2)), rooms_by(word(3))
+        offset, dropped, reached = self.hub.cast(word(1), rooms, excepted, is_logged, word(4), parts_by(word(5)), self.now)
+        return f"  {some(offset)} {self.hub.counts['placed'] - before} {dropped} {listed(reached)}"
+
+    play_quiet = play_cast
+
+    def play_take(self, word):
+        return "".join(map(entry_text, self.hub.take(number(word(1)), number(word(2)), self.now)))
+
+    def play_skip(self, word):
+        return f"  {len(self.hub.take(number(word(1)), number(word(2)), self.now))}"
+
+    def play_recover(self, word):
+        return f"  {self.hub.recover(number(word(1)), word(2), number(word(3)), number(word(4)), self.now)}"
+
+    def play_pull(self, word):
+        change = self.hub.join_all if word(0) == "pull" else self.hub.leave_all
+        return sids_text(change(word(1), rooms_by(word(2)), rooms_by(word(3)), room_by(word(4)), self.now))
+
+    play_push = play_pull
+
+    def play_kick(self, word):
+        ended, told = self.hub.end_all(word(1), rooms_by(word(2)), rooms_by(word(3)), self.now)
+        return f"{sids_text(ended)} told {listed(told)}"
+
+    def play_sweep(self, _):
+        return "  {} {}".format(*self.hub.sweep(self.now))
+
+    def play_seal(self, _):
+        return f"  {self.hub.seal()}"
+
+    def play_at(self, word):
+        self.now = number(word(1))
+
+    # Passes.
+
+    def play_pass(self, _):
+        if self.passes == 65_535:
+            raise Refused("Spent")
+        self.passes += 1
+        self.other, self.counted = self.counted, [0, 0]
+
+    def play_swap(self, _):
+        if self.other is not None:
+            self.other, self.counted = self.counted, self.other
+
+    def play_absorb(self, _):
+        if self.other is not None:
+            self.counted = [one + other for one, other in zip(self.counted, self.other)]
+            self.other = None
+
+    def play_audit(self, _):
+        pass
+
+    def play_settle(self, _):
+        lacks = [self.hub.counts["commands"] - self.counted[0], self.hub.counts["taken"] - self.counted[1]]
+        return "  lacks {} {}".format(*lacks) if any(lacks) else self.play_totals(None)
+
+    def play_counted(self, _):
+        return "  {} {}".format(*self.counted)
+
+    # What is seen.
+
+    def play_totals(self, _):
+        return "  " + " ".join(map(str, self.hub.totals()))
+
+    def play_members(self, word):
+        return sids_text(self.hub.members(word(1), room_by(word(2))))
+
+    def play_client(self, word):
+        client = number(word(1))
+        is_open = client in self.hub.clients
+        waits = (len(self.hub.clients[client].outbox), self.hub.waiting_bytes(client)) if is_open else (None, None)
+        seat = some(self.hub.socket_of(client, word(2)), "Sid({})")
+        return f"  {str(is_open).lower()} {seat} {some(waits[0])} {some(waits[1])}"
+
+    def play_waits(self, word):
+        client = self.hub.clients.get(number(word(1)))
+        return "".join(map(entry_text, client.outbox)) if client else ""
+
+    def play_front(self, word):
+        client, place = self.hub.clients.get(number(word(1))), number(word(2))
+        return f"  {client.outbox[place].text}" if client and place < len(client.outbox) else "  none"
+
+    def play_connected(self, word):
+        return f"  {str(number(word(1)) in self.hub.sockets).lower()}"
+
+    def play_next(self, _):
+        return f"  {some(self.hub.next)}"
+
+    def play_held(self, _):
+        return f"  {self.hub.held}"
+
+    def play_space(self, word):
+        return f"  {str(word(1) in self.hub.limits['spaces']).lower()}"
+
+    def play_steps(self, _):
+        return " ".join([f"  {len(self.hub.steps)}:", *self.hub.steps])
+
+    def play_mirrors(self, _):
+        rooms = {room for rooms in self.hub.rooms.values() for room in rooms}
+        return f"  {len(self.hub.rooms)} {len(rooms)}"
+
+    def play_base(self, _):
+        clients, log, saved = self.hub.base
+        return " ".join([" ", *map(str, clients), f"log {len(log)} saved {len(saved)}"])
+
+    def play_kept(self, _):
+        """The base's sessions and its log, whole."""
+        text = ""
+        for it in self.hub.base[2]:
+            text += f"  {it.pid} {it.sid} {it.lost_at} {self.place(it.space)}{rooms_text(sorted(it.rooms, key=str.encode))}"
+        for it in self.hub.base[1]:
+            text += f"  {it.offset} {it.at} {self.place(it.space)}{rooms_text(it.rooms)}{rooms_text(it.excepted)}{entry_text(it.entry)}"
+        return text
+
+    def place(self, space):
+        return self.hub.limits["spaces"].index(space)
+
+
+def rooms_text(rooms):
+    return "".join(f" {room}" for room in rooms) + " |"
+
+
+def played(lines):
+    """A chat's lines with their answers, the first of which has the limits of its hub."""
+    first, *rest = lines
+    try:
+        chat = Chat(first)
+    except Refused as refused:
+        return [f"{first} = ! {refused}"]
+    for line in BOTH if first.startswith("both") else ():
+        chat.play(line)
+    return [first, *(answered(chat, line) for line in rest)]
+
+
+def answered(chat, line):
+    if line.startswith("repeat "):
+        _, times, lines = line.split(" ", 2)
+        answer = repeated(chat, lines.split("|"), int(times))
+    else:
+        answer = play_line(chat, line, 0)
+    return f"{line} = {answer.strip()}" if answer.strip() else line
+
+
+def play_line(chat, line, star):
+    count, line = line.startswith("count "), starred(line, star)
+    answer = chat.play(line.removeprefix("count ") if count else line)
+    return f"  {len(answer.split())} words" if count else answer
+
+
+def starred(line, star):
+    """The line with the number of times that it was played in place of each `*`, and the own room of a socket that there is
+    none of where the `*` is a room."""
+    words = line.split(" ")
+    room = {"join": 2, "leave": 2}.get(words[0])
+    return " ".join(f"@{star + 1000}" if it == "*" and place == room else it.replace("*", str(star))
+                    for place, it in enumerate(words))
+
+
+def repeated(chat, lines, times):
+    """The answers of each time that aren't those of the time before."""
+    last, text = "", ""
+    for star in range(times):
+        answers = "".join(play_line(chat, line, star) for line in lines)
+        text += answers if answers != last else ""
+        last = answers or last
+    return text

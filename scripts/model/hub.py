@@ -1,0 +1,310 @@
+"""A hub: clients with their outboxes, sockets in rooms, a log of broadcasts and saved sessions."""
+from wire import MOST_ATTACHMENTS, connected_text, event_text, id_text, start, with_offset
+
+GREATEST = 2**64 - 1
+MOST_ROOMS = 256
+MOST_CAPACITY = 65_536
+
+
+class Refused(Exception):
+    """Why a command is refused. It changed nothing."""
+
+
+class Entry:
+    def __init__(self, text, parts=()):
+        self.text, self.parts = text, tuple(parts)
+        self.size = len(text.encode()) + sum(map(len, self.parts))
+
+
+class Client:
+    def __init__(self):
+        self.sockets, self.outbox = {}, []
+
+
+class Socket:
+    def __init__(self, client, space, pid):
+        self.client, self.space, self.pid = client, space, pid
+
+
+class Saved:
+    def __init__(self, sid, socket, rooms, lost_at):
+        self.sid, self.space, self.pid = sid, socket.space, socket.pid
+        self.rooms, self.lost_at = rooms, lost_at
+
+
+class Logged:
+    def __init__(self, offset, at, space, rooms, excepted, entry):
+        self.offset, self.at, self.space, self.entry = offset, at, space, entry
+        self.rooms, self.excepted = tuple(rooms), tuple(excepted)
+
+    def is_for(self, space, rooms):
+        meets = not self.rooms or any(room in rooms for room in self.rooms)
+        return self.space == space and meets and not any(room in rooms for room in self.excepted)
+
+
+class Hub:
+    """Limits are `clients`, `capacity`, `bytes`, `log`, `saved`, `keep`, `first_offset` and `spaces`."""
+
+    def __init__(self, **limits):
+        least = [limits[name] for name in ("clients", "capacity", "bytes", "log", "first_offset")]
+        if 0 in least or limits["capacity"] > MOST_CAPACITY:
+            raise Refused("BadConfig")
+        self.limits, self.next, self.now = limits, limits["first_offset"], 0
+        self.clients, self.sockets, self.rooms, self.saved, self.log = {}, {}, {}, {}, []
+        self.counts = dict.fromkeys(("commands", "placed", "dropped", "taken", "discarded"), 0)
+        self.steps, self.held = [], 0
+        self.base = [], [], []
+
+    # What is asked.
+
+    def members(self, space, room):
+        self.look_at_space(space)
+        return sorted(sid for sid, it in self.sockets.items() if it.space == space and room in self.rooms[sid])
+
+    def addressed(self, space, rooms, excepted):
+        """The sockets of a namespace that are in one of the rooms, or all where none is named, and in no excepted one."""
+        self.look_at_space(space)
+        are_in = lambda sid, names: any(name in self.rooms[sid] for name in names)
+        return [sid for sid in sorted(self.sockets) if self.sockets[sid].space == space
+                and (not rooms or are_in(sid, rooms)) and not are_in(sid, excepted)]
+
+    def socket_of(self, client, space):
+        return self.clients[client].sockets.get(space) if client in self.clients else None
+
+    def waiting_bytes(self, client):
+        return sum(entry.size for entry in self.clients[client].outbox)
+
+    def totals(self):
+        waiting = sum(len(it.outbox) for it in self.clients.values())
+        return [*self.counts.values(), waiting]
+
+    def moment(self, now):
+        return max(self.now, now)
+
+    def is_outdated(self, moment, now):
+        return min(moment + self.limits["keep"], GREATEST) < now
+
+    def missed(self, offset, space, rooms):
+        """What a socket of these rooms missed after an offset, or None where the log has no such offset."""
+        offsets = [it.offset for it in self.log]
+        if offset not in offsets:
+            return None
+        return [it for it in self.log[offsets.index(offset) + 1 :] if it.is_for(space, rooms)]
+
+    # Why something is refused.
+
+    def look_at_client(self, client):
+        if client not in self.clients:
+            raise Refused("UnknownClient")
+
+    def look_at_space(self, space):
+        if space not in self.limits["spaces"]:
+            raise Refused("UnknownNamespace")
+
+    def look_at_seat(self, client, space):
+        self.look_at_client(client)
+        self.look_at_space(space)
+        if space in self.clients[client].sockets:
+            raise Refused("AlreadyConnected")
+
+    def has_place(self, client, entries):
+        outbox = self.clients[client].outbox
+        size = self.waiting_bytes(client) + sum(entry.size for entry in entries)
+        return len(outbox) + len(entries) <= self.limits["capacity"] and size <= self.limits["bytes"]
+
+    # What is done.
+
+    def step(self, name, now, held=()):
+        self.now = self.moment(now)
+        self.counts["commands"] += 1
+        self.steps.append(name)
+        self.held += sum(entry.size for entry in held)
+
+    def put(self, client, entry):
+        self.clients[client].outbox.append(entry)
+        self.counts["placed"] += 1
+
+    def seat(self, client, space, sid, pid, rooms):
+        self.clients[client].sockets[space] = sid
+        self.sockets[sid] = Socket(client, space, pid)
+        self.rooms[sid] = {id_text(sid), *rooms}
+
+    def unseat(self, sid):
+        socket = self.sockets.pop(sid)
+        del self.clients[socket.client].sockets[socket.space]
+        del self.rooms[sid]
+
+    def drop_client(self, client):
+        for sid in list(self.clients[client].sockets.values()):
+            self.unseat(sid)
+        self.counts["discarded"] += len(self.clients.pop(client).outbox)
+
+    def open(self, client, now):
+        if client in self.clients:
+            raise Refused("IdTaken")
+        if len(self.clients) >= self.limits["clients"]:
+            raise Refused("TooManyClients")
+        self.clients[client] = Client()
+        self.step("opened", now)
+
+    def attach(self, client, space, sid, pid, now):
+        self.look_at_seat(client, space)
+        sids = {*self.sockets, *(it.sid for it in self.saved.values())}
+        pids = {*(it.pid for it in self.sockets.values()), *self.saved}
+        if sid in sids or pid in pids:
+            raise Refused("IdTaken")
+        answer = Entry(connected_text(space, sid, pid))
+        if not self.has_place(client, [answer]):
+            raise Refused("OutboxFull")
+        self.seat(client, space, sid, pid, ())
+        self.put(client, answer)
+        self.step("attached", now)
+
+    def recover(self, client, space, pid, offset, now):
+        self.look_at_seat(client, space)
+        saved = self.saved.get(pid)
+        if saved is None or saved.space != space:
+            raise Refused("NotRecoverable(UnknownPid)")
+        if self.is_outdated(saved.lost_at, self.moment(now)):
+            raise Refused("NotRecoverable(Expired)")
+        missed = self.missed(offset, space, saved.rooms)
+        if missed is None:
+            raise Refused("NotRecoverable(OffsetGone)")
+        entries = [Entry(connected_text(space, saved.sid, pid)), *(it.entry for it in missed)]
+        if not self.has_place(client, entries):
+            raise Refused("OutboxFull")
+        del self.saved[pid]
+        self.seat(client, space, saved.sid, pid, saved.rooms)
+        for entry in entries:
+            self.put(client, entry)
+        self.step("recovered", now)
+        return saved.sid
+
+    def join(self, sid, room, now):
+        if sid not in self.sockets:
+            raise Refused("UnknownSocket")
+        if room in self.rooms[sid]:
+            raise Refused("RoomRefused(AlreadyIn)")
+        if len(self.rooms[sid]) >= MOST_ROOMS:
+            raise Refused("RoomRefused(TooManyRooms)")
+        self.rooms[sid].add(room)
+        self.step("joined", now)
+
+    def leave(self, sid, room, now):
+        if sid not in self.sockets:
+            raise Refused("UnknownSocket")
+        if room == id_text(sid):
+            raise Refused("RoomRefused(OwnRoom)")
+        if room not in self.rooms[sid]:
+            raise Refused("RoomRefused(NotIn)")
+        self.rooms[sid].remove(room)
+        self.step("left", now)
+
+    def cast(self, space, rooms, excepted, is_logged, payload, parts, now):
+        """Gives the offset, how many sockets missed it, and the clients that got it."""
+        self.look_at_space(space)
+        if "]" not in payload or len(parts) > MOST_ATTACHMENTS:
+            raise Refused("BadPayload")
+        offset = self.next if is_logged else None
+        if is_logged and offset is None:
+            raise Refused("Spent")
+        payload = with_offset(payload, offset) if is_logged else payload
+        entry = Entry(event_text(space, payload, len(parts)), parts)
+        reached, dropped = [], 0
+        for sid in self.addressed(space, rooms, excepted):
+            client = self.sockets[sid].client
+            if self.has_place(client, [entry]):
+                self.put(client, entry)
+                reached.append(client)
+            else:
+                dropped += 1
+        self.counts["dropped"] += dropped
+        self.step("cast", now, [entry])
+        if is_logged:
+            self.next = offset + 1 if offset < GREATEST else None
+            self.log.append(Logged(offset, self.now, space, rooms, excepted, entry))
+            del self.log[: -self.limits["log"]]
+        return offset, dropped, sorted(reached)
+
+    def tell(self, client, entry, now):
+        self.look_at_client(client)
+        if not self.has_place(client, [entry]):
+            raise Refused("OutboxFull")
+        self.put(client, entry)
+        self.step("told", now, [entry])
+
+    def take(self, client, most, now):
+        self.look_at_client(client)
+        outbox = self.clients[client].outbox
+        taken = outbox[:most]
+        del outbox[:most]
+        self.counts["taken"] += len(taken)
+        self.step("took", now)
+        return taken
+
+    def park(self, client, now):
+        self.look_at_client(client)
+        sids = self.clients[client].sockets.values()
+        if len(sids) > max(0, self.limits["saved"] - len(self.saved)):
+            raise Refused("SavedFull")
+        for sid in sids:
+            saved = Saved(sid, self.sockets[sid], self.rooms[sid], self.moment(now))
+            self.saved[saved.pid] = saved
+        self.drop_client(client)
+        self.step("parked", now)
+
+    def end(self, sid, now):
+        if sid not in self.sockets:
+            raise Refused("UnknownSocket")
+        self.unseat(sid)
+        self.step("ended", now)
+
+    def close(self, client, now):
+        self.look_at_client(client)
+        self.drop_client(client)
+        self.step("closed", now)
+
+    def sweep(self, now):
+        """Gives how many entries of the log and how many sessions were dropped."""
+        before, moment = (len(self.log), len(self.saved)), self.moment(now)
+        self.log = [it for it in self.log if not self.is_outdated(it.at, moment)]
+        self.saved = {pid: it for pid, it in self.saved.items() if not self.is_outdated(it.lost_at, moment)}
+        self.step("swept", now)
+        return before[0] - len(self.log), before[1] - len(self.saved)
+
+    def join_all(self, space, rooms, excepted, room, now):
+        changed = [sid for sid in self.addressed(space, rooms, excepted) if room not in self.rooms[sid]]
+        if any(len(self.rooms[sid]) >= MOST_ROOMS for sid in changed):
+            raise Refused("RoomRefused(TooManyRooms)")
+        for sid in changed:
+            self.rooms[sid].add(room)
+        self.step("all-joined", now)
+        return changed
+
+    def leave_all(self, space, rooms, excepted, room, now):
+        changed = [sid for sid in self.addressed(space, rooms, excepted) if room in self.rooms[sid]]
+        if any(room == id_text(sid) for sid in changed):
+            raise Refused("RoomRefused(OwnRoom)")
+        for sid in changed:
+            self.rooms[sid].remove(room)
+        self.step("all-left", now)
+        return changed
+
+    def end_all(self, space, rooms, excepted, now):
+        """Gives the sockets that ended, and the clients that were told."""
+        sids, told, farewell = self.addressed(space, rooms, excepted), [], Entry(f"1{start(space)}")
+        for sid in sids:
+            client = self.sockets[sid].client
+            if self.has_place(client, [farewell]):
+                self.put(client, farewell)
+                told.append(client)
+            self.unseat(sid)
+        self.step("all-ended", now)
+        return sids, sorted(told)
+
+    def seal(self):
+        """Makes the present state the base. Gives how many steps led to it."""
+        count = len(self.steps)
+        self.steps, self.held = [], 0
+        self.base = sorted(self.clients), list(self.log), [self.saved[pid] for pid in sorted(self.saved)]
+        return count

@@ -1,0 +1,348 @@
+"""A server: each client's connection and its packets, and the demonstration app behind it."""
+from hub import Entry, Hub, Refused
+from wire import (SEPARATOR, Fault, Header, event_text, named_session, open_text, read_packet, read_payload, start,
+                  write_base64)
+
+__all__ = ["Refused", "Server"]
+GREATEST = 2**64 - 1
+PING_INTERVAL, PING_TIMEOUT, CONNECT_TIMEOUT = 25_000, 20_000, 45_000
+LONGEST_FRAME = 1_000_000
+WAIT = 10_000
+
+
+class Closed(Exception):
+    """Why a client is closed."""
+
+
+class Clock:
+    """When a ping is due, and when a client is given up."""
+
+    def __init__(self, now):
+        self.opened = self.last = self.since = now
+        self.pinged, self.has_joined = None, False
+
+    def pong(self, now):
+        self.last = max(self.last, now)
+        if self.pinged is not None:
+            self.pinged, self.since = None, self.last
+
+    def tick(self, now):
+        self.last = now = max(self.last, now)
+        if self.pinged is not None and now - self.pinged >= PING_TIMEOUT:
+            return "PingTimeout"
+        if not self.has_joined and now - self.opened >= CONNECT_TIMEOUT:
+            return "ConnectTimeout"
+        if self.pinged is None and now - self.since >= PING_INTERVAL:
+            self.pinged = now
+            return "ping"
+        return "nothing"
+
+
+class Line:
+    """One client's connection: its transport, its clock, the packet that awaits attachments, and its questions."""
+
+    def __init__(self, now, is_socket):
+        self.transport = "socket" if is_socket else "polling"
+        self.clock, self.is_getting, self.has_ping = Clock(now), False, False
+        self.awaited, self.parts, self.questions = None, [], {}
+
+    def text(self, text):
+        """The packet that is whole with this text, with its attachments, if one is."""
+        if self.awaited:
+            raise Fault("TextAwaitingBinary")
+        header = Header(text)
+        if not header.count:
+            return header, []
+        self.awaited, self.parts = header, []
+        return None
+
+    def binary(self, part, most):
+        if not self.awaited:
+            raise Fault("BinaryUnawaited")
+        if sum(map(len, self.parts)) + len(part) > most:
+            raise Fault("TooLong")
+        self.parts.append(part)
+        if len(self.parts) < self.awaited.count:
+            return None
+        packet, self.awaited, self.parts = (self.awaited, self.parts), None, []
+        return packet
+
+    def enter(self, sid):
+        self.clock.has_joined = True
+        self.questions[sid] = [0, {}]
+
+    def change(self, ways):
+        """Takes the way from the present transport, which may be refused."""
+        way = ways[self.transport]
+        if way not in ("polling", "probing", "socket"):
+            raise Refused(way)
+        self.transport = way
+
+
+PROBE = {"polling": "probing", "probing": "AlreadyProbing", "socket": "AlreadyUpgraded"}
+UPGRADE = {"polling": "NotProbing", "probing": "socket", "socket": "AlreadyUpgraded"}
+UNPROBE = {"polling": "NotProbing", "probing": "polling", "socket": "AlreadyUpgraded"}
+
+
+class Done:
+    """What came of a payload or of a frame."""
+
+    def __init__(self):
+        self.is_unread, self.skipped, self.is_ignored, self.closed = False, None, False, None
+
+
+class Server:
+    """Ids count from 1. An app says what it wants of a CONNECT and of an event."""
+
+    def __init__(self, app, **limits):
+        self.app, self.hub, self.lines, self.id = app, Hub(**limits), {}, 0
+
+    def draw(self):
+        self.id += 1
+        return self.id
+
+    def line_of(self, client, *transports):
+        """The line of an open client, whose transport has to be one of these where any is named."""
+        if client not in self.lines:
+            raise Refused("UnknownClient")
+        if transports and self.lines[client].transport not in transports:
+            raise Refused("WrongTransport")
+        return self.lines[client]
+
+    def close(self, client, now):
+        self.hub.close(client, now)
+        del self.lines[client]
+
+    def park(self, client, now):
+        """Saves the sessions of a client that is gone, and says whether they had a place."""
+        try:
+            self.hub.park(client, now)
+            is_saved = True
+        except Refused:
+            self.hub.close(client, now)
+            is_saved = False
+        del self.lines[client]
+        return is_saved
+
+    # The events.
+
+    def open(self, is_socket, now):
+        client = self.draw()
+        self.hub.open(client, now)
+        self.lines[client] = Line(now, is_socket)
+        return client, open_text(client, is_socket)
+
+    def post(self, client, body, now):
+        self.line_of(client, "polling", "probing")
+        return self.hear(client, lambda: read_payload(body), now, is_payload=True)
+
+    def frame(self, client, text, now):
+        self.line_of(client, "socket")
+        packets = lambda: [read_packet(text)]
+        return self.hear(client, too_long if len(text.encode()) > LONGEST_FRAME else packets, now)
+
+    def bytes(self, client, part, now):
+        self.line_of(client, "socket")
+        return self.hear(client, too_long if len(part) > LONGEST_FRAME else lambda: [("b", part)], now)
+
+    def hear(self, client, read, now, is_payload=False):
+        done = Done()
+        try:
+            packets = read()
+        except Fault as fault:
+            self.close(client, now)
+            done.is_unread, done.closed = is_payload, str(fault)
+            return done
+        for kind, data in packets:
+            try:
+                self.handle(client, kind, data, done, now)
+            except (Fault, Closed) as cause:
+                done.closed = str(cause)
+                self.close(client, now)
+            if done.closed:
+                break
+        return done
+
+    def get(self, client, now):
+        """Says whether the GET waits: a second one closes the client."""
+        line = self.line_of(client, "polling", "probing")
+        if line.is_getting:
+            self.close(client, now)
+            return False
+        line.is_getting = True
+        return True
+
+    def unget(self, client):
+        self.line_of(client).is_getting = False
+
+    def take(self, client, most, now):
+        """What waits: a payload, or a list of frames, or None."""
+        line = self.line_of(client)
+        if line.transport == "socket":
+            return self.waiting(client, most, now) or None
+        packets = self.waiting(client, most, now)
+        texts = ["b" + write_base64(it) if isinstance(it, bytes) else it for it in packets]
+        if not texts and line.transport == "probing":
+            texts = ["6"]
+        if texts:
+            line.is_getting = False
+        return SEPARATOR.join(texts) if texts else None
+
+    def waiting(self, client, most, now):
+        line, outbox = self.lines[client], self.hub.clients[client].outbox
+        packets = ["2"] * line.has_ping
+        line.has_ping = False
+        if outbox:
+            for entry in self.hub.take(client, most, now):
+                packets += ["4" + entry.text, *entry.parts]
+        return packets
+
+    def poll(self, client, most, now):
+        """Takes a payload, also where the client has gone over to a WebSocket while its GET waits."""
+        line = self.line_of(client)
+        if line.transport != "socket":
+            return self.take(client, most, now)
+        if not line.is_getting:
+            raise Refused("WrongTransport")
+        line.is_getting = False
+        return "6"
+
+    def probe(self, client):
+        self.line_of(client).change(PROBE)
+
+    def upgrade(self, client):
+        self.line_of(client).change(UPGRADE)
+
+    def unprobe(self, client):
+        self.line_of(client).change(UNPROBE)
+
+    def lose(self, client, now):
+        self.line_of(client)
+        return self.park(client, now)
+
+    def tick(self, client, now):
+        line = self.line_of(client)
+        for book in line.questions.values():
+            book[1] = {number: until for number, until in book[1].items() if now < until}
+        due = line.clock.tick(now)
+        if due == "ping":
+            line.has_ping = True
+        elif due == "PingTimeout":
+            self.park(client, now)
+        elif due == "ConnectTimeout":
+            self.close(client, now)
+        return due
+
+    # The packets.
+
+    def handle(self, client, kind, data, done, now):
+        line = self.lines[client]
+        if kind == "1":
+            self.park(client, now)
+            done.closed = "ClientClosed"
+        elif kind == "2":
+            raise Closed("PingFromClient")
+        elif kind == "3":
+            line.clock.pong(now)
+        elif kind in ("4", "b"):
+            packet = line.text(data) if kind == "4" else line.binary(data, self.hub.limits["bytes"])
+            if packet:
+                self.serve(client, *packet, done, now)
+
+    def tell(self, client, text, now, parts=()):
+        try:
+            self.hub.tell(client, Entry(text, parts), now)
+        except Refused:
+            raise Closed("OutboxFull") from None
+
+    def serve(self, client, header, parts, done, now):
+        line, sid = self.lines[client], self.hub.socket_of(client, header.space)
+        if header.kind == "0":
+            return self.connect(client, header, done, now)
+        if sid is None:
+            raise Closed("NotJoined")
+        if header.kind == "1":
+            self.hub.end(sid, now)
+            del line.questions[sid]
+        elif header.kind in "25":
+            effects = self.app.decides(sid, header)
+            self.act(client, sid, header, parts, effects, done, now)
+        elif header.kind in "36":
+            done.is_ignored = line.questions[sid][1].pop(header.id, None) is None or done.is_ignored
+        return None
+
+    def connect(self, client, header, done, now):
+        space = header.space
+        if space not in self.hub.limits["spaces"]:
+            return self.tell(client, f'4{start(space)}{{"message":"Invalid namespace"}}', now)
+        if self.hub.socket_of(client, space) is not None:
+            raise Closed("AlreadyConnected")
+        named = named_session(header.payload)
+        if named:
+            try:
+                return self.lines[client].enter(self.hub.recover(client, space, *named, now))
+            except Refused:
+                pass
+        effects = self.app.connects(header.payload)
+        if effects is None:
+            return self.tell(client, f'4{start(space)}{{"message":"Not allowed"}}', now)
+        sid, pid = self.draw(), self.draw()
+        try:
+            self.hub.attach(client, space, sid, pid, now)
+        except Refused as refused:
+            if str(refused) == "OutboxFull":
+                raise Closed("OutboxFull") from None
+            raise
+        self.lines[client].enter(sid)
+        return self.act(client, sid, header, [], effects, done, now)
+
+    def act(self, client, sid, header, parts, effects, done, now):
+        """Does what the app wants. A room that can't be joined or left is skipped, and the first reason told."""
+        for effect in effects:
+            if sid not in self.hub.sockets:
+                raise Refused("BadEffect")
+            try:
+                self.do(client, sid, header, parts, effect, now)
+            except Refused as refused:
+                room, _, reason = str(refused).partition("(")
+                if room != "RoomRefused":
+                    raise
+                done.skipped = done.skipped or reason[:-1]
+
+    def do(self, client, sid, header, parts, effect, now):
+        hub, line, (name, *words), space = self.hub, self.lines[client], effect, header.space
+        if name == "join":
+            hub.join(sid, *words, now)
+        elif name == "leave":
+            hub.leave(sid, *words, now)
+        elif name == "emit":
+            hub.cast(space, *words, header.payload, parts, now)
+        elif name == "pull":
+            hub.join_all(space, words[0], [], words[1], now)
+        elif name == "push":
+            hub.leave_all(space, words[0], [], words[1], now)
+        elif name == "end":
+            for ended in hub.end_all(space, *words, now)[0]:
+                for other in self.lines.values():
+                    other.questions.pop(ended, None)
+        elif name == "no array":
+            raise Refused("BadEffect")
+        elif name == "ask":
+            self.ask(client, line.questions[sid], header, parts, now)
+        elif name == "reply":
+            self.tell(client, f"3{start(space)}{header.id}[]", now)
+        elif name == "bye":
+            farewell = Entry(f"1{start(space)}")
+            if hub.has_place(client, [farewell]):
+                hub.tell(client, farewell, now)
+            hub.end(sid, now)
+            del line.questions[sid]
+
+    def ask(self, client, book, header, parts, now):
+        number, book[0] = book[0], book[0] + 1
+        self.tell(client, event_text(header.space, header.payload, len(parts), number), now, parts)
+        book[1][number] = min(now + WAIT, GREATEST)
+
+
+def too_long():
+    raise Fault("TooLong")
