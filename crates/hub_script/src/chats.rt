@@ -7,6 +7,8 @@ use crate::words::Words;
 use hub::Hub;
 use journal::HubError;
 use std::alloc::Global;
+use std::io;
+use std::io::Write;
 use std::marker::Brand;
 use std::sync::ledger::{Blank, Ledger};
 
@@ -26,17 +28,21 @@ struct Way<'a> {
     is_sealed: bool,
 }
 
-/// Writes the lines of all chats with their answers, and how many chats print the same with seals.
-pub fn write_all(alloc: Global, chats: &str, text: &mut String) -> Result<(), HubError> {
+/// Writes the lines of all chats with their answers, and how many chats print the same with seals. Answers what failed.
+pub fn write_all<W: Write>(alloc: Global, chats: &str, writer: &mut W) -> Result<(), &'static str> {
     let mut count: u64 = 0;
     for chat in chats.trim().split("\n\n") {
-        count = count.saturating_add(write_each_way(alloc, chat, text)?);
+        count = count.saturating_add(write_each_way(alloc, chat, writer)?);
     }
-    Ok(writeln!(text, "=== {count} chats print the same with seals")?)
+    writeln!(writer, "=== {count} chats print the same with seals").map_err(unwritten)
 }
 
 /// Writes what a chat prints. Gives whether it prints the same with seals.
-fn write_each_way(alloc: Global, chat: &str, text: &mut String) -> Result<u64, HubError> {
+fn write_each_way<W: Write>(
+    alloc: Global,
+    chat: &str,
+    writer: &mut W,
+) -> Result<u64, &'static str> {
     let played = performed(
         alloc,
         Way {
@@ -44,7 +50,7 @@ fn write_each_way(alloc: Global, chat: &str, text: &mut String) -> Result<u64, H
             is_sealed: false,
         },
     )?;
-    writeln!(text, "{}", played.as_str())?;
+    writeln!(writer, "{played}").map_err(unwritten)?;
     if chat.lines().any(speaks_of_seals) {
         return Ok(0);
     }
@@ -56,9 +62,13 @@ fn write_each_way(alloc: Global, chat: &str, text: &mut String) -> Result<u64, H
         },
     )?;
     if sealed.as_str() != played.as_str() {
-        writeln!(text, "=== with seals:\n{}", sealed.as_str())?;
+        writeln!(writer, "=== with seals:\n{sealed}").map_err(unwritten)?;
     }
     Ok(u64::from(sealed.as_str() == played.as_str()))
+}
+
+fn unwritten(_error: io::Error) -> &'static str {
+    "standard output can't be written"
 }
 
 /// Whether a line seals, or asks for what a seal changes.
@@ -70,10 +80,10 @@ fn speaks_of_seals(line: &str) -> bool {
 }
 
 /// What a chat prints that is played to a new hub, or to another one where memory for the first was refused.
-fn performed(alloc: Global, way: Way<'_>) -> Result<String, HubError> {
+fn performed(alloc: Global, way: Way<'_>) -> Result<String, &'static str> {
     match perform(alloc, way) {
-        Err(HubError::Memory) => perform(alloc, way),
-        performed => performed,
+        Ok(played) => Ok(played),
+        Err(_) => perform(alloc, way).map_err(|_| "out of memory"),
     }
 }
 

@@ -12,10 +12,12 @@ mod printing;
 mod words;
 
 use chats::write_all;
-use journal::HubError;
 use std::alloc::AllocGlobal;
 use std::io::{self, BufWriter, Read, Write};
 use std::process::ExitCode;
+
+/// How many bytes of chats there is room for at once.
+const USUAL_LENGTH: usize = 1_000_000;
 
 fn main(rt: HostRuntime) -> ExitCode {
     match play(&rt) {
@@ -28,22 +30,19 @@ fn main(rt: HostRuntime) -> ExitCode {
     }
 }
 
-/// Plays all chats, or answers what failed.
+/// Plays all chats, or answers what failed. Memory that was refused is asked for once more.
 fn play<R: Input + Print + AllocGlobal>(rt: &R) -> Result<(), &'static str> {
     let mut chats = String::new(rt.alloc());
+    if chats.reserve(USUAL_LENGTH).is_err() {
+        chats.reserve(USUAL_LENGTH).map_err(|_| "out of memory")?;
+    }
     rt.reader()
         .read_to_string(&mut chats)
         .map_err(|_| "standard input can't be read")?;
-    let mut text = String::new(rt.alloc());
-    match write_all(rt.alloc(), chats.as_str(), &mut text) {
-        Ok(()) => {}
-        Err(HubError::Memory) => return Err("out of memory"),
-        Err(_) => return Err("a hub has no pass left"),
-    }
-    let mut writer = BufWriter::new(rt.alloc(), io::writer(rt)).map_err(|_| "out of memory")?;
-    writer
-        .write_all(text.as_str().as_bytes())
-        .map_err(|_| "standard output can't be written")?;
+    let mut writer = BufWriter::new(rt.alloc(), io::writer(rt))
+        .or_else(|_| BufWriter::new(rt.alloc(), io::writer(rt)))
+        .map_err(|_| "out of memory")?;
+    write_all(rt.alloc(), chats.as_str(), &mut writer)?;
     writer
         .flush()
         .map_err(|_| "standard output can't be written")
