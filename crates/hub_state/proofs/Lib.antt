@@ -1,3 +1,4 @@
+pub mod CastLemmas
 pub mod WalkLemmas
 pub mod RetainLemmas
 pub mod ReturnLemmas

@@ -96,17 +96,17 @@ is-return h client place pid offset at now s r found is same accepted =
 
 -- the recovery may be made, its socket and ids are new to the hub, and there is place for what it puts
 pub record ComesBack (hub : Inside) (r : PlainRecovery) (k : Socket) (es : List Entry) (now : ℕ) : Type 0 where
-  pub accepted : None ≡ or_spent (recover_refusal hub.base hub.limits (hub.journal.steps) r.socket.client r.socket.space r.socket.pid r.offset (max now (moment hub.base (hub.journal.steps)))) (is_spent hub.base hub.limits (hub.journal.steps) (Recovered r))
-  pub right : RightRecovery hub.base hub.limits (hub.journal.steps) r
+  pub accepted : None ≡ or_spent (recover_refusal hub.base hub.limits (hub.records.steps.steps) r.socket.client r.socket.space r.socket.pid r.offset (max now (moment hub.base (hub.records.steps.steps)))) (is_spent hub.base hub.limits (hub.records.steps.steps) (Recovered r))
+  pub right : RightRecovery hub.base hub.limits (hub.records.steps.steps) r
   pub same : k ≡ r.socket
-  pub entries : es ≡ answer hub.limits r.socket ∷ entries_of (log hub.base hub.limits (hub.journal.steps)) r.missed
-  pub counts : CanCount hub.counts (length es) 0 0 0
+  pub entries : es ≡ answer hub.limits r.socket ∷ entries_of (log hub.base hub.limits (hub.records.steps.steps)) r.missed
+  pub counts : CanCount hub.records.counts (length es) 0 0 0
   pub alone : find (λ (l : Socket). l.space == k.space) (held_sockets (get nat_cmp hub.clients k.client)) ≡ None
   pub free : get nat_cmp hub.seats r.socket.sid ≡ None
   pub unused : sorted.contains nat_cmp hub.pids r.socket.pid ≡ false
   pub new : is_socket hub.rooms r.socket.sid ≡ false
   pub few : are_too_many r.socket.sid r.rooms ≡ false
-  pub place : have_no_place hub.limits (waiting hub.base hub.limits (hub.journal.steps) k.client) es ≡ false
+  pub place : have_no_place hub.limits (waiting hub.base hub.limits (hub.records.steps.steps) k.client) es ≡ false
 
 pub comes-back : (hub : Inside) (h : History) (r : PlainRecovery) (k : Socket) (es : List Entry) (now : ℕ) → Describes hub → history_of hub ≡ h → k ≡ r.socket
     → None ≡ or_spent (recover_refusal h.base h.limits h.journal r.socket.client r.socket.space r.socket.pid r.offset (moment_at h now)) (is_spent h.base h.limits h.journal (Recovered r))
@@ -116,7 +116,7 @@ pub comes-back : (hub : Inside) (h : History) (r : PlainRecovery) (k : Socket) (
 comes-back hub h r k es now holds is same accepted right puts =
     let base = hub.base in
     let limits = hub.limits in
-    let journal = hub.journal.steps in
+    let journal = hub.records.steps.steps in
     let at = max now (moment base journal) in
     let accepted' : None ≡ or_spent (recover_refusal base limits journal r.socket.client r.socket.space r.socket.pid r.offset at) (is_spent base limits journal (Recovered r))
     = subst (λ (h : History). None ≡ or_spent (recover_refusal h.base h.limits h.journal r.socket.client r.socket.space r.socket.pid r.offset (moment_at h now)) (is_spent h.base h.limits h.journal (Recovered r))) (sym is) accepted in
@@ -131,7 +131,7 @@ comes-back hub h r k es now holds is same accepted right puts =
       right = right';
       same = same;
       entries = entries;
-      counts = can_recover base limits journal hub.counts holds.3 holds.2 r at (length es) accepted' (placed_recovered base limits journal r es entries);
+      counts = can_recover base limits journal hub.records.counts holds.3 holds.2 r at (length es) accepted' (placed_recovered base limits journal r es entries);
       alone = subst (λ (k : Socket). find (λ (l : Socket). l.space == k.space) (held_sockets (get nat_cmp hub.clients k.client)) ≡ None) (sym same) (free-there base limits (get nat_cmp hub.clients) journal r.socket.client r.socket.space holds.0.clients may.known may.alone);
       free = holds.0.seats r.socket.sid ∙ back.new_sid;
       unused = holds.0.pids r.socket.pid ∙ ap is_some back.new_pid;
@@ -149,11 +149,11 @@ pub came-back : (hub : Inside) (r : PlainRecovery) (k : Socket) (es : List Entry
     → ((p : ℕ) → is_pid p ≡ ((r.socket.pid == p) || sorted.contains nat_cmp hub.pids p))
     → sets ≡ room_maps.with_socket_in hub.rooms r.socket.sid r.rooms → AreConsistent sets
     → table ≡ removed hub.saved k.pid
-    → IsHub hub.base hub.limits new seat is_pid sets table hub.log (max now hub.last) (record { commands = hub.counts.commands + 1; placed = hub.counts.placed + n; dropped = hub.counts.dropped + 0; taken = hub.counts.taken + 0; discarded = hub.counts.discarded + 0 })
-    (record { at = max now hub.last; what = Recovered r } ∷ hub.journal.steps)
+    → IsHub hub.base hub.limits new seat is_pid sets table hub.log (max now hub.records.last) (record { commands = hub.records.counts.commands + 1; placed = hub.records.counts.placed + n; dropped = hub.records.counts.dropped + 0; taken = hub.records.counts.taken + 0; discarded = hub.records.counts.discarded + 0 })
+    (record { at = max now hub.records.last; what = Recovered r } ∷ hub.records.steps.steps)
 came-back hub r k es now n mid new seat is_pid sets table holds b number first second seats pids rooms consistent out =
     let find = get nat_cmp hub.clients in
     let clients = subst (λ (k : Socket). (q : ℕ) → new q ≡ (if k.client == q then option_map (with_return k es) (find q) else find q)) b.same (returned find mid new k.client k es first second) in
     let out' = out ∙ ap (λ (k : Socket). removed hub.saved k.pid) b.same in
-    recovered hub.base hub.limits r now hub.last n find new (get nat_cmp hub.seats) seat (sorted.contains nat_cmp hub.pids) is_pid hub.rooms sets hub.saved table hub.log hub.counts (hub.journal.steps) es
+    recovered hub.base hub.limits r now hub.records.last n find new (get nat_cmp hub.seats) seat (sorted.contains nat_cmp hub.pids) is_pid hub.rooms sets hub.saved table hub.log hub.records.counts (hub.records.steps.steps) es
     holds b.accepted b.right b.entries number clients seats pids rooms consistent out'

@@ -1,6 +1,6 @@
 -- How a command changes what a state is kept in, and what its refusal says.
 use Rattle.std.specs.Prelude.{◌≡◌, ℕ, ◌+◌, ◌≤◌, ◌==◌, ◌||◌, true, false, List, Option, None, Result, OnOk, OnErr, IfErr, if◌then◌else◌}
-use Rattle.std.specs.List.{list_any, AllByRecursion}
+use Rattle.std.specs.List.{find, list_any, AllByRecursion}
 use Rattle.std.specs.Option.{option_map}
 use Rattle.std.specs.Ordering.{nat_cmp}
 use Rattle.std.specs.BTreeMap.{BTreeMap, get}
@@ -14,6 +14,7 @@ use Rattle.journal.specs.Plain.{PlainClient}
 use Rattle.journal.specs.Journal.{History, moment, with_step}
 use Rattle.journal.specs.Totals.{placed_by, dropped_by, handed_out_by, discarded_by, waiting_in_all}
 use Rattle.journal.specs.Legal.{EachTwo, AreApart}
+use Rattle.journal.specs.Fields.{held_sockets}
 use Rattle.journal.specs.Command.{refusal}
 use Rattle.hub_parts.specs.Seats.{SeatMap}
 
@@ -24,6 +25,10 @@ abbrev pub ChangesClient : (PlainClient → PlainClient) → ℕ → BTreeMap �
 ChangesClient f client old new =
     (q : ℕ) → get nat_cmp new q ≡ (if client == q then option_map f (get nat_cmp old q) else get nat_cmp old q)
 
+-- the same of each client
+abbrev pub SameClients : BTreeMap ℕ PlainClient → BTreeMap ℕ PlainClient → Type 0
+SameClients old new = (q : ℕ) → get nat_cmp new q ≡ get nat_cmp old q
+
 -- the same private ids
 abbrev pub SamePids : BTreeSet ℕ → BTreeSet ℕ → Type 0
 SamePids old new = (p : ℕ) → contains nat_cmp new p ≡ contains nat_cmp old p
@@ -31,6 +36,14 @@ SamePids old new = (p : ℕ) → contains nat_cmp new p ≡ contains nat_cmp old
 -- one private id more
 abbrev pub WithPid : ℕ → BTreeSet ℕ → BTreeSet ℕ → Type 0
 WithPid pid old new = (p : ℕ) → contains nat_cmp new p ≡ ((pid == p) || contains nat_cmp old p)
+
+-- no socket has one of the socket's ids
+abbrev pub IsNew : Socket → SeatMap → BTreeSet ℕ → Type 0
+IsNew socket seats pids = (get nat_cmp seats socket.sid ≡ None) × (contains nat_cmp pids socket.pid ≡ false)
+
+-- the socket's client has none at the socket's place
+abbrev pub IsAlone : Socket → BTreeMap ℕ PlainClient → Type 0
+IsAlone socket clients = find (λ (k : Socket). k.space == socket.space) (held_sockets (get nat_cmp clients socket.client)) ≡ None
 
 -- without a private id
 abbrev pub WithoutPid : ℕ → BTreeSet ℕ → BTreeSet ℕ → Type 0

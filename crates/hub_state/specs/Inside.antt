@@ -8,11 +8,11 @@ use Rattle.journal.specs.Fields.{Fields, Counted}
 use Rattle.hub_state.specs.declared.state.State.TheInside.{Inside}
 
 abbrev pub history_of : Inside → History
-history_of h = record { base = h.base; limits = h.limits; journal = h.journal.steps }
+history_of h = record { base = h.base; limits = h.limits; journal = h.records.steps.steps }
 
 abbrev pub Describes : Inside → Type 0
 Describes h =
-    Fields h.base h.limits (get nat_cmp h.clients) (get nat_cmp h.seats) (sorted.contains nat_cmp h.pids) h.rooms h.saved h.log h.last (h.journal.steps)
-    × IsLegal h.base h.limits (h.journal.steps)
-    × IsSound h.base h.limits (h.journal.steps)
-    × Counted h.base h.limits h.counts (h.journal.steps)
+    Fields h.base h.limits (get nat_cmp h.clients) (get nat_cmp h.seats) (sorted.contains nat_cmp h.pids) h.rooms h.saved h.log h.records.last (h.records.steps.steps)
+    × IsLegal h.base h.limits (h.records.steps.steps)
+    × IsSound h.base h.limits (h.records.steps.steps)
+    × Counted h.base h.limits h.records.counts (h.records.steps.steps)

@@ -1,4 +1,5 @@
 pub mod Inside
 pub mod Returning
 pub mod Changes
+pub mod Counting
 pub mod Sending

@@ -1,6 +1,6 @@
 //! The state of a hub: what its base and its journal say, kept in maps.
 
-ghost use Rattle.std.specs.Prelude.{◌≡◌, ℕ, ◌+◌, ◌<◌, ◌≤◌, ◌||◌, true, false, max, List, [], ◌∷◌, ◌++◌, length, reverse, vec_len, vec_capacity, nat_eq, OnOk, IfOk, IfErr, None, Some, unwrap_or};
+ghost use Rattle.std.specs.Prelude.{◌≡◌, ℕ, ◌+◌, ◌<◌, ◌≤◌, ◌||◌, true, false, max, List, [], ◌∷◌, ◌++◌, length, OnOk, OnErr, IfOk, IfErr, None, Some, unwrap_or};
 ghost use Rattle.std.specs.List.{IsDistinct, AllByRecursion};
 ghost use Rattle.journal.specs.Config.{config_refusal, empty_base};
 ghost use Rattle.room_maps.specs.Membership as room_maps;
@@ -20,6 +20,7 @@ ghost use Rattle.journal.specs.declared.step.Step.{Step};
 ghost use Rattle.journal.specs.declared.step.What.{What};
 ghost use Rattle.continuity.specs.Truly.{HearsWhatIsDue};
 ghost use Rattle.hub_state.specs.Changes.{OfEach};
+ghost use Rattle.hub_state.specs.Counting.{counts_after};
 
 mod aim;
 mod cast;
@@ -54,9 +55,7 @@ use std::marker::Model;
 pub struct State {
     limits: Limits,
     base: Base,
-    journal: Steps,
-    /// The moment of the newest step, in milliseconds.
-    last: u64,
+    records: Records,
     clients: BTreeMap<u128, Client>,
     seats: Seats,
     pids: BTreeSet<Pid>,
@@ -65,7 +64,6 @@ pub struct State {
     saved: SavedTable,
     /// The broadcasts that a session which comes back may have missed.
     log: PacketLog,
-    counts: Counts,
 }
 
 /// Written out, so that a crate above takes the drop of all that lies in it by this one call.
@@ -74,15 +72,13 @@ impl Drop for State {
         let Self {
             limits: _,
             base: _,
-            journal: _,
-            last: _,
+            records: _,
             clients: _,
             seats: _,
             pids: _,
             rooms: _,
             saved: _,
             log: _,
-            counts: _,
         } = self;
     }
 }
@@ -98,25 +94,14 @@ impl Model for State {
     ghost invariant = { Describes };
 }
 
-/// Makes room for one more step.
-pub(crate) fn reserve(journal: &mut Steps) -> Result<(), HubError>
-    ensures items { journal.new.steps ≡ journal.old.steps }
-    ensures ok { OnOk result (0 < journal.new.room) }
-    ensures memory { IfErr result (λ e. e ≡ HubError.Memory) }
-{
-    journal.reserve()
-}
-
-/// Writes a step at the end of the journal, which has room for it. A moment before the last counts
-/// as the last.
-pub(crate) fn record(journal: &mut Steps, last: &mut u64, now: u64, what: What)
-    requires { 0 < journal.old.room }
-    ensures last { last.new ≡ max now last.old }
-    ensures journal { let step : Step = record { at = max now last.old; what = what }
-        in journal.new.steps ≡ step ∷ journal.old.steps }
-{
-    *last = now.max(*last);
-    journal.push(Step { at: *last, what });
+/// What is written down of the commands.
+#[derive(Drop)]
+pub(crate) struct Records {
+    /// Their steps since the base.
+    steps: Steps,
+    /// The moment of the newest step, in milliseconds.
+    last: u64,
+    counts: Counts,
 }
 
 /// What a command adds to the counts beside itself, in entries.
@@ -136,22 +121,46 @@ pub(crate) const NONE: Added = Added {
     discarded: 0,
 };
 
-/// Counts one more command, with what it adds.
-pub(crate) fn count(counts: &mut Counts, added: Added)
-    requires { CanCount counts.old added.placed added.dropped added.taken added.discarded }
-    ensures { let old = counts.old in counts.new ≡ record {
-      commands = old.commands + 1;
-      placed = old.placed + added.placed;
-      dropped = old.dropped + added.dropped;
-      taken = old.taken + added.taken;
-      discarded = old.discarded + added.discarded;
-    } }
-{
-    counts.commands += 1;
-    counts.placed += added.placed;
-    counts.dropped += added.dropped;
-    counts.taken += added.taken;
-    counts.discarded += added.discarded;
+impl Records {
+    /// Adds a step, for which there is room, and counts one more command, with what it adds. A
+    /// moment before the last counts as the last.
+    fn add(&mut self, now: u64, what: What, added: Added)
+        requires room { 0 < self.old.steps.room }
+        requires counted { CanCount self.old.counts
+            added.placed added.dropped added.taken added.discarded }
+        ensures last { self.new.last ≡ max now self.old.last }
+        ensures steps { let step : Step = record { at = max now self.old.last; what = what }
+            in self.new.steps.steps ≡ step ∷ self.old.steps.steps }
+        ensures counts { self.new.counts ≡ counts_after self.old.counts added }
+    {
+        self.last = now.max(self.last);
+        self.counts.commands += 1;
+        self.counts.placed += added.placed;
+        self.counts.dropped += added.dropped;
+        self.counts.taken += added.taken;
+        self.counts.discarded += added.discarded;
+        self.steps.push(Step {
+            at: self.last,
+            what,
+        });
+    }
+
+    /// Makes room for a step, and adds it. Refused for `Memory`.
+    fn write(&mut self, now: u64, what: What, added: Added) -> Result<(), HubError>
+        requires { CanCount self.old.counts
+            added.placed added.dropped added.taken added.discarded }
+        ensures last { OnOk result (self.new.last ≡ max now self.old.last) }
+        ensures steps { let step : Step = record { at = max now self.old.last; what = what }
+            in OnOk result (self.new.steps.steps ≡ step ∷ self.old.steps.steps) }
+        ensures counts { OnOk result (self.new.counts ≡ counts_after self.old.counts added) }
+        ensures unchanged { OnErr result ((self.new.steps.steps ≡ self.old.steps.steps)
+            × (self.new.last ≡ self.old.last) × (self.new.counts ≡ self.old.counts)) }
+        ensures memory { IfErr result (λ e. e ≡ HubError.Memory) }
+    {
+        self.steps.reserve()?;
+        self.add(now, what, added);
+        Ok(())
+    }
 }
 
 /// An empty log, as the limits say.
@@ -242,18 +251,21 @@ impl State {
             taken: 0,
             discarded: 0,
         };
+        let records = Records {
+            steps: Steps::new(alloc),
+            last: 0,
+            counts,
+        };
         State {
             limits,
             base,
-            journal: Steps::new(alloc),
-            last: 0,
+            records,
             clients: BTreeMap::new(alloc),
             seats: Seats::new(alloc),
             pids: BTreeSet::new(alloc),
             rooms,
             saved,
             log,
-            counts,
         }
     }
 
@@ -278,7 +290,7 @@ impl State {
     pub(crate) fn moment_at(&self, now: u64) -> u64
         ensures { result ≡ moment_at self.now now }
     {
-        now.max(self.last)
+        now.max(self.records.last)
     }
 
     /// Whether the number of commands, of entries placed or of sockets dropped would pass the
@@ -291,20 +303,10 @@ impl State {
         ensures small { let h = self.now
             in counted.placed h.base h.limits h.journal ≤ 18446744073709551615 }
     {
-        let commands = self.counts.commands;
-        let placed = self.counts.placed;
-        let dropped = self.counts.dropped;
+        let commands = self.records.counts.commands;
+        let placed = self.records.counts.placed;
+        let dropped = self.records.counts.dropped;
         commands == u64::MAX || puts > u64::MAX - placed || drops > u64::MAX - dropped
-    }
-
-    /// Whether a count would pass the greatest u64 by a step that puts and drops so many.
-    pub(crate) fn is_spent(&self, puts: u64, drops: u64) -> bool
-        ensures { OfEach self.now puts drops (λ what.
-            result ≡ is_spent self.now.base self.now.limits self.now.journal what) }
-    {
-        // The type's invariant is known once a field is read.
-        let _fields = &self.base;
-        self.passes(puts, drops)
     }
 
     /// Spent, where a step that puts and drops so many can't be counted.
@@ -312,7 +314,9 @@ impl State {
         ensures { OfEach self.now puts drops (λ what. result
             ≡ or_spent None (is_spent self.now.base self.now.limits self.now.journal what)) }
     {
-        if self.is_spent(puts, drops) {
+        // The type's invariant is known once a field is read.
+        let _fields = &self.base;
+        if self.passes(puts, drops) {
             Some(HubError::Spent)
         } else {
             None

@@ -150,35 +150,6 @@ pub(crate) fn messages_for(
 }
 
 impl State {
-    /// The sockets in all namespaces that are in one of the rooms, or where none is named all, but
-    /// for those in an excepted room.
-    fn addressees(
-        &self,
-        alloc: Global,
-        rooms: &[Room],
-        excepted: &[Room],
-    ) -> Result<Vec<Sid>, HubError>
-        ensures ok { let inside = membership.rooms self.now.base self.now.journal
-            in IfOk result (λ sids.
-            ListsRising nat_cmp (is_addressed inside rooms.now excepted.now) sids.items) }
-        ensures memory { IfErr result (λ e. e ≡ HubError.Memory) }
-    {
-        match self.rooms.addressees(alloc, rooms, excepted) {
-            Ok(sids) => Ok(sids),
-            Err(_) => Err(HubError::Memory),
-        }
-    }
-
-    /// The sockets in the namespace at a place but those in an excepted room.
-    fn everybody(&self, alloc: Global, space: u16, excepted: &[Room]) -> Result<Vec<Sid>, HubError>
-        ensures ok { let inside = membership.rooms self.now.base self.now.journal
-            in IfOk result (λ sids. ListsInside (is_in_space self.now.base self.now.journal space)
-            (is_addressed inside [] excepted.now) sids.items) }
-        ensures memory { IfErr result (λ e. e ≡ HubError.Memory) }
-    {
-        everybody_but(alloc, &self.seats, &self.rooms, space, excepted)
-    }
-
     /// For whom a broadcast to the namespace at a place is. Where rooms are named, sockets of other
     /// namespaces may be among them.
     pub(crate) fn listeners(
@@ -194,9 +165,11 @@ impl State {
         ensures memory { IfErr result (λ e. e ≡ HubError.Memory) }
     {
         if rooms.is_empty() {
-            self.everybody(alloc, space, excepted)
-        } else {
-            self.addressees(alloc, rooms, excepted)
+            return everybody_but(alloc, &self.seats, &self.rooms, space, excepted);
+        }
+        match self.rooms.addressees(alloc, rooms, excepted) {
+            Ok(sids) => Ok(sids),
+            Err(_) => Err(HubError::Memory),
         }
     }
 

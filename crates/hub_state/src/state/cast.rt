@@ -7,10 +7,12 @@ ghost use Rattle.std.specs.Option.{option_map};
 ghost use Rattle.std.specs.Ordering.{nat_cmp};
 ghost use Rattle.std.specs.BTreeMap.{get};
 ghost use Rattle.journal.specs.Outboxes.{entries_for};
-ghost use Rattle.journal.specs.Casting.{is_full_in, receiver_of, pair_of, with_entries, with_logged, Tells, IsEvent, refusal_of, offset_of, has_no_offset, IsCastOf, IsShortOf, CastDoes};
+ghost use Rattle.journal.specs.Membership.{place_of};
+ghost use Rattle.journal.specs.Casting.{is_full_in, receiver_of, pair_of, with_entries, with_logged, Tells, IsEvent, refusal_of, offset_of, has_no_offset, IsCastOf, IsCastError, CastDoes};
 ghost use Rattle.journal.specs.Log.{logged, next};
 ghost use Rattle.journal.specs.Journal.{moment_at};
 ghost use Rattle.journal.specs.Totals.{is_spent};
+ghost use Rattle.journal.specs.Refusals.{or_spent};
 ghost use Rattle.journal.specs.declared.step.What.{What};
 ghost use Rattle.continuity.specs.Truly.{HearsWhatIsDue};
 ghost use Rattle.hub_state.specs.Changes.{MakesStep};
@@ -18,7 +20,7 @@ ghost use Rattle.hub_state.specs.Sending.{done_of, IsCounted};
 
 use crate::state::deliver::put_entry;
 use crate::state::event::has_bracket;
-use crate::state::{Added, NONE, State, count, record, reserve};
+use crate::state::{Added, NONE, State};
 use hub_parts::Client;
 use journal::{Broadcast, Cast, CastDone, HubError, Message, What};
 use recovery::{Logged, PacketLog};
@@ -147,54 +149,83 @@ impl State {
         ensures done { IfOk result (λ done. done ≡ done_of broadcast messages.items) }
     {
         let done = outcome(alloc, &broadcast, &messages)?;
-        reserve(&mut self.journal)?;
-        put_messages(&mut self.clients, messages);
-        push_logged(&mut self.log, entry);
         let added = Added {
             placed: done.placed,
             dropped: done.dropped,
             ..NONE
         };
-        count(&mut self.counts, added);
-        let what = What::Cast(broadcast);
-        record(&mut self.journal, &mut self.last, now, what);
+        self.records.write(now, What::Cast(broadcast), added)?;
+        put_messages(&mut self.clients, messages);
+        push_logged(&mut self.log, entry);
         Ok(done)
     }
 
-    /// Whether a count would pass the greatest u64 by a broadcast with these messages.
-    fn cast_is_spent(&self, broadcast: &Broadcast, messages: &[Message]) -> bool
+    /// Spent, where a broadcast with these messages can't be counted.
+    fn send_refusal(&self, broadcast: &Broadcast, messages: &[Message]) -> Option<HubError>
         requires { Tells self.now.base self.now.limits self.now.journal broadcast.now messages.now }
-        ensures { let what = What.Cast broadcast.now
-            in result ≡ is_spent self.now.base self.now.limits self.now.journal what }
+        ensures { let what = What.Cast broadcast.now in result
+            ≡ or_spent None (is_spent self.now.base self.now.limits self.now.journal what) }
     {
-        self.is_spent(messages.len() as u64, broadcast.dropped.len() as u64)
+        self.count_refusal(messages.len() as u64, broadcast.dropped.len() as u64)
+    }
+
+    /// The place of the namespace that a cast is for, and its offset.
+    fn judge(&self, cast: &Cast) -> Result<(u16, Option<u64>), HubError>
+        ensures place { IfOk result (λ both. both.0 ≡ place_of self.now.limits cast.now.space) }
+        ensures offset { IfOk result (λ both. both.1 ≡ offset_of self.now cast.now.logged) }
+        ensures accepted { IfOk result (λ _. refusal_of self.now cast.now ≡ None) }
+        ensures numbered { IfOk result (λ _. has_no_offset self.now cast.now.logged ≡ false) }
+        ensures refused { IfErr result (IsCastError self.now cast.now
+            (refusal_of self.now cast.now)) }
+    {
+        let place = self.place_of(cast.space.as_str())?;
+        if !has_bracket(cast.payload.as_str()) || cast.attachments.len() > 32 {
+            return Err(HubError::BadPayload);
+        }
+        let offset = self.offset_for(cast.logged)?;
+        Ok((place, offset))
+    }
+
+    /// The broadcast that a cast asks for, which has this place and offset, and the messages for
+    /// those whom it reaches.
+    fn build(
+        &self,
+        alloc: Global,
+        place: u16,
+        offset: Option<u64>,
+        cast: Cast,
+    ) -> Result<(Broadcast, Vec<Message>), HubError>
+        requires place { place ≡ place_of self.now.limits cast.space }
+        requires offset { offset ≡ offset_of self.now cast.logged }
+        requires accepted { refusal_of self.now cast ≡ None }
+        ensures asked { IfOk result (λ both. IsCastOf self.now cast both.0) }
+        ensures tells { IfOk result (λ both.
+            Tells self.now.base self.now.limits self.now.journal both.0 both.1.items) }
+        ensures memory { IfErr result (λ e. e ≡ HubError.Memory) }
+    {
+        let Cast {
+            space: _,
+            rooms,
+            excepted,
+            logged: _,
+            payload,
+            attachments,
+        } = cast;
+        let entry = self.event(alloc, usize::from(place), payload, attachments, offset)?;
+        self.aim(alloc, place, rooms, excepted, offset, entry)
     }
 
     /// The broadcast that a cast asks for, and the messages for those whom it reaches.
     fn make(&self, alloc: Global, cast: Cast) -> Result<(Broadcast, Vec<Message>), HubError>
         ensures asked { IfOk result (λ both. IsCastOf self.now cast both.0) }
+        ensures accepted { IfOk result (λ _. refusal_of self.now cast ≡ None) }
         ensures numbered { IfOk result (λ _. has_no_offset self.now cast.logged ≡ false) }
-        ensures event { IfOk result (λ both. IsEvent self.now.limits both.0) }
         ensures tells { IfOk result (λ both.
             Tells self.now.base self.now.limits self.now.journal both.0 both.1.items) }
-        ensures refused { IfSome (refusal_of self.now cast) (λ refusal. result ≡ Err refusal) }
-        ensures short { refusal_of self.now cast ≡ None → IfErr result (IsShortOf self.now cast) }
+        ensures refused { IfErr result (IsCastError self.now cast (refusal_of self.now cast)) }
     {
-        let Cast {
-            space,
-            rooms,
-            excepted,
-            logged,
-            payload,
-            attachments,
-        } = cast;
-        let place = self.place_of(space.as_str())?;
-        if !has_bracket(payload.as_str()) || attachments.len() > 32 {
-            return Err(HubError::BadPayload);
-        }
-        let offset = self.offset_for(logged)?;
-        let entry = self.event(alloc, usize::from(place), payload, attachments, offset)?;
-        self.aim(alloc, place, rooms, excepted, offset, entry)
+        let (place, offset) = self.judge(&cast)?;
+        self.build(alloc, place, offset, cast)
     }
 
     /// Makes, puts and logs the broadcast that a cast asks for.
@@ -202,8 +233,8 @@ impl State {
         ensures { CastDoes self.old self.new now cast result }
     {
         let (broadcast, messages) = self.make(alloc, cast)?;
-        if self.cast_is_spent(&broadcast, &messages) {
-            return Err(HubError::Spent);
+        if let Some(refusal) = self.send_refusal(&broadcast, &messages) {
+            return Err(refusal);
         }
         let entry = log_entry(alloc, self.moment_at(now), &broadcast)?;
         self.send(alloc, broadcast, messages, entry, now)

@@ -10,7 +10,7 @@ ghost use Rattle.journal.specs.declared.step.What.{What};
 ghost use Rattle.hub_state.specs.Changes.{CanForget, WithoutSeats, WithoutPids, refusal_now};
 
 use crate::state::end::forget_all;
-use crate::state::{Added, NONE, State, count, record, reserve};
+use crate::state::{Added, NONE, State};
 use hub_parts::{Client, Seats};
 use journal::{HubError, What};
 use recovery::Pid;
@@ -68,7 +68,7 @@ impl State {
         if let Some(refusal) = self.close_refusal(client) {
             return Err(refusal);
         }
-        reserve(&mut self.journal)?;
+        self.records.steps.reserve()?;
         let discards = forget_client(
             &mut self.clients,
             &mut self.seats,
@@ -81,8 +81,7 @@ impl State {
             discarded: discards as u64,
             ..NONE
         };
-        count(&mut self.counts, added);
-        record(&mut self.journal, &mut self.last, now, What::Closed(client));
+        self.records.add(now, What::Closed(client), added);
         Ok(())
     }
 }

@@ -5,7 +5,6 @@ ghost use Rattle.std.specs.List.{find};
 ghost use Rattle.std.specs.Option.{option_map};
 ghost use Rattle.std.specs.Ordering.{nat_cmp};
 ghost use Rattle.std.specs.BTreeMap.{get};
-ghost use Rattle.std.specs.BTreeSet as sorted;
 ghost use Rattle.std.specs.Arc.{arc_value};
 ghost use Rattle.room_maps.specs.Membership as room_maps;
 ghost use Rattle.sio_wire.specs.Entry.{entry_size};
@@ -16,18 +15,18 @@ ghost use Rattle.journal.specs.Outboxes.{answer, waiting, total_size, is_full};
 ghost use Rattle.journal.specs.Outboxes as outboxes;
 ghost use Rattle.journal.specs.Refusals.{is_taken};
 ghost use Rattle.journal.specs.Command.{Does};
-ghost use Rattle.journal.specs.Fields.{plus_socket, without_last, held_sockets};
+ghost use Rattle.journal.specs.Fields.{plus_socket, without_last};
 ghost use Rattle.journal.specs.declared.socket.Socket.{Socket};
 ghost use Rattle.journal.specs.declared.step.What.{What};
 ghost use Rattle.hub_parts.specs.Seats.{SameSeats, WithSeat, WithoutSeat};
-ghost use Rattle.hub_state.specs.Changes.{ChangesClient, SamePids, WithPid, WithoutPid, refusal_now, MakesStep};
+ghost use Rattle.hub_state.specs.Changes.{ChangesClient, SameClients, SamePids, WithPid, WithoutPid, IsNew, IsAlone, refusal_now, MakesStep};
 
 use crate::state::deliver::put_entry;
-use crate::state::{Added, NONE, State, count, record, reserve};
+use crate::state::{Added, NONE, State};
 use hub_parts::{Client, Seats};
 use journal::{HubError, Socket, What};
 use recovery::Pid;
-use room_maps::{Rooms, Sid};
+use room_maps::{Room, Rooms, Sid};
 use sio_wire::{Attachments, Entry, connected_text};
 use std::alloc::Global;
 use std::collections::{BTreeMap, BTreeSet};
@@ -41,19 +40,22 @@ fn answer_size(name: &str) -> usize
     if name == "/" { 84 } else { 85 + name.len() }
 }
 
-/// The answer to a CONNECT to this namespace.
-fn answer_text(alloc: Global, name: &str, sid: Sid, pid: Pid) -> Result<Entry, HubError>
-    ensures ok { IfOk result (λ entry. entry ≡ record {
+/// The answer to a CONNECT to this namespace, which outboxes may share.
+fn answer_to(alloc: Global, name: &str, sid: Sid, pid: Pid) -> Result<Arc<Entry>, HubError>
+    ensures ok { IfOk result (λ entry. arc_value entry ≡ record {
       text = connect_answer.connected_text name.now sid pid;
       attachments = [];
     }) }
     ensures memory { IfErr result (λ e. e ≡ HubError.Memory) }
 {
     match connected_text(alloc, name, sid.number(), pid.number()) {
-        Ok(text) => Ok(Entry {
-            text: Text::from_string(text),
-            attachments: Attachments::new(alloc),
-        }),
+        Ok(text) => Ok(Arc::new(
+            alloc,
+            Entry {
+                text: Text::from_string(text),
+                attachments: Attachments::new(alloc),
+            },
+        )?),
         Err(_) => Err(HubError::Memory),
     }
 }
@@ -71,22 +73,17 @@ fn add_pid(pids: &mut BTreeSet<Pid>, pid: Pid) -> Result<(), HubError>
 }
 
 /// Makes a socket known by both its ids, of which the session id is free.
-pub(crate) fn add_ids(
-    seats: &mut Seats,
-    pids: &mut BTreeSet<Pid>,
-    socket: Socket,
-) -> Result<(), HubError>
-    requires free { get nat_cmp seats.old socket.sid ≡ None }
-    ensures seats { OnOk result (WithSeat socket seats.old seats.new) }
-    ensures pids { OnOk result (WithPid socket.pid pids.old pids.new) }
+fn add_ids(seats: &mut Seats, pids: &mut BTreeSet<Pid>, socket: &Socket) -> Result<(), HubError>
+    requires free { get nat_cmp seats.old socket.now.sid ≡ None }
+    ensures seats { OnOk result (WithSeat socket.now seats.old seats.new) }
+    ensures pids { OnOk result (WithPid socket.now.pid pids.old pids.new) }
     ensures same_seats { OnErr result (SameSeats seats.old seats.new) }
     ensures same_pids { OnErr result (SamePids pids.old pids.new) }
     ensures memory { IfErr result (λ e. e ≡ HubError.Memory) }
 {
-    let (sid, pid) = (socket.sid, socket.pid);
-    seats.insert(socket)?;
-    if add_pid(pids, pid).is_err() {
-        seats.remove(sid);
+    seats.insert(*socket)?;
+    if add_pid(pids, socket.pid).is_err() {
+        seats.remove(socket.sid);
         return Err(HubError::Memory);
     }
     Ok(())
@@ -101,63 +98,89 @@ pub(crate) fn drop_ids(seats: &mut Seats, pids: &mut BTreeSet<Pid>, sid: Sid, pi
     pids.remove(&pid);
 }
 
-/// Makes a socket known by both its ids, which are free, in its own room.
+/// Makes a socket known by both its ids, which are free, in its own room and in these.
 fn enter(
     alloc: Global,
     seats: &mut Seats,
     pids: &mut BTreeSet<Pid>,
     rooms: &mut Rooms,
-    socket: Socket,
+    socket: &Socket,
+    inside: &[Room],
 ) -> Result<(), HubError>
-    requires free { get nat_cmp seats.old socket.sid ≡ None }
-    requires unused { sorted.contains nat_cmp pids.old socket.pid ≡ false }
-    ensures known { OnOk result (WithSeat socket seats.old seats.new
-        × WithPid socket.pid pids.old pids.new) }
-    ensures rooms { OnOk result (rooms.new ≡ room_maps.with_socket rooms.old socket.sid) }
+    requires { IsNew socket.now seats.old pids.old }
+    ensures ids { OnOk result (WithSeat socket.now seats.old seats.new
+        × WithPid socket.now.pid pids.old pids.new) }
+    ensures rooms { OnOk result (rooms.new
+        ≡ room_maps.with_socket_in rooms.old socket.now.sid inside.now) }
+    ensures agree { OnOk result (room_maps.AreConsistent rooms.new) }
     ensures unchanged { OnErr result (SameSeats seats.old seats.new × SamePids pids.old pids.new
         × (rooms.new ≡ rooms.old)) }
     ensures memory { IfErr result (λ e. e ≡ HubError.Memory) }
 {
-    let (sid, pid) = (socket.sid, socket.pid);
     add_ids(seats, pids, socket)?;
-    if rooms.enter(alloc, sid).is_err() {
-        drop_ids(seats, pids, sid, pid);
+    if rooms.enter_all(alloc, socket.sid, inside).is_err() {
+        drop_ids(seats, pids, socket.sid, socket.pid);
         return Err(HubError::Memory);
     }
+    rooms.kept_facts();
     Ok(())
 }
 
 /// Gives a client a socket more, where it has none at the socket's place.
-pub(crate) fn add_socket(
-    clients: &mut BTreeMap<u128, Client>,
-    client: u128,
-    socket: Socket,
-) -> Result<(), HubError>
-    requires { let held = held_sockets (get nat_cmp clients.old client)
-        in find (λ (k : Socket). k.space == socket.space) held ≡ None }
-    ensures ok { OnOk result (ChangesClient (plus_socket socket) client clients.old clients.new) }
-    ensures err { OnErr result ((q : ℕ)
-        → get nat_cmp clients.new q ≡ get nat_cmp clients.old q) }
+fn add_socket(clients: &mut BTreeMap<u128, Client>, socket: &Socket) -> Result<(), HubError>
+    requires { IsAlone socket.now clients.old }
+    ensures ok { let k = socket.now
+        in OnOk result (ChangesClient (plus_socket k) k.client clients.old clients.new) }
+    ensures err { OnErr result (SameClients clients.old clients.new) }
     ensures memory { IfErr result (λ e. e ≡ HubError.Memory) }
 {
-    match clients.get_mut(&client) {
-        Some(known) => {
-            if known.sockets.push(socket).is_err() {
-                return Err(HubError::Memory);
-            }
+    if let Some(known) = clients.get_mut(&socket.client) {
+        if known.sockets.push(*socket).is_err() {
+            return Err(HubError::Memory);
         }
-        None => {}
     }
     Ok(())
 }
 
 /// Takes the newest socket of a client away.
-pub(crate) fn drop_socket(clients: &mut BTreeMap<u128, Client>, client: u128)
+fn drop_socket(clients: &mut BTreeMap<u128, Client>, client: u128)
     ensures { ChangesClient without_last client clients.old clients.new }
 {
     if let Some(known) = clients.get_mut(&client) {
         known.sockets.pop();
     }
+}
+
+/// Gives a socket whose ids are free to its client, as the newest, and makes it known by them, in
+/// its own room and in these. Where memory is refused, all stays as it was.
+pub(crate) fn seat(
+    alloc: Global,
+    clients: &mut BTreeMap<u128, Client>,
+    seats: &mut Seats,
+    pids: &mut BTreeSet<Pid>,
+    rooms: &mut Rooms,
+    socket: &Socket,
+    inside: &[Room],
+) -> Result<(), HubError>
+    requires alone { IsAlone socket.now clients.old }
+    requires new { IsNew socket.now seats.old pids.old }
+    ensures ids { let k = socket.now
+        in OnOk result (ChangesClient (plus_socket k) k.client clients.old clients.new
+        × WithSeat k seats.old seats.new × WithPid k.pid pids.old pids.new) }
+    ensures rooms { OnOk result ((rooms.new
+        ≡ room_maps.with_socket_in rooms.old socket.now.sid inside.now)
+        × room_maps.AreConsistent rooms.new) }
+    ensures unchanged { OnErr result (SameClients clients.old clients.new
+        × SameSeats seats.old seats.new × SamePids pids.old pids.new
+        × (rooms.new ≡ rooms.old)) }
+    ensures memory { IfErr result (λ e. e ≡ HubError.Memory) }
+{
+    add_socket(clients, socket)?;
+    if let Err(refusal) = enter(alloc, seats, pids, rooms, socket, inside) {
+        drop_socket(clients, socket.client);
+        return Err(refusal);
+    }
+    Ok(())
 }
 
 impl State {
@@ -192,24 +215,14 @@ impl State {
         self.pids.contains(&pid)
     }
 
-    /// The socket of a client at a place, where the client is open.
-    fn socket_if_open(&self, client: u128, place: usize) -> Option<Socket>
-        ensures { let h = self.now
-            in result ≡ (if is_open h.base h.journal client
-            then find (λ k. k.space == place) (sockets_of h.base h.journal client) else None) }
+    /// The socket of a client at a place.
+    pub(crate) fn socket_at(&self, client: u128, place: usize) -> Option<Socket>
+        ensures { result ≡ socket_of self.now.base self.now.journal client place }
     {
         match self.clients.get(&client) {
             Some(known) => known.sockets.at(place),
             None => None,
         }
-    }
-
-    /// The socket of a client at a place.
-    pub(crate) fn socket_at(&self, client: u128, place: usize) -> Option<Socket>
-        ensures { result ≡ socket_of self.now.base self.now.journal client place }
-    {
-        self.facts();
-        self.socket_if_open(client, place)
     }
 
     /// The session id of a client's socket in a namespace, or `None` where it has none there. It
@@ -283,19 +296,20 @@ impl State {
         answer_size(self.name_at(place))
     }
 
-    /// The answer to a CONNECT to the namespace at a place.
+    /// The answer to a CONNECT to the namespace at a place, which outboxes may share.
     pub(crate) fn answer(
         &self,
         alloc: Global,
         place: usize,
         sid: Sid,
         pid: Pid,
-    ) -> Result<Entry, HubError>
-        ensures ok { IfOk result (λ entry. (client : ℕ) → entry ≡ answer self.now.limits
+    ) -> Result<Arc<Entry>, HubError>
+        ensures ok { IfOk result (λ entry. (client : ℕ) → arc_value entry
+            ≡ answer self.now.limits
             (record { client = client; space = place; sid = sid; pid = pid })) }
         ensures memory { IfErr result (λ e. e ≡ HubError.Memory) }
     {
-        answer_text(alloc, self.name_at(place), sid, pid)
+        answer_to(alloc, self.name_at(place), sid, pid)
     }
 
     /// Whether an open client's outbox has no place for the answer to a CONNECT.
@@ -373,8 +387,7 @@ impl State {
             in Does self.old self.new now (What.Attached socket) result }
     {
         let socket = self.attaching(client, space, sid, pid)?;
-        let entry = self.answer(alloc, usize::from(socket.space), sid, pid)?;
-        let answer = Arc::new(alloc, entry)?;
+        let answer = self.answer(alloc, usize::from(socket.space), sid, pid)?;
         self.connect(alloc, socket, answer, now)
     }
 
@@ -390,38 +403,19 @@ impl State {
         requires answer { arc_value answer ≡ outboxes.answer self.old.limits socket }
         ensures { MakesStep self.old self.new now (What.Attached socket) result }
     {
-        let client = socket.client;
-        let same = Socket {
-            client,
-            space: socket.space,
-            sid: socket.sid,
-            pid: socket.pid,
-        };
-        let again = Socket {
-            client,
-            space: socket.space,
-            sid: socket.sid,
-            pid: socket.pid,
-        };
-        reserve(&mut self.journal)?;
-        add_socket(&mut self.clients, client, same)?;
-        let entered = enter(
+        self.records.steps.reserve()?;
+        seat(
             alloc,
+            &mut self.clients,
             &mut self.seats,
             &mut self.pids,
             &mut self.rooms,
-            again,
-        );
-        if entered.is_err() {
-            drop_socket(&mut self.clients, client);
-            return Err(HubError::Memory);
-        }
-        self.rooms.kept_facts();
-        put_entry(&mut self.clients, client, answer);
+            &socket,
+            &[],
+        )?;
+        put_entry(&mut self.clients, socket.client, answer);
         let added = Added { placed: 1, ..NONE };
-        count(&mut self.counts, added);
-        let what = What::Attached(socket);
-        record(&mut self.journal, &mut self.last, now, what);
+        self.records.add(now, What::Attached(socket), added);
         Ok(())
     }
 }

@@ -11,7 +11,7 @@ ghost use Rattle.journal.specs.Fields.{without_first, with_entry};
 ghost use Rattle.journal.specs.declared.step.What.{What};
 ghost use Rattle.hub_state.specs.Changes.{ChangesClient, refusal_now};
 
-use crate::state::{Added, NONE, State, count, record, reserve};
+use crate::state::{Added, NONE, State};
 use hub_parts::Client;
 use journal::{HubError, Message, What};
 use sio_wire::Entry;
@@ -93,12 +93,10 @@ impl State {
             return Err(refusal);
         }
         let (entry, shared) = share(alloc, entry)?;
-        reserve(&mut self.journal)?;
-        put_entry(&mut self.clients, client, shared);
+        let told = Message { client, entry };
         let added = Added { placed: 1, ..NONE };
-        count(&mut self.counts, added);
-        let what = What::Told(Message { client, entry });
-        record(&mut self.journal, &mut self.last, now, what);
+        self.records.write(now, What::Told(told), added)?;
+        put_entry(&mut self.clients, client, shared);
         Ok(())
     }
 
@@ -177,15 +175,13 @@ impl State {
             in Does self.old self.new now what result }
     {
         let number = self.takes(client, most)?;
-        reserve(&mut self.journal)?;
-        hand_out(&mut self.clients, client, number);
         let added = Added {
             taken: number as u64,
             ..NONE
         };
-        count(&mut self.counts, added);
-        let what = What::Took(client, most, number);
-        record(&mut self.journal, &mut self.last, now, what);
+        self.records
+            .write(now, What::Took(client, most, number), added)?;
+        hand_out(&mut self.clients, client, number);
         Ok(number)
     }
 }

@@ -28,7 +28,7 @@ ghost use Rattle.hub_state.specs.Changes.{WithoutSeats, WithoutPids, MakesStep};
 use crate::state::aim::{messages_for, sockets_in};
 use crate::state::cast::{put_messages, receivers};
 use crate::state::end::{drop_from, forget};
-use crate::state::{Added, NONE, State, count, record, reserve};
+use crate::state::{Added, NONE, State};
 use hub_parts::{Client, Seats};
 use journal::{Dismissal, Dismissed, HubError, Message, Socket, What};
 use recovery::Pid;
@@ -194,20 +194,16 @@ impl State {
             in is_spent self.old.base self.old.limits self.old.journal what ≡ false }
         ensures { MakesStep self.old self.new now (What.AllEnded dismissal) result }
     {
-        let told = dismissal.told.len() as u64;
         let place = usize::from(dismissal.space);
-        reserve(&mut self.journal)?;
+        let added = Added {
+            placed: dismissal.told.len() as u64,
+            ..NONE
+        };
+        self.records.write(now, What::AllEnded(dismissal), added)?;
         put_messages(&mut self.clients, messages);
         drop_all(&mut self.clients, &sockets, place);
         forget_each(&mut self.seats, &mut self.pids, &mut self.rooms, &sockets);
         self.rooms.kept_facts();
-        let added = Added {
-            placed: told,
-            ..NONE
-        };
-        count(&mut self.counts, added);
-        let what = What::AllEnded(dismissal);
-        record(&mut self.journal, &mut self.last, now, what);
         Ok(())
     }
 

@@ -13,7 +13,7 @@ ghost use Rattle.hub_parts.specs.Seats.{WithoutSeat};
 ghost use Rattle.hub_state.specs.Changes.{ChangesClient, WithoutPid, WithoutSeats, WithoutPids, refusal_now};
 
 use crate::state::connect::drop_ids;
-use crate::state::{NONE, State, count, record, reserve};
+use crate::state::{NONE, State};
 use hub_parts::{Client, Seats, Sockets};
 use journal::{HubError, Socket, What};
 use recovery::Pid;
@@ -30,14 +30,6 @@ pub(crate) fn drop_from(clients: &mut BTreeMap<u128, Client>, client: u128, plac
     }
 }
 
-/// Ends a known socket in the rooms.
-fn end_in(rooms: &mut Rooms, sid: Sid)
-    requires { room_maps.is_socket rooms.old sid ≡ true }
-    ensures { rooms.new ≡ room_maps.without_socket rooms.old sid }
-{
-    let _ended = rooms.end(sid);
-}
-
 /// Forgets a socket's ids, and ends it in the rooms.
 pub(crate) fn forget(seats: &mut Seats, pids: &mut BTreeSet<Pid>, rooms: &mut Rooms, socket: Socket)
     requires { room_maps.is_socket rooms.old socket.sid ≡ true }
@@ -46,7 +38,7 @@ pub(crate) fn forget(seats: &mut Seats, pids: &mut BTreeSet<Pid>, rooms: &mut Ro
     ensures rooms { rooms.new ≡ room_maps.without_socket rooms.old socket.sid }
 {
     drop_ids(seats, pids, socket.sid, socket.pid);
-    end_in(rooms, socket.sid);
+    let _ended = rooms.end(socket.sid);
 }
 
 /// Forgets the ids of sockets that are apart, and ends these in the rooms.
@@ -102,12 +94,10 @@ impl State {
         ensures { Does self.old self.new now (What.Ended sid) result }
     {
         let socket = self.ending(sid)?;
-        reserve(&mut self.journal)?;
+        self.records.write(now, What::Ended(sid), NONE)?;
         drop_from(&mut self.clients, socket.client, usize::from(socket.space));
         forget(&mut self.seats, &mut self.pids, &mut self.rooms, socket);
         self.rooms.kept_facts();
-        count(&mut self.counts, NONE);
-        record(&mut self.journal, &mut self.last, now, What::Ended(sid));
         Ok(())
     }
 }

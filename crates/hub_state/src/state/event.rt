@@ -49,6 +49,29 @@ fn kind_of(attachments: usize) -> Kind
     }
 }
 
+/// The header of an event for the namespace with this name.
+fn header_of(
+    alloc: Global,
+    name: &str,
+    payload: Text,
+    attachments: usize,
+    offset: Option<u64>,
+) -> Result<Header, HubError>
+    requires { attachments ≤ 32 }
+    ensures ok { IfOk result (λ header.
+        header ≡ event_header name.now payload attachments offset) }
+    ensures memory { IfErr result (λ e. e ≡ HubError.Memory) }
+{
+    let payload = payload_of(alloc, payload, offset)?;
+    Ok(Header {
+        kind: kind_of(attachments),
+        space: Text::copy_of(alloc, name)?,
+        id: None,
+        payload,
+        count: attachments as u32,
+    })
+}
+
 /// The text of an event for the namespace with this name.
 fn event_text(
     alloc: Global,
@@ -62,13 +85,7 @@ fn event_text(
         Plain (event_header name.now payload attachments offset) text) }
     ensures memory { IfErr result (λ e. e ≡ HubError.Memory) }
 {
-    let header = Header {
-        kind: kind_of(attachments),
-        space: Text::copy_of(alloc, name)?,
-        id: None,
-        payload: payload_of(alloc, payload, offset)?,
-        count: attachments as u32,
-    };
+    let header = header_of(alloc, name, payload, attachments, offset)?;
     match write_header(alloc, &header) {
         Ok(text) => Ok(Text::from_string(text)),
         Err(_) => Err(HubError::Memory),

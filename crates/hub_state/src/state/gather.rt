@@ -12,7 +12,7 @@ ghost use Rattle.journal.specs.declared.step.What.{What};
 ghost use Rattle.hub_state.specs.Changes.{MakesStep};
 
 use crate::state::members::keep_here;
-use crate::state::{NONE, State, count, record, reserve};
+use crate::state::{NONE, State};
 use journal::{HubError, RoomChange, What};
 use room_maps::{Room, Rooms, Sid};
 use std::alloc::Global;
@@ -137,14 +137,12 @@ impl State {
         ensures does { MakesStep self.old self.new now (What.AllJoined change) result }
         ensures changed { IfOk result (λ sids. sids.items ≡ change.changed) }
     {
-        reserve(&mut self.journal)?;
+        self.records.steps.reserve()?;
         let Ok(joined) = self.rooms.join_all(alloc, &change.changed, change.room) else {
             return Err(HubError::Memory);
         };
         self.rooms.kept_facts();
-        count(&mut self.counts, NONE);
-        let what = What::AllJoined(change);
-        record(&mut self.journal, &mut self.last, now, what);
+        self.records.add(now, What::AllJoined(change), NONE);
         Ok(joined)
     }
 
@@ -162,14 +160,12 @@ impl State {
         ensures does { MakesStep self.old self.new now (What.AllLeft change) result }
         ensures changed { IfOk result (λ sids. sids.items ≡ change.changed) }
     {
-        reserve(&mut self.journal)?;
+        self.records.steps.reserve()?;
         let Ok(left) = self.rooms.leave_all(alloc, &change.changed, change.room) else {
             return Err(HubError::Memory);
         };
         self.rooms.kept_facts();
-        count(&mut self.counts, NONE);
-        let what = What::AllLeft(change);
-        record(&mut self.journal, &mut self.last, now, what);
+        self.records.add(now, What::AllLeft(change), NONE);
         Ok(left)
     }
 

@@ -24,7 +24,7 @@ impl State {
     pub fn steps(&self) -> &[Step]
         ensures { result.now ≡ reverse self.now.journal }
     {
-        self.journal.as_slice()
+        self.records.steps.as_slice()
     }
 
     /// How many bytes the entries of the journal's broadcasts and messages have together, each
@@ -32,7 +32,7 @@ impl State {
     pub fn held(&self) -> u64
         ensures { result ≡ min (counted.held self.now.journal) u64.MAX }
     {
-        self.journal.held()
+        self.records.steps.held()
     }
 
     /// Whether the hub has a namespace with this name. It takes the logarithm of the namespaces.
@@ -115,13 +115,14 @@ impl State {
     pub fn totals(&self) -> Totals
         ensures { result ≡ counted.totals self.now.base self.now.limits self.now.journal }
     {
+        let counts = &self.records.counts;
         Totals {
-            commands: self.counts.commands,
-            placed: self.counts.placed,
-            dropped: self.counts.dropped,
-            taken: self.counts.taken,
-            discarded: self.counts.discarded,
-            waiting: self.counts.placed - self.counts.taken - self.counts.discarded,
+            commands: counts.commands,
+            placed: counts.placed,
+            dropped: counts.dropped,
+            taken: counts.taken,
+            discarded: counts.discarded,
+            waiting: counts.placed - counts.taken - counts.discarded,
         }
     }
 }

@@ -1,6 +1,6 @@
 //! The members of a room (Socket.IO server documentation, "Rooms").
 
-ghost use Rattle.std.specs.Prelude.{◌≡◌, ℕ, ◌==◌, ◌&&◌, true, false, not, filter, OnOk, IfOk, IfErr, Err};
+ghost use Rattle.std.specs.Prelude.{◌≡◌, ℕ, ◌==◌, ◌&&◌, true, false, [], ◌∷◌, ◌++◌, filter, OnOk, IfOk, IfErr, Err, if◌then◌else◌};
 ghost use Rattle.std.specs.Ordering.{nat_cmp};
 ghost use Rattle.std.specs.BTreeMap.{get};
 ghost use Rattle.room_maps.specs.Membership.{is_in};
@@ -14,14 +14,18 @@ use journal::HubError;
 use room_maps::{Room, Sid};
 use std::alloc::Global;
 
-/// Whether the socket with this id is in the namespace at a place.
-fn is_here(seats: &Seats, sid: Sid, place: usize) -> bool
-    ensures { result ≡ is_here place (get nat_cmp seats.now sid) }
+/// Adds the id of a socket, where this is in the namespace at a place.
+fn add_here(kept: &mut Vec<Sid>, seats: &Seats, sid: Sid, place: usize) -> Result<(), HubError>
+    ensures ok { OnOk result (kept.new.items ≡ kept.old.items
+        ++ (if is_here place (get nat_cmp seats.now sid) then sid ∷ [] else [])) }
+    ensures memory { IfErr result (λ e. e ≡ HubError.Memory) }
 {
-    match seats.get(sid) {
-        Some(socket) => usize::from(socket.space) == place,
-        None => false,
+    if let Some(socket) = seats.get(sid) {
+        if usize::from(socket.space) == place {
+            kept.push(sid)?;
+        }
     }
+    Ok(())
 }
 
 /// Those of the sockets with these ids that are in the namespace at a place, in the same order.
@@ -37,26 +41,12 @@ pub(crate) fn keep_here(
 {
     let mut kept = Vec::new(alloc);
     for sid in sids {
-        if is_here(seats, *sid, place) {
-            kept.push(*sid)?;
-        }
+        add_here(&mut kept, seats, *sid, place)?;
     }
     Ok(kept)
 }
 
 impl State {
-    /// The sockets of all namespaces that are in a room, rising.
-    fn members_of(&self, alloc: Global, room: Room) -> Result<Vec<Sid>, HubError>
-        ensures ok { let h = self.now in IfOk result (λ sids.
-            ListsRising nat_cmp (λ s. is_in (rooms h.base h.journal) s room) sids.items) }
-        ensures memory { IfErr result (λ e. e ≡ HubError.Memory) }
-    {
-        match self.rooms.members_of(alloc, room) {
-            Ok(sids) => Ok(sids),
-            Err(_) => Err(HubError::Memory),
-        }
-    }
-
     /// The sockets of a namespace that are in a room, rising.
     fn members_at(&self, alloc: Global, place: usize, room: Room) -> Result<Vec<Sid>, HubError>
         ensures ok { let h = self.now in IfOk result (λ sids. ListsRising nat_cmp (λ s.
@@ -64,7 +54,9 @@ impl State {
             && is_in (rooms h.base h.journal) s room) sids.items) }
         ensures memory { IfErr result (λ e. e ≡ HubError.Memory) }
     {
-        let sids = self.members_of(alloc, room)?;
+        let Ok(sids) = self.rooms.members_of(alloc, room) else {
+            return Err(HubError::Memory);
+        };
         keep_here(alloc, &self.seats, &sids, place)
     }
 

@@ -1,7 +1,7 @@
 //! Clients are lost, and their sockets' sessions are saved (Socket.IO server documentation,
 //! "Connection state recovery").
 
-ghost use Rattle.std.specs.Prelude.{◌≡◌, ◌-◌, length, OnOk, OnErr, IfOk, IfErr, None, Some, if◌then◌else◌};
+ghost use Rattle.std.specs.Prelude.{◌≡◌, ◌-◌, ◌<◌, length, OnOk, OnErr, IfOk, IfErr, None, Some, if◌then◌else◌};
 ghost use Rattle.std.specs.Ordering.{nat_cmp};
 ghost use Rattle.std.specs.BTreeMap.{get};
 ghost use Rattle.recovery.specs.SavedTable as table;
@@ -15,8 +15,8 @@ ghost use Rattle.hub_state.specs.Changes.{refusal_now};
 
 use crate::state::close::forget_client;
 use crate::state::recover::take_session;
-use crate::state::{Added, NONE, State, count, record, reserve};
-use hub_parts::{Client, Sockets};
+use crate::state::{Added, NONE, State};
+use hub_parts::{Client, Sockets, Steps};
 use journal::{HubError, Socket, What};
 use recovery::{Saved, SavedTable};
 use room_maps::Rooms;
@@ -91,8 +91,9 @@ fn save_all(
     Ok(())
 }
 
-/// Saves the sessions of a client's sockets.
+/// Makes room for a step, and saves the sessions of a client's sockets.
 fn save_client(
+    steps: &mut Steps,
     saved: &mut SavedTable,
     clients: &BTreeMap<u128, Client>,
     rooms: &Rooms,
@@ -101,11 +102,14 @@ fn save_client(
     at: u64,
 ) -> Result<(), HubError>
     requires { HasNoneOf (held_sockets (get nat_cmp clients.now client)) saved.old }
+    ensures steps { steps.new.steps ≡ steps.old.steps }
+    ensures room { OnOk result (0 < steps.new.room) }
     ensures saved { let held = held_sockets (get nat_cmp clients.now client)
         in OnOk result (saved.new ≡ with_lost rooms.now at held saved.old) }
     ensures unchanged { OnErr result (saved.new ≡ saved.old) }
     ensures memory { IfErr result (λ e. e ≡ HubError.Memory) }
 {
+    steps.reserve()?;
     match clients.get(&client) {
         Some(known) => save_all(saved, rooms, alloc, &known.sockets, at),
         None => Ok(()),
@@ -157,9 +161,9 @@ impl State {
         if let Some(refusal) = self.park_refusal(client) {
             return Err(refusal);
         }
-        reserve(&mut self.journal)?;
-        let at = now.max(self.last);
+        let at = now.max(self.records.last);
         save_client(
+            &mut self.records.steps,
             &mut self.saved,
             &self.clients,
             &self.rooms,
@@ -179,8 +183,7 @@ impl State {
             discarded: discards as u64,
             ..NONE
         };
-        count(&mut self.counts, added);
-        record(&mut self.journal, &mut self.last, now, What::Parked(client));
+        self.records.add(now, What::Parked(client), added);
         Ok(())
     }
 }

@@ -1,12 +1,9 @@
 //! Saved sessions come back (Socket.IO server documentation, "Connection state recovery").
 
-ghost use Rattle.std.specs.Prelude.{◌≡◌, ℕ, ◌+◌, ◌^◌, ◌<◌, ◌≤◌, ◌||◌, true, false, ◌++◌, length, map, OnOk, OnErr, IfOk, IfErr, IfSome, IfNone, None, Some, option_copied, is_some, nat_lt};
+ghost use Rattle.std.specs.Prelude.{◌≡◌, ℕ, ◌+◌, ◌^◌, ◌<◌, ◌≤◌, ◌||◌, true, false, ◌++◌, length, map, IfOk, IfErr, IfSome, IfNone, None, Some, option_copied, is_some, nat_lt};
 ghost use Rattle.std.specs.Ordering.{nat_cmp};
 ghost use Rattle.std.specs.BTreeMap.{get};
-ghost use Rattle.std.specs.BTreeSet as sorted;
 ghost use Rattle.std.specs.Arc.{arc_value};
-ghost use Rattle.room_maps.specs.Membership as room_maps;
-ghost use Rattle.room_maps.specs.Membership.{enter_all_refusal};
 ghost use Rattle.recovery.specs.PacketLog.{stands, later_than};
 ghost use Rattle.recovery.specs.SavedTable.{removed};
 ghost use Rattle.sio_wire.specs.Entry.{entry_size};
@@ -21,20 +18,19 @@ ghost use Rattle.journal.specs.Legal.{RightRecovery};
 ghost use Rattle.journal.specs.Command.{refusal, Does};
 ghost use Rattle.journal.specs.declared.step.What.{What};
 ghost use Rattle.continuity.specs.Truly.{HearsWhatIsDue};
-ghost use Rattle.hub_parts.specs.Seats.{SameSeats, WithSeat};
-ghost use Rattle.hub_state.specs.Changes.{ChangesClient, SamePids, WithPid, MakesStep};
+ghost use Rattle.hub_state.specs.Changes.{ChangesClient, MakesStep};
 ghost use Rattle.hub_state.specs.Returning.{return_of, return_refusal, recover_refusal_of, puts_again};
 
-use crate::state::connect::{add_ids, add_socket, drop_ids, drop_socket};
-use crate::state::missed::{Found, add_missed};
-use crate::state::{Added, NONE, State, count, record, reserve};
-use hub_parts::{Client, Outbox, Seats};
+use crate::state::connect::seat;
+use crate::state::missed::{Found, put_missed};
+use crate::state::{Added, NONE, State};
+use hub_parts::{Client, Outbox};
 use journal::{HubError, Recovery, RecoveryRefusal, Socket, What};
 use recovery::{Logged, Pid, Saved, SavedTable};
-use room_maps::{Rooms, Sid};
+use room_maps::Sid;
 use sio_wire::Entry;
 use std::alloc::Global;
-use std::collections::{BTreeMap, BTreeSet};
+use std::collections::BTreeMap;
 use std::sync::Arc;
 
 /// Puts entries at the end of an outbox, which has a place for all.
@@ -63,35 +59,6 @@ fn put_all(clients: &mut BTreeMap<u128, Client>, client: u128, entries: Vec<Arc<
     if let Some(known) = clients.get_mut(&client) {
         push_all(&mut known.outbox, entries);
     }
-}
-
-/// Makes the socket that comes back known by both its ids, in the rooms that it had.
-fn enter_again(
-    alloc: Global,
-    seats: &mut Seats,
-    pids: &mut BTreeSet<Pid>,
-    rooms: &mut Rooms,
-    recovery: &Recovery,
-) -> Result<(), HubError>
-    requires free { get nat_cmp seats.old recovery.now.socket.sid ≡ None }
-    requires unused { sorted.contains nat_cmp pids.old recovery.now.socket.pid ≡ false }
-    requires enters { let r = recovery.now
-        in enter_all_refusal rooms.old r.socket.sid r.rooms ≡ None }
-    ensures ok { let socket = recovery.now.socket
-        in OnOk result (WithSeat socket seats.old seats.new × WithPid socket.pid pids.old pids.new
-        × (rooms.new ≡ room_maps.with_socket_in rooms.old socket.sid recovery.now.rooms)) }
-    ensures unchanged { OnErr result (SameSeats seats.old seats.new × SamePids pids.old pids.new
-        × (rooms.new ≡ rooms.old)) }
-    ensures memory { IfErr result (λ e. e ≡ HubError.Memory) }
-{
-    let socket = recovery.socket;
-    let (sid, pid) = (socket.sid, socket.pid);
-    add_ids(seats, pids, socket)?;
-    if rooms.enter_all(alloc, sid, &recovery.rooms).is_err() {
-        drop_ids(seats, pids, sid, pid);
-        return Err(HubError::Memory);
-    }
-    Ok(())
 }
 
 /// What is left of a number without two others.
@@ -247,23 +214,6 @@ impl State {
         }
     }
 
-    /// The answer to a CONNECT, which outboxes may share.
-    fn answer_for(
-        &self,
-        alloc: Global,
-        client: u128,
-        space: u16,
-        sid: Sid,
-        pid: Pid,
-    ) -> Result<Arc<Entry>, HubError>
-        ensures ok { IfOk result (λ entry. arc_value entry ≡ answer self.now.limits
-            (record { client = client; space = space; sid = sid; pid = pid })) }
-        ensures memory { IfErr result (λ e. e ≡ HubError.Memory) }
-    {
-        let entry = self.answer(alloc, usize::from(space), sid, pid)?;
-        Ok(Arc::new(alloc, entry)?)
-    }
-
     /// The recovery of a session at a client, and what it puts: the answer to the CONNECT, and then
     /// what the session has missed.
     fn what_returns(
@@ -287,12 +237,10 @@ impl State {
         let session = found.session;
         let (space, sid, pid) = (session.space, session.sid, session.pid);
         let rooms = Vec::from_slice(alloc, &session.rooms)?;
-        let answer = self.answer_for(alloc, client, space, sid, pid)?;
+        let answer = self.answer(alloc, usize::from(space), sid, pid)?;
         let mut puts = Vec::new(alloc);
         puts.push(answer)?;
-        let mut missed = Vec::new(alloc);
-        add_missed(found.front, space, &rooms, &mut puts, &mut missed)?;
-        add_missed(found.back, space, &rooms, &mut puts, &mut missed)?;
+        let missed = put_missed(alloc, found, &rooms, &mut puts)?;
         let socket = Socket {
             client,
             space,
@@ -327,29 +275,23 @@ impl State {
         let number = puts.len() as u64;
         let socket = recovery.socket;
         let (client, sid, pid) = (socket.client, socket.sid, socket.pid);
-        reserve(&mut self.journal)?;
-        add_socket(&mut self.clients, client, socket)?;
-        let entered = enter_again(
+        self.records.steps.reserve()?;
+        seat(
             alloc,
+            &mut self.clients,
             &mut self.seats,
             &mut self.pids,
             &mut self.rooms,
-            &recovery,
-        );
-        if entered.is_err() {
-            drop_socket(&mut self.clients, client);
-            return Err(HubError::Memory);
-        }
-        self.rooms.kept_facts();
+            &socket,
+            &recovery.rooms,
+        )?;
         put_all(&mut self.clients, client, puts);
         take_session(&mut self.saved, pid);
         let added = Added {
             placed: number,
             ..NONE
         };
-        count(&mut self.counts, added);
-        let what = What::Recovered(recovery);
-        record(&mut self.journal, &mut self.last, now, what);
+        self.records.add(now, What::Recovered(recovery), added);
         Ok(sid)
     }
 

@@ -7,7 +7,7 @@ ghost use Rattle.journal.specs.Command.{Does};
 ghost use Rattle.journal.specs.declared.step.What.{What};
 ghost use Rattle.hub_state.specs.Changes.{refusal_now};
 
-use crate::state::{NONE, State, count, record, reserve};
+use crate::state::{NONE, State};
 use journal::{HubError, What};
 use room_maps::{Room, RoomError, Rooms, Sid};
 use std::alloc::Global;
@@ -67,14 +67,12 @@ impl State {
         if let Some(refusal) = self.join_refusal(sid, room) {
             return Err(refusal);
         }
-        reserve(&mut self.journal)?;
+        self.records.steps.reserve()?;
         if self.rooms.join(alloc, sid, room).is_err() {
             return Err(HubError::Memory);
         }
         self.rooms.kept_facts();
-        count(&mut self.counts, NONE);
-        let what = What::Joined(sid, room);
-        record(&mut self.journal, &mut self.last, now, what);
+        self.records.add(now, What::Joined(sid, room), NONE);
         Ok(())
     }
 
@@ -86,11 +84,8 @@ impl State {
         if let Some(refusal) = self.leave_refusal(sid, room) {
             return Err(refusal);
         }
-        reserve(&mut self.journal)?;
+        self.records.write(now, What::Left(sid, room), NONE)?;
         take_out(&mut self.rooms, sid, room);
-        count(&mut self.counts, NONE);
-        let what = What::Left(sid, room);
-        record(&mut self.journal, &mut self.last, now, what);
         Ok(())
     }
 }

@@ -119,7 +119,7 @@ impl State {
         ensures memory { IfErr result (λ e. e ≡ HubError.Memory) }
     {
         Ok(Base {
-            at: self.last,
+            at: self.records.last,
             next: self.next_offset(),
             clients: self.base_clients(alloc)?,
             pairs: self.base_pairs(alloc)?,
@@ -139,7 +139,7 @@ impl State {
     {
         let present = self.present(alloc)?;
         let base = replace(&mut self.base, present);
-        let steps = self.journal.take(alloc);
+        let steps = self.records.steps.take(alloc);
         Ok(Epoch { base, steps })
     }
 }

@@ -10,7 +10,7 @@ ghost use Rattle.journal.specs.Command.{Does};
 ghost use Rattle.journal.specs.declared.step.What.{What};
 ghost use Rattle.hub_state.specs.Changes.{refusal_now};
 
-use crate::state::{NONE, State, count, record, reserve};
+use crate::state::{NONE, State};
 use hub_parts::Limits;
 use journal::{HubError, Swept, What};
 use recovery::{PacketLog, SavedTable};
@@ -51,11 +51,9 @@ impl State {
         if let Some(refusal) = self.sweep_refusal() {
             return Err(refusal);
         }
-        reserve(&mut self.journal)?;
-        let at = now.max(self.last);
+        let at = now.max(self.records.last);
+        self.records.write(now, What::Swept, NONE)?;
         let swept = drop_outdated(&mut self.log, &mut self.saved, &self.limits, at);
-        count(&mut self.counts, NONE);
-        record(&mut self.journal, &mut self.last, now, What::Swept);
         Ok(swept)
     }
 }

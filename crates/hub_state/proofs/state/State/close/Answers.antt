@@ -6,13 +6,13 @@ use Rattle.hub_state.proofs.state.State.close.Goals as goal
 
 pub invariant_of-self-2 : goal.invariant_of-self-2
 invariant_of-self-2 c =
-    rw (c.record.ensures.journal, c.record.ensures.last, c.reserve.ensures.items, c.count.ensures)
+    rw (c.add.ensures.steps, c.add.ensures.last, c.reserve.ensures.same, c.add.ensures.counts)
     (closed _ _ c.args.client c.forget_client-discards.result c.args.now _ _ _ _ _ _ _ _ _ _ _ _ _ c.self.invariant (search rules) c.forget_client-discards.ensures.discards c.forget_client-discards.ensures.clients
     c.forget_client-discards.ensures.seats c.forget_client-discards.ensures.pids c.forget_client-discards.ensures.rooms c.kept_facts.ensures)
 
-pub count-requires : goal.count-requires
-count-requires c =
-    can_close c.self.inside.base c.self.inside.limits (get nat_cmp c.self.inside.clients) c.self.inside.journal.steps c.self.inside.counts c.self.invariant.3 c.self.invariant.2 c.self.invariant.0.clients
+pub add-requires-clause-counted : goal.add-requires-clause-counted
+add-requires-clause-counted c =
+    can_close c.self.inside.base c.self.inside.limits (get nat_cmp c.self.inside.clients) c.self.inside.records.steps.steps c.self.inside.records.counts c.self.invariant.3 c.self.invariant.2 c.self.invariant.0.clients
     c.args.client c.forget_client-discards.result (search rules) c.forget_client-discards.ensures.discards
 
 pub forget_client-discards-requires : goal.forget_client-discards-requires

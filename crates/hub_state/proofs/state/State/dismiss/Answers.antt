@@ -15,45 +15,45 @@ pub put_messages-requires-clause-apart : goal.put_messages-requires-clause-apart
 put_messages-requires-clause-apart c =
     let makes = rw (← c.self.view_is) at c.requires.makes in
     let d = c.args.dismissal in
-    receivers-once c.self.inside.base c.self.inside.limits c.self.inside.journal.steps c.self.invariant.2 d.space d.rooms d.excepted c.args.sockets.items makes.matching
-    (client_at c.self.inside.base c.self.inside.limits c.self.inside.journal.steps) (λ q. refl) c.args.messages.items makes.farewells
+    receivers-once c.self.inside.base c.self.inside.limits c.self.inside.records.steps.steps c.self.invariant.2 d.space d.rooms d.excepted c.args.sockets.items makes.matching
+    (client_at c.self.inside.base c.self.inside.limits c.self.inside.records.steps.steps) (λ q. refl) c.args.messages.items makes.farewells
 
 pub put_messages-requires-clause-places : goal.put_messages-requires-clause-places
 put_messages-requires-clause-places c =
     let makes = rw (← c.self.view_is) at c.requires.makes in
     let d = c.args.dismissal in
     subst (λ find. AllByRecursion (λ (m : PlainMessage). is_full_in find m.entry m.client ≡ false) c.args.messages.items) (λ i q. sym (c.self.invariant.0.clients q) i)
-    (have-places c.self.inside.base c.self.inside.limits c.self.inside.journal.steps c.self.invariant.2 d.space d.rooms d.excepted c.args.sockets.items makes.matching
-    (client_at c.self.inside.base c.self.inside.limits c.self.inside.journal.steps) (λ q. refl) c.args.messages.items makes.farewells)
+    (have-places c.self.inside.base c.self.inside.limits c.self.inside.records.steps.steps c.self.invariant.2 d.space d.rooms d.excepted c.args.sockets.items makes.matching
+    (client_at c.self.inside.base c.self.inside.limits c.self.inside.records.steps.steps) (λ q. refl) c.args.messages.items makes.farewells)
 
 pub forget_each-requires-clause-known : goal.forget_each-requires-clause-known
 forget_each-requires-clause-known c =
     let makes = rw (← c.self.view_is) at c.requires.makes in
     rw c.deref-2.ensures.value
-    (goers-known c.self.inside.base c.self.inside.limits c.self.inside.journal.steps c.self.invariant.2 c.args.dismissal c.args.sockets.items c.args.messages.items makes c.self.inside.rooms c.self.invariant.0.rooms_are)
+    (goers-known c.self.inside.base c.self.inside.limits c.self.inside.records.steps.steps c.self.invariant.2 c.args.dismissal c.args.sockets.items c.args.messages.items makes c.self.inside.rooms c.self.invariant.0.rooms_are)
 
-pub count-requires : goal.count-requires
-count-requires c =
+pub write-requires : goal.write-requires
+write-requires c =
     let makes = rw (← c.self.view_is) at c.requires.makes in
     let room = rw (← c.self.view_is) at c.requires.unspent in
-    let told : length c.dismissal.inside.told.items ≡ c.len-told.result = search rules in
-    let number : length c.args.dismissal.told ≡ c.len-told.result = rw (← c.dismissal.view_is) told in
-    rw (← number) (can_dismiss c.self.inside.base c.self.inside.limits c.self.inside.journal.steps c.self.invariant.2 c.args.dismissal c.args.sockets.items c.args.messages.items makes c.self.inside.counts c.self.invariant.3 room)
+    let told : length c.dismissal.inside.told.items ≡ c.len.result = search rules in
+    let number : length c.args.dismissal.told ≡ c.len.result = rw (← c.dismissal.view_is) told in
+    rw (← number) (can_dismiss c.self.inside.base c.self.inside.limits c.self.inside.records.steps.steps c.self.invariant.2 c.args.dismissal c.args.sockets.items c.args.messages.items makes c.self.inside.records.counts c.self.invariant.3 room)
 
 pub invariant_of-self-2 : goal.invariant_of-self-2
 invariant_of-self-2 c =
     let makes = rw (← c.self.view_is) at c.requires.makes in
     let room = rw (← c.self.view_is) at c.requires.unspent in
     let known = rw (← c.self.view_is) at c.requires.known in
-    let told : length c.dismissal.inside.told.items ≡ c.len-told.result = search rules in
-    let number : length c.args.dismissal.told ≡ c.len-told.result = rw (← c.dismissal.view_is) told in
+    let told : length c.dismissal.inside.told.items ≡ c.len.result = search rules in
+    let number : length c.args.dismissal.told ≡ c.len.result = rw (← c.dismissal.view_is) told in
     let place : c.from-place.result ≡ c.args.dismissal.space = rw (← c.dismissal.view_is) c.from-place.ensures in
     let drops : (q : ℕ) → get nat_cmp c.drop_all.new.clients q
     ≡ (if list_any (λ (k : Socket). k.client == q) c.args.sockets.items then option_map (without_place c.args.dismissal.space) (get nat_cmp c.put_messages.new.clients q) else get nat_cmp c.put_messages.new.clients q)
     = rw (← place, ← c.deref.ensures.value) c.drop_all.ensures in
     let gone = rw c.deref-2.ensures.value at c.forget_each.ensures in
-    rw (c.record.ensures.journal, c.record.ensures.last, c.reserve.ensures.items, c.count.ensures, ← number)
-    (dismissed c.self.inside.base c.self.inside.limits c.self.inside.journal.steps c.self.invariant.2 c.args.dismissal c.args.sockets.items c.args.messages.items makes c.args.now c.self.inside.last
+    rw (c.in_ok-write.ensures.steps, c.in_ok-write.ensures.last, c.in_ok-write.ensures.counts, ← number)
+    (dismissed c.self.inside.base c.self.inside.limits c.self.inside.records.steps.steps c.self.invariant.2 c.args.dismissal c.args.sockets.items c.args.messages.items makes c.args.now c.self.inside.records.last
     (get nat_cmp c.self.inside.clients) (get nat_cmp c.put_messages.new.clients) (get nat_cmp c.drop_all.new.clients) (get nat_cmp c.self.inside.seats) (get nat_cmp c.forget_each.new.seats)
-    (sorted.contains nat_cmp c.self.inside.pids) (sorted.contains nat_cmp c.forget_each.new.pids) c.self.inside.rooms c.forget_each.new.rooms c.self.inside.saved c.self.inside.log c.self.inside.counts
+    (sorted.contains nat_cmp c.self.inside.pids) (sorted.contains nat_cmp c.forget_each.new.pids) c.self.inside.rooms c.forget_each.new.rooms c.self.inside.saved c.self.inside.log c.self.inside.records.counts
     c.self.invariant known room c.put_messages.ensures drops gone.seats gone.pids gone.rooms c.kept_facts.ensures)

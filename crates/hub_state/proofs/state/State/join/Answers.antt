@@ -4,8 +4,8 @@ use Rattle.hub_state.proofs.state.State.join.Goals as goal
 
 pub invariant_of-self-2 : goal.invariant_of-self-2
 invariant_of-self-2 c =
-    rw (c.record.ensures.journal, c.record.ensures.last, c.reserve.ensures.items, c.count.ensures)
+    rw (c.add.ensures.steps, c.add.ensures.last, c.reserve.ensures.same, c.add.ensures.counts)
     (joined _ _ c.args.sid c.args.room c.args.now _ _ _ _ _ _ _ _ _ _ c.self.invariant (search rules) (search rules) c.kept_facts.ensures)
 
-pub count-requires : goal.count-requires
-count-requires c = can_join _ _ _ _ c.self.invariant.3 c.self.invariant.2 c.args.sid c.args.room (search rules)
+pub add-requires-clause-counted : goal.add-requires-clause-counted
+add-requires-clause-counted c = can_join _ _ _ _ c.self.invariant.3 c.self.invariant.2 c.args.sid c.args.room (search rules)

@@ -13,16 +13,16 @@ invariant_of-self-2 c =
     let right = rw (← c.self.view_is) at c.requires.right in
     let made = rw c.deref.ensures.value at c.in-Ok.ensures.joined in
     let change : c.join_all.new.self ≡ with_members c.self.inside.rooms c.args.change.changed c.args.change.room = rw (← c.change.view_is) made in
-    rw (c.record.ensures.journal, c.record.ensures.last, c.reserve.ensures.items, c.count.ensures)
+    rw (c.add.ensures.steps, c.add.ensures.last, c.reserve.ensures.same, c.add.ensures.counts)
     (all-joined _ _ c.args.change c.args.now _ _ _ _ _ _ _ _ _ _ c.self.invariant accepted right change c.kept_facts.ensures)
 
-pub count-requires : goal.count-requires
-count-requires c = can_join_all _ _ _ _ c.self.invariant.3 c.self.invariant.2 c.args.change (rw (← c.self.view_is) at c.requires.accepted)
+pub add-requires-clause-counted : goal.add-requires-clause-counted
+add-requires-clause-counted c = can_join_all _ _ _ _ c.self.invariant.3 c.self.invariant.2 c.args.change (rw (← c.self.view_is) at c.requires.accepted)
 
 pub returns-clause-changed : goal.returns-clause-changed
 returns-clause-changed c =
     let base = c.self.inside.base in
-    let journal = c.self.inside.journal.steps in
+    let journal = c.self.inside.records.steps.steps in
     let right = rw (← c.self.view_is, ← c.change.view_is) at c.requires.right in
     let changed = rw (c.deref.ensures.value, c.self.invariant.0.rooms_are) at c.in-Ok.ensures.changed in
     rw (← c.change.view_is)

@@ -12,7 +12,7 @@ pub returns-clause-right : goal.returns-clause-right
 returns-clause-right c =
     let base = c.self.inside.base in
     let limits = c.self.inside.limits in
-    let journal = c.self.inside.journal.steps in
+    let journal = c.self.inside.records.steps.steps in
     let lists = rw (← c.self.view_is, c.deref.ensures.value, c.deref-2.ensures.value) at c.in_ok-changed.ensures.ok in
     let kept = rw c.self.invariant.0.rooms_are at c.keep_outside.ensures in
     let right : ListsSockets sid_of (may_enter base journal c.args.space c.args.rooms.items c.args.excepted.items c.args.room) (sockets base journal) c.keep_outside.new.sids.items
@@ -23,7 +23,7 @@ pub returns-clause-change : goal.returns-clause-change
 returns-clause-change c =
     let base = c.self.inside.base in
     let limits = c.self.inside.limits in
-    let journal = c.self.inside.journal.steps in
+    let journal = c.self.inside.records.steps.steps in
     let lists = rw (← c.self.view_is, c.deref.ensures.value, c.deref-2.ensures.value) at c.in_ok-changed.ensures.ok in
     let kept = rw c.self.invariant.0.rooms_are at c.keep_outside.ensures in
     let right : ListsSockets sid_of (may_enter base journal c.args.space c.args.rooms.items c.args.excepted.items c.args.room) (sockets base journal) c.keep_outside.new.sids.items

@@ -4,11 +4,11 @@ use Rattle.hub_state.proofs.state.State.leave.Goals as goal
 
 pub invariant_of-self-2 : goal.invariant_of-self-2
 invariant_of-self-2 c =
-    rw (c.record.ensures.journal, c.record.ensures.last, c.reserve.ensures.items, c.count.ensures)
+    rw (c.in_ok-write.ensures.steps, c.in_ok-write.ensures.last, c.in_ok-write.ensures.counts)
     (left _ _ c.args.sid c.args.room c.args.now _ _ _ _ _ _ _ _ _ _ c.self.invariant (search rules) c.take_out.ensures.left c.take_out.ensures.agree)
 
-pub count-requires : goal.count-requires
-count-requires c = can_leave _ _ _ _ c.self.invariant.3 c.self.invariant.2 c.args.sid c.args.room (search rules)
+pub write-requires : goal.write-requires
+write-requires c = can_leave _ _ _ _ c.self.invariant.3 c.self.invariant.2 c.args.sid c.args.room (search rules)
 
 pub take_out-requires : goal.take_out-requires
-take_out-requires c = may_leave c.self.inside.base c.self.inside.limits c.self.inside.rooms c.self.inside.journal.steps c.args.sid c.args.room c.self.invariant.0.rooms_are (search rules)
+take_out-requires c = may_leave c.self.inside.base c.self.inside.limits c.self.inside.rooms c.self.inside.records.steps.steps c.args.sid c.args.room c.self.invariant.0.rooms_are (search rules)

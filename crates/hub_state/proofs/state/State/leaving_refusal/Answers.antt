@@ -15,7 +15,7 @@ pub returns-in-Some : goal.returns-in-Some
 returns-in-Some c = λ at.
     let base = c.self.inside.base in
     let limits = c.self.inside.limits in
-    let journal = c.self.inside.journal.steps in
+    let journal = c.self.inside.records.steps.steps in
     let m : PlainRoomChange = record { space = c.change.inside.space; rooms = c.change.inside.rooms.items; excepted = c.change.inside.excepted.items; room = c.change.inside.room; changed = c.change.inside.changed.items } in
     let known : is_space limits m.space ≡ true = rw (← c.self.view_is, ← c.change.view_is) at c.requires.known in
     let right : RightLeaving base journal m = rw (← c.self.view_is, ← c.change.view_is) at c.requires.right in
@@ -28,7 +28,7 @@ pub returns : goal.returns
 returns c = λ at.
     let base = c.self.inside.base in
     let limits = c.self.inside.limits in
-    let journal = c.self.inside.journal.steps in
+    let journal = c.self.inside.records.steps.steps in
     let m : PlainRoomChange = record { space = c.change.inside.space; rooms = c.change.inside.rooms.items; excepted = c.change.inside.excepted.items; room = c.change.inside.room; changed = c.change.inside.changed.items } in
     let known : is_space limits m.space ≡ true = rw (← c.self.view_is, ← c.change.view_is) at c.requires.known in
     let right : RightLeaving base journal m = rw (← c.self.view_is, ← c.change.view_is) at c.requires.right in

@@ -9,7 +9,7 @@ use Rattle.hub_state.proofs.state.State.matching.Goals as goal
 pub returns-clause-ok : goal.returns-clause-ok
 returns-clause-ok c =
     let base = c.self.inside.base in
-    let journal = c.self.inside.journal.steps in
+    let journal = c.self.inside.records.steps.steps in
     let kept = rw (c.deref.ensures.value, c.from.ensures) at c.keep_here.ensures.ok in
     let inside = rw (← c.self.view_is) at c.in_ok-sids.ensures.ok in
     rw (← c.self.view_is)

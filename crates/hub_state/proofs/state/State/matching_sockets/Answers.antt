@@ -12,6 +12,6 @@ returns-clause-ok c =
     let found = rw c.deref.ensures.value at c.sockets_in.ensures.ok in
     rw (← c.self.view_is)
     (if_ok c.sockets_in.result
-    (λ v is. subst (ListsMatching c.self.inside.base c.self.inside.journal.steps c.args.space c.args.rooms.now c.args.excepted.now) (sym is)
-    (matching c.self.inside.base c.self.inside.limits c.self.inside.journal.steps c.self.invariant.2 c.args.space c.args.rooms.now c.args.excepted.now (get nat_cmp c.self.inside.seats) c.self.invariant.0.seats c.in_ok-sids.sids.items lists))
+    (λ v is. subst (ListsMatching c.self.inside.base c.self.inside.records.steps.steps c.args.space c.args.rooms.now c.args.excepted.now) (sym is)
+    (matching c.self.inside.base c.self.inside.limits c.self.inside.records.steps.steps c.self.invariant.2 c.args.space c.args.rooms.now c.args.excepted.now (get nat_cmp c.self.inside.seats) c.self.invariant.0.seats c.in_ok-sids.sids.items lists))
     found)

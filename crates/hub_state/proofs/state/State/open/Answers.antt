@@ -1,11 +1,11 @@
-use Rattle.std.proofs.Common.{rules}
+use Rattle.std.proofs.Common.{rules, refl}
 use Rattle.journal.proofs.CommandLemmas.{opened, can_open}
 use Rattle.hub_state.proofs.state.State.open.Goals as goal
 
 pub invariant_of-self-2 : goal.invariant_of-self-2
 invariant_of-self-2 c =
-    rw (c.record.ensures.journal, c.record.ensures.last, c.reserve.ensures.items, c.count.ensures)
-    (opened _ _ c.args.client c.args.now _ _ _ _ _ _ _ _ _ _ c.self.invariant (search rules) _ (rw (← c.self.view_is) at c.in_ok-opened.ensures.ok) c.in_ok-put_client.ensures.ok)
+    rw (c.add.ensures.steps, c.add.ensures.last, c.put_new.ensures.steps, c.add.ensures.counts)
+    (opened _ _ c.args.client c.args.now _ _ _ _ _ _ _ _ _ _ c.self.invariant (search rules) _ refl (rw c.config.ensures at c.in_ok-put_new.ensures.ok))
 
-pub count-requires : goal.count-requires
-count-requires c = can_open _ _ _ _ c.self.invariant.3 c.self.invariant.2 c.args.client (search rules)
+pub add-requires-clause-counted : goal.add-requires-clause-counted
+add-requires-clause-counted c = can_open _ _ _ _ c.self.invariant.3 c.self.invariant.2 c.args.client (search rules)

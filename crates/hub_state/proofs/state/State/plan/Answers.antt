@@ -9,7 +9,7 @@ told_by-requires c =
     let entry = rw (← c.self.view_is, c.from.ensures) at c.in_ok-entry.ensures.ok in
     let messages = rw (c.deref-3.ensures.value, entry) at c.in_ok-messages.ensures.told in
     rw c.deref-5.ensures.value
-    (receivers-once c.self.inside.base c.self.inside.limits c.self.inside.journal.steps c.self.invariant.2 c.args.space c.args.rooms.items c.args.excepted.items c.in_ok-sockets.sockets.items lists
+    (receivers-once c.self.inside.base c.self.inside.limits c.self.inside.records.steps.steps c.self.invariant.2 c.args.space c.args.rooms.items c.args.excepted.items c.in_ok-sockets.sockets.items lists
     (get nat_cmp c.self.inside.clients) c.self.invariant.0.clients c.in_ok-messages.messages.items messages)
 
 pub returns-clause-makes : goal.returns-clause-makes
@@ -20,7 +20,7 @@ returns-clause-makes c =
     let ended = rw c.deref-4.ensures.value at c.in_ok-ended.ensures.ok in
     let told = rw c.deref-5.ensures.value at c.in_ok-told.ensures.ok in
     rw (← c.self.view_is)
-    (planned c.self.inside.base c.self.inside.limits c.self.inside.journal.steps c.self.invariant.2 c.args.space c.args.rooms.items c.args.excepted.items c.in_ok-sockets.sockets.items lists
+    (planned c.self.inside.base c.self.inside.limits c.self.inside.records.steps.steps c.self.invariant.2 c.args.space c.args.rooms.items c.args.excepted.items c.in_ok-sockets.sockets.items lists
     (get nat_cmp c.self.inside.clients) c.self.invariant.0.clients c.in_ok-messages.messages.items messages c.in_ok-ended.ended.items ended c.in_ok-told.told.items told)
 
 pub returns-clause-asked : goal.returns-clause-asked

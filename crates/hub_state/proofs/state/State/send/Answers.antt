@@ -24,8 +24,8 @@ invariant_of-self-2 c =
     let told_of = rw c.deref.ensures.value at (c.done.view_is ∙ c.in_ok-done.ensures.ok) in
     let placed : c.done.inside.placed ≡ length c.args.messages.items = ap (λ (d : PlainCastDone). d.placed) told_of in
     let dropped : c.done.inside.dropped ≡ length c.args.broadcast.dropped = ap (λ (d : PlainCastDone). d.dropped) told_of in
-    rw (c.record.ensures.journal, c.record.ensures.last, c.reserve.ensures.items, c.count.ensures, placed, dropped)
-    (casted c.self.inside.base c.self.inside.limits c.self.inside.journal.steps c.args.broadcast c.self.invariant.1 c.self.invariant.2 event.0 event.1 event.2 given
-    c.args.messages.items told c.args.now c.self.inside.last (get nat_cmp c.self.inside.clients) (get nat_cmp c.put_messages.new.clients) (get nat_cmp c.self.inside.seats)
-    (sorted.contains nat_cmp c.self.inside.pids) c.self.inside.rooms c.self.inside.saved c.self.inside.log c.push_logged.new.log c.self.inside.counts
+    rw (c.in_ok-write.ensures.steps, c.in_ok-write.ensures.last, c.in_ok-write.ensures.counts, placed, dropped)
+    (casted c.self.inside.base c.self.inside.limits c.self.inside.records.steps.steps c.args.broadcast c.self.invariant.1 c.self.invariant.2 event.0 event.1 event.2 given
+    c.args.messages.items told c.args.now c.self.inside.records.last (get nat_cmp c.self.inside.clients) (get nat_cmp c.put_messages.new.clients) (get nat_cmp c.self.inside.seats)
+    (sorted.contains nat_cmp c.self.inside.pids) c.self.inside.rooms c.self.inside.saved c.self.inside.log c.push_logged.new.log c.self.inside.records.counts
     c.self.invariant room logged c.put_messages.ensures)

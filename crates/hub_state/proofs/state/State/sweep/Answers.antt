@@ -4,15 +4,15 @@ use Rattle.hub_state.proofs.state.State.sweep.Goals as goal
 
 pub invariant_of-self-2 : goal.invariant_of-self-2
 invariant_of-self-2 c =
-    rw (c.record.ensures.journal, c.record.ensures.last, c.reserve.ensures.items, c.count.ensures)
+    rw (c.in_ok-write.ensures.steps, c.in_ok-write.ensures.last, c.in_ok-write.ensures.counts)
     (swept-hub _ _ c.args.now _ c.max-at.result _ _ _ _ _ _ _ _ _ _ c.self.invariant (search rules) (search rules) c.drop_outdated-swept.ensures.saved c.drop_outdated-swept.ensures.log)
 
-pub count-requires : goal.count-requires
-count-requires c = can_sweep _ _ _ _ c.self.invariant.3 c.self.invariant.2 (search rules)
+pub write-requires : goal.write-requires
+write-requires c = can_sweep _ _ _ _ c.self.invariant.3 c.self.invariant.2 (search rules)
 
 pub returns-clause-counts : goal.returns-clause-counts
 returns-clause-counts c =
-    rw (← c.self.view_is, c.record.ensures.journal, c.reserve.ensures.items) (
-      sym (dropped-log _ _ c.args.now c.self.inside.last c.max-at.result _ _ _ _ c.self.invariant.0.log_is c.self.invariant.0.log_last (search rules) c.drop_outdated-swept.ensures.log c.drop_outdated-swept.ensures.log_count),
-      sym (dropped-saved _ _ c.args.now c.self.inside.last c.max-at.result _ _ _ _ c.self.invariant.0.saved_is (search rules) c.drop_outdated-swept.ensures.saved c.drop_outdated-swept.ensures.saved_count),
+    rw (← c.self.view_is, c.in_ok-write.ensures.steps) (
+      sym (dropped-log _ _ c.args.now c.self.inside.records.last c.max-at.result _ _ _ _ c.self.invariant.0.log_is c.self.invariant.0.log_last (search rules) c.drop_outdated-swept.ensures.log c.drop_outdated-swept.ensures.log_count),
+      sym (dropped-saved _ _ c.args.now c.self.inside.records.last c.max-at.result _ _ _ _ c.self.invariant.0.saved_is (search rules) c.drop_outdated-swept.ensures.saved c.drop_outdated-swept.ensures.saved_count),
     )

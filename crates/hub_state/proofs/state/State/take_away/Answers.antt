@@ -5,8 +5,8 @@ use Rattle.hub_state.proofs.state.State.take_away.Goals as goal
 pub invariant_of-self-2 : goal.invariant_of-self-2
 invariant_of-self-2 c =
     let number = rw (← c.self.view_is) at c.in_ok-number.ensures.number in
-    rw (c.record.ensures.journal, c.record.ensures.last, c.reserve.ensures.items, c.count.ensures)
+    rw (c.in_ok-write.ensures.steps, c.in_ok-write.ensures.last, c.in_ok-write.ensures.counts)
     (took _ _ c.args.client c.args.most c.in_ok-number.number c.args.now _ _ _ _ _ _ _ _ _ _ c.self.invariant (search rules) number c.hand_out.ensures)
 
-pub count-requires : goal.count-requires
-count-requires c = can_take _ _ _ _ c.self.invariant.3 c.self.invariant.2 c.args.client c.args.most c.in_ok-number.number (search rules)
+pub write-requires : goal.write-requires
+write-requires c = can_take _ _ _ _ c.self.invariant.3 c.self.invariant.2 c.args.client c.args.most c.in_ok-number.number (search rules)
