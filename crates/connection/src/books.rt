@@ -21,8 +21,10 @@ pub(crate) fn forget(books: &mut BTreeMap<Sid, AckBook>, sid: Sid)
 /// Gives a socket a book.
 fn put(books: &mut BTreeMap<Sid, AckBook>, sid: Sid, book: AckBook) -> Result<(), AckError>
     ensures own { OnOk result (book_in books.new.entries sid ≡ book) }
-    ensures others { (s : ℕ) → sid == s ≡ false → book_in books.new.entries s ≡ book_in books.old.entries s }
-    ensures unchanged { OnErr result (book_in books.new.entries sid ≡ book_in books.old.entries sid) }
+    ensures others { (s : ℕ) → sid == s ≡ false
+        → book_in books.new.entries s ≡ book_in books.old.entries s }
+    ensures unchanged { OnErr result
+        (book_in books.new.entries sid ≡ book_in books.old.entries sid) }
     ensures memory { IfErr result (λ e. e ≡ AckError.Memory) }
 {
     match books.insert(sid, book) {
@@ -37,7 +39,8 @@ fn first_question(alloc: Global, tag: u64, until: u64) -> Result<(u64, AckBook),
         IfSome (ask_refusal first h) (λ e. result ≡ Err e)) }
     ensures memory_alone { ForEachHistory fresh_book (λ first h.
         ask_refusal first h ≡ None → IfErr result (λ e. e ≡ AckError.Memory)) }
-    ensures id { IfOk result (λ both. ForEachHistory fresh_book (λ first h. both.0 ≡ next_id first h)) }
+    ensures id { IfOk result (λ both.
+        ForEachHistory fresh_book (λ first h. both.0 ≡ next_id first h)) }
     ensures leads { IfOk result (λ both. ForEachHistory fresh_book (λ first h.
         LeadsTo first (Asked tag until ∷ h) both.1)) }
 {
@@ -62,8 +65,10 @@ pub(crate) fn ask(
         ForEachHistory (book_in books.old.entries sid) (λ first h. id ≡ next_id first h)) }
     ensures leads { OnOk result (ForEachHistory (book_in books.old.entries sid) (λ first h.
         LeadsTo first (Asked tag until ∷ h) (book_in books.new.entries sid))) }
-    ensures unchanged { OnErr result (book_in books.new.entries sid ≡ book_in books.old.entries sid) }
-    ensures others { (s : ℕ) → sid == s ≡ false → book_in books.new.entries s ≡ book_in books.old.entries s }
+    ensures unchanged { OnErr result
+        (book_in books.new.entries sid ≡ book_in books.old.entries sid) }
+    ensures others { (s : ℕ) → sid == s ≡ false
+        → book_in books.new.entries s ≡ book_in books.old.entries s }
 {
     if let Some(book) = books.get_mut(&sid) {
         return book.ask(alloc, tag, until);
@@ -79,8 +84,10 @@ pub(crate) fn answer(books: &mut BTreeMap<Sid, AckBook>, sid: Sid, id: u64) -> R
         result ≡ answer_of (question_at first h id)) }
     ensures leads { OnOk result (ForEachHistory (book_in books.old.entries sid) (λ first h.
         LeadsTo first (Answered id ∷ h) (book_in books.new.entries sid))) }
-    ensures unchanged { OnErr result (book_in books.new.entries sid ≡ book_in books.old.entries sid) }
-    ensures others { (s : ℕ) → sid == s ≡ false → book_in books.new.entries s ≡ book_in books.old.entries s }
+    ensures unchanged { OnErr result
+        (book_in books.new.entries sid ≡ book_in books.old.entries sid) }
+    ensures others { (s : ℕ) → sid == s ≡ false
+        → book_in books.new.entries s ≡ book_in books.old.entries s }
 {
     match books.get_mut(&sid) {
         Some(book) => book.answer(id),

@@ -120,7 +120,8 @@ impl Line {
     pub fn text(&mut self, alloc: Global, text: &str) -> Result<Option<SioPacket>, SioError>
         ensures given { IfOk result (λ given.
             Accepts self.old.assembler (text_frame text.now) given self.new.assembler) }
-        ensures advances { OnOk result (Advances self.old (Framed (text_frame text.now) ∷ []) self.new) }
+        ensures advances { OnOk result
+            (Advances self.old (Framed (text_frame text.now) ∷ []) self.new) }
         ensures whole { IfOk result IsWholeIfGiven }
         ensures fault { IfErr result (λ e. ((e ≡ SioError.Memory) × (self.new ≡ self.old))
             ⊎ (RefusesText self.old.assembler text.now e × FailsWith e self.old self.new)) }
@@ -132,7 +133,8 @@ impl Line {
     pub fn binary(&mut self, alloc: Global, bytes: &[u8]) -> Result<Option<SioPacket>, SioError>
         ensures given { IfOk result (λ given.
             Accepts self.old.assembler (binary_frame bytes.now) given self.new.assembler) }
-        ensures advances { OnOk result (Advances self.old (Framed (binary_frame bytes.now) ∷ []) self.new) }
+        ensures advances { OnOk result
+            (Advances self.old (Framed (binary_frame bytes.now) ∷ []) self.new) }
         ensures whole { IfOk result IsWholeIfGiven }
         ensures fault { IfErr result (λ e. ((e ≡ SioError.Memory) × (self.new ≡ self.old))
             ⊎ ((binary_refusal self.old.assembler ≡ Some e) × FailsWith e self.old self.new)) }
