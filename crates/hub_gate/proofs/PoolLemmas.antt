@@ -1,5 +1,6 @@
 -- What the workers of a pool did, put together.
-use Rattle.std.proofs.Common.{◌≡◌, ℕ, zero, suc, List, [], ◌∷◌, ◌++◌, map, Option, None, Some, option_map, Result, Ok, Err, IfOk, refl, sym, ◌∙◌, ap, subst}
+use Rattle.std.proofs.Common.{◌≡◌, ℕ, zero, suc, List, [], ◌∷◌, ◌++◌, map, Option, None, Some, option_map, Result, Ok, Err, IfOk, append_assoc, refl, sym, ◌∙◌, ap, subst}
+use Rattle.std.proofs.lemmas.List.{map-append}
 use Rattle.std.proofs.lemmas.Option.{slice_get-map}
 use Rattle.std.specs.Iterator.{Drains, Yields}
 use Rattle.std.specs.List.{AllZip, slice_get}
@@ -40,6 +41,11 @@ from_map : {A B : Type 0} (f : A → B) (xs : List A) (k : ℕ) (y : B) → slic
 from_map f [] k y is = absurd (cc (is))
 from_map f (x ∷ xs) zero y is = let same : f x ≡ y = cc (is) in (x, refl, same)
 from_map f (x ∷ xs) (suc k) y is = from_map f xs k y is
+
+-- what stood first in the rest is the last of what is mapped
+pub moved_on : {A X : Type 0} (f : A → X) (xs : List A) (x : A) (y : X) (rest all : List X) → f x ≡ y → map f xs ++ y ∷ rest ≡ all → map f (xs ++ x ∷ []) ++ rest ≡ all
+moved_on {A} {X} f xs x y rest all same is =
+    ap (λ (l : List X). l ++ rest) (map-append f xs (x ∷ [])) ∙ append_assoc (map f xs) (f x ∷ []) rest ∙ ap (λ (v : X). map f xs ++ v ∷ rest) same ∙ is
 
 -- ---- what each worker did
 

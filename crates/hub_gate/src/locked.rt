@@ -32,11 +32,20 @@ pub struct Locked<C: Ledger, T: Ledger> {
 
 /// What one turn at the core did: the core as it was lent, the answer, and the core as it was given
 /// back. The cores are known to contracts alone, and take no bytes.
-#[derive(Drop)]
 pub(crate) struct Turn<C: Ledger, T: Ledger> {
     pub(crate) before: Snapshot<Core<C, T>>,
     pub(crate) got: Result<Outcome, CoreError>,
     pub(crate) after: Snapshot<Core<C, T>>,
+}
+
+impl<C: Ledger, T: Ledger> Drop for Turn<C, T> {
+    fn drop(self) {
+        let Self {
+            before: _,
+            got: _,
+            after: _,
+        } = self;
+    }
 }
 
 /// What a seal did: the core as it was lent, the answer, and the core as it was given back. The

@@ -18,7 +18,7 @@ use std::snapshot::Snapshot;
 use std::sync::Wait;
 use std::sync::ledger::Ledger;
 use std::thread;
-use std::thread::{Promise, Threads};
+use std::thread::{Promise, PromisedHandle, Scope, Threads};
 use thiserror::Error;
 
 /// The most workers of a pool.
@@ -207,19 +207,32 @@ fn make_jobs<R: Wait, C: Ledger, T: Ledger, A, G, P: Drop, I: Drop>(
         let Some(source) = ids.next() else {
             unreachable!()
         };
-        let Ok(pass) = pool.locked.new_pass(pool.rt) else {
-            return Err(ServeError::Spent);
-        };
-        let job = Job {
-            pass,
-            queue: Queue::new(queue),
-            ids: source,
-        };
-        if jobs.push(job).is_err() {
+        let job = make_job(pool, queue, source)?;
+        let Ok(()) = jobs.push(job) else {
             return Err(ServeError::Memory);
-        }
+        };
     }
     Ok(jobs)
+}
+
+/// A new pass, with these peers and these ids.
+fn make_job<R: Wait, C: Ledger, T: Ledger, A, G, P: Drop, I: Drop>(
+    pool: &Pool<R, C, T, A, G>,
+    peers: Vec<P>,
+    ids: I,
+) -> Result<Job<C, T, P, I>, ServeError>
+    ensures peers { IfOk result (λ job. into_iter_items job.queue.peers ≡ peers.items) }
+    ensures ids { IfOk result (λ job. job.ids ≡ ids) }
+    ensures spent { IfErr result (λ e. e ≡ ServeError.Spent) }
+{
+    match pool.locked.new_pass(pool.rt) {
+        Ok(pass) => Ok(Job {
+            pass,
+            queue: Queue::new(peers),
+            ids,
+        }),
+        Err(_) => Err(ServeError::Spent),
+    }
 }
 
 /// Runs each job in a thread of its own, and joins all.
@@ -252,30 +265,67 @@ fn run_all<
             let Ok(mut handles) = Vec::with_capacity(pool.alloc, jobs.len()) else {
                 return Err(ServeError::Memory);
             };
-            let Ok(mut all) = Vec::with_capacity(pool.alloc, jobs.len()) else {
+            let Ok(all) = Vec::with_capacity(pool.alloc, jobs.len()) else {
                 return Err(ServeError::Memory);
             };
             let mut worker = 0usize;
             for job in jobs {
-                let number = worker;
-                let begun = Started {
-                    job: Snapshot::of(&job),
-                    app: Snapshot::of(pool.app),
-                    turns: pool.turns,
-                };
-                let started = scope.spawn_with(begun, move || work(pool, number, job));
-                let Ok(handle) = started else {
-                    return Err(ServeError::Spawn);
-                };
-                handles.push_reserved(handle);
+                handles.push_reserved(start(scope, pool, worker, job)?);
                 worker = worker.saturating_add(1);
             }
-            for handle in handles {
-                all.push_reserved(handle.join(pool.rt));
-            }
-            Ok(all)
+            Ok(join_all(pool.rt, handles, all))
         },
     )
+}
+
+/// Starts a job in a thread of the scope.
+fn start<
+    's,
+    'e: 's,
+    R: Wait + Sync,
+    C: Ledger + Send + 's,
+    T: Ledger + Send + 's,
+    A: App + Sync,
+    P: Peer + Send + Drop + 's,
+    G: Turnstile + Sync,
+    I: IdSource + Send + Drop + 's,
+>(
+    scope: &Scope<'s, &'e ()>,
+    pool: &'s Pool<'_, R, C, T, A, G>,
+    worker: usize,
+    job: Job<C, T, P, I>,
+) -> Result<PromisedHandle<Finished<C, T>, Started<C, T, A, P, I>>, ServeError>
+    ensures ok { IfOk result (λ h. (h.promise.job.value ≡ job)
+        × (h.promise.app.value ≡ pool.now.app.now) × (h.promise.turns ≡ pool.now.turns)) }
+    ensures err { IfErr result (λ e. e ≡ ServeError.Spawn) }
+{
+    let begun = Started {
+        job: Snapshot::of(&job),
+        app: Snapshot::of(pool.app),
+        turns: pool.turns,
+    };
+    match scope.spawn_with(begun, move || work(pool, worker, job)) {
+        Ok(handle) => Ok(handle),
+        Err(_) => Err(ServeError::Spawn),
+    }
+}
+
+/// Joins these threads in turn, and lists what they hand back in the place that is kept for it.
+fn join_all<R: Threads, X: Drop, P: Promise<X>>(
+    rt: &R,
+    handles: Vec<PromisedHandle<X, P>>,
+    all: Vec<X>,
+) -> Vec<X>
+    requires none { (vec_len all ≡ 0) × (all.items ≡ []) }
+    requires room { vec_len handles ≤ vec_capacity all }
+    ensures len { vec_len result ≡ vec_len handles }
+    ensures kept { AllZip (λ h x. P.kept_by h.promise x) handles.items result.items }
+{
+    let mut all = all;
+    for handle in handles {
+        all.push_reserved(handle.join(rt));
+    }
+    all
 }
 
 /// One job, to its end.

@@ -79,26 +79,6 @@ impl<R: Wait, C: Ledger, T: Ledger, A: App, G: Turnstile> Pool<'_, R, C, T, A, G
         Turn { before, got, after }
     }
 
-    /// Applies one event of a peer, of which the gate is told before and after. It may wait.
-    fn take_turn<I: IdSource>(
-        &self,
-        pass: &mut Pass<C, T>,
-        event: &Event,
-        now: u64,
-        worker: usize,
-        turn: u64,
-        ids: &mut I,
-    ) -> Turn<C, T>
-        ensures { Applied (A.decides self.now.app.now) (A.allows self.now.app.now) event.now now
-            result.before.value (desk pass.old (I.stream ids.old)) result.got
-            result.after.value (desk pass.new (I.stream ids.new)) }
-    {
-        self.gate.before(worker, turn);
-        let done = self.apply(pass, event, now, ids);
-        self.gate.after(worker, turn);
-        done
-    }
-
     /// Tells the core that a client is lost, up to three times until it accepts that.
     fn tell_lost<I: IdSource>(&self, pass: &mut Pass<C, T>, client: u128, now: u64, ids: &mut I)
         ensures { TellsLost (A.decides self.now.app.now) (A.allows self.now.app.now) client now
@@ -115,7 +95,7 @@ impl<R: Wait, C: Ledger, T: Ledger, A: App, G: Turnstile> Pool<'_, R, C, T, A, G
     }
 
     /// Serves a peer until it ends: whether it failed, and the client of its last event with its
-    /// moment.
+    /// moment. The gate is told before and after each event.
     fn talk<P: Peer, I: IdSource>(
         &self,
         pass: &mut Pass<C, T>,
@@ -136,7 +116,9 @@ impl<R: Wait, C: Ledger, T: Ledger, A: App, G: Turnstile> Pool<'_, R, C, T, A, G
             let Some((event, now)) = given else {
                 return (false, lost);
             };
-            let done = self.take_turn(pass, &event, now, worker, *turn, ids);
+            self.gate.before(worker, *turn);
+            let done = self.apply(pass, &event, now, ids);
+            self.gate.after(worker, *turn);
             *turn = turn.saturating_add(1);
             lost = lost_after(&event, &done.got, now);
             if peer.answer(&done.got).is_err() {

@@ -18,14 +18,14 @@ turns-init g c = record { rounds = []; talks = refl; count = refl; lost_is = ref
 pub turns-preserved : goal.turns-preserved
 turns-preserved g c =
     let before = c.turns.invariant in
-    let r : Round = record { event = c.in-Some.event; now = c.in-Some.now; before = c.take_turn-done.result.before.value; got = c.take_turn-done.result.got; after = c.take_turn-done.result.after.value; heard = true } in
+    let r : Round = record { event = c.in-Some.event; now = c.in-Some.now; before = c.apply-done.result.before.value; got = c.apply-done.result.got; after = c.apply-done.result.after.value; heard = true } in
     let gave = rw c.in-Some.is at c.in-Ok.ensures in
     record {
       rounds = before.rounds ++ r ∷ [];
       talks = FoldsTo-push (Serves g.P.Peer.gives g.P.Peer.hears (g.A.App.decides c.args.self.now.app.now) (g.A.App.allows c.args.self.now.app.now)) _ before.rounds _ r _ before.talks (record {
         asking = c.next.new.self;
         gave = gave;
-        applied = c.take_turn-done.ensures;
+        applied = c.apply-done.ensures;
         reply = c.answer.result;
         heard_is = heard c.answer.result (sym c.is_err.ensures.value ∙ c.if-is_err.false);
         told = c.answer.ensures;
@@ -61,7 +61,7 @@ returns-in_default-given g c =
 pub returns-then-is_err : goal.returns-then-is_err
 returns-then-is_err g c =
     let before = c.turns.invariant in
-    let r : Round = record { event = c.in-Some.event; now = c.in-Some.now; before = c.take_turn-done.result.before.value; got = c.take_turn-done.result.got; after = c.take_turn-done.result.after.value; heard = false } in
+    let r : Round = record { event = c.in-Some.event; now = c.in-Some.now; before = c.apply-done.result.before.value; got = c.apply-done.result.got; after = c.apply-done.result.after.value; heard = false } in
     let gave = rw c.in-Some.is at c.in-Ok.ensures in
     record {
       rounds = before.rounds ++ r ∷ [];
@@ -69,7 +69,7 @@ returns-then-is_err g c =
       talks = FoldsTo-push (Serves g.P.Peer.gives g.P.Peer.hears (g.A.App.decides c.args.self.now.app.now) (g.A.App.allows c.args.self.now.app.now)) _ before.rounds _ r _ before.talks (record {
         asking = c.next.new.self;
         gave = gave;
-        applied = c.take_turn-done.ensures;
+        applied = c.apply-done.ensures;
         reply = c.answer.result;
         heard_is = unheard c.answer.result (sym c.is_err.ensures.value ∙ c.if-is_err.true);
         told = c.answer.ensures;

@@ -1,4 +1,4 @@
-use Rattle.std.proofs.Common.{◌≡◌, ◌∷◌, [], arith, refl, sym, ◌∙◌, append_assoc, append-nil}
+use Rattle.std.proofs.Common.{◌≡◌, ◌∷◌, [], arith, sym, ◌∙◌, append_assoc, append-nil}
 use Rattle.std.specs.Vec.Iter.{into_iter_items}
 use Rattle.hub_gate.specs.Serving.{WorksAs}
 use Rattle.hub_gate.proofs.Dealing.{nothing_left}
@@ -9,36 +9,19 @@ pub loop-job-preserved : goal.loop-job-preserved
 loop-job-preserved g c =
     let at = c.loop-job in
     let steps : into_iter_items at.job-iterator ≡ c.in-Some.job ∷ into_iter_items c.next.new.self = c.in-Some.ensures.steps.0 in
-    let ok = c.in-Ok-started.ensures.ok in
     record {
       count = omega (arith, c.push_reserved.ensures.len, at.invariant.count, c.in-Some.ensures.steps.1);
       room = omega (arith, c.push_reserved.ensures.capacity, at.invariant.room);
       yielded = append_assoc at.yielded (c.in-Some.job ∷ []) (into_iter_items c.next.new.self) ∙ rw (← steps) at.invariant.yielded;
       begun = rw c.push_reserved.ensures.items (zip_push (λ j h. (h.promise.job.value ≡ j) × (h.promise.app.value ≡ c.captures.pool.now.app.now) × (h.promise.turns ≡ c.captures.pool.now.turns))
-          at.yielded at.handles.items c.in-Some.job c.in-Ok-started.handle at.invariant.begun (rw ok c.of.ensures, rw ok c.of-in-loop-job.ensures, rw ok refl));
-    }
-
-pub loop-handle-preserved : goal.loop-handle-preserved
-loop-handle-preserved g c =
-    let at = c.loop-handle in
-    let steps : into_iter_items at.handle-iterator ≡ c.in-Some-handle.handle ∷ into_iter_items c.next-in-loop-handle.new.self = c.in-Some-handle.ensures.steps.0 in
-    record {
-      count = omega (arith, c.push_reserved-in-loop-handle.ensures.len, at.invariant.count, c.in-Some-handle.ensures.steps.1);
-      room = omega (arith, c.push_reserved-in-loop-handle.ensures.capacity, at.invariant.room);
-      yielded = append_assoc at.yielded (c.in-Some-handle.handle ∷ []) (into_iter_items c.next-in-loop-handle.new.self) ∙ rw (← steps) at.invariant.yielded;
-      kept = rw c.push_reserved-in-loop-handle.ensures.items (zip_push (λ h f. WorksAs g.P.Peer.gives g.P.Peer.hears (g.A.App.decides h.promise.app.value) (g.A.App.allows h.promise.app.value) h.promise.turns
-          (into_iter_items h.promise.job.value.queue.peers) (g.I.IdSource.stream h.promise.job.value.ids) f.counts)
-          at.yielded at.all.items c.in-Some-handle.handle c.join.result at.invariant.kept c.join.ensures);
+          at.yielded at.handles.items c.in-Some.job c.in_ok-start.field-0 at.invariant.begun c.in_ok-start.ensures.ok);
     }
 
 pub returns : goal.returns
 returns g c =
     let at = c.loop-job in
-    let end = c.loop-handle in
     let no_job = nothing_left (into_iter_items at.job-iterator) at.job-iterator.rest.len at.job-iterator.rest.ok.0 c.in-None.ensures.steps.0 in
-    let no_handle = nothing_left (into_iter_items end.handle-iterator) end.handle-iterator.rest.len end.handle-iterator.rest.ok.0 c.in-None-handle.ensures.steps.0 in
     let jobs = sym (append-nil at.yielded) ∙ (rw no_job at at.invariant.yielded) ∙ c.into_iter-job-iterator.ensures.into_iter_gives.0 in
-    let handles = sym (append-nil end.yielded) ∙ (rw no_handle at end.invariant.yielded) ∙ c.into_iter-handle-iterator.ensures.into_iter_gives.0 in
     record {
       work = zip_join (λ j h. (h.promise.job.value ≡ j) × (h.promise.app.value ≡ c.captures.pool.now.app.now) × (h.promise.turns ≡ c.captures.pool.now.turns))
           (λ h f. WorksAs g.P.Peer.gives g.P.Peer.hears (g.A.App.decides h.promise.app.value) (g.A.App.allows h.promise.app.value) h.promise.turns
@@ -46,7 +29,7 @@ returns g c =
           (λ j f. WorksAs g.P.Peer.gives g.P.Peer.hears (g.A.App.decides c.captures.pool.now.app.now) (g.A.App.allows c.captures.pool.now.app.now) c.captures.pool.now.turns
           (into_iter_items j.queue.peers) (g.I.IdSource.stream j.ids) f.counts)
           (λ j h f one two. rw (one.0, one.1, one.2) at two)
-          c.captures.jobs.items at.handles.items end.all.items (rw jobs at at.invariant.begun) (rw handles at end.invariant.kept);
-      len = omega (arith, end.invariant.count, c.in-None-handle.ensures.steps.0, c.into_iter-handle-iterator.ensures.into_iter_gives.1, at.invariant.count, c.in-None.ensures.steps.0, c.into_iter-job-iterator.ensures.into_iter_gives.1);
+          c.captures.jobs.items at.handles.items c.join_all.result.items (rw jobs at at.invariant.begun) c.join_all.ensures.kept;
+      len = omega (arith, c.join_all.ensures.len, at.invariant.count, c.in-None.ensures.steps.0, c.into_iter-job-iterator.ensures.into_iter_gives.1);
       error = tt;
     }

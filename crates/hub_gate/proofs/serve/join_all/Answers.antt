@@ -1,0 +1,23 @@
+use Rattle.std.proofs.Common.{◌≡◌, ◌∷◌, [], arith, sym, ◌∙◌, append_assoc, append-nil}
+use Rattle.std.specs.Vec.Iter.{into_iter_items}
+use Rattle.hub_gate.proofs.Dealing.{nothing_left}
+use Rattle.hub_gate.proofs.PoolLemmas.{zip_push}
+use Rattle.hub_gate.proofs.serve.join_all.Goals as goal
+
+pub loop-handle-preserved : goal.loop-handle-preserved
+loop-handle-preserved g c =
+    let at = c.loop-handle in
+    let steps : into_iter_items at.handle-iterator ≡ c.in-Some.handle ∷ into_iter_items c.next.new.self = c.in-Some.ensures.steps.0 in
+    record {
+      count = omega (arith, c.push_reserved.ensures.len, at.invariant.count, c.in-Some.ensures.steps.1);
+      room = omega (arith, c.push_reserved.ensures.capacity, at.invariant.room);
+      yielded = append_assoc at.yielded (c.in-Some.handle ∷ []) (into_iter_items c.next.new.self) ∙ rw (← steps) at.invariant.yielded;
+      kept = rw c.push_reserved.ensures.items (zip_push (λ h x. g.P.Promise.kept_by h.promise x) at.yielded at.all.items c.in-Some.handle c.join.result at.invariant.kept c.join.ensures);
+    }
+
+pub returns-clause-kept : goal.returns-clause-kept
+returns-clause-kept g c =
+    let end = c.loop-handle in
+    let none = nothing_left (into_iter_items end.handle-iterator) end.handle-iterator.rest.len end.handle-iterator.rest.ok.0 c.in-None.ensures.steps.0 in
+    let handles = sym (append-nil end.yielded) ∙ (rw none at end.invariant.yielded) ∙ c.into_iter-handle-iterator.ensures.into_iter_gives.0 in
+    rw handles at end.invariant.kept
