@@ -1,10 +1,12 @@
 -- The packets that a take carries, and that they have a payload.
-use Rattle.std.proofs.Common.{◌≡◌, ◌≢◌, ℕ, zero, suc, ◌+◌, ◌==◌, Bool, true, false, not, List, [], ◌∷◌, ◌++◌, map, take, refl, sym, ◌∙◌, ap, subst, rules, arith, All, Some, slice_get, append_assoc, if◌then◌else◌}
+use Rattle.std.proofs.Common.{◌≡◌, ◌≢◌, ℕ, zero, suc, ◌+◌, ◌<◌, ◌≤◌, ◌==◌, Bool, true, false, not, List, [], ◌∷◌, ◌++◌, length, map, take, refl, sym, ◌∙◌, ap, subst, rules, arith, inl, inr, All, None, Some, slice_get, append_assoc, if◌then◌else◌}
 use Rattle.std.specs.List.{flat_map, list_any}
 use Rattle.std.proofs.lemmas.Bool.Decides.{nat_tests}
 use Rattle.std.proofs.lemmas.Grind.{flat_map-append}
 use Rattle.std.proofs.lemmas.List.Concat.{flat_map-cons}
+use Rattle.std.proofs.lemmas.List.{take_all}
 use Rattle.std.proofs.lemmas.List.Elements.{All-nil, All-cons, All-append}
+use Rattle.std.proofs.lemmas.Option.{slice_get_cases}
 use Rattle.eio_wire.specs.declared.packet.Packet.{Packet}
 use Rattle.eio_wire.specs.declared.packet.Packet.TheVariants.{Ping, Message, Binary}
 use Rattle.eio_wire.specs.Payload.{HasWholeData}
@@ -31,6 +33,15 @@ carried-more ping w i e is =
   where
     one : {X A : Type 0} (f : X → List A) (x : X) → flat_map f (x ∷ []) ≡ f x
     one f x = search rules
+
+-- the entries up to one that isn't there are all that may be taken
+pub all-taken : {X : Type 0} (w : List X) (i most : ℕ) → slice_get w i ≡ None → i < most → take i w ≡ take most w
+all-taken w i most none less =
+    let past : length w ≤ i = elim (slice_get_cases w i).1 [
+      | inl there ↦ absurd (cc (there.2, none))
+      | inr past ↦ past.0
+    ] in
+    take_all i w past ∙ sym (take_all most w (omega arith))
 
 -- ---- no packet holds a separator
 

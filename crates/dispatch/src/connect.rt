@@ -4,7 +4,7 @@
 ghost use Rattle.std.specs.Prelude.{◌≡◌, ◌≢◌, ◌<◌, ◌^◌, ℕ, IfOk, IfErr, IfSome, IfNone};
 ghost use Rattle.effects.specs.Effects.{IsOpenFor};
 ghost use Rattle.effects.specs.Scene.{seen, Plays};
-ghost use Rattle.dispatch.specs.Packets.{Draws, IsFresh, IsFreeIn, Refuses, Connects, ConnectsAs, AsksApp, digits_of, Names, Returning, AsksToConnect};
+ghost use Rattle.dispatch.specs.Packets.{Draws, IsFresh, IsFreeIn, Refuses, Connects, ConnectsAs, AsksApp, digits_of, Names, Returning, ComesBack, MayComeBack, AsksToConnect};
 
 use crate::packets::close_for;
 use effects::{Scene, act_all, commands};
@@ -126,6 +126,48 @@ fn come_back(scene: &mut Scene, space: &str, named: (Pid, u64)) -> Result<bool, 
     Ok(true)
 }
 
+/// Connects the client with the session that it names, or where that can't come back, as the app
+/// says.
+fn return_or_ask<A: App, I: IdSource>(
+    scene: &mut Scene,
+    app: &A,
+    ids: &mut I,
+    asked: (Text, Text),
+    named: (Pid, u64),
+) -> Result<(), Stopped>
+    requires open_client { IsOpenFor scene.old.visit.client (seen scene.old) }
+    requires fresh { IsFresh (seen scene.old) }
+    requires free { IsFreeIn asked.0 scene.old.visit.client (seen scene.old) }
+    ensures { let client = scene.old.visit.client in Draws
+        (ComesBack (A.allows app.now) client asked.0 asked.1 named.0 named.1)
+        scene.old (I.stream ids.old) result scene.new (I.stream ids.new) }
+{
+    match come_back(scene, asked.0.as_str(), named) {
+        Ok(true) => Ok(()),
+        Ok(false) => ask_app(scene, app, ids, asked),
+        Err(stopped) => Err(stopped),
+    }
+}
+
+/// Connects the client to a namespace that it hasn't joined.
+fn connect_free<A: App, I: IdSource>(
+    scene: &mut Scene,
+    app: &A,
+    ids: &mut I,
+    asked: (Text, Text),
+) -> Result<(), Stopped>
+    requires open_client { IsOpenFor scene.old.visit.client (seen scene.old) }
+    requires fresh { IsFresh (seen scene.old) }
+    requires free { IsFreeIn asked.0 scene.old.visit.client (seen scene.old) }
+    ensures { Draws (MayComeBack (A.allows app.now) scene.old.visit.client asked.0 asked.1)
+        scene.old (I.stream ids.old) result scene.new (I.stream ids.new) }
+{
+    match named_in(scene.visit.alloc, asked.1.as_str())? {
+        Some(named) => return_or_ask(scene, app, ids, asked, named),
+        None => ask_app(scene, app, ids, asked),
+    }
+}
+
 /// What a CONNECT does.
 pub(crate) fn connect<A: App, I: IdSource>(
     scene: &mut Scene,
@@ -146,12 +188,5 @@ pub(crate) fn connect<A: App, I: IdSource>(
     if let Some(_) = scene.state.socket_of(scene.visit.client, space.as_str()) {
         return close_for(scene, Cause::AlreadyConnected);
     }
-    let Some(named) = named_in(scene.visit.alloc, payload.as_str())? else {
-        return ask_app(scene, app, ids, (space, payload));
-    };
-    match come_back(scene, space.as_str(), named) {
-        Ok(true) => Ok(()),
-        Ok(false) => ask_app(scene, app, ids, (space, payload)),
-        Err(stopped) => Err(stopped),
-    }
+    connect_free(scene, app, ids, (space, payload))
 }

@@ -86,7 +86,20 @@ fn noop(alloc: Global, line: &mut Line) -> Result<Outcome, CoreFault>
     Ok(Outcome::Payload(text))
 }
 
-/// Counts the entries that are handed out, where there are some, and then a ping that was due.
+/// Counts the entries that are handed out, where there are some.
+fn count_entries(visit: Visit, state: &mut State, most: usize) -> Result<(), CoreFault>
+    requires { is_open state.old.base state.old.journal visit.client ≡ true }
+    ensures ok { OnOk result (Counts visit.client most visit.moment state.old state.new) }
+    ensures err { IfErr result (λ f. FailsToCount visit.client most visit.moment state.old f
+        × (state.new ≡ state.old)) }
+{
+    if most > 0 && state.front(visit.client, 0).is_some() {
+        return commands::take(visit, state, most);
+    }
+    Ok(())
+}
+
+/// Counts the entries that are handed out, and then a ping that was due.
 pub(crate) fn count(
     visit: Visit,
     state: &mut State,
@@ -100,9 +113,7 @@ pub(crate) fn count(
     ensures err { IfErr result (λ f. FailsToCount visit.client most visit.moment state.old f
         × (state.new ≡ state.old) × (line.new ≡ line.old)) }
 {
-    if most > 0 && state.front(visit.client, 0).is_some() {
-        commands::take(visit, state, most)?;
-    }
+    count_entries(visit, state, most)?;
     if ping {
         line.carry_ping();
     }
