@@ -1,7 +1,7 @@
 //! What the app's effects do (Socket.IO protocol 5, "Sending and receiving data" and "Disconnection
 //! from a namespace"; Socket.IO server documentation, "Rooms").
 
-ghost use Rattle.std.specs.Prelude.{◌≡◌, ◌≤◌, false, not, [], filter, ◌==◌, IfOk, IfErr, OnOk};
+ghost use Rattle.std.specs.Prelude.{◌≡◌, ◌≤◌, false, not, ◌||◌, [], filter, ◌==◌, IfOk, IfErr, OnOk};
 ghost use Rattle.sio_wire.specs.Disconnect.{disconnect_text};
 ghost use Rattle.journal.specs.declared.step.What.{What};
 ghost use Rattle.effects.specs.Commands.{IsSeated};
@@ -14,6 +14,7 @@ use crate::commands;
 use crate::entry::reply_entry;
 use crate::rooms::{end_all, join, join_all, leave, leave_all};
 use crate::scene::Scene;
+use crate::tally::Tally;
 use crate::visit::Visit;
 use events::{Cause, CoreFault, Effect, Emission, Reply, Stopped, Who};
 use journal::Cast;
@@ -44,6 +45,13 @@ fn is_wrong(asked: Option<u64>, effect: &Effect) -> bool
         Effect::Join(_) | Effect::Leave(_) | Effect::Disconnect => false,
         Effect::AllJoin(_, _) | Effect::AllLeave(_, _) | Effect::AllEnd(_) => false,
     }
+}
+
+/// Whether the effect can't be done by itself, or comes after the socket was disconnected.
+fn is_bad(tally: &Tally, effect: &Effect) -> bool
+    ensures { result ≡ (tally.now.ended || is_wrong tally.now.asked effect.now) }
+{
+    tally.ended || is_wrong(tally.asked, effect)
 }
 
 /// Closes the client for a cause.
@@ -190,7 +198,7 @@ fn act(scene: &mut Scene, who: &Who, effect: Effect) -> Result<(), CoreFault>
     if scene.tally.is_closed() {
         return Ok(());
     }
-    if scene.tally.ended || is_wrong(scene.tally.asked, &effect) {
+    if is_bad(scene.tally, &effect) {
         return Err(CoreFault::BadEffect);
     }
     act_allowed(scene, who, effect)
