@@ -55,7 +55,7 @@ pub enum Answer<'a> {
 }
 
 /// What became of a payload or a frame.
-#[derive(Clone, Copy, Debug)]
+#[derive(Clone, Copy)]
 pub struct Posted {
     /// Whether it was read.
     read: bool,
@@ -180,14 +180,14 @@ impl fmt::Display for Answer<'_> {
 
     fn fmt<W: fmt::Write>(&self, f: &mut fmt::Formatter<W>) -> fmt::Result {
         match self {
-            Answer::Opened(name, text) => write!(f, "{name} {}", text.as_str()),
+            Answer::Opened(name, text)
+            | Answer::Probed(name, text)
+            | Answer::Taken(name, Some(text)) => write!(f, "{name} {}", text.as_str()),
             Answer::Posted(posted) => write!(f, "{posted}"),
             Answer::Ok => f.write_str("ok"),
             Answer::Closed(cause) => write!(f, "closed: {}", cause_name(*cause)),
-            Answer::Taken(name, Some(payload)) => write!(f, "{name} {}", payload.as_str()),
             Answer::Taken(name, None) => write!(f, "{name} -"),
             Answer::Frames(lines) => f.write_str(lines.as_str()),
-            Answer::Probed(name, text) => write!(f, "{name} {}", text.as_str()),
             Answer::Ticked { name, ping, closed } => { write!(f, "{name} {}", Due(*ping, *closed)) }
             Answer::NotSaved => f.write_str("ok, not saved: SavedFull"),
             Answer::Members(Some(ids)) => write!(f, "members{}", ids.as_str()),

@@ -64,7 +64,7 @@ fn serve<C: Ledger, T: Ledger, A: App, R: Read, W: Write>(
     ensures answered { OnOk result (IsAnswered (A.decides app.now) (A.allows app.now)
         (R.remaining reader.old) (W.contents writer.old) (W.contents writer.new)) }
 {
-    let mut run: Run<C, T> = Run::new(commands, taken);
+    let mut run: Run<C, T> = Run::Setting(Setup::usual(), Ledgers::new(commands, taken));
     answer_all(alloc, app, &mut run, reader, writer)
 }
 
@@ -119,7 +119,10 @@ fn flush<W: Write>(writer: &mut W) -> Result<(), RunError>
     ensures kept { Keeps (W.contents writer.old) (W.contents writer.new) }
     ensures err { IsOkUnless result Writing }
 {
-    writer.flush().map_err(|_| RunError::Writing)
+    match writer.flush() {
+        Ok(()) => Ok(()),
+        Err(_) => Err(RunError::Writing),
+    }
 }
 
 /// Answers each line that these bytes end, the first of them begun by `line`, and leaves in `line`
@@ -193,18 +196,13 @@ fn print_any<W: Write>(writer: &mut W, answer: Option<Answer<'_>>) -> Result<(),
         (printed (option_map answer_text answer.entry))) }
     ensures err { IsOkUnless result Writing }
 {
-    match answer {
-        Some(answer) => print(writer, &answer),
-        None => Ok(()),
+    let Some(answer) = answer else {
+        return Ok(());
+    };
+    match writeln!(writer, "{answer}") {
+        Ok(()) => Ok(()),
+        Err(_) => Err(RunError::Writing),
     }
-}
-
-fn print<W: Write>(writer: &mut W, answer: &Answer<'_>) -> Result<(), RunError>
-    ensures line { OnOk result (Appends (W.contents writer.old) (W.contents writer.new)
-        (answer_text answer.now ++ 10 ∷ [])) }
-    ensures err { IsOkUnless result Writing }
-{
-    writeln!(writer, "{answer}").map_err(|_| RunError::Writing)
 }
 
 /// A script under way: how far it has come.
@@ -219,17 +217,6 @@ enum Run<C: Ledger, T: Ledger> {
 }
 
 impl<C: Ledger, T: Ledger> Run<C, T> {
-    /// A script of which no line was read.
-    fn new(commands: Blank, taken: Blank) -> Run<C, T>
-        requires commands { (commands.name ≡ C.name)
-            × (commands.parts ≡ C.parts) × (commands.parts ≡ 65536) }
-        requires taken { (taken.name ≡ T.name)
-            × (taken.parts ≡ T.parts) × (taken.parts ≡ 65536) }
-        ensures { stage_of result ≡ Setting USUAL }
-    {
-        Run::Setting(Setup::usual(), Ledgers::new(commands, taken))
-    }
-
     /// Does what a line asks for. A blank line or a comment has no answer.
     fn answer<'a, A: App>(
         &mut self,

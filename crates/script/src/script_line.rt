@@ -38,7 +38,7 @@ pub enum Notice {
 }
 
 /// What one line of a script asks for. A line is UTF-8; a carriage return belongs to it.
-#[derive(Clone, Copy, Debug)]
+#[derive(Clone, Copy)]
 pub enum ScriptLine<'a> {
     /// `config KEY N`: a limit of the server.
     Config(Key, u64),

@@ -16,7 +16,7 @@ use std::alloc::{AllocError, Global};
 use std::sync::ledger::{Blank, Ledger};
 
 /// The limits of a server, of which a script may set each.
-#[derive(Clone, Copy, Debug)]
+#[derive(Clone, Copy)]
 pub(crate) struct Setup {
     clients: usize,
     capacity: usize,
