@@ -1,8 +1,6 @@
 //! The faults that end a run.
 
-use events::{CoreError, PeerFault};
-use http_edge::EdgeError;
-use hub::NotAll;
+use events::CoreError;
 use hub_gate::ServeError;
 use journal::HubError;
 use std::alloc::AllocError;
@@ -20,25 +18,13 @@ pub enum Fault {
     Refused(#[from] HubError),
     #[error("the core refused an event: {0:?}")]
     RefusedEvent(#[from] CoreError),
-    #[error("a peer failed: {0:?}")]
-    Peer(#[from] PeerFault),
     #[error("a pool of workers failed: {0}")]
     Pool(#[from] ServeError),
-    #[error("the pass lacks commands: {0:?}")]
-    Unsettled(#[from] NotAll),
-    #[error("a request was not read: {0:?}")]
-    Request(#[from] EdgeError),
-    #[error("the clock was not read, or a line not written")]
-    Device,
+    #[error("the clock was not read, or a line not written: {0:?}")]
+    Device(#[from] io::Error),
     /// What was done didn't come to what it has to.
     #[error("{0}")]
     Wrong(&'static str),
-}
-
-impl From<io::Error> for Fault {
-    fn from(_error: io::Error) -> Fault {
-        Fault::Device
-    }
 }
 
 /// As `main` shows it.

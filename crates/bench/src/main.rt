@@ -3,50 +3,44 @@
 //! `bench BATCHES` what the lock costs where each of four rooms plays so many batches of events.
 #![tactic(auto)]
 
+ghost use Rattle.std.specs.Prelude.{◌≡◌};
+
 mod bands;
 mod fault;
 mod hall;
 mod rows;
 
-use bands::measure;
+use bands::{Concert, play_pool};
+use dispatch::Core;
 use fault::Fault;
-use rows::{EVENTS, HUB, Kind, MISSPELLED, POOLS, Row, Scale};
+use hall::{play_hub, settings};
+use hub::Hub;
+use journal::Totals;
+use rows::{BATCH, Counted, MISSPELLED, Measured, POOLS, ROWS, Row};
 use std::env;
-use std::rt::{Clock, Env, Files};
+use std::marker::Brand;
+use std::rt::{Clock, Files};
 use std::sync::Wait;
+use std::sync::ledger::{Blank, Ledger};
 use std::thread::Threads;
-
-/// How much the run without arguments does.
-const SMALL: Scale = Scale {
-    sockets: 300,
-    casts: 10,
-    batches: 2,
-};
-
-fn main(rt: HostRuntime) -> Result<(), Fault> {
-    run(&rt)
-}
+use std::time::{Duration, Instant};
+use usual_core::{NUMBERS, PARTS, TIMING, on_new_server};
 
 /// Does what the arguments ask for. The greatest room has 256 members.
-fn run<R: Env + Clock + Files + Threads + Wait + Sync + Print + AllocGlobal>(
-    rt: &R,
-) -> Result<(), Fault> {
-    let words: Vec<String> = env::args(rt)?.collect(rt.alloc())?;
+fn main(rt: HostRuntime) -> Result<(), Fault> {
+    let words: Vec<String> = env::args(&rt)?.collect(rt.alloc())?;
     match words.as_slice() {
-        [_program] => print_counts(rt),
+        [_program] => {
+            print_rows(&rt, ROWS, 300, 10, true)?;
+            print_rows(&rt, POOLS, 300, 2 * BATCH, true)
+        }
         [_program, batches] => {
-            let batches = number(batches.as_str(), 1)?;
-            print_rows(rt, Kind::Pool, POOLS, Scale { batches, ..SMALL }, false)
+            let casts = number(batches.as_str(), 1)?.saturating_mul(BATCH);
+            print_rows(&rt, POOLS, 300, casts, false)
         }
         [_program, sockets, casts] => {
             let (sockets, casts) = (number(sockets.as_str(), 256)?, number(casts.as_str(), 1)?);
-            let scale = Scale {
-                sockets,
-                casts,
-                ..SMALL
-            };
-            print_rows(rt, Kind::Hub, HUB, scale, false)?;
-            print_rows(rt, Kind::Core, EVENTS, scale, false)
+            print_rows(&rt, ROWS, sockets, casts, false)
         }
         _ => Err(Fault::Arguments),
     }
@@ -60,9 +54,9 @@ fn number(word: &str, least: u64) -> Result<u64, Fault> {
     }
 }
 
-/// Prints the counts of all rows. 300 sockets are each opened, connected and taken of the answer to
-/// CONNECT, which are 900 commands, and 300 are placed and taken; the rest follows from the deeds:
-///
+/// Prints figures, or the counts of all rows but those of memory and requests. 300 sockets are each
+/// opened, connected and taken of the answer to CONNECT, which are 900 commands, and 300 are placed
+/// and taken; the rest follows from the deeds:
 /// - a room of M: M joins, 10 casts and M takes; 10 M are placed and taken;
 /// - all 16 of a namespace: 16 attaches and takes, 10 casts and 16 takes; 16 and 160;
 /// - joins and leaves: 600; of a room: 256 joins, and 20 commands;
@@ -76,66 +70,91 @@ fn number(word: &str, least: u64) -> Result<u64, Fault> {
 /// - a seal of 64 steps: 64 casts to all, which wait;
 /// - posts: 16 joins, 10 casts and 15 takes; 150. Takes: 16 joins, 64 casts and 15 takes; 960;
 /// - bands: 64 clients open, connect, take and join; 512 casts and 120 takes; 64 and 7,680.
-fn print_counts<R: Clock + Files + Threads + Wait + Sync + Print + AllocGlobal>(
-    rt: &R,
-) -> Result<(), Fault> {
-    print_rows(rt, Kind::Hub, HUB, SMALL, true)?;
-    print_rows(rt, Kind::Core, EVENTS, SMALL, true)?;
-    print_rows(rt, Kind::Pool, POOLS, SMALL, true)
-}
-
-/// Memory comes first, while the process has had no other hub.
 fn print_rows<R: Clock + Files + Threads + Wait + Sync + Print + AllocGlobal>(
     rt: &R,
-    kind: Kind,
     rows: &str,
-    scale: Scale,
+    sockets: u64,
+    casts: u64,
     counts: bool,
 ) -> Result<(), Fault> {
     for line in rows.lines() {
-        let row = Row::read(rt, kind, scale, line).ok_or(MISSPELLED)?;
+        let row = Row::read(sockets, casts, line).ok_or(MISSPELLED)?;
         if !counts {
-            row.print_figure()?;
-        } else if !row.counted.is_empty() {
-            row.print_counts()?;
+            let start = Instant::now(rt)?;
+            let (counted, _totals) = measure(rt, &row)?;
+            print_figure(rt, &row, &counted, start.elapsed(rt)?)?;
+        } else if !matches!(row.counted, "bytes" | "requests") {
+            let (counted, totals) = measure(rt, &row)?;
+            print_counts(rt, &row, counted.number, &totals)?;
         }
     }
     Ok(())
 }
 
-impl<'a, R: Clock + Files + Threads + Wait + Sync + Print + AllocGlobal> Row<'a, R> {
-    fn print_counts(&self) -> Result<(), Fault> {
-        let (rt, name, counted, measured) = (self.rt, self.name, self.counted, measure(self)?);
-        let (number, totals) = (measured.counted.number, measured.totals);
-        let (commands, placed, taken) = (totals.commands, totals.placed, totals.taken);
-        print!(rt; "{name}: {counted} {number}, commands {commands}, placed {placed}")?;
-        let (discarded, waiting) = (totals.discarded, totals.waiting);
-        println!(rt; ", taken {taken}, discarded {discarded}, waiting {waiting}")?;
-        Ok(())
+/// Plays the row over a new hub or a new core.
+fn measure<R: Clock + Files + Threads + Wait + Sync + AllocGlobal>(
+    rt: &R,
+    row: &Row<'_>,
+) -> Measured {
+    let (counted, totals) = if matches!(row.player, "band" | "0") {
+        on_new_server(rt.alloc(), &settings(row.sockets), Concert { rt, row })??
+    } else {
+        let (commands, taken) = (Blank::new(PARTS), Blank::new(PARTS));
+        measure_in::<Brand, Brand, R>(rt, row, commands, taken)?
+    };
+    if totals.dropped > 0 {
+        return Err(Fault::Wrong("a broadcast was dropped"));
     }
+    Ok((counted, totals))
+}
 
-    fn print_figure(&self) -> Result<(), Fault> {
-        let (rt, name, counted, measured) = (self.rt, self.name, self.counted, measure(self)?);
-        let (time, rate) = (measured.counted.time, measured.rate());
-        match (self.kind, counted) {
-            (Kind::Pool, _) => {
-                let (mean, most) = (
-                    measured.counted.mean(),
-                    measured.counted.longest.as_micros(),
-                );
-                println!(rt; "{name}: {rate} turns a second, each {mean} ns, at most {most} us")?;
-            }
-            (_, "steps") => {
-                let (whole, rest) = (time.as_micros() / 1_000, time.as_micros() % 1_000);
-                println!(rt; "{name}: {whole}.{rest:03} ms")?;
-            }
-            _ if name == "memory" => {
-                let bytes = measured.grown.checked_div(self.scale.sockets).unwrap_or(0);
-                println!(rt; "{name}: {bytes} bytes an open client with a socket")?;
-            }
-            (_, "") => println!(rt; "{name}: {rate} a second")?,
-            _ => println!(rt; "{name}: {rate} {counted} a second")?,
-        }
-        Ok(())
+/// Plays the row over a new hub, or has it played over a new core, with these ledgers.
+fn measure_in<
+    C: Ledger + Send + Sync,
+    T: Ledger + Send + Sync,
+    R: Clock + Files + Threads + Wait + Sync + AllocGlobal,
+>(rt: &R, row: &Row<'_>, commands: Blank, taken: Blank) -> Measured
+    requires commands { (commands.name ≡ C.name)
+        × (commands.parts ≡ C.parts) × (commands.parts ≡ 65536) }
+    requires taken { (taken.name ≡ T.name) × (taken.parts ≡ T.parts) × (taken.parts ≡ 65536) }
+{
+    let (alloc, settings) = (rt.alloc(), settings(row.sockets));
+    let config = settings.limits.config(alloc, settings.spaces)?;
+    if row.player == "hub" {
+        let (hub, pass) = Hub::<C, T>::new(alloc, config, commands, taken)?;
+        return play_hub(rt, row, hub, pass);
     }
+    let (core, pass) = Core::<C, T>::new(alloc, config, TIMING, NUMBERS, commands, taken)?;
+    play_pool(alloc, rt, row, core, pass)
+}
+
+fn print_counts(rt: &impl Print, row: &Row<'_>, number: u64, totals: &Totals) -> Result<(), Fault> {
+    let (name, counted, commands, placed) = (row.name, row.counted, totals.commands, totals.placed);
+    print!(rt; "{name}: {counted} {number}, commands {commands}, placed {placed}")?;
+    let (taken, discarded, waiting) = (totals.taken, totals.discarded, totals.waiting);
+    println!(rt; ", taken {taken}, discarded {discarded}, waiting {waiting}")?;
+    Ok(())
+}
+
+/// Prints how many there were in a second while the clock ran, or for turns all the while.
+fn print_figure(
+    rt: &impl Print,
+    row: &Row<'_>,
+    counted: &Counted,
+    whole: Duration,
+) -> Result<(), Fault> {
+    let (name, what, number) = (row.name, row.counted, u128::from(counted.number));
+    if what == "bytes" {
+        let each = number / u128::from(row.sockets.max(1));
+        println!(rt; "{name}: {each} bytes an open client with a socket")?;
+        return Ok(());
+    }
+    let took = if what == "turns" { whole } else { counted.time };
+    let rate = number * 1_000_000_000 / took.as_nanos().max(1);
+    let (mean, most) = (
+        counted.time.as_nanos() / number.max(1),
+        counted.longest.as_micros(),
+    );
+    println!(rt; "{name}: {rate} {what} a second, each {mean} ns, at most {most} us")?;
+    Ok(())
 }
