@@ -3,8 +3,8 @@
 ghost use Rattle.std.specs.Prelude.{◌≡◌, ◌<◌, IfOk, OnOk, IsOkUnless, None, Some, Ok, option_map, length};
 ghost use Rattle.std.specs.BTreeMap.{get_by_text};
 ghost use Rattle.script.specs.declared.faults.RunError.TheVariants.{Memory};
-ghost use Rattle.script.specs.Playing.{new_server, server_of, Happens, Asks, IsOfNone, Names, Opens, AsksMembers, Seals, RepliesForClient, Replies, Plays};
-ghost use Rattle.script.specs.Printing.{answer_text, done_text, outcome_text};
+ghost use Rattle.script.specs.Playing.{new_server, server_of, Happens, Asks, IsOfNone, Names, NamesOpened, Opens, AsksMembers, Seals, RepliesForClient, Replies, Plays, told};
+ghost use Rattle.script.specs.Printing.{answer_text, done_text};
 
 use crate::faults::RunError;
 use crate::notices::event_of;
@@ -148,10 +148,8 @@ impl<C: Ledger, T: Ledger> Play<C, T> {
             (server_of self.old) (answer_text answer) (server_of self.new)) }
         ensures err { IsOkUnless result Memory }
     {
-        match self.apply(alloc, app, event)? {
-            Ok(outcome) => Ok(answer_to(alloc, name, event, outcome)?),
-            Err(error) => Ok(Answer::Refused(error.fault)),
-        }
+        let answer = self.apply(alloc, app, event)?;
+        Ok(answer_to(alloc, name, event, answer)?)
     }
 
     /// Opens a client, for which the name stands from now on.
@@ -167,13 +165,25 @@ impl<C: Ledger, T: Ledger> Play<C, T> {
         ensures err { IsOkUnless result Memory }
     {
         let event = Event::Opened { socket };
-        match self.apply(alloc, app, &event)? {
-            Ok(Outcome::Opened(opening)) => {
-                self.call(alloc, name, opening.client)?;
-                Ok(Answer::Opened(name, opening.text))
-            }
-            Ok(outcome) => Ok(answer_to(alloc, name, &event, outcome)?),
-            Err(error) => Ok(Answer::Refused(error.fault)),
+        let answer = self.apply(alloc, app, &event)?;
+        self.call_opened(alloc, name, &answer)?;
+        Ok(answer_to(alloc, name, &event, answer)?)
+    }
+
+    /// From now on the name stands for the client that was opened, if one was.
+    fn call_opened(
+        &mut self,
+        alloc: Global,
+        name: &str,
+        answer: &Result<Outcome, CoreError>,
+    ) -> Result<(), RunError>
+        ensures names { OnOk result
+            (NamesOpened name.now answer.now (server_of self.old) (server_of self.new)) }
+        ensures err { IsOkUnless result Memory }
+    {
+        match answer {
+            Ok(Outcome::Opened(opening)) => self.call(alloc, name, opening.client),
+            _ => Ok(()),
         }
     }
 
@@ -219,31 +229,31 @@ impl<C: Ledger, T: Ledger> Play<C, T> {
     }
 }
 
-/// What is printed of an event's outcome for the client of this name.
+/// What is printed of an event's answer for the client of this name.
 fn answer_to<'a>(
     alloc: Global,
     name: &'a str,
     event: &Event,
-    outcome: Outcome,
+    answer: Result<Outcome, CoreError>,
 ) -> Result<Answer<'a>, AllocError>
-    ensures { IfOk result (λ answer.
-        answer_text answer ≡ outcome_text name.entry.now event.now outcome) }
+    ensures { IfOk result (λ said. answer_text said ≡ told name.entry.now event.now answer) }
 {
-    match outcome {
-        Outcome::Opened(opening) => Ok(Answer::Opened(name, opening.text)),
-        Outcome::Done(done) => Ok(answer_when_done(event, &done)),
-        Outcome::Begun => Ok(Answer::Ok),
-        Outcome::Payload(text) => Ok(Answer::Taken(name, Some(text))),
-        Outcome::Frames(frames) => {
+    match answer {
+        Ok(Outcome::Opened(opening)) => Ok(Answer::Opened(name, opening.text)),
+        Ok(Outcome::Done(done)) => Ok(answer_when_done(event, &done)),
+        Ok(Outcome::Begun) => Ok(Answer::Ok),
+        Ok(Outcome::Payload(text)) => Ok(Answer::Taken(name, Some(text))),
+        Ok(Outcome::Frames(frames)) => {
             let lines = frame_lines(alloc, name, frames.as_slice())?;
             Ok(Answer::Frames(lines))
         }
-        Outcome::Nothing => Ok(Answer::Taken(name, None)),
-        Outcome::Probed(text) => Ok(Answer::Probed(name, text)),
-        Outcome::Lost { saved: true } => Ok(Answer::Ok),
-        Outcome::Lost { saved: false } => Ok(Answer::NotSaved),
-        Outcome::Ticked { ping, closed } => Ok(Answer::Ticked { name, ping, closed }),
-        Outcome::Swept(swept) => Ok(Answer::Swept(swept)),
+        Ok(Outcome::Nothing) => Ok(Answer::Taken(name, None)),
+        Ok(Outcome::Probed(text)) => Ok(Answer::Probed(name, text)),
+        Ok(Outcome::Lost { saved: true }) => Ok(Answer::Ok),
+        Ok(Outcome::Lost { saved: false }) => Ok(Answer::NotSaved),
+        Ok(Outcome::Ticked { ping, closed }) => Ok(Answer::Ticked { name, ping, closed }),
+        Ok(Outcome::Swept(swept)) => Ok(Answer::Swept(swept)),
+        Err(error) => Ok(Answer::Refused(error.fault)),
     }
 }
 
