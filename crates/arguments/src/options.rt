@@ -5,8 +5,10 @@ use clap::builder::ValueParser;
 use clap::{Arg, ArgAction, ArgMatches, Command};
 use journal::Config;
 use page::Page;
-use settings::{MOST_BYTES, Settings, TIMING, usual_spaces};
+use session_clock::Timing;
+use settings::{MOST_BYTES, Settings};
 use std::alloc::{AllocError, Global};
+use terms::Text;
 
 /// What a program that serves is asked for.
 #[derive(Drop)]
@@ -54,7 +56,7 @@ enum Unsaid {
 const MANY: u64 = 4_294_967_295;
 
 /// The options, in the order in which help tells them.
-static OPTIONS: [Entry; 17] = [
+static OPTIONS: [Entry; 22] = [
     Entry {
         name: "port",
         takes: Takes::Number(1, 65_535),
@@ -126,6 +128,36 @@ static OPTIONS: [Entry; 17] = [
         takes: Takes::Number(1, 65_536),
         unsaid: Unsaid::Usual("15"),
         help: "The most entries of one answer to a GET",
+    },
+    Entry {
+        name: "space",
+        takes: Takes::Texts,
+        unsaid: Unsaid::Usual("/admin"),
+        help: "A namespace beside /; may come again",
+    },
+    Entry {
+        name: "ping-interval",
+        takes: Takes::Number(1, u64::MAX),
+        unsaid: Unsaid::Usual("25000"),
+        help: "How often a client is pinged, in milliseconds",
+    },
+    Entry {
+        name: "ping-timeout",
+        takes: Takes::Number(1, u64::MAX),
+        unsaid: Unsaid::Usual("20000"),
+        help: "How long it may take to answer, in milliseconds",
+    },
+    Entry {
+        name: "connect-timeout",
+        takes: Takes::Number(1, u64::MAX),
+        unsaid: Unsaid::Usual("45000"),
+        help: "How long it may take to join a namespace, in milliseconds",
+    },
+    Entry {
+        name: "max-payload",
+        takes: Takes::Number(1, MOST_BYTES),
+        unsaid: Unsaid::Usual("1000000"),
+        help: "How many bytes clients are told that a payload may have",
     },
     Entry {
         name: "report",
@@ -224,8 +256,8 @@ fn settings(
         workers: matches.get_one::<usize>("workers").unwrap_or(processors),
         connections: unless_0(count(matches, "connections")),
         hub,
-        timing: TIMING,
-        max_payload: MOST_BYTES,
+        timing: timing(matches),
+        max_payload: count(matches, "max-payload"),
         together: count(matches, "together"),
         poll_entries: size(matches, "poll-entries"),
         origins,
@@ -234,9 +266,18 @@ fn settings(
     })
 }
 
-/// The limits of the hub, with the usual namespaces.
+/// When a client is pinged, and when it is given up.
+fn timing(matches: &ArgMatches<'_>) -> Timing {
+    Timing {
+        ping_interval: count(matches, "ping-interval"),
+        ping_timeout: count(matches, "ping-timeout"),
+        connect_timeout: count(matches, "connect-timeout"),
+    }
+}
+
+/// The limits of the hub, with the namespaces.
 fn hub(alloc: Global, matches: &ArgMatches<'_>) -> Result<Config, AllocError> {
-    let spaces = usual_spaces(alloc)?;
+    let spaces = spaces(alloc, matches)?;
     Ok(Config {
         clients: size(matches, "clients"),
         capacity: size(matches, "capacity"),
@@ -247,6 +288,16 @@ fn hub(alloc: Global, matches: &ArgMatches<'_>) -> Result<Config, AllocError> {
         first_offset: 1,
         spaces,
     })
+}
+
+/// The namespaces, as they are named.
+fn spaces(alloc: Global, matches: &ArgMatches<'_>) -> Result<Vec<Text>, AllocError> {
+    let mut spaces = Vec::new(alloc);
+    spaces.push(Text::copy_of(alloc, "/")?)?;
+    for space in matches.get_strs("space").unwrap_or(&[]) {
+        spaces.push(Text::copy_of(alloc, space)?)?;
+    }
+    Ok(spaces)
 }
 
 /// A number of which 0 says never.

@@ -4,10 +4,17 @@ use crate::folder::{FolderFault, read_folder};
 use crate::options::{Options, read_options, with_options};
 use clap::error::ErrorKind;
 use clap::{ArgMatches, Command, Error};
+use journal::Config;
+use settings::Setting;
 use std::alloc::{AllocError, Global};
 use std::convert::AsStr;
 use std::rt::{Env, Files};
 use std::{env, io};
+use terms::Text;
+
+/// What is told of a namespace that is wrong.
+const WRONG_SPACE: &str =
+    "it begins without /, has a comma or a control character, or is there already, as / is";
 
 /// What the arguments of `event_server` ask for.
 #[derive(Drop)]
@@ -149,7 +156,10 @@ pub fn task_of<'a, S: AsStr>(
 ) -> Result<Task, Error> {
     let matches = Program::EventServer.matches(alloc, words)?;
     match matches.subcommand_matches("serve") {
-        Some(serve) => Ok(Task::Serve(read_options(alloc, serve, processors)?)),
+        Some(serve) => {
+            let options = right_options(alloc, Program::EventServer, serve, processors)?;
+            Ok(Task::Serve(options))
+        }
         None => Ok(Task::Script),
     }
 }
@@ -162,7 +172,51 @@ fn options_of<'a, S: AsStr>(
     processors: usize,
 ) -> Result<Box<Options>, Error> {
     let matches = program.matches(alloc, words)?;
-    Ok(read_options(alloc, &matches, processors)?)
+    right_options(alloc, program, &matches, processors)
+}
+
+/// What the options ask for. Those with which no server is made are refused.
+fn right_options(
+    alloc: Global,
+    program: Program,
+    matches: &ArgMatches<'_>,
+    processors: usize,
+) -> Result<Box<Options>, Error> {
+    let mut options = read_options(alloc, matches, processors)?;
+    match options.settings.wrong() {
+        Some(setting) => Err(wrong(alloc, program, setting, &mut options.settings.hub)?),
+        None => Ok(options),
+    }
+}
+
+/// The error of options with which no server is made. Their numbers are in their ranges, so of the
+/// limits it is a namespace that is wrong.
+fn wrong(
+    alloc: Global,
+    program: Program,
+    setting: Setting,
+    hub: &mut Config,
+) -> Result<Error, AllocError> {
+    let message = match wrong_space(hub) {
+        Some(space) => {
+            let name = space.as_str();
+            format!(in alloc; "--space {name:?}: {WRONG_SPACE}")?
+        }
+        None => format!(in alloc; "bad {setting}")?,
+    };
+    program.refusal(alloc, message.as_str())
+}
+
+/// Takes the first namespace away that is wrong, with those behind it.
+fn wrong_space(hub: &mut Config) -> Option<Text> {
+    let mut wrong = None;
+    for _ in 0..hub.spaces.len() {
+        if !hub.is_bad() {
+            break;
+        }
+        wrong = hub.spaces.pop();
+    }
+    wrong
 }
 
 /// `event_server` with its subcommands.
