@@ -6,18 +6,11 @@ use std::alloc::Global;
 /// A part of a scene.
 pub type Words = &'static str;
 
-/// What an id is of: a client's `c`, or the `s` or `p` of its session.
-#[derive(Clone, Copy)]
-struct Id {
-    owner: Words,
-    kind: Words,
-    value: u128,
-}
-
-/// The ids that were told so far.
+/// The ids that were told so far, each with its client and with what it is of: the client `c`, or its
+/// session `s` or `p`.
 #[derive(Drop)]
 pub struct Ids {
-    all: Vec<Id>,
+    all: Vec<(Words, Words, u128)>,
 }
 
 impl Ids {
@@ -28,21 +21,17 @@ impl Ids {
         }
     }
 
-    /// An id of a client.
-    pub fn find(&self, owner: &str, kind: &str) -> Option<u128> {
-        let id = self
-            .all
-            .iter()
-            .find(|id| id.owner == owner && id.kind == kind)?;
-        Some(id.value)
+    fn find(&self, owner: &str, kind: &str) -> Option<u128> {
+        let id = self.all.iter().find(|id| id.0 == owner && id.1 == kind)?;
+        Some(id.2)
     }
 
     /// An id comes: the one that its client has, or one that nobody has.
-    fn comes(&mut self, id: Id) -> Option<()> {
-        match self.find(id.owner, id.kind) {
-            Some(value) if !id.kind.is_empty() => (value == id.value).then_some(()),
-            _ if self.all.iter().any(|other| other.value == id.value) => None,
-            _ => self.all.push(id).ok(),
+    fn comes(&mut self, owner: Words, kind: Words, value: u128) -> Option<()> {
+        match self.find(owner, kind) {
+            Some(known) if !kind.is_empty() => (known == value).then_some(()),
+            _ if self.all.iter().any(|other| other.2 == value) => None,
+            _ => self.all.push((owner, kind, value)).ok(),
         }
     }
 
@@ -55,45 +44,19 @@ impl Ids {
         for piece in pieces {
             let (kind, after) = piece.split_once('>')?;
             let digits = text.get(told.len()..)?.get(..32)?;
-            let value = read_id(digits)?;
-            self.comes(Id { owner, kind, value })?;
+            self.comes(owner, kind, read_id(digits)?)?;
             told.push_str(digits).ok()?;
             told.push_str(after).ok()?;
         }
         (told.as_str() == text).then_some(())
     }
 
-    /// What a client says: in the text `<c>` is its id, `<0>` the character 0, and `<=9>` as many
-    /// letters as make it 9 bytes long.
+    /// What a client says: in the text `<c>` is its id.
     pub fn said(&self, alloc: Global, owner: &str, text: &str) -> Option<String> {
-        let mut said = String::new(alloc);
-        let mut pieces = text.split('<');
-        said.push_str(pieces.next()?).ok()?;
-        for piece in pieces {
-            let (word, after) = piece.split_once('>')?;
-            let meant = self.meant(alloc, owner, word, text.len())?;
-            said.push_str(meant.as_str()).ok()?;
-            said.push_str(after).ok()?;
-        }
-        Some(said)
+        let Some((start, end)) = text.split_once("<c>") else {
+            return String::from_str(alloc, text).ok();
+        };
+        let id = self.find(owner, "c")?;
+        format!(in alloc; "{start}{id:032x}{end}").ok()
     }
-
-    /// What a word means, in a text of this length.
-    fn meant(&self, alloc: Global, owner: &str, word: &str, length: usize) -> Option<String> {
-        if word == "0" {
-            return String::from_str(alloc, "\0").ok();
-        }
-        if let Some(whole) = word.strip_prefix('=') {
-            return letters(alloc, whole, length.checked_sub(word.len())?);
-        }
-        let id = self.find(owner, word)?;
-        format!(in alloc; "{id:032x}").ok()
-    }
-}
-
-/// As many letters as fill a text of this length, less its two brackets.
-fn letters(alloc: Global, whole: &str, length: usize) -> Option<String> {
-    let others = length.checked_sub(2)?;
-    let count = whole.parse::<usize>().ok()?.checked_sub(others)?;
-    "x".repeat(alloc, count).ok()
 }

@@ -1,4 +1,5 @@
-//! Tests of whole servers over loopback sockets, and of the program's arguments.
+//! Tests of whole servers over loopback sockets, and of the program's arguments. Many more scenes are
+//! played beside the program itself (scripts/try_scenes).
 #![tactic(auto)]
 
 #[cfg(test)]
@@ -6,15 +7,7 @@ mod ids;
 #[cfg(test)]
 mod options;
 #[cfg(test)]
-mod pages;
-#[cfg(test)]
-mod place;
-#[cfg(test)]
 mod player;
-#[cfg(test)]
-mod pressure;
-#[cfg(test)]
-mod scenes;
 #[cfg(test)]
 mod served;
 #[cfg(test)]

@@ -9,8 +9,9 @@ use std::fs;
 
 /// Arguments behind the program's name, and what they ask for, on a machine of two processors: why
 /// they are refused, or the options of a server. Its numbers are the port, the workers, and in the
-/// order of the third last row what follows; `0` says that there is none.
-static ROWS: [(&str, &str); 14] = [
+/// order of the third last row what follows, of which `0` says that there is none; then come the
+/// namespaces, the origins and the folder.
+static ROWS: [(&str, &str); 24] = [
     ("script", "Script"),
     ("", "MissingSubcommand"),
     ("play", "InvalidSubcommand"),
@@ -21,24 +22,35 @@ static ROWS: [(&str, &str); 14] = [
     ("serve --port 65536", "ValueValidation"),
     ("serve --port 3000 --clients 0", "ValueValidation"),
     ("serve --port 3000 --workers 1024", "ValueValidation"),
+    ("serve --port 3000 --ping-interval 0", "ValueValidation"),
+    ("serve --port 3000 --ping-timeout 0", "ValueValidation"),
+    ("serve --port 3000 --connect-timeout 0", "ValueValidation"),
+    ("serve --port 3000 --max-payload 0", "ValueValidation"),
+    ("serve --port 3000 --max-payload 1000001", "ValueValidation"),
+    ("serve --port 3000 --space quiz", "InvalidValue"),
+    ("serve --port 3000 --space /a,b", "InvalidValue"),
+    ("serve --port 3000 --space /a\u{1}", "InvalidValue"),
+    ("serve --port 3000 --space /a --space /a", "InvalidValue"),
+    ("serve --port 3000 --space /", "InvalidValue"),
     ("serve --help", "DisplayHelp"),
     (
-        "serve --port 3000 --host ::1 --workers 3 --connections 5 --clients 6 --capacity 7 --bytes 8 --log 9 --saved 10 --keep 11 --together 14 --poll-entries 12 --report 13 --origin http://a --origin http://b --page folder --until-eof --verbose",
-        "::1 [3000, 3, 5, 6, 7, 8, 9, 10, 11, 14, 12, 13] [\"http://a\", \"http://b\"] Some(\"folder\") true true",
+        "serve --port 3000 --host ::1 --workers 3 --connections 5 --clients 6 --capacity 7 --bytes 8 --log 9 --saved 10 --keep 11 --together 14 --poll-entries 12 --ping-interval 15 --ping-timeout 16 --connect-timeout 17 --max-payload 18 --report 13 --space /a --space /b --origin http://a --origin http://b --page folder --until-eof --verbose",
+        "::1 [3000, 3, 5, 6, 7, 8, 9, 10, 11, 14, 12, 15, 16, 17, 18, 13] [\"/\", \"/a\", \"/b\"] [\"http://a\", \"http://b\"] Some(\"folder\") true true",
     ),
     (
         "serve --port 3000",
-        "127.0.0.1 [3000, 2, 0, 10000, 64, 8388608, 1024, 4096, 120000, 16, 15, 0] [] None false false",
+        "127.0.0.1 [3000, 2, 0, 10000, 64, 8388608, 1024, 4096, 120000, 16, 15, 25000, 20000, 45000, 1000000, 0] [\"/\", \"/admin\"] [] None false false",
     ),
     (
         "serve --port 80",
-        "127.0.0.1 [80, 2, 0, 10000, 64, 8388608, 1024, 4096, 120000, 16, 15, 0] [] None false false",
+        "127.0.0.1 [80, 2, 0, 10000, 64, 8388608, 1024, 4096, 120000, 16, 15, 25000, 20000, 45000, 1000000, 0] [\"/\", \"/admin\"] [] None false false",
     ),
 ];
 
 /// The numbers of options.
-fn numbers(options: &Options) -> [u64; 12] {
+fn numbers(options: &Options) -> [u64; 16] {
     let (settings, limits) = (&options.settings, &options.settings.hub);
+    let timing = &settings.timing;
     [
         u64::from(settings.port),
         settings.workers as u64,
@@ -51,6 +63,10 @@ fn numbers(options: &Options) -> [u64; 12] {
         limits.keep,
         settings.together,
         settings.poll_entries as u64,
+        timing.ping_interval,
+        timing.ping_timeout,
+        timing.connect_timeout,
+        settings.max_payload,
         settings.report.unwrap_or(0),
     ]
 }
@@ -60,7 +76,11 @@ fn written(alloc: Global, options: &Options) -> Result<String, AllocError> {
     let (numbers, settings) = (numbers(options), &options.settings);
     let (host, origins, folder) = (&settings.host, &settings.origins, &options.folder);
     let (until_eof, verbose) = (options.until_eof, options.verbose);
-    format!(in alloc; "{host} {numbers:?} {origins:?} {folder:?} {until_eof} {verbose}")
+    let mut spaces = Vec::new(alloc);
+    for space in settings.hub.spaces.iter() {
+        spaces.push(space.as_str())?;
+    }
+    format!(in alloc; "{host} {numbers:?} {spaces:?} {origins:?} {folder:?} {until_eof} {verbose}")
 }
 
 /// Whether a command line asks for this.

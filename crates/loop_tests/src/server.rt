@@ -1,11 +1,8 @@
-//! A server that runs while its clients do what a scene says.
+//! A server that runs while its clients play a scene.
 
 use crate::ids::Words;
-use crate::place::Place;
 use crate::player::Player;
-use crate::scenes::{BOUNDS, PAGE, PATIENT, POLLING, PRESSED, SPEAKING, STOPPING, Scene};
-use crate::served::{Ear, Heard, fault_of, settings};
-use hub_gate::Report;
+use crate::served::{Counts, Ear, Heard, counts_of, settings};
 use relay::RelayApp;
 use std::alloc::Global;
 use std::net::{Net, TcpStream};
@@ -14,63 +11,56 @@ use std::rt::Clock;
 use std::sync::{Arc, Wait};
 use std::thread;
 use std::thread::Threads;
-use tcp_server::{Server, ServerFault, Shared};
+use std::time::Duration;
+use tcp_server::{Server, Shared};
+
+/// One joins a room while its GET waits, and so hears the other.
+const POLLING: Words = r#"open A; open B; join A; join B;
+get A; pause 300; post A 421["join","r"]; hear A 431[];
+get A; pause 300; post B 42["say","r","hi"]; hear A 42["say","r","hi","0000000000000001"]"#;
+
+/// A speaks from the first, B comes over while a GET of it waits.
+const SPEAKING: Words = r#"speak A 40; say A 421["join","r"]; told A 431[];
+client B; get B; pause 300; knock B; say B 5; hear B 6;
+say B 451-["say","r",{"_placeholder":true,"num":0}]; send B;
+told A 451-["say","r",{"_placeholder":true,"num":0},"0000000000000001"]; sent A;
+say A 42["all","hi"];
+told A 42["all","hi","0000000000000002"]; told B 42["all","hi","0000000000000002"];
+close A; close B"#;
 
 /// Plays steps, and answers with the first that is not so; then the server is stopped.
-fn play<R: Net<Stream = TcpStream> + Clock + Wait>(
-    place: &Place<'_, R>,
+fn fault_in<R: Net<Stream = TcpStream> + Clock + Wait>(
+    rt: &R,
+    alloc: Global,
+    port: u16,
+    shared: &Shared,
     steps: Words,
 ) -> Option<Words> {
-    let mut player = Player::new(place);
+    let mut player = Player::new(rt, alloc, port);
     for step in steps.split(';') {
         if player.plays(step.trim()).is_none() {
-            place.stops(0);
+            shared.stop(rt, Duration::from_millis(0));
             return Some(step);
         }
     }
     None
 }
 
-/// The server of a scene, and what its threads share.
+/// A server that ends after so many connections, and what its threads share.
 fn listen<'h, R: Net>(
     rt: &R,
     alloc: Global,
-    scene: &Scene,
+    connections: u64,
     heard: &'h Heard,
 ) -> Option<(Server<Ear<'h>>, Arc<Shared>)> {
-    let settings = settings(alloc, scene.loops, scene.settings)?;
+    let settings = settings(alloc, connections)?;
     let server = Server::listen(rt, alloc, settings, Ear { heard }).ok()?;
     let shared = server.shared().ok()?;
     Some((server, shared))
 }
 
-/// Runs a server, and its clients beside it. Answers with the first step that is not so, too.
-fn run_beside<
-    R: Threads
-        + Wait
-        + Clock
-        + RandomSource
-        + Net<Stream = TcpStream>
-        + Copy
-        + Drop
-        + Sync
-        + Send
-        + 'static,
->(
-    server: Server<Ear<'_>>,
-    place: &Place<'_, R>,
-    steps: Words,
-) -> (Result<Report, ServerFault>, Option<Words>) {
-    let (rt, alloc) = (place.rt, place.alloc);
-    thread::join(
-        rt,
-        || server.run(rt, alloc, &RelayApp),
-        || play(place, steps),
-    )
-}
-
-/// Plays a scene, and answers with what it shows, and with what is not so.
-fn fault_in<
+/// Plays a scene beside a server, and answers with what that counted, or with what is not so.
+fn play<
     R: Threads
         + Wait
         + Clock
@@ -82,68 +72,30 @@ fn fault_in<
         + Sync
         + Send
         + 'static,
->(rt: &R, text: Words) -> Option<(Words, Words)> {
-    let (alloc, scene, heard) = (rt.alloc(), Scene::read(text), Heard::default());
-    let Some((server, shared)) = listen(rt, alloc, &scene, &heard) else {
-        return Some((scene.shows, "the server listens"));
+>(rt: &R, connections: u64, steps: Words) -> Result<Counts, Words> {
+    let (alloc, heard) = (rt.alloc(), Heard::default());
+    let Some((server, shared)) = listen(rt, alloc, connections, &heard) else {
+        return Err("the server listens");
     };
-    let place = Place {
+    let port = server.port();
+    let ends = thread::join(
         rt,
-        alloc,
-        port: server.port(),
-        shared: &shared,
-        heard: &heard,
-    };
-    let (report, step) = run_beside(server, &place, scene.steps);
-    let fault = step.or(fault_of(report, &heard, &scene))?;
-    Some((scene.shows, fault))
+        || server.run(rt, alloc, &RelayApp),
+        || fault_in(rt, alloc, port, &shared, steps),
+    );
+    match ends {
+        (_, Some(step)) => Err(step),
+        (Ok(report), None) => counts_of(&report, &heard).ok_or("its counts add up"),
+        (Err(_), None) => Err("it runs to its end"),
+    }
 }
 
 #[test]
 fn clients_that_poll(rt: HostRuntime) {
-    for text in POLLING.iter() {
-        assert_eq!(rt; fault_in(&rt, *text), None);
-    }
-}
-
-#[test]
-fn a_get_that_gives_up(rt: HostRuntime) {
-    for text in PATIENT.iter() {
-        assert_eq!(rt; fault_in(&rt, *text), None);
-    }
+    assert_eq!(rt; play(&rt, 10, POLLING), Ok([4, 4, 0, 0, 0, 0]));
 }
 
 #[test]
 fn clients_over_websockets(rt: HostRuntime) {
-    for text in SPEAKING.iter() {
-        assert_eq!(rt; fault_in(&rt, *text), None);
-    }
-}
-
-#[test]
-fn a_server_that_is_stopped(rt: HostRuntime) {
-    for text in STOPPING.iter() {
-        assert_eq!(rt; fault_in(&rt, *text), None);
-    }
-}
-
-#[test]
-fn what_a_server_refuses(rt: HostRuntime) {
-    for text in BOUNDS.iter() {
-        assert_eq!(rt; fault_in(&rt, *text), None);
-    }
-}
-
-#[test]
-fn a_page_beside_the_socket(rt: HostRuntime) {
-    for text in PAGE.iter() {
-        assert_eq!(rt; fault_in(&rt, *text), None);
-    }
-}
-
-#[test]
-fn a_member_that_reads_nothing(rt: HostRuntime) {
-    for text in PRESSED.iter() {
-        assert_eq!(rt; fault_in(&rt, *text), None);
-    }
+    assert_eq!(rt; play(&rt, 6, SPEAKING), Ok([6, 6, 0, 2, 0, 2]));
 }

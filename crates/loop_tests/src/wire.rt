@@ -12,52 +12,24 @@ pub const UPGRADE: &str =
 pub const SWITCHED: &[u8] =
     b"HTTP/1.1 101 Switching Protocols\r\nconnection: Upgrade\r\nupgrade: websocket\r\nsec-websocket-accept: s3pPLMBiTxaQ9kYGzzhZRbK+xOo=\r\n\r\n";
 
-/// The body of most answers of status 400.
-pub const BAD_REQUEST: &str = "{\"code\":3,\"message\":\"Bad request\"}";
-
-/// A request without a body. Its line has the method and the target, and behind these its headers
-/// but for the host, if it has more.
-pub fn request(alloc: Global, line: &str) -> Option<String> {
-    let (method, rest) = line.split_once(' ')?;
-    let (target, headers) = rest.split_once(' ').unwrap_or((rest, ""));
+/// A request of this method and target, with these headers behind the host.
+pub fn request(alloc: Global, target: &str, headers: &str) -> Option<String> {
     let end = if headers.is_empty() { "" } else { "\r\n" };
-    format!(in alloc; "{method} {target} HTTP/1.1\r\nHost: localhost\r\n{headers}{end}\r\n").ok()
+    format!(in alloc; "{target} HTTP/1.1\r\nHost: localhost\r\n{headers}{end}\r\n").ok()
 }
 
-/// How the head of an answer begins.
-fn head(status: &str) -> &'static str {
-    match status {
-        "200" => "200 OK\r\nContent-Type: text/plain; charset=UTF-8",
-        "400" => "400 Bad Request\r\nContent-Type: application/json",
-        "404" => "404 Not Found\r\nContent-Type: text/plain; charset=UTF-8",
-        "413" => "413 Payload Too Large\r\nContent-Type: text/plain; charset=UTF-8",
-        "503" => "503 Service Unavailable\r\nContent-Type: text/plain; charset=UTF-8",
-        _ => "",
-    }
-}
-
-/// The body of an answer that has this status.
-pub fn body_of<'t>(alloc: Global, status: &str, text: &'t str) -> Option<&'t str> {
-    let (_, body) = text.split_once("\r\n\r\n")?;
-    let (head, length) = (head(status), body.len());
+/// The body of an answer that comes over a connection until it ends.
+pub fn body_over(alloc: Global, stream: TcpStream) -> Option<String> {
+    let text = io::read_to_string(alloc, stream).ok()?;
+    let (_, body) = text.as_str().split_once("\r\n\r\n")?;
+    let length = body.len();
     let answer = format!(in alloc;
-        "HTTP/1.1 {head}\r\nContent-Length: {length}\r\nConnection: close\r\n\r\n{body}"
+        "HTTP/1.1 200 OK\r\nContent-Type: text/plain; charset=UTF-8\r\nContent-Length: {length}\r\nConnection: close\r\n\r\n{body}"
     );
-    (answer.ok()?.as_str() == text).then_some(body)
-}
-
-/// What comes over a connection until it ends.
-pub fn rest_of(alloc: Global, stream: TcpStream) -> Option<String> {
-    io::read_to_string(alloc, stream).ok()
-}
-
-/// A connection is closed at once, with or without an answer.
-pub fn is_turned_away(alloc: Global, stream: TcpStream) -> Option<()> {
-    let is_so = match io::read_to_string(alloc, stream) {
-        Ok(text) => text.is_empty() || body_of(alloc, "503", text.as_str()) == Some(""),
-        Err(error) => error.kind() == ErrorKind::ConnectionReset,
-    };
-    is_so.then_some(())
+    if answer.ok()?.as_str() != text.as_str() {
+        return None;
+    }
+    String::from_str(alloc, body).ok()
 }
 
 /// These bytes could be sent.
@@ -111,32 +83,15 @@ pub fn next_text(alloc: Global, stream: &TcpStream) -> Option<String> {
     text_of_frame(alloc, stream)
 }
 
-/// This short text comes next.
-pub fn hears(alloc: Global, stream: &TcpStream, text: &str) -> Option<()> {
-    let got = next_text(alloc, stream)?;
-    (got.as_str() == text).then_some(())
-}
-
 /// A close is answered by one, and then the connection ends.
 pub fn closes(alloc: Global, stream: &TcpStream) -> Option<()> {
     sends(stream, b"\x88\x80\0\0\0\0")?;
     brings(alloc, stream, b"\x88\0")?;
-    is_ended(stream)
-}
-
-/// A connection has ended, and nothing more came over it.
-pub fn is_ended(stream: &TcpStream) -> Option<()> {
     let mut byte = [0; 1];
     let mut reader = stream;
-    let is_so = match reader.read(&mut byte) {
+    let is_ended = match reader.read(&mut byte) {
         Ok(count) => count == 0,
         Err(error) => error.kind() == ErrorKind::ConnectionReset,
     };
-    is_so.then_some(())
-}
-
-/// Bytes wait that were not read.
-pub fn is_sent_more(stream: &TcpStream) -> Option<()> {
-    let mut byte = [0; 1];
-    matches!(stream.peek(&mut byte), Ok(1)).then_some(())
+    is_ended.then_some(())
 }
