@@ -1,13 +1,14 @@
 //! Who accepts connections.
 
+use crate::fault::{ServerFault, starting};
 use crate::shared::Shared;
 use http_edge::{OnStream, Status, write_response};
 use loop_rules::dealt_to;
 use mio::net::{TcpListener, TcpStream};
 use mio::{Events, Interest, Poll, Token};
+use settings::Settings;
 use std::alloc::Global;
 use std::collections::VecDeque;
-use std::io;
 use std::io::ErrorKind;
 use std::net::Shutdown;
 use std::rt::Clock;
@@ -33,16 +34,8 @@ const MOST_REFUSED: usize = 256;
 /// How many reports one wait takes.
 const EVENTS: usize = 8;
 
-/// How many connections there are.
-#[derive(Clone, Copy)]
-pub struct Bounds {
-    /// How many more are accepted, if there is an end of them.
-    pub left: Option<u64>,
-    /// How many may be open at a time.
-    pub most: u64,
-    /// How many one loop is given before the next one is.
-    pub together: u64,
-}
+/// How many connections may be open at a time, whatever the number of clients.
+const LEAST_CONNECTIONS: u64 = 16;
 
 /// Accepts connections, and gives so many to each loop in turn.
 pub struct Acceptor {
@@ -50,7 +43,12 @@ pub struct Acceptor {
     poll: Poll,
     listener: TcpListener,
     events: Events<Global>,
-    bounds: Bounds,
+    /// How many more connections are accepted, if there is an end of them.
+    left: Option<u64>,
+    /// How many may be open at a time.
+    most: u64,
+    /// How many one loop is given before the next one is.
+    together: u64,
     /// Those that had no place and were told so. They are closed a little later, since a stream that is
     /// closed with bytes unread takes back what was sent.
     refused: VecDeque<TcpStream>,
@@ -66,18 +64,19 @@ impl Drop for Acceptor {
             poll: _,
             listener: _,
             events: _,
-            bounds: _,
+            left: _,
+            most: _,
+            together: _,
             refused: _,
             given: _,
         } = self;
     }
 }
 
-/// What became of an attempt to accept.
-enum Attempt {
-    Accepted,
-    NoneWaits,
-    Failed,
+/// How many connections may be open at a time: one that waits and one that brings for each client, and
+/// some for those that come.
+fn most_connections(clients: usize) -> u64 {
+    (clients as u64).saturating_mul(2).max(LEAST_CONNECTIONS)
 }
 
 impl Acceptor {
@@ -86,24 +85,25 @@ impl Acceptor {
         alloc: Global,
         poll: Poll,
         listener: TcpListener,
-        bounds: Bounds,
-    ) -> io::Result<Box<Acceptor>> {
+        settings: &Settings,
+    ) -> Result<Box<Acceptor>, ServerFault> {
         let mut listener = listener;
         poll.registry()
-            .register(&mut listener, LISTENER, Interest::READABLE)?;
-        let Ok(events) = Events::with_capacity(alloc, EVENTS) else {
-            return Err(io::Error::from(ErrorKind::OutOfMemory));
-        };
+            .register(&mut listener, LISTENER, Interest::READABLE)
+            .map_err(starting)?;
+        let events = Events::with_capacity(alloc, EVENTS)?;
         let acceptor = Acceptor {
             alloc,
             poll,
             listener,
             events,
-            bounds,
+            left: settings.connections,
+            most: most_connections(settings.hub.clients),
+            together: settings.together,
             refused: VecDeque::new(alloc),
             given: 0,
         };
-        Box::new(alloc, acceptor).map_err(|_| io::Error::from(ErrorKind::OutOfMemory))
+        Ok(Box::new(alloc, acceptor)?)
     }
 
     /// Accepts connections until the server is to end, or had as many as it was to have.
@@ -113,38 +113,29 @@ impl Acceptor {
             return;
         }
         for _ in 0..u64::MAX {
-            if self.bounds.left == Some(0) || shared.is_closing(rt) {
+            if self.left == Some(0) || shared.is_closing(rt) {
                 break;
             }
-            match self.accept(rt, shared) {
-                Attempt::Accepted => {}
-                Attempt::NoneWaits => {
-                    let most = self.patience();
-                    self.wait(most);
-                }
-                // Descriptors may be lacking, or the connection is gone already: it goes on a little
-                // later.
-                Attempt::Failed => self.wait(Some(Duration::from_millis(PAUSE))),
+            match self.listener.accept() {
+                Ok((stream, _)) => self.give(rt, shared, stream),
+                Err(error) => self.wait(error.kind()),
             }
         }
         shared.note_closing(rt);
     }
 
-    /// Waits for a connection, or for so long at the most.
-    fn wait(&mut self, most: Option<Duration>) {
+    /// Waits for a connection; where some were refused, until they are closed. Where none could be
+    /// accepted, since descriptors are lacking or it is gone already, it goes on a little later.
+    fn wait(&mut self, why: ErrorKind) {
+        let most = match why {
+            ErrorKind::WouldBlock if self.refused.is_empty() => None,
+            ErrorKind::WouldBlock => Some(Duration::from_millis(REFUSED)),
+            _ => Some(Duration::from_millis(PAUSE)),
+        };
         // A wait that fails is as one that ended early.
         let _ = self.poll.poll(&mut self.events, most);
         if self.events.is_empty() {
             self.refused.clear();
-        }
-    }
-
-    /// How long it waits for a connection: where some were refused, until they are closed.
-    fn patience(&self) -> Option<Duration> {
-        if self.refused.is_empty() {
-            None
-        } else {
-            Some(Duration::from_millis(REFUSED))
         }
     }
 
@@ -162,37 +153,24 @@ impl Acceptor {
         let _ = self.refused.push_back(stream);
     }
 
-    fn accept<R: Wait + Clock>(&mut self, rt: &R, shared: &Shared) -> Attempt {
-        match self.listener.accept() {
-            Ok((stream, _)) => {
-                self.bounds.left = self.bounds.left.map(|left| left.saturating_sub(1));
-                self.give(rt, shared, stream);
-                Attempt::Accepted
-            }
-            Err(error) if error.kind() == ErrorKind::WouldBlock => Attempt::NoneWaits,
-            Err(_) => Attempt::Failed,
-        }
-    }
-
     /// Gives a connection to the loop whose turn it is.
     fn give<R: Wait + Clock>(&mut self, rt: &R, shared: &Shared, stream: TcpStream) {
+        self.left = self.left.map(|left| left.saturating_sub(1));
         // Without it a small answer may wait for the acknowledgement of the one before.
         let _ = stream.set_nodelay(true);
-        if !shared.note_accepted(rt, self.bounds.most) {
+        if !shared.note_accepted(rt, self.most) {
             self.turn_away(stream);
             return;
         }
-        let loops = shared.inboxes().len();
-        let given = match shared
-            .inboxes()
-            .get(dealt_to(self.given, self.bounds.together, loops))
-        {
+        let inboxes = shared.inboxes();
+        let place = dealt_to(self.given, self.together, inboxes.len());
+        self.given = self.given.wrapping_add(1);
+        let given = match inboxes.get(place) {
             Some(inbox) => inbox.give(rt, stream),
             None => false,
         };
         if !given {
             shared.note_closed(rt);
         }
-        self.given = self.given.wrapping_add(1);
     }
 }

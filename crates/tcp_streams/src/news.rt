@@ -19,7 +19,7 @@ pub trait Log {
 }
 
 /// A client that has ended.
-#[derive(Clone, Copy, Debug)]
+#[derive(Drop)]
 pub struct Ended {
     pub client: u128,
     /// It spoke over a WebSocket.
@@ -31,7 +31,7 @@ pub struct Ended {
 }
 
 /// A client that is there.
-#[derive(Clone, Copy)]
+#[derive(Drop)]
 struct Life {
     since: u64,
     socket: bool,
@@ -82,21 +82,17 @@ impl Lives {
         cause: Option<Cause>,
         now: u64,
     ) {
-        if let Some(ended) = self.take(rt, client, cause, now) {
-            log.client_ended(&ended);
-        }
-    }
-
-    fn take(&self, rt: &impl Wait, client: u128, cause: Option<Cause>, now: u64) -> Option<Ended> {
         if !self.kept {
-            return None;
+            return;
         }
-        let life = self.entries.lock(rt).remove(&client)?;
-        Some(Ended {
-            client,
-            socket: life.socket,
-            cause,
-            lived: now.saturating_sub(life.since),
-        })
+        let ended = self.entries.lock(rt).remove(&client);
+        if let Some(life) = ended {
+            log.client_ended(&Ended {
+                client,
+                socket: life.socket,
+                cause,
+                lived: now.saturating_sub(life.since),
+            });
+        }
     }
 }

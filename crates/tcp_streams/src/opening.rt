@@ -1,19 +1,13 @@
 //! What a server listens and waits with.
 
-use crate::acceptor::{Acceptor, Bounds};
-use crate::fault::{Doing, ServerFault, listening, starting};
+use crate::acceptor::Acceptor;
+use crate::fault::{ServerFault, listening, starting};
 use crate::inbox::{BELL, Ears, Inbox};
-use crate::news::Lives;
-use crate::shared::Shared;
 use mio::net::TcpListener;
 use mio::{Poll, Waker};
 use settings::Settings;
 use std::alloc::Global;
 use std::net::{Net, ToSocketAddrs};
-use std::sync::Arc;
-
-/// How many connections may be open at a time, whatever the number of clients.
-const LEAST_CONNECTIONS: u64 = 16;
 
 /// Listens at the settings' port. Answers at which, who accepts there, and the bell that wakes it.
 pub fn acceptor_for<R: Net>(
@@ -24,29 +18,14 @@ pub fn acceptor_for<R: Net>(
     let listener = listen_at(rt, settings.host.as_str(), settings.port)?;
     let port = listener.local_addr().map_err(listening)?.port();
     let (poll, bell) = poll_with_bell(rt)?;
-    let acceptor = Acceptor::new(alloc, poll, listener, bounds_of(settings)).map_err(starting)?;
+    let acceptor = Acceptor::new(alloc, poll, listener, settings)?;
     Ok((port, acceptor, bell))
-}
-
-/// How many connections are accepted, are open at a time, and go to one loop together.
-fn bounds_of(settings: &Settings) -> Bounds {
-    Bounds {
-        left: settings.connections,
-        most: most_connections(settings.hub.clients),
-        together: settings.together,
-    }
-}
-
-/// How many connections may be open at a time: one that waits and one that brings for each client, and
-/// some for those that come.
-fn most_connections(clients: usize) -> u64 {
-    (clients as u64).saturating_mul(2).max(LEAST_CONNECTIONS)
 }
 
 /// Listens at the first address of the host that can be bound.
 fn listen_at<R: Net>(rt: &R, host: &str, port: u16) -> Result<TcpListener, ServerFault> {
     let addresses = (host, port).to_socket_addrs(rt).map_err(listening)?;
-    let mut refused = ServerFault::Device(Doing::Listening);
+    let mut refused = ServerFault::Listening;
     for address in addresses {
         match TcpListener::bind(rt, address) {
             Ok(listener) => return Ok(listener),
@@ -78,15 +57,4 @@ fn poll_with_bell<R: Net>(rt: &R) -> Result<(Poll, Waker), ServerFault> {
     let poll = Poll::new(rt).map_err(starting)?;
     let bell = Waker::new(poll.registry(), BELL).map_err(starting)?;
     Ok((poll, bell))
-}
-
-/// What all threads share of the server.
-pub fn shared_by(
-    alloc: Global,
-    inboxes: Vec<Inbox>,
-    bell: Waker,
-    hears_clients: bool,
-) -> Result<Arc<Shared>, ServerFault> {
-    let lives = Lives::new(alloc, hears_clients);
-    Ok(Arc::new(alloc, Shared::new(inboxes, bell, lives))?)
 }

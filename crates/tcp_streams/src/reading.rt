@@ -23,7 +23,7 @@ pub enum Reading {
 }
 
 /// What is left of a stream that is read and forgotten.
-#[derive(Clone, Copy, Debug, PartialEq, Eq)]
+#[derive(Drop)]
 pub enum Drained {
     /// There is no more of it yet.
     Waits,

@@ -1,10 +1,12 @@
 //! What all threads of a server share, beside the core.
 
+use crate::fault::ServerFault;
 use crate::inbox::Inbox;
 use crate::news::Lives;
 use mio::Waker;
+use std::alloc::Global;
 use std::rt::Clock;
-use std::sync::{Condvar, CondvarTimeouts, Mutex, Wait};
+use std::sync::{Arc, Condvar, CondvarTimeouts, Mutex, Wait};
 use std::time::Duration;
 
 /// What all threads of a server share, beside the core.
@@ -30,7 +32,7 @@ impl Drop for Shared {
 }
 
 /// How far a server is.
-#[derive(Clone, Copy)]
+#[derive(Drop)]
 struct Standing {
     /// The connections that are open, those on their way to a loop among them.
     open: u64,
@@ -45,40 +47,20 @@ struct Standing {
 }
 
 impl Standing {
-    /// One more connection is open, if it has a place among so many.
-    fn accept(&mut self, most: u64) -> bool {
-        let has_place = self.open < most;
-        if has_place {
-            self.open = self.open.saturating_add(1);
-        }
-        has_place
-    }
-
-    /// A connection was closed. Answers whether all is over.
-    fn close(&mut self) -> bool {
-        self.open = self.open.saturating_sub(1);
-        self.is_over()
-    }
-
     /// Whether nothing is open, and nothing more will be.
     fn is_over(&self) -> bool {
         self.closing && self.open == 0
     }
-
-    /// A worker has begun.
-    fn begin(&mut self) {
-        self.begun = self.begun.saturating_add(1);
-    }
-
-    /// A loop has ended.
-    fn end_loop(&mut self) {
-        self.loops = self.loops.saturating_sub(1);
-    }
 }
 
 impl Shared {
-    /// Nothing is open yet, and each loop is at work.
-    pub fn new(inboxes: Vec<Inbox>, acceptor: Waker, lives: Lives) -> Shared {
+    /// Nothing is open yet, and each loop is at work. Somebody hears of clients, or not.
+    pub fn new(
+        alloc: Global,
+        inboxes: Vec<Inbox>,
+        acceptor: Waker,
+        hears_clients: bool,
+    ) -> Result<Arc<Shared>, ServerFault> {
         let standing = Standing {
             open: 0,
             begun: 0,
@@ -86,13 +68,14 @@ impl Shared {
             closing: false,
             cutting: false,
         };
-        Shared {
+        let shared = Shared {
             inboxes,
             acceptor,
-            lives,
+            lives: Lives::new(alloc, hears_clients),
             standing: Mutex::new(standing),
             changed: Condvar::new(),
-        }
+        };
+        Ok(Arc::new(alloc, shared)?)
     }
 
     /// What others hand to each loop.
@@ -107,12 +90,21 @@ impl Shared {
 
     /// A connection was accepted. Answers whether it has a place among so many.
     pub fn note_accepted(&self, rt: &impl Wait, most: u64) -> bool {
-        self.standing.lock(rt).accept(most)
+        let mut standing = self.standing.lock(rt);
+        let has_place = standing.open < most;
+        if has_place {
+            standing.open = standing.open.saturating_add(1);
+        }
+        has_place
     }
 
     /// A connection was closed.
     pub fn note_closed(&self, rt: &impl Wait) {
-        let is_over = self.standing.lock(rt).close();
+        let is_over = {
+            let mut standing = self.standing.lock(rt);
+            standing.open = standing.open.saturating_sub(1);
+            standing.is_over()
+        };
         if is_over {
             self.wake_everyone(rt);
         }
@@ -156,7 +148,8 @@ impl Shared {
 
     /// A worker has begun.
     pub fn note_begun(&self, rt: &impl Wait) {
-        self.standing.lock(rt).begin();
+        let mut standing = self.standing.lock(rt);
+        standing.begun = standing.begun.saturating_add(1);
         self.changed.notify_all();
     }
 
@@ -173,7 +166,8 @@ impl Shared {
 
     /// A loop has ended.
     pub fn note_loop_ended(&self, rt: &impl Wait) {
-        self.standing.lock(rt).end_loop();
+        let mut standing = self.standing.lock(rt);
+        standing.loops = standing.loops.saturating_sub(1);
         self.changed.notify_all();
     }
 
