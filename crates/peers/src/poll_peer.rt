@@ -20,13 +20,25 @@ use std::mem;
 /// Serves one request over HTTP: its event, the takes of a GET that waits, and the answer. A GET that
 /// waits pauses before it asks again, and before it is answered by a lone noop packet. In a contract
 /// it is its stage, its wire, its moments and how many entries one payload may have.
-#[derive(Drop)]
 pub struct PollPeer<W, M> {
     alloc: Global,
     wire: W,
     moments: M,
     stage: PollStage,
     most: usize,
+}
+
+/// Written out, so that a crate above takes the drop of all that lies in it by this one call.
+impl<W: Drop, M: Drop> Drop for PollPeer<W, M> {
+    fn drop(self) {
+        let Self {
+            alloc: _,
+            wire: _,
+            moments: _,
+            stage: _,
+            most: _,
+        } = self;
+    }
 }
 
 impl<W, M> Model for PollPeer<W, M> {
@@ -105,7 +117,13 @@ impl<W, M: Drop> PollPeer<W, M> {
     pub fn into_wire(self) -> W
         ensures { result ≡ self.wire }
     {
-        let PollPeer { wire, .. } = self;
+        let Self {
+            alloc: _,
+            wire,
+            moments: _,
+            stage: _,
+            most: _,
+        } = self;
         wire
     }
 }

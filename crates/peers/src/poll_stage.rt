@@ -10,7 +10,7 @@ use events::{CoreError, CoreFault, Event, Outcome};
 const TAKES: u32 = 1_200;
 
 /// How far a request over HTTP has come.
-#[derive(Debug, Drop)]
+#[derive(Drop)]
 pub(crate) enum PollStage {
     /// Its first event is to come.
     First(PollRequest),

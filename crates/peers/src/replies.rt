@@ -10,7 +10,7 @@ use events::{Cause, CoreError, CoreFault, Done, Outcome};
 use http_edge::{EdgeError, Refusal, Status, Target, refusal_body};
 
 /// An answer over HTTP.
-#[derive(Clone, Copy, Debug)]
+#[derive(Drop)]
 pub struct Reply<'b> {
     pub status: Status,
     pub body: &'b str,
@@ -21,7 +21,7 @@ pub fn reply_to_fault(fault: EdgeError) -> Option<Reply<'static>>
     ensures { option_map plain_reply result ≡ replies.of_edge fault }
 {
     match fault {
-        EdgeError::Memory => Some(unavailable()),
+        EdgeError::Memory => Some(empty(Status::Unavailable)),
         EdgeError::Device => None,
         EdgeError::EarlyEnd => None,
         EdgeError::BadHead => Some(refused(Refusal::BadRequest)),
@@ -50,15 +50,6 @@ fn empty(status: Status) -> Reply<'static>
     Reply { status, body: "" }
 }
 
-fn unavailable() -> Reply<'static>
-    ensures { plain_reply result ≡ replies.unavailable }
-{
-    Reply {
-        status: Status::Unavailable,
-        body: "",
-    }
-}
-
 fn refused(refusal: Refusal) -> Reply<'static>
     ensures { plain_reply result ≡ replies.refused refusal }
 {
@@ -84,11 +75,11 @@ fn reply_to_refusal(fault: CoreFault) -> Option<Reply<'static>>
     match fault {
         CoreFault::UnknownClient => Some(refused(Refusal::UnknownSession)),
         CoreFault::WrongTransport => Some(refused(Refusal::BadRequest)),
-        CoreFault::Memory => Some(unavailable()),
-        CoreFault::TooManyClients => Some(unavailable()),
-        CoreFault::IdTaken => Some(unavailable()),
-        CoreFault::Spent => Some(unavailable()),
-        CoreFault::BadEffect => Some(unavailable()),
+        CoreFault::Memory => Some(empty(Status::Unavailable)),
+        CoreFault::TooManyClients => Some(empty(Status::Unavailable)),
+        CoreFault::IdTaken => Some(empty(Status::Unavailable)),
+        CoreFault::Spent => Some(empty(Status::Unavailable)),
+        CoreFault::BadEffect => Some(empty(Status::Unavailable)),
         _ => None,
     }
 }

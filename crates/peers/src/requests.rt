@@ -8,7 +8,7 @@ use std::alloc::Global;
 use terms::Text;
 
 /// What a request asks for that isn't to become a WebSocket.
-#[derive(Debug, Drop)]
+#[derive(Drop)]
 pub enum PollRequest {
     /// A new client, which polls.
     Open,
@@ -19,7 +19,7 @@ pub enum PollRequest {
 }
 
 /// What a request asks for that is to become a WebSocket.
-#[derive(Clone, Copy, Debug, PartialEq, Eq)]
+#[derive(Clone, Copy, PartialEq, Eq)]
 pub enum SocketRequest {
     /// A new client.
     Open,

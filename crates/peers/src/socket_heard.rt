@@ -144,7 +144,7 @@ pub(crate) fn after(stage: SocketStage, got: &Result<Outcome, CoreError>) -> Soc
 }
 
 /// What is sent when an event got its answer.
-#[derive(Clone, Copy, Debug)]
+#[derive(Drop)]
 pub(crate) enum Sending<'g> {
     Nothing,
     Text(&'g str),

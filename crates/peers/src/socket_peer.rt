@@ -21,12 +21,23 @@ use tungstenite::{NoMask, WebSocket};
 /// Serves one WebSocket by turns: a read, a take of what waits, and a look at what is due. A client
 /// that polls says first that it probes, and then that the probe succeeded; until then its turn is a
 /// read and a look at what is due. In a contract it is its stage, its socket and its moments.
-#[derive(Drop)]
 pub struct SocketPeer<S, M> {
     alloc: Global,
     socket: WebSocket<S, NoMask>,
     moments: M,
     stage: SocketStage,
+}
+
+/// Written out, so that a crate above takes the drop of all that lies in it by this one call.
+impl<S: Drop, M: Drop> Drop for SocketPeer<S, M> {
+    fn drop(self) {
+        let Self {
+            alloc: _,
+            socket: _,
+            moments: _,
+            stage: _,
+        } = self;
+    }
 }
 
 impl<S, M> Model for SocketPeer<S, M> {

@@ -1,7 +1,10 @@
 //! How far a WebSocket has come.
 
 ghost use Rattle.std.specs.Prelude.{◌≡◌};
+ghost use Rattle.events.specs.declared.event.Event.TheVariants as event;
+ghost use Rattle.peers.specs.declared.socket_stage.SocketStage.TheVariants as stages;
 ghost use Rattle.peers.specs.Turning as turning;
+ghost use Rattle.peers.specs.Turning.{with_event, with_fault, without_fault};
 
 use crate::requests::SocketRequest;
 use events::{Event, PeerFault, WsFrame};
@@ -17,7 +20,7 @@ pub const PROBE: &str = "2probe";
 pub const UPGRADE: &str = "5";
 
 /// What a read of a WebSocket brought.
-#[derive(Debug, Drop)]
+#[derive(Drop)]
 pub(crate) enum Incoming {
     /// Nothing yet.
     Nothing,
@@ -30,7 +33,7 @@ pub(crate) enum Incoming {
 }
 
 /// How far a client has come over to its WebSocket.
-#[derive(Clone, Copy, Debug, PartialEq, Eq)]
+#[derive(Clone, Copy)]
 pub(crate) enum Phase {
     /// It is to say that it probes.
     Knocks,
@@ -41,7 +44,7 @@ pub(crate) enum Phase {
 }
 
 /// How far a WebSocket has come. A turn that is idle has brought nothing so far.
-#[derive(Clone, Copy, Debug, PartialEq, Eq)]
+#[derive(Clone, Copy)]
 pub(crate) enum SocketStage {
     /// The client is to be opened.
     Opens,
@@ -134,80 +137,80 @@ fn says(incoming: &Incoming, word: &str) -> bool
     }
 }
 
-fn ticks(client: u128, phase: Phase, idle: bool) -> (SocketStage, Event)
-    ensures { result ≡ turning.ticks client phase idle }
+/// The stage from then on, and the next event, if there is one.
+type Step = (SocketStage, Result<Option<Event>, PeerFault>);
+
+fn ticks(client: u128, phase: Phase, idle: bool) -> Step
+    ensures { result ≡ without_fault (with_event (turning.ticks client phase idle)) }
 {
     let stage = SocketStage::Ticking {
         client,
         phase,
         idle,
     };
-    (stage, Event::Tick { client })
+    (stage, Ok(Some(Event::Tick { client })))
 }
 
-fn takes(client: u128, idle: bool) -> (SocketStage, Event)
-    ensures { result ≡ turning.takes client idle }
+fn takes(client: u128, idle: bool) -> Step
+    ensures { result ≡ without_fault (with_event (turning.takes client idle)) }
 {
     let event = Event::FrameTake {
         client,
         most: FRAMES_PER_TAKE,
     };
-    (SocketStage::Taking { client, idle }, event)
+    (SocketStage::Taking { client, idle }, Ok(Some(event)))
 }
 
 /// What follows a read before the client has said that it probes.
-fn knocks(client: u128, incoming: &Incoming) -> (SocketStage, Option<Event>)
-    ensures { result ≡ turning.knocks client incoming.now }
+fn knocks(client: u128, incoming: &Incoming) -> Step
+    ensures { result ≡ without_fault (turning.knocks client incoming.now) }
 {
     match rests(incoming) {
-        Some(idle) => {
-            let (stage, event) = ticks(client, Phase::Knocks, idle);
-            (stage, Some(event))
-        }
+        Some(idle) => ticks(client, Phase::Knocks, idle),
         None if says(incoming, PROBE) => {
-            (
-                SocketStage::Probing { client },
-                Some(Event::Probe { client }),
-            )
+            let event = Event::Probe { client };
+            (SocketStage::Probing { client }, Ok(Some(event)))
         }
         None => {
             let client = Some(client);
-            (SocketStage::Over { client }, None)
+            (SocketStage::Over { client }, Ok(None))
         }
     }
 }
 
 /// What follows a read while the client probes.
-fn probes(client: u128, incoming: &Incoming) -> (SocketStage, Event)
-    ensures { result ≡ turning.probes client incoming.now }
+fn probes(client: u128, incoming: &Incoming) -> Step
+    ensures { result ≡ without_fault (with_event (turning.probes client incoming.now)) }
 {
     match rests(incoming) {
         Some(idle) => ticks(client, Phase::Probes, idle),
-        None if says(incoming, UPGRADE) => (
-            SocketStage::Upgrading { client },
-            Event::Upgraded { client },
-        ),
-        None => (SocketStage::Losing { client }, Event::ProbeLost { client }),
+        None if says(incoming, UPGRADE) => {
+            let event = Event::Upgraded { client };
+            (SocketStage::Upgrading { client }, Ok(Some(event)))
+        }
+        None => loses(client),
     }
 }
 
+/// The probe is said to have failed.
+fn loses(client: u128) -> Step
+    ensures { result ≡ without_fault (with_event (stages.Losing client, event.ProbeLost client)) }
+{
+    let event = Event::ProbeLost { client };
+    (SocketStage::Losing { client }, Ok(Some(event)))
+}
+
 /// What follows a read of a client that speaks over the WebSocket.
-fn speaks(client: u128, incoming: Incoming) -> (SocketStage, Result<Event, PeerFault>)
-    ensures { result ≡ turning.speaks client incoming }
+fn speaks(client: u128, incoming: Incoming) -> Step
+    ensures { result ≡ with_fault (turning.speaks client incoming) }
 {
     match incoming {
-        Incoming::Nothing => {
-            let (stage, event) = takes(client, true);
-            (stage, Ok(event))
+        Incoming::Nothing => takes(client, true),
+        Incoming::Control => takes(client, false),
+        Incoming::Frame(frame) => {
+            let event = Event::Frame { client, frame };
+            (SocketStage::Framed { client }, Ok(Some(event)))
         }
-        Incoming::Control => {
-            let (stage, event) = takes(client, false);
-            (stage, Ok(event))
-        }
-        Incoming::Frame(frame) => (
-            SocketStage::Framed { client },
-            Ok(Event::Frame { client, frame }),
-        ),
         Incoming::Gone(fault) => {
             let client = Some(client);
             (SocketStage::Over { client }, Err(fault))
@@ -216,35 +219,19 @@ fn speaks(client: u128, incoming: Incoming) -> (SocketStage, Result<Event, PeerF
 }
 
 /// What follows a read.
-fn after_read(
-    client: u128,
-    phase: Phase,
-    incoming: Incoming,
-) -> (SocketStage, Result<Option<Event>, PeerFault>)
+fn after_read(client: u128, phase: Phase, incoming: Incoming) -> Step
     ensures { result ≡ turning.after_read client phase incoming }
 {
     match phase {
-        Phase::Knocks => {
-            let (stage, event) = knocks(client, &incoming);
-            (stage, Ok(event))
-        }
-        Phase::Probes => {
-            let (stage, event) = probes(client, &incoming);
-            (stage, Ok(Some(event)))
-        }
-        Phase::Speaks => match speaks(client, incoming) {
-            (stage, Ok(event)) => (stage, Ok(Some(event))),
-            (stage, Err(fault)) => (stage, Err(fault)),
-        },
+        Phase::Knocks => knocks(client, &incoming),
+        Phase::Probes => probes(client, &incoming),
+        Phase::Speaks => speaks(client, incoming),
     }
 }
 
 /// The next event, if there is one, and the stage from then on. What was read counts where the stage
 /// reads.
-pub(crate) fn next_of(
-    stage: SocketStage,
-    incoming: Incoming,
-) -> (SocketStage, Result<Option<Event>, PeerFault>)
+pub(crate) fn next_of(stage: SocketStage, incoming: Incoming) -> Step
     ensures { result ≡ turning.next_of stage incoming }
 {
     match stage {
@@ -253,18 +240,9 @@ pub(crate) fn next_of(
             (SocketStage::Opening, Ok(Some(event)))
         }
         SocketStage::Reads { client, phase, .. } => after_read(client, phase, incoming),
-        SocketStage::Takes { client } => {
-            let (stage, event) = takes(client, false);
-            (stage, Ok(Some(event)))
-        }
-        SocketStage::Ticks { client, idle } => {
-            let (stage, event) = ticks(client, Phase::Speaks, idle);
-            (stage, Ok(Some(event)))
-        }
-        SocketStage::Loses { client } => {
-            let event = Event::ProbeLost { client };
-            (SocketStage::Losing { client }, Ok(Some(event)))
-        }
+        SocketStage::Takes { client } => takes(client, false),
+        SocketStage::Ticks { client, idle } => ticks(client, Phase::Speaks, idle),
+        SocketStage::Loses { client } => loses(client),
         other => (other, Ok(None)),
     }
 }
