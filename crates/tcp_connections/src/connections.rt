@@ -3,15 +3,20 @@
 ghost use Rattle.std.specs.Prelude.{IsTrue};
 ghost use Rattle.loop_rules.specs.Rotas.{IsQuiet};
 
+use crate::stage::Stage;
 use crate::tcp_connection::{Connection, Mode, Sent};
 use events::{CoreError, Outcome, Telling};
-use loop_rules::{LookState, Overdue, Part, Pause, Roster, Turn, Verdict, find_overdue};
+use loop_rules::{LookState, Overdue, Part, Roster, Turn, Verdict};
 use mio::Token;
 use mio::event::Event;
 use slab::Slab;
 use std::alloc::Global;
 use std::rt::Clock;
-use tcp_streams::{BELL, Stream};
+use tcp_streams::Stream;
+
+/// So many bytes are sent when their connection's turn ends, while they are at hand in the processor's
+/// caches. Fewer wait for the end of the loop's turn, so that more may go out with them.
+const MUCH_UNSENT: usize = 32_768;
 
 /// The connections of a loop. Each has a key.
 pub struct Connections<R> {
@@ -38,11 +43,6 @@ impl<R: Drop> Drop for Connections<R> {
     }
 }
 
-/// The token of a connection: its key, and what tells it from an earlier one with that key.
-fn token_of(generation: u32, key: usize) -> Token {
-    Token(((generation as usize) << 32) | (key & 0xffff_ffff))
-}
-
 impl<R: Clock + Drop> Connections<R> {
     /// None yet.
     pub fn new(alloc: Global) -> Connections<R> {
@@ -65,15 +65,17 @@ impl<R: Clock + Drop> Connections<R> {
         self.slots.capacity()
     }
 
-    /// The token and the generation of the next connection.
-    pub fn next_token(&mut self) -> (Token, u32) {
+    /// The token of the next connection: its key, and what tells it from an earlier one with that key.
+    pub fn next_token(&mut self) -> Token {
         self.generation = self.generation.wrapping_add(1) & 0x7fff_ffff;
-        let token = token_of(self.generation, self.slots.vacant_key());
-        (token, self.generation)
+        let key = self.slots.vacant_key() & 0xffff_ffff;
+        Token(((self.generation as usize) << 32) | key)
     }
 
-    /// Adds a connection, for which the next token was given. None where there is no memory for it.
-    pub fn add(&mut self, connection: Box<Connection<R>>) -> Option<usize> {
+    /// Adds a connection of which nothing was read yet, for which the next token was given. None where
+    /// there is no memory for it.
+    pub fn add(&mut self, alloc: Global, stream: Stream, token: Token, now: u64) -> Option<usize> {
+        let connection = Connection::new(alloc, stream, token, now)?;
         if !self.roster.rota.admit(self.slots.vacant_key()) {
             return None;
         }
@@ -86,8 +88,14 @@ impl<R: Clock + Drop> Connections<R> {
         Some(connection)
     }
 
+    /// The key of the connection with this token, if it is still there.
+    fn key_of(&self, token: Token) -> Option<usize> {
+        let key = token.0 & 0xffff_ffff;
+        (self.slots.get(key)?.token == token).then_some(key)
+    }
+
     /// Takes a connection out.
-    pub fn remove(&mut self, key: usize) -> Option<Box<Connection<R>>> {
+    fn take(&mut self, key: usize) -> Option<Box<Connection<R>>> {
         let connection = self.slots.try_remove(key)?;
         self.roster.rota.dismiss(key);
         if let Some(client) = connection.stage.client() {
@@ -96,10 +104,14 @@ impl<R: Clock + Drop> Connections<R> {
         Some(connection)
     }
 
+    /// Closes a connection, and tells whether it was there.
+    pub fn close(&mut self, key: usize) -> bool {
+        self.take(key).is_some()
+    }
+
     /// Takes a connection out whose request was read, and leaves its stream of it.
     pub fn take_stream(&mut self, key: usize) -> Option<Stream> {
-        let mut connection = self.remove(key)?;
-        connection.stage.take_stream()
+        self.take(key)?.stage.take_stream()
     }
 
     /// What is put for this client goes to this connection from now on.
@@ -122,16 +134,6 @@ impl<R: Clock + Drop> Connections<R> {
         ensures { IsTrue result → IsQuiet self.now.roster.rota }
     {
         self.roster.rota.is_quiet() && !self.overlooked
-    }
-
-    /// Queues a connection: something came for it.
-    pub fn queue(&mut self, key: usize) {
-        self.roster.rota.call(key);
-    }
-
-    /// The turn of a connection is over, and no event was answered last.
-    pub fn pause(&mut self, key: usize, pause: Pause) {
-        self.roster.rota.pause(key, pause);
     }
 
     /// An event of a connection was answered in its turn. Answers what follows.
@@ -175,12 +177,17 @@ impl<R: Clock + Drop> Connections<R> {
         }
     }
 
-    /// Whether a connection has so much to send that it is to be sent at once.
-    pub fn has_much_unsent(&mut self, key: usize) -> bool {
-        match self.get_mut(key) {
-            Some(connection) => connection.has_much_unsent(),
-            None => false,
+    /// What a connection has to send goes out at the end of the loop's turn, or at once where that is
+    /// much. Answers whether it is over.
+    pub fn send_soon(&mut self, key: usize, now: u64) -> bool {
+        let Some(connection) = self.get_mut(key) else {
+            return false;
+        };
+        if connection.bytes_unsent() >= MUCH_UNSENT {
+            return self.send(key, now);
         }
+        self.note_unsent(key);
+        false
     }
 
     /// One that may have bytes to send.
@@ -198,58 +205,42 @@ impl<R: Clock + Drop> Connections<R> {
             return false;
         };
         match connection.send(now) {
-            Sent::Nothing => false,
-            Sent::Fits => {
-                self.resume(key);
-                false
-            }
-            Sent::Queue => {
-                self.queue(key);
-                false
-            }
-            Sent::Remove => true,
+            Sent::Nothing => {}
+            Sent::Fits => self.resume(key),
+            Sent::Queue => self.roster.rota.call(key),
+            Sent::Remove => return true,
         }
+        false
     }
 
     /// So many bytes of a connection have gone that it may be served: it is queued, if it waits for that.
     fn resume(&mut self, key: usize) {
         if self.roster.rota.look(key) == LookState::Full {
-            self.queue(key);
+            self.roster.rota.call(key);
         }
     }
 
     /// A stream is ready: its connection is queued, or its bytes are to be sent.
     pub fn note(&mut self, event: &Event) {
-        if event.token() == BELL {
-            return;
-        }
-        let key = event.token().0 & 0xffff_ffff;
-        let Some(connection) = self.get_mut(key) else {
+        let Some(key) = self.key_of(event.token()) else {
             return;
         };
-        if token_of(connection.generation, key) != event.token() {
-            return;
-        }
         if event.is_readable() {
-            connection.note_readable(event.is_read_closed());
-            self.queue(key);
+            self.note_readable(key, event.is_read_closed());
         }
         if event.is_writable() {
             self.note_unsent(key);
         }
     }
 
-    /// Whether the client of a connection is lost, of which the core is to be told.
-    pub fn is_lost(&self, key: usize) -> bool {
-        match self.slots.get(key) {
-            Some(connection) => matches!(connection.mode, Mode::Loses(_)),
-            None => false,
+    /// A stream can be read, and the other side has sent its last byte, or not.
+    fn note_readable(&mut self, key: usize, ended: bool) {
+        if let Some(connection) = self.get_mut(key) {
+            if let Some(stream) = connection.stage.stream() {
+                stream.note_readable(ended);
+            }
         }
-    }
-
-    /// Whether what is put for this client goes to this connection.
-    pub fn is_taker(&self, client: u128, key: usize) -> bool {
-        self.roster.takers.is_taker(client, key)
+        self.roster.rota.call(key);
     }
 
     /// Whose connection it is, once that is known.
@@ -265,77 +256,58 @@ impl<R: Clock + Drop> Connections<R> {
         }
     }
 
-    /// The core was told that the client of a connection is lost, and answered this.
-    pub fn hear_loss(&mut self, key: usize, got: &Result<Outcome, CoreError>, now: u64) -> Telling {
-        match self.get_mut(key) {
-            Some(connection) => connection.hear_loss(got, now),
-            None => Telling::Over,
-        }
+    /// Where the client of a connection is lost: the core was told so, and answered this.
+    pub fn hear_loss(
+        &mut self,
+        key: usize,
+        got: &Result<Outcome, CoreError>,
+        now: u64,
+    ) -> Option<Telling> {
+        self.get_mut(key)?.hear_loss(got, now)
     }
 
-    /// Queues a connection, if it is still the one that had this key.
-    pub fn queue_if(&mut self, key: usize, generation: u32) {
-        let same = match self.slots.get(key) {
-            Some(connection) => connection.generation == generation,
-            None => false,
-        };
-        if same {
-            self.queue(key);
-        }
-    }
-
-    /// What is to be done with a connection that took too long, or one that is to end.
-    pub fn overdue(&mut self, key: usize, cutting: bool, now: u64) -> Overdue {
-        let part = match self.part_of(key) {
-            Part::Ends => Part::Ends,
-            Part::Sends if cutting => Part::Ends,
-            _ if cutting => return Overdue::Fail,
-            part => part,
-        };
-        match self.get_mut(key) {
-            Some(connection) => {
-                let age = now.saturating_sub(connection.since);
-                find_overdue(part, age, connection.stalled(now))
-            }
-            None => Overdue::Nothing,
+    /// Queues the connection with this token, if it is still there.
+    pub fn queue(&mut self, token: Token) {
+        if let Some(key) = self.key_of(token) {
+            self.roster.rota.call(key);
         }
     }
 
     /// What a connection is at.
-    fn part_of(&self, key: usize) -> Part {
+    fn part_of(&self, key: usize, cutting: bool) -> Part {
         let Some(connection) = self.slots.get(key) else {
             return Part::Ends;
         };
         match connection.mode {
-            Mode::Serves => {}
-            Mode::Loses(_) | Mode::Closes => return Part::Sends,
-            Mode::Lingers => return Part::Ends,
-        }
-        if connection.stage.is_gathering() {
-            return Part::Request;
-        }
-        if connection.stage.is_waiting() {
-            return Part::Waits;
-        }
-        match connection.stage.client() {
-            Some(client) if connection.stage.is_socket() && !self.is_taker(client, key) => {
-                Part::Knocks
-            }
-            _ => Part::Served,
+            Mode::Gathers => Part::Request,
+            Mode::Loses(_) | Mode::Closes if !cutting => Part::Sends,
+            Mode::Loses(_) | Mode::Closes | Mode::Lingers => Part::Ends,
+            Mode::Serves if connection.stage.is_waiting() => Part::Waits,
+            Mode::Serves if self.knocks(&connection.stage, key) => Part::Knocks,
+            Mode::Serves => Part::Served,
         }
     }
 
-    /// Does what is to be done with a connection, and tells whether it is to be closed at once.
-    pub fn part_with(&mut self, key: usize, overdue: Overdue, now: u64) -> bool {
+    /// Whether it is a WebSocket over which its client does not speak yet.
+    fn knocks(&self, stage: &Stage<R>, key: usize) -> bool {
+        match stage.client() {
+            Some(client) => stage.is_socket() && !self.roster.takers.is_taker(client, key),
+            None => false,
+        }
+    }
+
+    /// Does what is to be done with a connection that took too long, or one that is to end. Answers
+    /// whether it is to be closed at once.
+    pub fn keep_deadline(&mut self, key: usize, cutting: bool, now: u64) -> bool {
+        let part = self.part_of(key, cutting);
         let Some(connection) = self.get_mut(key) else {
             return false;
         };
-        connection.part_with(overdue, now);
-        match overdue {
+        match connection.keep_deadline(part, cutting, now) {
             Overdue::Nothing => false,
             Overdue::Close => true,
             _ => {
-                self.queue(key);
+                self.roster.rota.call(key);
                 false
             }
         }

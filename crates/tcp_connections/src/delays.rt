@@ -1,16 +1,16 @@
 //! GETs that are served a little later.
 
 use http_edge::Target;
+use mio::Token;
 use peers::{is_recent, served_from};
 use std::alloc::Global;
 use std::collections::{HashMap, VecDeque};
 
 /// A connection that is served from a moment on.
-#[derive(Clone, Copy)]
+#[derive(Drop)]
 struct Delay {
     from: u64,
-    key: usize,
-    generation: u32,
+    token: Token,
 }
 
 /// GETs that are served a little later: those of clients that were told just so that nothing waits,
@@ -52,13 +52,8 @@ impl Delays {
     }
 
     /// A connection waits until this moment. Answers whether there was memory for it.
-    pub fn delay(&mut self, from: u64, key: usize, generation: u32) -> bool {
-        let delay = Delay {
-            from,
-            key,
-            generation,
-        };
-        self.waiting.push_back(delay).is_ok()
+    pub fn delay(&mut self, from: u64, token: Token) -> bool {
+        self.waiting.push_back(Delay { from, token }).is_ok()
     }
 
     /// The moment of the first one that waits.
@@ -66,12 +61,11 @@ impl Delays {
         Some(self.waiting.front()?.from)
     }
 
-    /// The key and the generation of the first one, if its moment has come. It waits no more.
-    pub fn pop_due(&mut self, now: u64) -> Option<(usize, u32)> {
+    /// The first one, if its moment has come. It waits no more.
+    pub fn pop_due(&mut self, now: u64) -> Option<Token> {
         if self.first()? > now {
             return None;
         }
-        let delay = self.waiting.pop_front()?;
-        Some((delay.key, delay.generation))
+        Some(self.waiting.pop_front()?.token)
     }
 }

@@ -8,7 +8,7 @@ use peers::{FRAMES_PER_TAKE, PROBE, UPGRADE};
 const DUE: u64 = 10;
 
 /// What an event asks of the core, as far as a look of its connection goes.
-#[derive(Clone, Copy, Debug, PartialEq, Eq)]
+#[derive(Drop)]
 enum Asks {
     /// What waits for the client, when all that was read was brought and the stream had no more, or not.
     Waiting { dry: bool },
@@ -18,7 +18,7 @@ enum Asks {
 }
 
 /// How far a connection is in what it reads, takes and asks.
-#[derive(Clone, Copy, Debug)]
+#[derive(Drop)]
 pub struct Progress {
     /// How many bytes at the most its WebSocket has read and not brought.
     unread: usize,
@@ -52,22 +52,17 @@ impl Progress {
         };
     }
 
-    /// What its event asks, when all that was read was brought and the stream had no more, or not.
-    pub fn note_event(&mut self, event: &Event, dry: bool) {
+    /// Whether an event asks what is due, a moment after that was asked. It comes when all that was read
+    /// was brought and the stream had no more, or not.
+    pub fn asks_again(&mut self, event: &Event, dry: bool, now: u64) -> bool {
         self.asks = match event {
             Event::FrameTake { .. } => Asks::Waiting { dry },
             Event::Tick { .. } => Asks::Due,
             _ => Asks::Other,
         };
-    }
-
-    /// Whether its event asks what is due, a moment after that was asked.
-    pub fn asks_again(&mut self, now: u64) -> bool {
-        if self.asks != Asks::Due {
-            return false;
-        }
-        let again = now < self.asked.saturating_add(DUE);
-        if !again {
+        let asks_due = matches!(self.asks, Asks::Due);
+        let again = asks_due && now < self.asked.saturating_add(DUE);
+        if asks_due && !again {
             self.asked = now;
         }
         again

@@ -12,7 +12,7 @@ use std::alloc::Global;
 use std::rt::Clock;
 use std::sync::Arc;
 use std::{io, mem};
-use tcp_streams::{Download, Stream};
+use tcp_streams::{Download, Rules, Stream, asks_for_file};
 
 type Poller<R> = PollPeer<OnStream<Stream>, Watch<R>>;
 
@@ -57,11 +57,6 @@ impl<R: Clock + Drop> Stage<R> {
         }
     }
 
-    /// Whether the request is still coming.
-    pub fn is_gathering(&self) -> bool {
-        matches!(self, Stage::Gathering { .. })
-    }
-
     /// Whether it is a request over HTTP.
     pub fn is_polling(&self) -> bool {
         matches!(self, Stage::Polling(_))
@@ -97,16 +92,15 @@ impl<R: Clock + Drop> Stage<R> {
         }
     }
 
-    /// Whether nobody serves it.
-    pub fn is_over(&self) -> bool {
-        matches!(self, Stage::Answered(_) | Stage::Gone)
+    /// Whether somebody serves it.
+    pub fn is_served(&self) -> bool {
+        matches!(self, Stage::Polling(_) | Stage::Speaking(_))
     }
 
     /// A GET that waits asks no more.
     pub fn give_up(&mut self) {
-        match self {
-            Stage::Polling(peer) => peer.give_up(),
-            _ => {}
+        if let Stage::Polling(peer) = self {
+            peer.give_up();
         }
     }
 
@@ -139,10 +133,7 @@ impl<R: Clock + Drop> Stage<R> {
     /// Where all was sent, the next piece of a file is written.
     pub fn write_more(&mut self) -> io::Result<()> {
         match self {
-            Stage::Downloading { stream, download } => {
-                if stream.unsent() > 0 {
-                    return Ok(());
-                }
+            Stage::Downloading { stream, download } if stream.unsent() == 0 => {
                 download.write_piece(stream)
             }
             _ => Ok(()),
@@ -176,42 +167,42 @@ fn answered<R>(alloc: Global, stream: Stream, reply: &Reply<'_>) -> Stage<R> {
 }
 
 /// The answer that is a file, of which the head and a first piece are written.
-pub fn downloading<R>(
+fn downloading<R>(
     alloc: Global,
     stream: Stream,
-    page: Arc<Page>,
+    page: &Arc<Page>,
     request: Box<Request>,
 ) -> Stage<R> {
-    let mut stream = stream;
-    let Ok(mut download) = Download::begin(alloc, &mut stream, page, request) else {
-        return Stage::Gone;
+    let Ok(page) = Arc::try_clone(page) else {
+        return answered_fault(alloc, stream, EdgeError::Memory);
     };
-    match download.write_piece(&mut stream) {
-        Ok(()) => Stage::Downloading { stream, download },
+    let mut stream = stream;
+    match Download::begin(alloc, &mut stream, page, request) {
+        Ok(download) => Stage::Downloading { stream, download },
         Err(_) => Stage::Gone,
     }
 }
 
-/// Who serves a request. A payload over HTTP has at most so many entries.
+/// Who serves a request, or what answers it.
 pub fn stage_for<R: Clock + Drop>(
     alloc: Global,
     stream: Stream,
     request: Box<Request>,
     target: Target,
     watch: Watch<R>,
-    most: usize,
+    rules: &Rules,
 ) -> Stage<R> {
+    if matches!(target, Target::NotFound) && asks_for_file(&rules.page, &request) {
+        return downloading(alloc, stream, &rules.page, request);
+    }
     if let Some(reply) = reply_to_target(target) {
         return answered(alloc, stream, &reply);
     }
     let served = match SocketRequest::of(target) {
         Some(wanted) => speaking(alloc, stream, request, wanted, watch),
-        None => polling(alloc, stream, request, target, watch, most),
+        None => polling(alloc, stream, request, target, watch, rules.poll_entries),
     };
-    match served {
-        Some(stage) => stage,
-        None => Stage::Gone,
-    }
+    served.unwrap_or(Stage::Gone)
 }
 
 /// A WebSocket, if its request could be accepted.
@@ -228,7 +219,7 @@ fn speaking<R: Clock + Drop>(
     Some(Stage::Speaking(Box::new(alloc, peer).ok()?))
 }
 
-/// A request over HTTP, if a peer serves it.
+/// A request over HTTP, if a peer serves it. A payload has at most so many entries.
 fn polling<R: Clock + Drop>(
     alloc: Global,
     stream: Stream,

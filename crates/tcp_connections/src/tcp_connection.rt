@@ -1,28 +1,25 @@
 //! One connection.
 
 use crate::progress::Progress;
-use crate::stage::{Stage, answered_fault, downloading, stage_for};
+use crate::stage::{Stage, answered_fault, stage_for};
 use crate::watch::Watch;
 use events::{CoreError, Event, Loss, Outcome, Telling};
 use http_edge::{EdgeError, Gathered, Request, Target};
-use loop_rules::{Found, Overdue, Pause};
-use page::Page;
+use loop_rules::{Found, Overdue, Part, Pause, find_overdue};
+use mio::Token;
 use std::alloc::Global;
 use std::net::Shutdown;
 use std::rt::Clock;
-use std::sync::Arc;
-use tcp_streams::{Drained, Reading, Stream, drain, read_request};
+use tcp_streams::{Drained, Reading, Rules, Stream, drain, read_request};
 
 /// A connection with more bytes unsent than this is not served until they have gone.
 const MOST_UNSENT: usize = 65_536;
 
-/// So many bytes are sent when their connection's turn ends, while they are at hand in the processor's
-/// caches. Fewer wait for the end of the loop's turn, so that more may go out with them.
-const MUCH_UNSENT: usize = 32_768;
-
 /// What a connection is about.
-#[derive(Clone, Copy, Debug, PartialEq, Eq)]
+#[derive(Drop)]
 pub enum Mode {
+    /// Its request is coming.
+    Gathers,
     /// It is served.
     Serves,
     /// Its client is lost, of which the core is told.
@@ -37,14 +34,14 @@ pub enum Mode {
 #[derive(Drop)]
 pub struct Connection<R> {
     /// Tells it from an earlier one with the same key.
-    pub generation: u32,
+    pub token: Token,
     /// It stands in the list of those with bytes to send.
     pub unsent: bool,
     pub mode: Mode,
     /// The core was told of its loss, and isn't told again.
     told: bool,
     /// The moment at which its present part began: its request, its serving, its end.
-    pub since: u64,
+    since: u64,
     /// The moment at which its bytes last went on.
     moved: u64,
     /// It waits for this moment before it is served.
@@ -67,7 +64,7 @@ pub enum Next {
 }
 
 /// What follows once a connection's bytes were sent.
-#[derive(Clone, Copy, Debug, PartialEq, Eq)]
+#[derive(Drop)]
 pub enum Sent {
     Nothing,
     /// So few bytes are left that it may be served again.
@@ -83,13 +80,13 @@ impl<R: Clock + Drop> Connection<R> {
     pub fn new(
         alloc: Global,
         stream: Stream,
-        generation: u32,
+        token: Token,
         now: u64,
     ) -> Option<Box<Connection<R>>> {
         let connection = Connection {
-            generation,
+            token,
             unsent: false,
-            mode: Mode::Serves,
+            mode: Mode::Gathers,
             told: false,
             since: now,
             moved: now,
@@ -103,21 +100,9 @@ impl<R: Clock + Drop> Connection<R> {
         Box::new(alloc, connection).ok()
     }
 
-    /// The stream, if it is still here.
-    pub fn stream(&mut self) -> Option<&mut Stream> {
-        self.stage.stream()
-    }
-
-    /// Its stream was reported readable, and whether the other side has sent its last byte.
-    pub fn note_readable(&mut self, ended: bool) {
-        if let Some(stream) = self.stream() {
-            stream.note_readable(ended);
-        }
-    }
-
     /// How many of its bytes wait to be sent.
-    fn unsent(&mut self) -> usize {
-        match self.stream() {
+    pub fn bytes_unsent(&mut self) -> usize {
+        match self.stage.stream() {
             Some(stream) => stream.unsent(),
             None => 0,
         }
@@ -125,16 +110,17 @@ impl<R: Clock + Drop> Connection<R> {
 
     /// Whether so much is unsent that it is not to be served.
     pub fn is_full(&mut self) -> bool {
-        self.unsent() > MOST_UNSENT
+        self.bytes_unsent() > MOST_UNSENT
     }
 
-    /// Whether so much is unsent that it is to be sent at once.
-    pub fn has_much_unsent(&mut self) -> bool {
-        self.unsent() >= MUCH_UNSENT
-    }
-
-    /// Does what is to be done with it, where it took too long or is to end.
-    pub fn part_with(&mut self, overdue: Overdue, now: u64) {
+    /// Does what is to be done with it at this part, where that took too long, or where all but those
+    /// that end are to fail. Answers what that was.
+    pub fn keep_deadline(&mut self, part: Part, cutting: bool, now: u64) -> Overdue {
+        let overdue = if cutting && !matches!(part, Part::Ends) {
+            Overdue::Fail
+        } else {
+            find_overdue(part, now.saturating_sub(self.since), self.stalled(now))
+        };
         match overdue {
             Overdue::GiveUp => self.stage.give_up(),
             Overdue::Cut => self.cut(),
@@ -144,6 +130,7 @@ impl<R: Clock + Drop> Connection<R> {
             }
             Overdue::Nothing | Overdue::Close | Overdue::Look => {}
         }
+        overdue
     }
 
     /// Reads what has come of the request.
@@ -162,32 +149,25 @@ impl<R: Clock + Drop> Connection<R> {
         self.end(now);
     }
 
-    /// Answers by the file that a request asks for. It ends then.
-    pub fn hand_out(&mut self, alloc: Global, page: Arc<Page>, request: Box<Request>, now: u64) {
-        if let Some(stream) = self.stage.take_stream() {
-            self.stage = downloading(alloc, stream, page, request);
-        }
-        self.end(now);
-    }
-
-    /// Begins to serve a request. A payload over HTTP has at most so many entries.
+    /// Begins to serve a request. It ends where nobody serves that.
     pub fn serve(
         &mut self,
         alloc: Global,
         request: Box<Request>,
         target: Target,
         watch: Watch<R>,
-        most: usize,
+        rules: &Rules,
         now: u64,
     ) {
         self.progress = Progress::new(request.rest.len());
+        self.mode = Mode::Serves;
+        self.since = now;
         if let Some(mut stream) = self.stage.take_stream() {
             // The head, and the rest with it.
             let _ = stream.take_read();
-            self.stage = stage_for(alloc, stream, request, target, watch, most);
+            self.stage = stage_for(alloc, stream, request, target, watch, rules);
         }
-        self.since = now;
-        if self.stage.is_over() {
+        if !self.stage.is_served() {
             self.end(now);
         }
     }
@@ -200,7 +180,7 @@ impl<R: Clock + Drop> Connection<R> {
         if self.not_before > now {
             return Next::Pauses(Pause::Early);
         }
-        if self.stage.is_waiting() && self.drain() == Drained::Ended {
+        if self.stage.is_waiting() && matches!(self.drain(), Drained::Ended) {
             self.fail(now);
             return Next::Fails;
         }
@@ -219,14 +199,13 @@ impl<R: Clock + Drop> Connection<R> {
 
     /// Brings an event, unless what it asks was asked just so.
     fn bring(&mut self, event: Event, moment: u64) -> Next {
-        let read = match self.stream() {
+        let read = match self.stage.stream() {
             Some(stream) => stream.take_read(),
             None => 0,
         };
         self.progress.note_read(read, &event);
         let dry = self.stage.has_read_nothing() || self.has_brought_all();
-        self.progress.note_event(&event, dry);
-        if self.progress.asks_again(moment) {
+        if self.progress.asks_again(&event, dry, moment) {
             Next::AsksAgain
         } else {
             Next::Brings(event, moment)
@@ -236,7 +215,7 @@ impl<R: Clock + Drop> Connection<R> {
     /// Whether it brought all that it read, and its stream has no more, as far as is known.
     pub fn has_brought_all(&mut self) -> bool {
         self.progress.has_brought_all()
-            && match self.stream() {
+            && match self.stage.stream() {
                 Some(stream) => stream.is_drained(),
                 None => true,
             }
@@ -256,13 +235,13 @@ impl<R: Clock + Drop> Connection<R> {
     }
 
     /// It is served no more, and ends once its bytes have gone.
-    pub fn end(&mut self, now: u64) {
+    fn end(&mut self, now: u64) {
         self.mode = Mode::Closes;
         self.since = now;
     }
 
     /// It has failed: its client is lost, if it has one.
-    pub fn fail(&mut self, now: u64) {
+    fn fail(&mut self, now: u64) {
         self.since = now;
         self.mode = match self.stage.client() {
             Some(client) => Mode::Loses(Loss::new(client)),
@@ -270,18 +249,18 @@ impl<R: Clock + Drop> Connection<R> {
         };
     }
 
-    /// The core was told that its client is lost, and answered this. Where that was the last time, it ends
-    /// once its bytes have gone.
-    pub fn hear_loss(&mut self, got: &Result<Outcome, CoreError>, now: u64) -> Telling {
+    /// Where its client is lost: the core was told so, and answered this. Where that was the last time, it
+    /// ends once its bytes have gone.
+    pub fn hear_loss(&mut self, got: &Result<Outcome, CoreError>, now: u64) -> Option<Telling> {
         let Mode::Loses(loss) = &mut self.mode else {
-            return Telling::Over;
+            return None;
         };
         let telling = loss.hears(got);
         if telling == Telling::Over {
             self.told = true;
             self.end(now);
         }
-        telling
+        Some(telling)
     }
 
     /// Sends what is unsent.
@@ -289,7 +268,7 @@ impl<R: Clock + Drop> Connection<R> {
         if self.stage.write_more().is_err() {
             return self.after_failure(now);
         }
-        let Some(stream) = self.stream() else {
+        let Some(stream) = self.stage.stream() else {
             return Sent::Remove;
         };
         match stream.send() {
@@ -313,7 +292,7 @@ impl<R: Clock + Drop> Connection<R> {
                 Sent::Nothing
             };
         }
-        if left == 0 && self.mode == Mode::Closes {
+        if left == 0 && matches!(self.mode, Mode::Closes) {
             return self.part(now);
         }
         if left <= MOST_UNSENT {
@@ -331,7 +310,7 @@ impl<R: Clock + Drop> Connection<R> {
             return Sent::Remove;
         }
         self.mode = Mode::Lingers;
-        match self.stream() {
+        match self.stage.stream() {
             Some(stream) => match stream.get_mut().shutdown(Shutdown::Write) {
                 Ok(()) => Sent::Queue,
                 Err(_) => Sent::Remove,
@@ -350,30 +329,26 @@ impl<R: Clock + Drop> Connection<R> {
             Mode::Loses(_) => self.cut(),
             _ if self.stage.is_polling() => self.fail(now),
             Mode::Serves => self.cut(),
-            Mode::Closes | Mode::Lingers => return Sent::Remove,
+            Mode::Gathers | Mode::Closes | Mode::Lingers => return Sent::Remove,
         }
         Sent::Queue
     }
 
     /// Nothing more is read of it, or sent.
     fn cut(&mut self) {
-        if let Some(stream) = self.stream() {
+        if let Some(stream) = self.stage.stream() {
             stream.cut();
         }
     }
 
     /// For how long none of its bytes to be sent has gone, if there are any.
-    pub fn stalled(&mut self, now: u64) -> Option<u64> {
-        if self.unsent() > 0 {
-            Some(now.saturating_sub(self.moved))
-        } else {
-            None
-        }
+    fn stalled(&mut self, now: u64) -> Option<u64> {
+        (self.bytes_unsent() > 0).then_some(now.saturating_sub(self.moved))
     }
 
     /// Reads and forgets what comes.
     pub fn drain(&mut self) -> Drained {
-        match self.stream() {
+        match self.stage.stream() {
             Some(stream) => drain(stream),
             None => Drained::Ended,
         }

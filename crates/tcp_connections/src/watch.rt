@@ -1,7 +1,5 @@
 //! The passing of time.
 
-ghost use Rattle.std.specs.Prelude.{◌≡◌};
-
 use peers::Moments;
 use std::rt::Clock;
 use std::time::Instant;
@@ -20,16 +18,6 @@ impl<R: Clock> Watch<R> {
     pub fn new(rt: R, start: Instant) -> Watch<R> {
         Watch { rt, start, last: 0 }
     }
-
-    /// The moment now.
-    pub fn tell(&mut self) -> u64
-        ensures { result ≡ self.new.last }
-    {
-        if let Ok(passed) = self.start.elapsed(&self.rt) {
-            self.last = u64::try_from(passed.as_millis()).unwrap_or(u64::MAX);
-        }
-        self.last
-    }
 }
 
 impl<R: Clock> Moments for Watch<R> {
@@ -40,7 +28,10 @@ impl<R: Clock> Moments for Watch<R> {
     ghost pauses = { λ old new. new ≡ old };
 
     fn now(&mut self) -> u64 {
-        self.tell()
+        if let Ok(passed) = self.start.elapsed(&self.rt) {
+            self.last = u64::try_from(passed.as_millis()).unwrap_or(u64::MAX);
+        }
+        self.last
     }
 
     /// A loop waits for all of its connections at once, never here.

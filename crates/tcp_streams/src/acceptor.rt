@@ -155,7 +155,9 @@ impl Acceptor {
 
     /// Gives a connection to the loop whose turn it is.
     fn give<R: Wait + Clock>(&mut self, rt: &R, shared: &Shared, stream: TcpStream) {
-        self.left = self.left.map(|left| left.saturating_sub(1));
+        if let Some(left) = &mut self.left {
+            *left = left.saturating_sub(1);
+        }
         // Without it a small answer may wait for the acknowledgement of the one before.
         let _ = stream.set_nodelay(true);
         if !shared.note_accepted(rt, self.most) {

@@ -30,7 +30,8 @@ pub fn asks_for_file(page: &Page, request: &Request) -> bool {
 }
 
 impl Download {
-    /// The file that a request asks for, of which just the head was written. A HEAD asks for no more.
+    /// The file that a request asks for, of which the head and a first piece were written. A HEAD asks
+    /// for no more than the head.
     pub fn begin<S>(
         alloc: Global,
         stream: &mut Buffered<S>,
@@ -39,12 +40,14 @@ impl Download {
     ) -> io::Result<Download> {
         write_head(alloc, stream, page.look_up(request.path.as_str()))?;
         let Request { method, path, .. } = Box::into_inner(request);
-        Ok(Download {
+        let mut download = Download {
             page,
             path,
             written: 0,
             over: method.as_str() == "HEAD",
-        })
+        };
+        download.write_piece(stream)?;
+        Ok(download)
     }
 
     /// Whether all was written.
