@@ -12,10 +12,22 @@ impl<R: Wait + Clock + Copy + Drop, L: Log> EventLoop<'_, R, L> {
     /// A connection's event was answered.
     pub(crate) fn hear(&mut self, key: usize, got: &Result<Outcome, CoreError>) {
         let now = self.base.now();
-        if self.connections.is_lost(key) {
-            self.hear_loss(key, got, now);
-            return;
+        // Where the core refused to hear of a loss, it is told again in the loop's next turn.
+        match self.connections.hear_loss(key, got, now) {
+            Some(Telling::Again) => self.hear_loss(key, got, Pause::More),
+            Some(Telling::Over) => self.hear_loss(key, got, Pause::Done),
+            None => self.follow(key, got, now),
         }
+    }
+
+    /// The core was told that a client is lost.
+    fn hear_loss(&mut self, key: usize, got: &Result<Outcome, CoreError>, pause: Pause) {
+        self.note(key, got);
+        self.rest(key, pause);
+    }
+
+    /// An event of a connection that is served was answered.
+    fn follow(&mut self, key: usize, got: &Result<Outcome, CoreError>, now: u64) {
         let verdict = self
             .connections
             .follow(key, &mut self.current.turn, got, now);
@@ -23,20 +35,12 @@ impl<R: Wait + Clock + Copy + Drop, L: Log> EventLoop<'_, R, L> {
         self.note(key, got);
         if has_brought_all && matches!(got, Ok(Outcome::Done(_))) {
             // The others may begin while this one goes on.
-            self.tell_others();
+            self.base.send(&mut self.notes);
         }
-        self.end_turn(key, verdict);
-    }
-
-    /// The core was told that a client is lost. Where it refused that, it is told again in the loop's next
-    /// turn.
-    fn hear_loss(&mut self, key: usize, got: &Result<Outcome, CoreError>, now: u64) {
-        self.note(key, got);
-        let pause = match self.connections.hear_loss(key, got, now) {
-            Telling::Again => Pause::More,
-            Telling::Over => Pause::Done,
-        };
-        self.rest(key, pause);
+        if !matches!(verdict, Verdict::GoesOn) {
+            self.current.key = None;
+            self.send_soon(key);
+        }
     }
 
     /// Nothing can be due that wasn't, so the core need not be asked.
@@ -48,24 +52,14 @@ impl<R: Wait + Clock + Copy + Drop, L: Log> EventLoop<'_, R, L> {
         self.hear(key, &Ok(nothing));
     }
 
-    /// The turn of a connection is over, unless it goes on.
-    fn end_turn(&mut self, key: usize, verdict: Verdict) {
-        match verdict {
-            Verdict::GoesOn => {}
-            Verdict::Again | Verdict::Rests | Verdict::Held => {
-                self.current.key = None;
-                self.send_soon(key);
-            }
-        }
-    }
-
     /// Notes whom the answer to an event of a connection concerns.
     fn note(&mut self, key: usize, got: &Result<Outcome, CoreError>) {
         let Some(client) = self.connections.client(key) else {
             return;
         };
         if is_noop(got) {
-            self.note_noop(client);
+            let now = self.base.now();
+            self.delays.note_noop(client, now);
         }
         match got {
             Ok(outcome) => self.note_outcome(client, key, outcome),
@@ -106,27 +100,21 @@ impl<R: Wait + Clock + Copy + Drop, L: Log> EventLoop<'_, R, L> {
             &mut self.notes,
         );
         if self.current.comes_over {
-            self.come_over(client, key);
+            self.connections.settle(client, key);
+            self.base.note_upgraded(client);
         }
         if done.closed.is_some() {
             self.note_end(client, done.closed);
-        } else if !self.connections.is_taker(client, key) {
+        } else if !self.connections.roster.takers.is_taker(client, key) {
             // What it brought over this connection may have put something for itself.
             self.connections.roster.wake(client);
         }
     }
 
-    /// A client comes over to its WebSocket.
-    fn come_over(&mut self, client: u128, key: usize) {
-        self.connections.settle(client, key);
-        self.base.note_upgraded(client);
-    }
-
     /// A client has ended, which its waiting GET is to be told.
     fn note_end(&mut self, client: u128, cause: Option<Cause>) {
         self.connections.roster.wake(client);
-        let now = self.base.now();
-        self.base.note_end(client, cause, now);
+        self.base.note_end(client, cause);
     }
 
     /// A client was opened. What is put for it goes to its WebSocket, if it has one.
@@ -135,13 +123,6 @@ impl<R: Wait + Clock + Copy + Drop, L: Log> EventLoop<'_, R, L> {
         if is_socket {
             self.connections.settle(client, key);
         }
-        let now = self.base.now();
-        self.base.note_opened(client, is_socket, now);
-    }
-
-    /// A client is told that nothing waits.
-    fn note_noop(&mut self, client: u128) {
-        let now = self.base.now();
-        self.delays.note_noop(client, now);
+        self.base.note_opened(client, is_socket);
     }
 }

@@ -2,6 +2,7 @@
 
 use events::Cause;
 use loop_rules::{Mail, Notes};
+use peers::Moments;
 use std::alloc::{AllocError, Global};
 use std::rt::Clock;
 use std::sync::{Arc, Wait};
@@ -10,7 +11,6 @@ use tcp_connections::Watch;
 use tcp_streams::{Handed, Inbox, Log, Rules, Shared};
 
 /// What a worker goes by: through it a loop, or the keeper, speaks to the others.
-#[derive(Drop)]
 pub struct Base<'a, R, L> {
     pub rt: R,
     pub alloc: Global,
@@ -20,6 +20,21 @@ pub struct Base<'a, R, L> {
     pub shared: Arc<Shared>,
     pub rules: Arc<Rules>,
     pub watch: Watch<R>,
+}
+
+/// Written out, so that a crate above takes the drop of all that lies in it by this one call.
+impl<R: Drop, L> Drop for Base<'_, R, L> {
+    fn drop(self) {
+        let Self {
+            rt: _,
+            alloc: _,
+            log: _,
+            number: _,
+            shared: _,
+            rules: _,
+            watch: _,
+        } = self;
+    }
 }
 
 impl<'a, R: Clock + Copy, L> Base<'a, R, L> {
@@ -38,7 +53,7 @@ impl<'a, R: Clock + Copy, L> Base<'a, R, L> {
 
     /// The moment now.
     pub fn now(&mut self) -> u64 {
-        self.watch.tell()
+        self.watch.now()
     }
 }
 
@@ -108,8 +123,9 @@ impl<R: Wait + Clock, L: Log> Base<'_, R, L> {
         notes.everyone = false;
     }
 
-    /// A client was opened at this moment.
-    pub fn note_opened(&self, client: u128, socket: bool, now: u64) {
+    /// A client was opened.
+    pub fn note_opened(&mut self, client: u128, socket: bool) {
+        let now = self.watch.now();
         self.shared
             .lives()
             .note_opened(&self.rt, client, socket, now);
@@ -120,8 +136,9 @@ impl<R: Wait + Clock, L: Log> Base<'_, R, L> {
         self.shared.lives().note_upgraded(&self.rt, client);
     }
 
-    /// A client has ended at this moment, of which the log is told.
-    pub fn note_end(&self, client: u128, cause: Option<Cause>, now: u64) {
+    /// A client has ended, of which the log is told.
+    pub fn note_end(&mut self, client: u128, cause: Option<Cause>) {
+        let now = self.watch.now();
         self.shared
             .lives()
             .end(&self.rt, self.log, client, cause, now);

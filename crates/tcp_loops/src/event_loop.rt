@@ -11,7 +11,7 @@ use std::mem;
 use std::rt::Clock;
 use std::sync::Wait;
 use std::time::Duration;
-use tcp_connections::{Connection, Connections, Delays, Mode, Next};
+use tcp_connections::{Connections, Delays, Mode, Next};
 use tcp_streams::{Buffered, Drained, Ears, Handed, Log, ServerFault, Stream};
 
 /// How many reports of streams one wait takes.
@@ -27,7 +27,7 @@ const TURNS: usize = 1_024;
 const BEAT: u64 = 1_000;
 
 /// Whose turn it is.
-#[derive(Clone, Copy)]
+#[derive(Drop)]
 pub(crate) struct Current {
     /// The connection whose turn it is.
     pub(crate) key: Option<usize>,
@@ -93,7 +93,10 @@ impl<R: Wait + Clock + Copy + Drop, L: Log> Peer for EventLoop<'_, R, L> {
                 break;
             }
         }
-        self.close_all();
+        // What is still open is closed. That is nothing, but where the system failed to wait.
+        for key in 0..self.connections.keys_below() {
+            self.close(key);
+        }
         self.base.note_ended();
         Ok(None)
     }
@@ -145,18 +148,17 @@ impl<'a, R: Wait + Clock + Copy + Drop, L: Log> EventLoop<'a, R, L> {
             }
         }
         self.connections.roster.rota.begin_turn();
-        self.tell_others();
+        self.base.send(&mut self.notes);
         self.send_all();
         if self.connections.len() == 0 && self.base.is_over() {
             return false;
         }
         self.current.left = TURNS;
-        self.wait() && self.take_in()
-    }
-
-    /// Tells the other loops of their clients.
-    pub(crate) fn tell_others(&mut self) {
-        self.base.send(&mut self.notes);
+        let waited = self.wait();
+        if waited {
+            self.take_in();
+        }
+        waited
     }
 
     /// Sends the bytes of all connections that have some.
@@ -175,36 +177,19 @@ impl<'a, R: Wait + Clock + Copy + Drop, L: Log> EventLoop<'a, R, L> {
     /// Waits for streams, for what others hand in, or for the next moment at which something is due.
     /// Answers whether it could.
     fn wait(&mut self) -> bool {
-        let timeout = self.timeout();
+        let timeout = Duration::from_millis(self.time_to_sleep());
         let waited = self.poll.poll(&mut self.events, Some(timeout));
-        self.note_ready();
-        waited.is_ok()
-    }
-
-    /// How long it waits at the most.
-    fn timeout(&mut self) -> Duration {
-        let timeout = if self.may_sleep() {
-            self.time_to_sleep()
-        } else {
-            0
-        };
-        Duration::from_millis(timeout)
-    }
-
-    /// Notes which streams are ready.
-    fn note_ready(&mut self) {
         for event in self.events.iter() {
             self.connections.note(event);
         }
+        waited.is_ok()
     }
 
-    /// Whether nothing is to be done, and nothing was handed in.
-    fn may_sleep(&self) -> bool {
-        self.connections.is_quiet() && self.base.falls_asleep()
-    }
-
-    /// The time until something is due.
+    /// The time until something is due: none where something is to be done, or was handed in.
     fn time_to_sleep(&mut self) -> u64 {
+        if !self.connections.is_quiet() || !self.base.falls_asleep() {
+            return 0;
+        }
         let now = self.base.now();
         let due = match self.delays.first() {
             Some(moment) => self.beat.min(moment),
@@ -214,28 +199,27 @@ impl<'a, R: Wait + Clock + Copy + Drop, L: Log> EventLoop<'a, R, L> {
     }
 
     /// Takes in what was handed in, and does what is due.
-    fn take_in(&mut self) -> bool {
+    fn take_in(&mut self) {
         self.base.take(&mut self.mail);
         self.add_streams();
         self.adopt_handed();
-        self.wake_told();
-        let everyone = mem::replace(&mut self.mail.everyone, false);
-        self.connections.call_missed(everyone);
-        self.do_due(everyone);
-        true
-    }
-
-    /// Wakes the clients for which other loops put something.
-    fn wake_told(&mut self) {
         for client in self.mail.woken.drain(..) {
             self.connections.roster.wake(client);
         }
+        let everyone = mem::replace(&mut self.mail.everyone, false);
+        self.connections.call_missed(everyone);
+        self.do_due(everyone);
     }
 
     /// Does what is due. Where all connections are to be looked at, their deadlines are.
     fn do_due(&mut self, everyone: bool) {
         let now = self.base.now();
-        self.queue_delayed(now);
+        for _ in 0..usize::MAX {
+            let Some(token) = self.delays.pop_due(now) else {
+                break;
+            };
+            self.connections.queue(token);
+        }
         if now >= self.beat || everyone {
             self.beat = now.saturating_add(BEAT);
             self.keep_deadlines(now);
@@ -281,7 +265,7 @@ impl<'a, R: Wait + Clock + Copy + Drop, L: Log> EventLoop<'a, R, L> {
         } = handed;
         let key = self.add(stream)?;
         self.serve(key, request, target);
-        self.connections.queue(key);
+        self.connections.roster.rota.call(key);
         Some(key)
     }
 
@@ -289,24 +273,13 @@ impl<'a, R: Wait + Clock + Copy + Drop, L: Log> EventLoop<'a, R, L> {
     fn add(&mut self, stream: Stream) -> Option<usize> {
         let now = self.base.now();
         let mut stream = stream;
-        let (token, generation) = self.connections.next_token();
+        let token = self.connections.next_token();
         let interests = Interest::READABLE | Interest::WRITABLE;
         self.poll
             .registry()
             .register(stream.get_mut(), token, interests)
             .ok()?;
-        self.connections
-            .add(Connection::new(self.base.alloc, stream, generation, now)?)
-    }
-
-    /// Queues the connections whose moment has come.
-    fn queue_delayed(&mut self, now: u64) {
-        for _ in 0..usize::MAX {
-            let Some((key, generation)) = self.delays.pop_due(now) else {
-                return;
-            };
-            self.connections.queue_if(key, generation);
-        }
+        self.connections.add(self.base.alloc, stream, token, now)
     }
 
     /// Looks at what each connection has come to.
@@ -314,8 +287,7 @@ impl<'a, R: Wait + Clock + Copy + Drop, L: Log> EventLoop<'a, R, L> {
         self.delays.forget_old(now);
         let cutting = self.base.is_cutting();
         for key in 0..self.connections.keys_below() {
-            let overdue = self.connections.overdue(key, cutting, now);
-            if self.connections.part_with(key, overdue, now) {
+            if self.connections.keep_deadline(key, cutting, now) {
                 self.close(key);
             }
         }
@@ -329,21 +301,13 @@ impl<'a, R: Wait + Clock + Copy + Drop, L: Log> EventLoop<'a, R, L> {
             return None;
         };
         match connection.mode {
-            Mode::Serves if connection.stage.is_gathering() => {
-                self.gather(key, now);
-                None
-            }
-            Mode::Serves => self.bring(key, now),
-            Mode::Loses(loss) => Some((loss.event(), now)),
-            Mode::Closes => {
-                self.rest(key, Pause::Done);
-                None
-            }
-            Mode::Lingers => {
-                self.linger(key);
-                None
-            }
+            Mode::Gathers => self.gather(key, now),
+            Mode::Serves => return self.bring(key, now),
+            Mode::Loses(loss) => return Some((loss.event(), now)),
+            Mode::Closes => self.rest(key, Pause::Done),
+            Mode::Lingers => self.linger(key),
         }
+        None
     }
 
     /// The next event of a connection that is served.
@@ -379,7 +343,7 @@ impl<'a, R: Wait + Clock + Copy + Drop, L: Log> EventLoop<'a, R, L> {
     /// The turn of a connection is over.
     pub(crate) fn pause(&mut self, key: usize, pause: Pause) {
         self.current.key = None;
-        self.connections.pause(key, pause);
+        self.connections.roster.rota.pause(key, pause);
     }
 
     /// The turn of a connection is over, and what it has to send goes out.
@@ -391,26 +355,15 @@ impl<'a, R: Wait + Clock + Copy + Drop, L: Log> EventLoop<'a, R, L> {
     /// What a connection has to send goes out at the end of the loop's turn, or at once where that is
     /// much.
     pub(crate) fn send_soon(&mut self, key: usize) {
-        if !self.connections.has_much_unsent(key) {
-            self.connections.note_unsent(key);
-            return;
-        }
         let now = self.base.now();
-        if self.connections.send(key, now) {
-            self.close(key);
-        }
-    }
-
-    /// What is still open is closed. That is nothing, but where the system failed to wait.
-    fn close_all(&mut self) {
-        for key in 0..self.connections.keys_below() {
+        if self.connections.send_soon(key, now) {
             self.close(key);
         }
     }
 
     /// A connection is over.
-    pub(crate) fn close(&mut self, key: usize) {
-        if self.connections.remove(key).is_some() {
+    fn close(&mut self, key: usize) {
+        if self.connections.close(key) {
             self.base.note_closed();
         }
     }

@@ -4,8 +4,8 @@ use crate::event_loop::EventLoop;
 use http_edge::{EdgeError, Refusal, Request, Target, route};
 use loop_rules::{Pause, owner_of};
 use std::rt::Clock;
-use std::sync::{Arc, Wait};
-use tcp_streams::{Handed, Log, Reading, Stream, asks_for_file};
+use std::sync::Wait;
+use tcp_streams::{Handed, Log, Reading, Stream};
 
 impl<R: Wait + Clock + Copy + Drop, L: Log> EventLoop<'_, R, L> {
     /// Reads what has come of a request, and begins to serve it once it is whole.
@@ -34,9 +34,6 @@ impl<R: Wait + Clock + Copy + Drop, L: Log> EventLoop<'_, R, L> {
     /// Answers a request, or has it served.
     fn direct(&mut self, key: usize, request: Box<Request>, now: u64) {
         match self.target_of(&request) {
-            Ok(Target::NotFound) if asks_for_file(&self.base.rules.page, &request) => {
-                self.hand_out(key, request, now);
-            }
             Ok(target) => self.assign(key, request, target),
             Err(fault) => self.refuse(key, fault, now),
         }
@@ -62,19 +59,6 @@ impl<R: Wait + Clock + Copy + Drop, L: Log> EventLoop<'_, R, L> {
         }
     }
 
-    /// Answers by the file that a request asks for.
-    fn hand_out(&mut self, key: usize, request: Box<Request>, now: u64) {
-        let Ok(page) = Arc::try_clone(&self.base.rules.page) else {
-            self.refuse(key, EdgeError::Memory, now);
-            return;
-        };
-        if let Some(connection) = self.connections.get_mut(key) {
-            connection.hand_out(self.base.alloc, page, request, now);
-        }
-        self.pause(key, Pause::Done);
-        self.connections.note_unsent(key);
-    }
-
     /// Begins to serve a request. A GET of a client that was told just so that nothing waits is served
     /// a little later.
     pub(crate) fn serve(&mut self, key: usize, request: Box<Request>, target: Target) {
@@ -83,9 +67,9 @@ impl<R: Wait + Clock + Copy + Drop, L: Log> EventLoop<'_, R, L> {
         let Some(connection) = self.connections.get_mut(key) else {
             return;
         };
-        let most = self.base.rules.poll_entries;
-        connection.serve(self.base.alloc, request, target, self.base.watch, most, now);
-        if from > now && self.delays.delay(from, key, connection.generation) {
+        let (alloc, watch) = (self.base.alloc, self.base.watch);
+        connection.serve(alloc, request, target, watch, &self.base.rules, now);
+        if from > now && self.delays.delay(from, connection.token) {
             connection.not_before = from;
         }
         self.connections.note_unsent(key);
