@@ -1,11 +1,11 @@
 //! The keeper: a peer that brings what the passing of time brings, for all clients.
 
-use events::{Cause, CoreError, Event, Outcome, Peer, PeerFault};
+use events::{CoreError, Event, Outcome, Peer, PeerFault};
 use hub::Pass;
 use hub_gate::Locked;
-use journal::Totals;
 use loop_rules::{Notes, loop_of};
 use std::alloc::Global;
+use std::mem;
 use std::rt::Clock;
 use std::sync::Wait;
 use std::sync::ledger::Ledger;
@@ -26,14 +26,6 @@ const BYTES: u64 = 67_108_864;
 /// How often in a round the journal is looked at.
 const LOOKS: u64 = 10;
 
-/// What the keeper brings next.
-#[derive(Clone, Copy, PartialEq, Eq)]
-enum Duty {
-    Ticks,
-    Sweeps,
-    Waits,
-}
-
 /// Asks for each client what is due to it, has the hub sweep, and seals its journal.
 #[derive(Drop)]
 pub(crate) struct Keeper<'a, R, L, C: Ledger, T: Ledger> {
@@ -44,7 +36,8 @@ pub(crate) struct Keeper<'a, R, L, C: Ledger, T: Ledger> {
     clients: IntoIter<u128, Global>,
     /// The client that was asked about last.
     client: u128,
-    duty: Duty,
+    /// The hub is to sweep once the clients of this round were asked about.
+    sweeps: bool,
     /// The clients for which something was put, to be told once a round.
     notes: Notes,
     /// The moment at which the totals are told next.
@@ -67,47 +60,37 @@ impl<'a, R: Wait + Clock + Copy, L: Log, C: Ledger, T: Ledger> Keeper<'a, R, L, 
             pass,
             clients,
             client: 0,
-            duty: Duty::Waits,
+            sweeps: false,
             notes,
             report: 0,
             begun: false,
         })
     }
 
-    /// Waits for the next round, and tells whether there is one.
-    fn rests(&mut self) -> bool {
+    /// Waits for the next round, and tells whether there is one. Where the journal is long, it is sealed.
+    fn rests(&self) -> bool {
         for _ in 0..LOOKS {
             let part = Duration::from_millis(ROUND / LOOKS);
             if self.base.wait_for_loops(part) {
                 return false;
             }
-            self.seal();
+            // A journal that can't be sealed for want of memory is sealed at the next look.
+            let _ = self
+                .locked
+                .seal(&self.base.rt, self.base.alloc, STEPS, BYTES);
         }
         true
-    }
-
-    /// Seals the journal, where it is long.
-    fn seal(&self) {
-        // One that can't be sealed for want of memory is sealed at the next look.
-        let _ = self
-            .locked
-            .seal(&self.base.rt, self.base.alloc, STEPS, BYTES);
     }
 
     /// Lists the clients. Where there is no memory for the list, they are asked about in the next
     /// round.
     fn list(&mut self) {
-        self.clients = self.listed().into_iter();
-    }
-
-    fn listed(&mut self) -> Vec<u128> {
         let listed = self
             .locked
             .look(&self.base.rt, &mut self.pass)
             .clients(self.base.alloc);
-        match listed {
-            Ok(clients) => clients,
-            Err(_) => Vec::new(self.base.alloc),
+        if let Ok(clients) = listed {
+            self.clients = clients.into_iter();
         }
     }
 
@@ -121,22 +104,13 @@ impl<'a, R: Wait + Clock + Copy, L: Log, C: Ledger, T: Ledger> Keeper<'a, R, L, 
             return;
         }
         self.report = now.saturating_add(pause.saturating_mul(1_000));
-        let totals = self.totals();
-        self.base.log.totals(totals);
-    }
-
-    fn totals(&mut self) -> Totals {
-        self.locked
+        let totals = self
+            .locked
             .look(&self.base.rt, &mut self.pass)
             .hub()
             .state()
-            .totals()
-    }
-
-    /// A client was given up.
-    fn note_end(&mut self, cause: Cause) {
-        let now = self.base.now();
-        self.base.note_end(self.client, Some(cause), now);
+            .totals();
+        self.base.log.totals(totals);
     }
 
     /// Waits for the next round and begins it, and tells whether there is one.
@@ -147,25 +121,19 @@ impl<'a, R: Wait + Clock + Copy, L: Log, C: Ledger, T: Ledger> Keeper<'a, R, L, 
         }
         self.tell_totals();
         self.list();
-        self.duty = Duty::Ticks;
+        self.sweeps = true;
         true
     }
 
     /// The next event of the round, if it has one.
     fn next_of_round(&mut self) -> Option<Event> {
-        if self.duty != Duty::Ticks {
-            return None;
-        }
-        Some(match self.clients.next() {
+        match self.clients.next() {
             Some(client) => {
                 self.client = client;
-                Event::Tick { client }
+                Some(Event::Tick { client })
             }
-            None => {
-                self.duty = Duty::Sweeps;
-                Event::Sweep
-            }
-        })
+            None => mem::replace(&mut self.sweeps, false).then_some(Event::Sweep),
+        }
     }
 }
 
@@ -192,8 +160,8 @@ impl<R: Wait + Clock + Copy, L: Log, C: Ledger, T: Ledger> Peer for Keeper<'_, R
                 let owner = loop_of(self.client, self.base.rules.loops);
                 self.notes.note(owner, self.client);
             }
-            if let Some(cause) = closed {
-                self.note_end(*cause);
+            if closed.is_some() {
+                self.base.note_end(self.client, *closed);
             }
         }
         Ok(())

@@ -9,4 +9,4 @@ mod server;
 mod worker;
 
 pub use server::Server;
-pub use tcp_streams::{Doing, Ended, Log, ServerFault, Shared};
+pub use tcp_streams::{Ended, Log, ServerFault, Shared};

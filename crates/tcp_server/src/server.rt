@@ -26,8 +26,8 @@ use std::time::Instant;
 use tcp_connections::Watch;
 use tcp_loops::Base;
 use tcp_streams::{
-    Acceptor, Doing, Ears, Log, Making, Rules, ServerFault, Shared, acceptor_for, ears_for,
-    rules_and_making, shared_by, starting,
+    Acceptor, Ears, Log, Making, Rules, ServerFault, Shared, acceptor_for, ears_for,
+    rules_and_making, starting,
 };
 
 /// How many threads may count what they do.
@@ -61,7 +61,7 @@ impl<L: Log + Sync + Drop> Server<L> {
         }
         let (port, acceptor, bell) = acceptor_for(rt, alloc, &settings)?;
         let (ears, inboxes) = ears_for(rt, alloc, settings.workers)?;
-        let shared = shared_by(alloc, inboxes, bell, log.hears_clients())?;
+        let shared = Shared::new(alloc, inboxes, bell, log.hears_clients())?;
         let (rules, making) = rules_and_making(alloc, settings)?;
         Ok(Server {
             log,
@@ -256,7 +256,7 @@ fn fault_of(error: ServeError) -> ServerFault {
     match error {
         ServeError::Memory => ServerFault::Memory,
         ServeError::NotAll(_) => ServerFault::Books,
-        _ => ServerFault::Device(Doing::Starting),
+        _ => ServerFault::Starting,
     }
 }
 
@@ -270,7 +270,7 @@ fn start_accepting<R: Threads + Wait + Clock + Copy + Drop + Send + 'static, L>(
     let mut acceptor = acceptor;
     match thread::spawn(&base.rt, move || acceptor.accept_all(&handle, &shared)) {
         Ok(accepting) => Ok(accepting),
-        Err(_) => Err(ServerFault::Device(Doing::Starting)),
+        Err(_) => Err(ServerFault::Starting),
     }
 }
 
@@ -289,7 +289,7 @@ fn lock_core<C: Ledger, T: Ledger>(
     let (mut core, pass) = new_core::<C, T>(alloc, making, commands, taken)?;
     match core.new_pass() {
         Ok(looks) => Ok((lock(alloc, core)?, pass, looks)),
-        Err(_) => Err(ServerFault::Device(Doing::Starting)),
+        Err(_) => Err(ServerFault::Starting),
     }
 }
 
