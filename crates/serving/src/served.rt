@@ -21,18 +21,12 @@ use thiserror::Error;
 const GRACE: u64 = 5_000;
 
 /// Why the server ended.
-#[derive(Clone, Copy, Debug, PartialEq, Eq, Error)]
+#[derive(Debug, Drop, Error)]
 pub enum ServeFault {
-    #[error("{0}")]
-    Server(ServerFault),
+    #[error(transparent)]
+    Server(#[from] ServerFault),
     #[error("device fault while writing")]
     Writing,
-}
-
-impl From<ServerFault> for ServeFault {
-    fn from(fault: ServerFault) -> ServeFault {
-        ServeFault::Server(fault)
-    }
 }
 
 /// A server that listens, and tells standard error of itself.
