@@ -95,9 +95,8 @@ fn tell_report<R: Print>(rt: &R, report: &Report) -> Result<(), ServeFault> {
 }
 
 fn tell_worker<R: Print>(rt: &R, number: usize, worker: &WorkerCounts) -> Result<(), ServeFault> {
-    let (commands, taken, faults) = (worker.commands, worker.taken, worker.faults);
-    let told = println!(rt; "worker {number}: commands {commands}, taken {taken}, faults {faults}");
-    told.map_err(writing)
+    let (commands, taken) = (worker.commands, worker.taken);
+    println!(rt; "worker {number}: commands {commands}, taken {taken}").map_err(writing)
 }
 
 fn writing(_error: io::Error) -> ServeFault {
