@@ -37,18 +37,18 @@ impl Ids {
 
     /// A client is told a text, in which its ids stand where the pattern has their kinds, as `<c>`;
     /// `<>` is a new one each time.
-    pub fn told(&mut self, alloc: Global, owner: Words, pattern: Words, text: &str) -> Option<()> {
-        let mut told = String::new(alloc);
+    pub fn told(&mut self, owner: Words, pattern: Words, text: &str) -> Option<()> {
         let mut pieces = pattern.split('<');
-        told.push_str(pieces.next()?).ok()?;
+        let rest = text.strip_prefix(pieces.next()?)?;
+        let mut at = text.len().checked_sub(rest.len())?;
         for piece in pieces {
             let (kind, after) = piece.split_once('>')?;
-            let digits = text.get(told.len()..)?.get(..32)?;
+            let digits = text.get(at..)?.get(..32)?;
             self.comes(owner, kind, read_id(digits)?)?;
-            told.push_str(digits).ok()?;
-            told.push_str(after).ok()?;
+            let rest = text.get(at..)?.get(32..)?.strip_prefix(after)?;
+            at = text.len().checked_sub(rest.len())?;
         }
-        (told.as_str() == text).then_some(())
+        (at == text.len()).then_some(())
     }
 
     /// What a client says: in the text `<c>` is its id.

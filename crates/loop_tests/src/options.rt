@@ -4,13 +4,12 @@ use arguments::folder::{FolderFault, read_folder};
 use arguments::options::Options;
 use arguments::task::{Task, task_of};
 use page::Page;
+use settings::Settings;
 use std::alloc::{AllocError, Global};
 use std::fs;
 
 /// Arguments behind the program's name, and what they ask for, on a machine of two processors: why
-/// they are refused, or the options of a server. Its numbers are the port, the workers, and in the
-/// order of the third last row what follows, of which `0` says that there is none; then come the
-/// namespaces, the origins and the folder.
+/// they are refused, or the options of a server, as `told` and `written` have them.
 static ROWS: [(&str, &str); 24] = [
     ("script", "Script"),
     ("", "MissingSubcommand"),
@@ -35,52 +34,38 @@ static ROWS: [(&str, &str); 24] = [
     ("serve --help", "DisplayHelp"),
     (
         "serve --port 3000 --host ::1 --workers 3 --connections 5 --clients 6 --capacity 7 --bytes 8 --log 9 --saved 10 --keep 11 --together 14 --poll-entries 12 --ping-interval 15 --ping-timeout 16 --connect-timeout 17 --max-payload 18 --report 13 --space /a --space /b --origin http://a --origin http://b --page folder --until-eof --verbose",
-        "::1 [3000, 3, 5, 6, 7, 8, 9, 10, 11, 14, 12, 15, 16, 17, 18, 13] [\"/\", \"/a\", \"/b\"] [\"http://a\", \"http://b\"] Some(\"folder\") true true",
+        "::1 3000 3 Some(5) Config { clients: 6, capacity: 7, bytes: 8, log: 9, saved: 10, keep: 11, first_offset: 1, spaces: [Text { text: \"/\" }, Text { text: \"/a\" }, Text { text: \"/b\" }] } Timing { ping_interval: 15, ping_timeout: 16, connect_timeout: 17 } 18 14 12 Some(13) [\"http://a\", \"http://b\"] Some(\"folder\") true true",
     ),
     (
         "serve --port 3000",
-        "127.0.0.1 [3000, 2, 0, 10000, 64, 8388608, 1024, 4096, 120000, 16, 15, 25000, 20000, 45000, 1000000, 0] [\"/\", \"/admin\"] [] None false false",
+        "127.0.0.1 3000 2 None Config { clients: 10000, capacity: 64, bytes: 8388608, log: 1024, saved: 4096, keep: 120000, first_offset: 1, spaces: [Text { text: \"/\" }, Text { text: \"/admin\" }] } Timing { ping_interval: 25000, ping_timeout: 20000, connect_timeout: 45000 } 1000000 16 15 None [] None false false",
     ),
     (
         "serve --port 80",
-        "127.0.0.1 [80, 2, 0, 10000, 64, 8388608, 1024, 4096, 120000, 16, 15, 25000, 20000, 45000, 1000000, 0] [\"/\", \"/admin\"] [] None false false",
+        "127.0.0.1 80 2 None Config { clients: 10000, capacity: 64, bytes: 8388608, log: 1024, saved: 4096, keep: 120000, first_offset: 1, spaces: [Text { text: \"/\" }, Text { text: \"/admin\" }] } Timing { ping_interval: 25000, ping_timeout: 20000, connect_timeout: 45000 } 1000000 16 15 None [] None false false",
     ),
 ];
 
-/// The numbers of options.
-fn numbers(options: &Options) -> [u64; 16] {
-    let (settings, limits) = (&options.settings, &options.settings.hub);
-    let timing = &settings.timing;
-    [
-        u64::from(settings.port),
-        settings.workers as u64,
-        settings.connections.unwrap_or(0),
-        limits.clients as u64,
-        limits.capacity as u64,
-        limits.bytes as u64,
-        limits.log as u64,
-        limits.saved as u64,
-        limits.keep,
+/// What is written of settings.
+fn told(alloc: Global, settings: &Settings) -> Result<String, AllocError> {
+    let (host, port, workers) = (&settings.host, settings.port, settings.workers);
+    let (hub, timing, payload) = (&settings.hub, &settings.timing, settings.max_payload);
+    let (connections, report) = (&settings.connections, &settings.report);
+    let (together, entries, origins) = (
         settings.together,
-        settings.poll_entries as u64,
-        timing.ping_interval,
-        timing.ping_timeout,
-        timing.connect_timeout,
-        settings.max_payload,
-        settings.report.unwrap_or(0),
-    ]
+        settings.poll_entries,
+        &settings.origins,
+    );
+    format!(in alloc;
+        "{host} {port} {workers} {connections:?} {hub:?} {timing:?} {payload} {together} {entries} {report:?} {origins:?}"
+    )
 }
 
 /// What is written of options.
 fn written(alloc: Global, options: &Options) -> Result<String, AllocError> {
-    let (numbers, settings) = (numbers(options), &options.settings);
-    let (host, origins, folder) = (&settings.host, &settings.origins, &options.folder);
+    let (settings, folder) = (told(alloc, &options.settings)?, &options.folder);
     let (until_eof, verbose) = (options.until_eof, options.verbose);
-    let mut spaces = Vec::new(alloc);
-    for space in settings.hub.spaces.iter() {
-        spaces.push(space.as_str())?;
-    }
-    format!(in alloc; "{host} {numbers:?} {spaces:?} {origins:?} {folder:?} {until_eof} {verbose}")
+    format!(in alloc; "{settings} {folder:?} {until_eof} {verbose}")
 }
 
 /// Whether a command line asks for this.

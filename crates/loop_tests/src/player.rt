@@ -1,7 +1,7 @@
 //! Who plays the steps of a scene. Each function answers with nothing where it isn't so.
 
 use crate::ids::{Ids, Words};
-use crate::wire::{SWITCHED, UPGRADE, body_over, brings, closes, next_text, request, says, sends};
+use crate::wire::{SWITCHED, UPGRADE, body_over, brings, closes, next_text, says, sends};
 use std::alloc::Global;
 use std::net::{Net, TcpStream};
 use std::rt::Clock;
@@ -95,21 +95,22 @@ impl<'a, R: Net<Stream = TcpStream> + Clock + Wait> Player<'a, R> {
     /// A new connection over which a client sent a request, with these headers and such a body. At it no
     /// read and no write waits longer than thirty seconds.
     fn begins(&self, owner: &str, target: &str, headers: &str, body: &str) -> Option<TcpStream> {
-        let request = request(self.alloc, target, headers)?;
-        let mut said = self.ids.said(self.alloc, owner, request.as_str())?;
-        said.push_str(body).ok()?;
+        let target = self.ids.said(self.alloc, owner, target)?;
+        let request = format!(in self.alloc;
+            "{target} HTTP/1.1\r\nHost: localhost\r\n{headers}\r\n{body}"
+        );
         let stream = TcpStream::connect(self.rt, ("127.0.0.1", self.port)).ok()?;
         let most = Some(Duration::from_secs(30));
         stream.set_read_timeout(most).ok()?;
         stream.set_write_timeout(most).ok()?;
-        sends(&stream, said.as_str().as_bytes())?;
+        sends(&stream, request.ok()?.as_str().as_bytes())?;
         Some(stream)
     }
 
     /// A connection brings an answer with such a body, and ends.
     fn told(&mut self, owner: Words, stream: TcpStream, body: Words) -> Option<()> {
         let got = body_over(self.alloc, stream)?;
-        self.ids.told(self.alloc, owner, body, got.as_str())
+        self.ids.told(owner, body, got.as_str())
     }
 
     fn opens(&mut self, owner: Words) -> Option<()> {
@@ -119,7 +120,7 @@ impl<'a, R: Net<Stream = TcpStream> + Clock + Wait> Player<'a, R> {
 
     fn posts(&mut self, owner: Words, text: &str) -> Option<()> {
         let length = text.len();
-        let header = format!(in self.alloc; "Content-Length: {length}").ok()?;
+        let header = format!(in self.alloc; "Content-Length: {length}\r\n").ok()?;
         let stream = self.begins(owner, POST, header.as_str(), text)?;
         self.told(owner, stream, "ok")
     }
@@ -140,40 +141,48 @@ impl<'a, R: Net<Stream = TcpStream> + Clock + Wait> Player<'a, R> {
         self.told(owner, stream, text)
     }
 
-    fn speaks(&mut self, owner: Words, connect: &str) -> Option<()> {
-        let stream = self.begins(owner, SOCKET, UPGRADE, "")?;
+    /// A new WebSocket of a client.
+    fn switches(&mut self, owner: Words, target: &str) -> Option<()> {
+        let stream = self.begins(owner, target, UPGRADE, "")?;
         brings(self.alloc, &stream, SWITCHED)?;
-        self.is_told(&stream, owner, OPENED_OVER)?;
-        says(self.alloc, &stream, connect)?;
-        self.is_told(&stream, owner, CONNECTED)?;
         self.sockets.push((owner, stream)).ok()
+    }
+
+    fn speaks(&mut self, owner: Words, connect: &str) -> Option<()> {
+        self.switches(owner, SOCKET)?;
+        self.is_told(owner, OPENED_OVER)?;
+        says(self.alloc, self.socket(owner)?, connect)?;
+        self.is_told(owner, CONNECTED)
     }
 
     fn knocks(&mut self, owner: Words) -> Option<()> {
-        let stream = self.begins(owner, PROBE, UPGRADE, "")?;
-        brings(self.alloc, &stream, SWITCHED)?;
-        says(self.alloc, &stream, "2probe")?;
-        self.is_told(&stream, owner, "3probe")?;
-        self.sockets.push((owner, stream)).ok()
+        self.switches(owner, PROBE)?;
+        says(self.alloc, self.socket(owner)?, "2probe")?;
+        self.is_told(owner, "3probe")
     }
 
-    fn is_told(&mut self, stream: &TcpStream, owner: Words, text: Words) -> Option<()> {
-        let got = next_text(self.alloc, stream)?;
-        self.ids.told(self.alloc, owner, text, got.as_str())
+    /// The WebSocket of a client.
+    fn socket(&self, owner: &str) -> Option<&TcpStream> {
+        let held = self.sockets.iter().find(|held| held.0 == owner)?;
+        Some(&held.1)
+    }
+
+    fn is_told(&mut self, owner: Words, text: Words) -> Option<()> {
+        let got = next_text(self.alloc, self.socket(owner)?)?;
+        self.ids.told(owner, text, got.as_str())
     }
 
     /// A step of a client over its WebSocket. A text is what it `say`s, or is `told` next; bytes are by
     /// `send` and `sent`. With `close` it ends.
     fn plays_socket(&mut self, word: &str, owner: Words, text: Words) -> Option<()> {
-        let stream = take(&mut self.sockets, owner)?;
+        let alloc = self.alloc;
         match word {
-            "say" => says(self.alloc, &stream, text)?,
-            "told" => self.is_told(&stream, owner, text)?,
-            "send" => sends(&stream, b"\x82\x83\0\0\0\0\x01\0\xff")?,
-            "sent" => brings(self.alloc, &stream, b"\x82\x03\x01\0\xff")?,
-            "close" => closes(self.alloc, &stream)?,
-            _ => return None,
+            "say" => says(alloc, self.socket(owner)?, text),
+            "told" => self.is_told(owner, text),
+            "send" => sends(self.socket(owner)?, b"\x82\x83\0\0\0\0\x01\0\xff"),
+            "sent" => brings(alloc, self.socket(owner)?, b"\x82\x03\x01\0\xff"),
+            "close" => closes(alloc, self.socket(owner)?),
+            _ => None,
         }
-        self.sockets.push((owner, stream)).ok()
     }
 }

@@ -8,7 +8,7 @@ use std::alloc::Global;
 use std::net::{Net, TcpStream};
 use std::random::RandomSource;
 use std::rt::Clock;
-use std::sync::{Arc, Wait};
+use std::sync::Wait;
 use std::thread;
 use std::thread::Threads;
 use std::time::Duration;
@@ -46,17 +46,15 @@ fn fault_in<R: Net<Stream = TcpStream> + Clock + Wait>(
     None
 }
 
-/// A server that ends after so many connections, and what its threads share.
+/// A server that ends after so many connections.
 fn listen<'h, R: Net>(
     rt: &R,
     alloc: Global,
     connections: u64,
     heard: &'h Heard,
-) -> Option<(Server<Ear<'h>>, Arc<Shared>)> {
+) -> Option<Server<Ear<'h>>> {
     let settings = settings(alloc, connections)?;
-    let server = Server::listen(rt, alloc, settings, Ear { heard }).ok()?;
-    let shared = server.shared().ok()?;
-    Some((server, shared))
+    Server::listen(rt, alloc, settings, Ear { heard }).ok()
 }
 
 /// Plays a scene beside a server, and answers with what that counted, or with what is not so.
@@ -74,8 +72,11 @@ fn play<
         + 'static,
 >(rt: &R, connections: u64, steps: Words) -> Result<Counts, Words> {
     let (alloc, heard) = (rt.alloc(), Heard::default());
-    let Some((server, shared)) = listen(rt, alloc, connections, &heard) else {
+    let Some(server) = listen(rt, alloc, connections, &heard) else {
         return Err("the server listens");
+    };
+    let Ok(shared) = server.shared() else {
+        return Err("what its threads share");
     };
     let port = server.port();
     let ends = thread::join(

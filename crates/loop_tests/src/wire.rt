@@ -7,16 +7,10 @@ use std::net::TcpStream;
 
 /// The headers by which a client asks for a WebSocket, and how that is granted.
 pub const UPGRADE: &str =
-    "Upgrade: websocket\r\nConnection: Upgrade\r\nSec-WebSocket-Key: dGhlIHNhbXBsZSBub25jZQ==\r\nSec-WebSocket-Version: 13";
+    "Upgrade: websocket\r\nConnection: Upgrade\r\nSec-WebSocket-Key: dGhlIHNhbXBsZSBub25jZQ==\r\nSec-WebSocket-Version: 13\r\n";
 
 pub const SWITCHED: &[u8] =
     b"HTTP/1.1 101 Switching Protocols\r\nconnection: Upgrade\r\nupgrade: websocket\r\nsec-websocket-accept: s3pPLMBiTxaQ9kYGzzhZRbK+xOo=\r\n\r\n";
-
-/// A request of this method and target, with these headers behind the host.
-pub fn request(alloc: Global, target: &str, headers: &str) -> Option<String> {
-    let end = if headers.is_empty() { "" } else { "\r\n" };
-    format!(in alloc; "{target} HTTP/1.1\r\nHost: localhost\r\n{headers}{end}\r\n").ok()
-}
 
 /// The body of an answer that comes over a connection until it ends.
 pub fn body_over(alloc: Global, stream: TcpStream) -> Option<String> {
