@@ -200,9 +200,11 @@ class Chat:
         """The base's sessions and its log, whole."""
         text = ""
         for it in self.hub.base[2]:
-            text += f"  {it.pid} {it.sid} {it.lost_at} {self.place(it.space)}{rooms_text(sorted(it.rooms, key=str.encode))}"
+            rooms = rooms_text(sorted(it.rooms, key=str.encode))
+            text += f"  {it.pid} {it.sid} {it.lost_at} {self.place(it.space)}{rooms}"
         for it in self.hub.base[1]:
-            text += f"  {it.offset} {it.at} {self.place(it.space)}{rooms_text(it.rooms)}{rooms_text(it.excepted)}{entry_text(it.entry)}"
+            rooms = rooms_text(it.rooms) + rooms_text(it.excepted)
+            text += f"  {it.offset} {it.at} {self.place(it.space)}{rooms}{entry_text(it.entry)}"
         return text
 
     def place(self, space):
@@ -236,7 +238,7 @@ def answered(chat, line):
 
 def play_line(chat, line, star):
     count, line = line.startswith("count "), starred(line, star)
-    answer = chat.play(line.removeprefix("count ") if count else line)
+    answer = chat.play(line[len("count ") :] if count else line)
     return f"  {len(answer.split())} words" if count else answer
 
 

@@ -8,6 +8,9 @@ LETTERS = "ABCDEF"
 SPACES = ("/", "/", "/", "/admin", "/admin", "/none")
 WORDS = ("join", "join", "join", "leave", "say", "say", "say", "two", "but", "quiet", "all", "all", "ask", "pull", "push",
          "kick", "x")
+# Payloads of a CONNECT that bring no session back.
+CONNECTS = ("", "", "", "", "", "{}", '{"do":"join"}', '{"do":"late"}', '{"token":"no"}', '{"pid":1,"offset":"0"}',
+            '{"pid":"x","offset":"y"}', '{"pid": "' + "A" * 32 + '"}')
 # Events of which the corpus' app wants what can't be done.
 WISHES = ("mute", "vague", "again", "late", "over", "gone", "own")
 # Texts of packets that a server refuses, or takes though they look odd.
@@ -124,7 +127,7 @@ class Drawer:
             return self.play(f"text {name} " + SEPARATOR.join(self.packets(name, self.random.choice((1, 1, 1, 2, 3)))))
         for packet in self.packets(name, 1):
             is_bytes = packet.startswith("b") and self.chance(0.9)
-            self.play(f"bytes {name} {self.random.randbytes(self.random.randrange(9)).hex()}" if is_bytes else f"frame {name} {packet}")
+            self.play(f"bytes {name} {self.some_bytes(self.random.randrange(9)).hex()}" if is_bytes else f"frame {name} {packet}")
         return None
 
     def packets(self, name, count):
@@ -137,8 +140,11 @@ class Drawer:
             found += self.packet(client, line)
         return found
 
+    def some_bytes(self, count):
+        return self.random.getrandbits(8 * count).to_bytes(count, "little") if count else b""
+
     def attachment(self):
-        return "b" + write_base64(self.random.randbytes(self.random.choice((0, 1, 4, 60))))
+        return "b" + write_base64(self.some_bytes(self.random.choice((0, 1, 4, 60))))
 
     def packet(self, client, line):
         if self.chance(0.05):
@@ -176,8 +182,7 @@ class Drawer:
             space = saved.space if self.chance(0.9) else self.random.choice(SPACES)
             return "40" + ("" if space == "/" else f"{space},") + named
         self.joined = []
-        payload = ("", "", "", "", "", "{}", '{"do":"join"}', '{"do":"late"}', '{"token":"no"}', '{"pid":1,"offset":"0"}', '{"pid":"x","offset":"y"}', '{"pid": "' + "A" * 32 + '"}')
-        return self.start("0") + self.random.choice(payload)
+        return self.start("0") + self.random.choice(CONNECTS)
 
     def event(self, kind="2", parts=""):
         word = self.random.choice(WORDS) if self.chance(0.97) else "bye"

@@ -2,7 +2,8 @@
 import re
 
 from apps import Wild
-from server import Refused, Server
+from hub import Refused
+from server import Server
 
 SPACES = ("/", "/admin")
 USUAL = dict(capacity=64, clients=1024, bytes=8_388_608, log=1024, saved=4096, keep=120_000, first_offset=1)

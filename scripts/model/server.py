@@ -3,7 +3,6 @@ from hub import Entry, Hub, Refused
 from wire import (SEPARATOR, Fault, Header, event_text, named_session, open_text, read_packet, read_payload, start,
                   write_base64)
 
-__all__ = ["Refused", "Server"]
 GREATEST = 2**64 - 1
 PING_INTERVAL, PING_TIMEOUT, CONNECT_TIMEOUT = 25_000, 20_000, 45_000
 LONGEST_FRAME = 1_000_000
@@ -196,16 +195,6 @@ class Server:
             for entry in self.hub.take(client, most, now):
                 packets += ["4" + entry.text, *entry.parts]
         return packets
-
-    def poll(self, client, most, now):
-        """Takes a payload, also where the client has gone over to a WebSocket while its GET waits."""
-        line = self.line_of(client)
-        if line.transport != "socket":
-            return self.take(client, most, now)
-        if not line.is_getting:
-            raise Refused("WrongTransport")
-        line.is_getting = False
-        return "6"
 
     def probe(self, client):
         self.line_of(client).change(PROBE)
