@@ -59,7 +59,8 @@ const OVER_TO_A_WEBSOCKET: &str = r#"
  clients [4] speak None None books true true sealed 7 7 0
 "#;
 
-/// A client of a WebSocket polls, one that polls has two GETs, and a third one comes.
+/// A client of a WebSocket polls, one that polls has two GETs, a third one comes, and the first one sends
+/// a message of bytes that is too long.
 const WRONG_GETS: &str = r#"
 0 open 0 socket = opened 1
 0 get 1 = refused:WrongTransport 0 0
@@ -67,7 +68,8 @@ const WRONG_GETS: &str = r#"
 5 get 2 = begun
 6 get 2 = done 0 0 skipped:None ignored:false closed:Some(DoubleGet) to:[]
 7 open = opened 3
- clients [1, 3] speak Some(Socket) None books true true sealed 4 4 0
+8 frame 1 long = done 0 0 skipped:None ignored:false closed:Some(TooLong) to:[]
+ clients [3] speak None None books true true sealed 5 5 0
 "#;
 
 /// Ids that are in use are drawn again: that of a client, of a socket, and of a session that is saved.
