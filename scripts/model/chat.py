@@ -193,16 +193,22 @@ class Chat:
         return f"  {len(self.hub.rooms)} {len(rooms)}"
 
     def play_base(self, _):
-        clients, log, saved = self.hub.base
-        return " ".join([" ", *map(str, clients), f"log {len(log)} saved {len(saved)}"])
+        base = self.hub.base
+        clients = [str(client) for client, _, _ in base.clients]
+        return " ".join([" ", *clients, f"log {len(base.log)} saved {len(base.saved)}"])
 
     def play_kept(self, _):
-        """The base's sessions and its log, whole."""
-        text = ""
-        for it in self.hub.base[2]:
+        """The whole base."""
+        base = self.hub.base
+        text = f"  at {base.at} next {some(base.next)}  " + " ".join(map(str, base.totals))
+        for client, sockets, outbox in base.clients:
+            seats = "".join(f" {place} {sid} {pid}" for place, sid, pid in sockets)
+            text += f"  client {client}{seats}" + "".join(map(entry_text, outbox))
+        text += "".join(f"  {sid} in {room}" for sid, room in base.pairs)
+        for it in base.saved:
             rooms = rooms_text(sorted(it.rooms, key=str.encode))
             text += f"  {it.pid} {it.sid} {it.lost_at} {self.place(it.space)}{rooms}"
-        for it in self.hub.base[1]:
+        for it in base.log:
             rooms = rooms_text(it.rooms) + rooms_text(it.excepted)
             text += f"  {it.offset} {it.at} {self.place(it.space)}{rooms}{entry_text(it.entry)}"
         return text

@@ -53,7 +53,7 @@ class Hub:
         self.clients, self.sockets, self.rooms, self.saved, self.log = {}, {}, {}, {}, []
         self.counts = dict.fromkeys(("commands", "placed", "dropped", "taken", "discarded"), 0)
         self.steps, self.held = [], 0
-        self.base = [], [], []
+        self.seal()
 
     # What is asked.
 
@@ -303,8 +303,20 @@ class Hub:
         return sids, sorted(told)
 
     def seal(self):
-        """Makes the present state the base. Gives how many steps led to it."""
+        """Makes a copy of the present state the base. Gives how many steps led to it."""
         count = len(self.steps)
-        self.steps, self.held = [], 0
-        self.base = sorted(self.clients), list(self.log), [self.saved[pid] for pid in sorted(self.saved)]
+        self.steps, self.held, self.base = [], 0, Base(self)
         return count
+
+
+class Base:
+    """A copy of a hub's state, in lists that rise."""
+
+    def __init__(self, hub):
+        place = hub.limits["spaces"].index
+        self.at, self.next, self.totals = hub.now, hub.next, hub.totals()
+        # A client's sockets stand in the order of connecting, and what waits for it as it came.
+        self.clients = [(client, [(place(space), sid, hub.sockets[sid].pid) for space, sid in it.sockets.items()],
+                         list(it.outbox)) for client, it in sorted(hub.clients.items())]
+        self.pairs = [(sid, room) for sid in sorted(hub.rooms) for room in sorted(hub.rooms[sid], key=str.encode)]
+        self.log, self.saved = list(hub.log), [hub.saved[pid] for pid in sorted(hub.saved)]

@@ -2,7 +2,7 @@
 
 use crate::words::Words;
 use hub_state::State;
-use journal::{HubError, Step, Totals, What};
+use journal::{BaseClient, HubError, Step, Totals, What};
 use recovery::{Logged, Saved};
 use room_maps::{Room, Sid};
 use sio_wire::Entry;
@@ -168,9 +168,31 @@ fn write_base(state: &State, text: &mut String) -> Result<(), AllocError> {
     write!(text, " log {} saved {}", base.log.len(), base.saved.len())
 }
 
-/// The base's sessions and its log.
+/// A client of the base: its sockets, each with the place of its namespace and its ids, and what waits.
+fn write_base_client(client: &BaseClient, text: &mut String) -> Result<(), AllocError> {
+    write!(text, "  client {}", client.client)?;
+    for (place, sid, pid) in &client.sockets {
+        write!(text, " {place} {} {}", sid.number(), pid.number())?;
+    }
+    for entry in &client.waiting {
+        write_entry(entry, text)?;
+    }
+    Ok(())
+}
+
+/// The whole base: its moment, its next offset and its counts, its clients, who is in which room, its
+/// sessions and its log.
 fn write_kept(state: &State, text: &mut String) -> Result<(), AllocError> {
     let base = state.base();
+    write!(text, "  at {} next {:?}", base.at, base.next)?;
+    write_totals(base.totals, text)?;
+    for client in &base.clients {
+        write_base_client(client, text)?;
+    }
+    for (sid, room) in &base.pairs {
+        write!(text, "  {} in ", sid.number())?;
+        write_room(room, text)?;
+    }
     for session in &base.saved {
         write_session(session, text)?;
     }
