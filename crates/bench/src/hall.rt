@@ -8,12 +8,11 @@ use hub::{Hub, Pass};
 use journal::{Cast, HubError};
 use recovery::Pid;
 use room_maps::{Room, Sid};
-use sio_wire::Attachments;
 use std::alloc::Global;
 use std::rt::{Clock, Files};
 use std::sync::ledger::Ledger;
 use std::time::Instant;
-use terms::Text;
+use terms::{Attachments, Text};
 use usual_core::Settings;
 
 /// The moment of the sweep, at which all is outdated.

@@ -9,8 +9,8 @@ use Rattle.std.proofs.lemmas.List.{length-drop, length-map}
 use Rattle.std.proofs.lemmas.List.Sums.{sum_by-take-drop}
 use Rattle.std.proofs.lemmas.Map.Keys.{IsDistinct-from_sorted}
 use Rattle.terms.specs.Refusal.{first_refusal}
-use Rattle.sio_wire.specs.Entry.{entry_size}
-use Rattle.sio_wire.specs.declared.entry.Entry.{Entry}
+use Rattle.terms.specs.Entry.{entry_size}
+use Rattle.terms.specs.declared.entry.Entry.{Entry}
 use Rattle.recovery.specs.Expiry.{is_outdated}
 use Rattle.recovery.specs.SavedTable.{PlainSaved, with_session}
 use Rattle.journal.specs.declared.socket.Socket.{Socket}

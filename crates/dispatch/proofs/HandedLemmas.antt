@@ -7,7 +7,7 @@ use Rattle.eio_wire.specs.declared.packet.Packet.{Packet}
 use Rattle.session_clock.specs.declared.timing.Timing.{Timing}
 use Rattle.session_clock.specs.declared.transport.Transport.{Transport}
 use Rattle.session_clock.specs.declared.transport.Transport.TheVariants.{Polling, Probing, Socket}
-use Rattle.sio_wire.specs.declared.entry.Entry.{Entry}
+use Rattle.terms.specs.declared.entry.Entry.{Entry}
 use Rattle.connection.specs.Line.{PlainLine}
 use Rattle.journal.specs.declared.error.HubError.{HubError}
 use Rattle.journal.specs.declared.step.Step.{Step}

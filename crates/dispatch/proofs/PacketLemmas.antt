@@ -4,7 +4,7 @@ use Rattle.std.specs.List.{AllByRecursion, list_any, find}
 use Rattle.std.specs.Map.{lookup}
 use Rattle.std.specs.Option.{option_map}
 use Rattle.std.proofs.lemmas.Bool.Decides.{nat_tests}
-use Rattle.sio_wire.specs.declared.entry.SioPacket.{SioPacket}
+use Rattle.sio_wire.specs.declared.packet.SioPacket.{SioPacket}
 use Rattle.sio_wire.specs.declared.kind.Kind.{Kind}
 use Rattle.sio_wire.specs.declared.kind.Kind.TheVariants as kind
 use Rattle.sio_wire.specs.declared.assembler.Progress.TheVariants.{Failed}

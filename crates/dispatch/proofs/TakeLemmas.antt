@@ -10,7 +10,7 @@ use Rattle.std.proofs.lemmas.Option.{slice_get_cases}
 use Rattle.eio_wire.specs.declared.packet.Packet.{Packet}
 use Rattle.eio_wire.specs.declared.packet.Packet.TheVariants.{Ping, Message, Binary}
 use Rattle.eio_wire.specs.Payload.{HasWholeData}
-use Rattle.sio_wire.specs.declared.entry.Entry.{Entry}
+use Rattle.terms.specs.declared.entry.Entry.{Entry}
 use Rattle.journal.specs.Entries.{AllPass}
 use Rattle.journal.specs.Journal.{History}
 use Rattle.journal.specs.Outboxes.{waiting}

@@ -7,7 +7,7 @@ use Rattle.eio_wire.specs.declared.packet.Packet.TheVariants.{Binary}
 use Rattle.eio_wire.specs.Packet.{Eio, IsNoPacket, fault_of}
 use Rattle.session_clock.specs.declared.transport.Transport.{Transport}
 use Rattle.session_clock.specs.declared.transport.Transport.TheVariants.{Socket}
-use Rattle.sio_wire.specs.declared.entry.Entry.{Entry}
+use Rattle.terms.specs.declared.entry.Entry.{Entry}
 use Rattle.connection.specs.Line.{PlainLine, Advances}
 use Rattle.journal.specs.Journal.{History}
 use Rattle.events.specs.declared.fault.CoreFault.{CoreFault}

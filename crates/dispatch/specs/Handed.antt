@@ -4,7 +4,7 @@ use Rattle.std.specs.Prelude.{◌≡◌, ◌⊎◌, ℕ, ◌==◌, Bool, true, f
 use Rattle.std.specs.List.{AllZip, list_any}
 use Rattle.eio_wire.specs.declared.packet.Packet.TheVariants.{Noop}
 use Rattle.eio_wire.specs.Payload.{Payload}
-use Rattle.sio_wire.specs.declared.entry.Entry.{Entry}
+use Rattle.terms.specs.declared.entry.Entry.{Entry}
 use Rattle.journal.specs.declared.step.Step.{Step}
 use Rattle.journal.specs.Journal.{History}
 use Rattle.journal.specs.Outboxes.{begins, placements, taken, waiting}

@@ -4,9 +4,9 @@ use Rattle.std.specs.Prelude.{◌≡◌, ◌≢◌, ◌⊎◌, ◌<◌, ◌^◌,
 use Rattle.eio_wire.specs.Payload.{IsWhole}
 use Rattle.eio_wire.specs.declared.packet.Packet.{Packet}
 use Rattle.eio_wire.specs.declared.packet.Packet.TheVariants as eio
-use Rattle.eio_wire.specs.Ids.{id_digits}
-use Rattle.sio_wire.specs.declared.entry.Entry.{Entry}
-use Rattle.sio_wire.specs.declared.entry.SioPacket.{SioPacket}
+use Rattle.terms.specs.Ids.{id_digits}
+use Rattle.terms.specs.declared.entry.Entry.{Entry}
+use Rattle.sio_wire.specs.declared.packet.SioPacket.{SioPacket}
 use Rattle.sio_wire.specs.declared.kind.Kind.{Kind}
 use Rattle.sio_wire.specs.declared.kind.Kind.TheVariants as kind
 use Rattle.sio_wire.specs.declared.assembler.Progress.TheVariants.{Failed}

@@ -7,7 +7,7 @@ use Rattle.eio_wire.specs.Payload.{Payload, HasWholeData}
 use Rattle.session_clock.specs.declared.transport.Transport.{Transport}
 use Rattle.session_clock.specs.declared.transport.Transport.TheVariants.{Probing, Socket}
 use Rattle.session_clock.specs.Upgrade.{transport}
-use Rattle.sio_wire.specs.declared.entry.Entry.{Entry}
+use Rattle.terms.specs.declared.entry.Entry.{Entry}
 use Rattle.connection.specs.History.{Call, GetEnded, PingCarried, clock_calls, is_getting, is_ping_due}
 use Rattle.connection.specs.Line.{PlainLine, ForEachHistory, Advances}
 use Rattle.journal.specs.declared.step.What.TheVariants.{Took}

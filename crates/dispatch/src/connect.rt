@@ -8,15 +8,12 @@ ghost use Rattle.dispatch.specs.Packets.{Draws, IsFresh, IsFreeIn, Refuses, Conn
 
 use crate::packets::close_for;
 use effects::{Scene, act_all, commands};
-use eio_wire::read_id;
 use events::{App, Cause, CoreFault, Effect, IdSource, Stopped, Verdict, Who};
 use recovery::Pid;
 use room_maps::Sid;
-use sio_wire::{
-    Attachments, Entry, Header, Resume, SioError, read_offset, refused_text, resume_of,
-};
+use sio_wire::{Header, Resume, SioError, read_offset, refused_text, resume_of};
 use std::alloc::Global;
-use terms::Text;
+use terms::{Attachments, Entry, Text, read_id};
 
 /// Tells the client that it isn't connected, or closes it where its outbox has no place for that.
 fn refuse(scene: &mut Scene, space: &str, message: &str) -> Result<(), Stopped>

@@ -19,10 +19,9 @@ use eio_wire::{Packet, WireError, read_packet};
 use events::{App, Cause, CoreError, CoreFault, Frames, IdSource, Outcome, WsFrame};
 use hub_state::State;
 use session_clock::Transport;
-use sio_wire::Entry;
 use std::alloc::{AllocError, Global};
 use std::collections::BTreeMap;
-use terms::Text;
+use terms::{Entry, Text};
 
 /// A frame of more bytes isn't read.
 const LONGEST_FRAME: usize = 1_000_000;

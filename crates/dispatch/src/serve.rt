@@ -10,8 +10,8 @@ ghost use Rattle.dispatch.specs.Packets.{IsFresh, Decides, Leaves, TakesAck, Hea
 use crate::packets::close_for;
 use effects::{Scene, act_all, commands};
 use events::{Answer, App, Arrived, Cause, CoreFault, Message, Stopped, Who};
-use sio_wire::{Attachments, Header, Kind, SioPacket};
-use terms::Text;
+use sio_wire::{Header, Kind, SioPacket};
+use terms::{Attachments, Text};
 
 /// What came to a socket: a packet without its namespace.
 #[derive(Drop)]

@@ -15,9 +15,8 @@ use eio_wire::{Packet, WireError, write_payload};
 use events::{CoreFault, Outcome};
 use hub_state::State;
 use session_clock::Transport;
-use sio_wire::Entry;
 use std::alloc::{AllocError, Global};
-use terms::Text;
+use terms::{Entry, Text};
 
 /// Adds the packets of an entry: its text, and then its attachments.
 fn push_entry(packets: &mut Vec<Packet>, entry: &Entry) -> Result<(), AllocError>

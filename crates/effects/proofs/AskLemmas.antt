@@ -8,7 +8,7 @@ use Rattle.ack_book.specs.Book.{ask_refusal, answer_of}
 use Rattle.ack_book.specs.Questions.{next_id, open_questions, question_at}
 use Rattle.connection.specs.History.{Call, Asked, Answered, book_calls}
 use Rattle.connection.specs.Line.{PlainLine, LeadsTo, ForEachHistory, Advances}
-use Rattle.sio_wire.specs.declared.entry.Entry.{Entry}
+use Rattle.terms.specs.declared.entry.Entry.{Entry}
 use Rattle.journal.specs.declared.error.HubError.TheVariants as hub
 use Rattle.journal.specs.declared.step.What.TheVariants as what
 use Rattle.events.specs.declared.app.Inquiry as inquiry

@@ -15,7 +15,7 @@ use Rattle.terms.specs.Hexadecimal.{hex_digit, hex_digits}
 use Rattle.eio_wire.specs.Payload.{IsWhole}
 use Rattle.sio_wire.specs.declared.kind.Kind.{Kind}
 use Rattle.sio_wire.specs.declared.kind.Kind.TheVariants.{Connect, Disconnect, Event, Ack, ConnectError, BinaryEvent, BinaryAck}
-use Rattle.sio_wire.specs.declared.entry.Entry.{Entry}
+use Rattle.terms.specs.declared.entry.Entry.{Entry}
 use Rattle.sio_wire.specs.declared.header.Header.{Header}
 use Rattle.sio_wire.specs.Kinds.{digit_of, is_binary}
 use Rattle.sio_wire.specs.Header.{Plain, count_text, space_text, id_text}

@@ -1,7 +1,7 @@
 -- The steps of an effect are of an event of its client, and put something for those others alone that are listed.
 use Rattle.std.proofs.Common.{◌≡◌, ℕ, true, false, not, List, refl, sym, ap, subst, take, is_none, Option, None, Some, inl, inr}
 use Rattle.eio_wire.specs.Payload.{IsWhole}
-use Rattle.sio_wire.specs.declared.entry.Entry.{Entry}
+use Rattle.terms.specs.declared.entry.Entry.{Entry}
 use Rattle.journal.specs.declared.step.What.{What}
 use Rattle.journal.specs.declared.step.What.TheVariants as what
 use Rattle.journal.specs.Journal.{History}

@@ -3,7 +3,7 @@
 use Rattle.std.specs.Prelude.{◌≡◌, ◌⊎◌, ℕ, ◌+◌, ◌<◌, ◌^◌, ◌==◌, min, Bool, true, false, not, ◌||◌, List, [], ◌∷◌, length, nat_lt, is_none, Option, None, Some, Result, Ok, Err, slice_get, take, if◌then◌else◌}
 use Rattle.std.specs.List.{list_any}
 use Rattle.room_maps.specs.declared.error.RoomError.{RoomError}
-use Rattle.sio_wire.specs.declared.entry.Entry.{Entry}
+use Rattle.terms.specs.declared.entry.Entry.{Entry}
 use Rattle.sio_wire.specs.declared.header.Header.{Header}
 use Rattle.sio_wire.specs.declared.kind.Kind.TheVariants.{Ack, BinaryAck, Event, BinaryEvent}
 use Rattle.sio_wire.specs.Header.{Plain}

@@ -18,9 +18,9 @@ use crate::tally::Tally;
 use crate::visit::Visit;
 use events::{Cause, CoreFault, Effect, Emission, Reply, Stopped, Who};
 use journal::Cast;
-use sio_wire::{Attachments, Entry, disconnect_text};
+use sio_wire::disconnect_text;
 use std::alloc::Global;
-use terms::Text;
+use terms::{Attachments, Entry, Text};
 
 /// The most attachments of a packet.
 const MOST_ATTACHMENTS: usize = 32;

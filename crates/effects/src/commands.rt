@@ -16,7 +16,7 @@ use hub_state::State;
 use journal::{HubError, Swept};
 use recovery::Pid;
 use room_maps::Sid;
-use sio_wire::Entry;
+use terms::Entry;
 
 /// Opens a client.
 pub fn open(visit: Visit, state: &mut State) -> Result<(), CoreFault>

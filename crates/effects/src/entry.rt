@@ -6,9 +6,9 @@ ghost use Rattle.sio_wire.specs.Header.{Plain};
 ghost use Rattle.effects.specs.Effects.{is_unsendable, IsReply, IsInquiry};
 
 use events::{CoreFault, Inquiry, Reply};
-use sio_wire::{Attachments, Entry, Header, Kind, write_header};
+use sio_wire::{Header, Kind, write_header};
 use std::alloc::Global;
-use terms::Text;
+use terms::{Attachments, Entry, Text};
 
 /// A packet with an id as an entry: of the one kind, or of the other where it has attachments.
 fn entry_of(

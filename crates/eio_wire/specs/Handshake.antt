@@ -1,7 +1,7 @@
 -- The text of the open packet (Engine.IO protocol 4, "Handshake").
 use Rattle.std.specs.Prelude.{ℕ, Bool, List, ◌++◌, if◌then◌else◌, codes}
 use Rattle.std.specs.Fmt.{decimal}
-use Rattle.eio_wire.specs.Ids.{id_digits}
+use Rattle.terms.specs.Ids.{id_digits}
 use Rattle.eio_wire.specs.declared.handshake.Numbers.{Numbers}
 
 -- the transports to which the client may upgrade: from polling to WebSocket, and from there to none

@@ -1,5 +1,4 @@
 pub mod Base64
 pub mod Packet
 pub mod Payload
-pub mod Ids
 pub mod Handshake

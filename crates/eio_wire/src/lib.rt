@@ -1,16 +1,13 @@
-//! Texts of the Engine.IO protocol, revision 4: packets, payloads of packets, the open packet,
-//! and session ids.
+//! Texts of the Engine.IO protocol, revision 4: packets, payloads of packets, and the open packet.
 #![tactic(auto)]
 
 mod error;
 mod handshake;
-mod ids;
 mod packet;
 mod payload;
 
 pub use error::WireError;
 pub use handshake::{Numbers, open_text};
-pub use ids::{id_text, ids_differ, read_id};
 pub use packet::{Packet, one_packet, one_text, read_packet, write_packet};
 pub use payload::{
     faults_of_texts, one_fault, one_payload, payloads_or_refusals, read_payload,

@@ -11,7 +11,7 @@ use Rattle.journal.specs.Plain.{Limits, PlainBroadcast, PlainCast, PlainCastDone
 use Rattle.journal.specs.Journal.{History, moment_at, with_step}
 use Rattle.journal.specs.Membership.{is_space, place_of}
 use Rattle.journal.specs.Log.{next}
-use Rattle.sio_wire.specs.declared.entry.Entry.{Entry}
+use Rattle.terms.specs.declared.entry.Entry.{Entry}
 use Rattle.journal.specs.Outboxes.{put, placements, is_addressed, is_full, has_no_place}
 use Rattle.journal.specs.Broadcast.{RightCast, SpellsEvent, reaches}
 use Rattle.journal.specs.Casting.{refusal_of, has_no_offset, IsCastOf, IsSpentBy, IsCast}

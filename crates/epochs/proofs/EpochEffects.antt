@@ -1,7 +1,7 @@
 -- The app's effects after two histories that say the same.
 use Rattle.std.proofs.Common.{◌≡◌, ℕ, true, false, List, [], ◌∷◌, refl, sym, ◌∙◌, ap, subst, take, Option, None, Some, inl, inr}
 use Rattle.std.specs.Prelude.{is_some, ◌==◌, ◌&&◌}
-use Rattle.sio_wire.specs.declared.entry.Entry.{Entry}
+use Rattle.terms.specs.declared.entry.Entry.{Entry}
 use Rattle.connection.specs.History.{Left}
 use Rattle.connection.specs.Line.{Advances}
 use Rattle.journal.specs.declared.error.HubError.{HubError}

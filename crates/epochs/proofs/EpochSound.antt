@@ -6,7 +6,7 @@ use Rattle.std.specs.Option.{option_map}
 use Rattle.std.specs.Cmp.{unsigned_tied}
 use Rattle.std.proofs.lemmas.Bool.{eqb-true, eq-eqb}
 use Rattle.terms.specs.Refusal.{first_refusal}
-use Rattle.sio_wire.specs.declared.entry.Entry.{Entry}
+use Rattle.terms.specs.declared.entry.Entry.{Entry}
 use Rattle.room_maps.specs.declared.error.RoomError.{RoomError}
 use Rattle.room_maps.specs.Room.{same_room, own_room}
 use Rattle.room_maps.specs.Membership as room_maps

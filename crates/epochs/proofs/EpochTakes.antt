@@ -6,7 +6,7 @@ use Rattle.eio_wire.specs.declared.packet.Packet.{Packet}
 use Rattle.eio_wire.specs.Payload.{Payload}
 use Rattle.session_clock.specs.declared.transport.Transport.{Transport}
 use Rattle.session_clock.specs.declared.transport.Transport.TheVariants.{Polling, Probing, Socket}
-use Rattle.sio_wire.specs.declared.entry.Entry.{Entry}
+use Rattle.terms.specs.declared.entry.Entry.{Entry}
 use Rattle.connection.specs.Line.{PlainLine}
 use Rattle.journal.specs.declared.step.What.TheVariants.{Took}
 use Rattle.journal.specs.Journal.{History, with_step}

@@ -1,7 +1,7 @@
 -- What was put for a client, what its takes handed out, and whom an event spares, over all epochs: those that were sealed,
 -- and then the present one; and all of them as one history.
 use Rattle.std.specs.Prelude.{◌≡◌, ◌≢◌, ℕ, false, if◌then◌else◌, List, [], ◌∷◌, ◌++◌}
-use Rattle.sio_wire.specs.declared.entry.Entry.{Entry}
+use Rattle.terms.specs.declared.entry.Entry.{Entry}
 use Rattle.journal.specs.declared.step.Step.{Step}
 use Rattle.journal.specs.Plain.{Limits, PlainBase}
 use Rattle.journal.specs.Journal.{History, history}

@@ -9,9 +9,8 @@ ghost use Rattle.events.specs.App.{PlainVerdict, plain_verdict, IsCleanVerdict, 
 use crate::emission::Emission;
 use crate::selection::Selection;
 use room_maps::{Room, Sid};
-use sio_wire::Attachments;
 use std::alloc::{AllocError, Global};
-use terms::Text;
+use terms::{Attachments, Text};
 
 /// The socket that an event came from.
 #[derive(Debug, Drop)]

@@ -1,9 +1,8 @@
 //! An event that the app sends.
 
 use room_maps::Room;
-use sio_wire::Attachments;
 use std::marker::Model;
-use terms::Text;
+use terms::{Attachments, Text};
 
 /// An event for the sockets of some rooms. In a contract it is plain data.
 #[derive(Drop)]

@@ -4,7 +4,7 @@ use Rattle.std.specs.Prelude.{◌≡◌, ◌≢◌, ◌||◌, ◌&&◌, ℕ, Boo
 use Rattle.std.specs.Option.{option_or}
 use Rattle.std.specs.Str.Lossy.{utf8_lossy}
 use Rattle.form_urlencoded.specs.Form.{raw_pairs, decode}
-use Rattle.eio_wire.specs.Ids.{id_digits}
+use Rattle.terms.specs.Ids.{id_digits}
 use Rattle.http_edge.specs.declared.request.Request.{Request}
 use Rattle.http_edge.specs.declared.routes.Refusal.{Refusal}
 use Rattle.http_edge.specs.declared.routes.Refusal.TheVariants.{UnknownTransport, UnknownSession, BadMethod, BadRequest, UnsupportedVersion}

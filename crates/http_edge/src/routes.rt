@@ -8,9 +8,9 @@ ghost use Rattle.http_edge.specs.declared.error.EdgeError.TheVariants.{Memory};
 
 use crate::error::EdgeError;
 use crate::request::Request;
-use eio_wire::read_id;
 use std::alloc::{AllocError, Global};
 use std::borrow::CowStr;
+use terms::read_id;
 
 /// Why a request is answered by status 400.
 #[derive(Clone, Copy, Debug, PartialEq, Eq)]

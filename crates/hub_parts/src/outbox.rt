@@ -2,14 +2,14 @@
 
 ghost use Rattle.std.specs.Prelude.{◌≡◌, ℕ, ◌+◌, ◌<◌, ◌≤◌, ◌^◌, [], ◌∷◌, ◌++◌, length, take, drop, map, false, ◌||◌, nat_le, nat_lt, IfOk, OnOk, IfSome, IfNone, option_copied, slice_get, Some, None};
 ghost use Rattle.std.specs.Arc.{arc_value};
-ghost use Rattle.sio_wire.specs.Entry.{entry_size};
+ghost use Rattle.terms.specs.Entry.{entry_size};
 ghost use Rattle.journal.specs.Outboxes.{total_size, has_no_place};
 
 use circular_buffer::HeapCircularBuffer;
-use sio_wire::Entry;
 use std::alloc::{AllocError, Global};
 use std::marker::Model;
 use std::sync::Arc;
+use terms::Entry;
 
 /// What waits for a client, the oldest first. It takes its memory once, when it is made.
 #[derive(Drop)]

@@ -1,15 +1,15 @@
 //! The steps since the base, and how many bytes their entries hold.
 
 ghost use Rattle.std.specs.Prelude.{◌≡◌, ◌∷◌, [], ◌-◌, ◌<◌, min, reverse, vec_len, vec_capacity, IfErr, OnOk};
-ghost use Rattle.sio_wire.specs.Entry.{entry_size};
+ghost use Rattle.terms.specs.Entry.{entry_size};
 ghost use Rattle.journal.specs.Totals as totals;
 ghost use Rattle.journal.specs.declared.error.HubError.TheVariants.{Memory};
 
 use journal::{HubError, Step, What};
-use sio_wire::Entry;
 use std::alloc::Global;
 use std::marker::Model;
 use std::mem::replace;
+use terms::Entry;
 
 /// The steps since the base. In a contract they are the steps, the newest first, and for how many
 /// more there is room.

@@ -5,9 +5,9 @@ use hub_state::State;
 use journal::{BaseClient, HubError, Step, Totals, What};
 use recovery::{Logged, Saved};
 use room_maps::{Room, Sid};
-use sio_wire::Entry;
 use std::alloc::{AllocError, Global};
 use std::str;
+use terms::Entry;
 
 /// Writes an entry, followed by its attachments.
 pub fn write_entry(entry: &Entry, text: &mut String) -> Result<(), AllocError> {

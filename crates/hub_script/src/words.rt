@@ -3,9 +3,8 @@
 use journal::{Cast, Config, HubError};
 use recovery::Pid;
 use room_maps::{Room, Sid};
-use sio_wire::{Attachments, Entry};
 use std::alloc::{AllocError, Global};
-use terms::{Bytes, Text};
+use terms::{Attachments, Bytes, Entry, Text};
 
 /// A line's words. In lines that are repeated `*` is the number of times that they were played.
 #[derive(Clone, Copy)]

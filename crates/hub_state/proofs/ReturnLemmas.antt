@@ -10,7 +10,7 @@ use Rattle.room_maps.specs.Membership as room_maps
 use Rattle.room_maps.specs.Membership.{RoomSets, is_socket, are_too_many, AreConsistent}
 use Rattle.recovery.specs.PacketLog.{IsRun, later_than}
 use Rattle.recovery.specs.SavedTable.{PlainSaved, TableContents, removed}
-use Rattle.sio_wire.specs.declared.entry.Entry.{Entry}
+use Rattle.terms.specs.declared.entry.Entry.{Entry}
 use Rattle.journal.specs.declared.socket.Socket.{Socket}
 use Rattle.journal.specs.declared.step.What.TheVariants.{Recovered}
 use Rattle.journal.specs.declared.step.Step.{Step}

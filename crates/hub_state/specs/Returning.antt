@@ -1,7 +1,7 @@
 -- A saved session that was found, and what it brings with it (Socket.IO server documentation, "Connection state
 -- recovery").
 use Rattle.std.specs.Prelude.{ℕ, List, ◌++◌, Option}
-use Rattle.sio_wire.specs.declared.entry.Entry.{Entry}
+use Rattle.terms.specs.declared.entry.Entry.{Entry}
 use Rattle.recovery.specs.SavedTable.{PlainSaved}
 use Rattle.journal.specs.declared.error.HubError.{HubError}
 use Rattle.journal.specs.declared.socket.Socket.{Socket}

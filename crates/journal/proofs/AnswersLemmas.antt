@@ -1,7 +1,7 @@
 -- The bytes of the answer to a CONNECT.
 use Rattle.std.proofs.Common.{zero, suc, get_or, None, Some, Result, Ok, Err, subst, ◌∷◌, ◌≡◌, ℕ, ◌+◌, Bool, true, false, List, [], ◌++◌, length, refl, sym, ◌∙◌, ap, arith, if◌then◌else◌, length-append}
 use Rattle.std.specs.Prelude.{codes, slice_get, IfOk}
-use Rattle.sio_wire.specs.Entry.{entry_size}
+use Rattle.terms.specs.Entry.{entry_size}
 use Rattle.journal.specs.declared.socket.Socket.{Socket}
 use Rattle.journal.specs.Plain.{Limits}
 use Rattle.journal.specs.Outboxes.{answer}

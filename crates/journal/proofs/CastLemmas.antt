@@ -13,7 +13,7 @@ use Rattle.std.proofs.lemmas.List.{map-append}
 use Rattle.std.proofs.lemmas.List.Kept.{IsStrictlySortedBy-filter}
 use Rattle.std.proofs.lemmas.Map.Made.{length-from_same_keys}
 use Rattle.std.proofs.lemmas.Map.Keys.{IsDistinct-from_sorted}
-use Rattle.sio_wire.specs.declared.entry.Entry.{Entry}
+use Rattle.terms.specs.declared.entry.Entry.{Entry}
 use Rattle.journal.specs.declared.socket.Socket.{Socket}
 use Rattle.journal.specs.Plain.{PlainClient, PlainMessage}
 use Rattle.journal.specs.Fields.{with_entry}

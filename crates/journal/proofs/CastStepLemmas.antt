@@ -5,7 +5,7 @@ use Rattle.std.specs.List.{list_any, find, flat_map, IsDistinct, AllByRecursion}
 use Rattle.std.specs.Option.{option_map, option_map_or}
 use Rattle.std.proofs.lemmas.Bool.{eqb-true}
 use Rattle.std.proofs.lemmas.List.{drop_all}
-use Rattle.sio_wire.specs.declared.entry.Entry.{Entry}
+use Rattle.terms.specs.declared.entry.Entry.{Entry}
 use Rattle.room_maps.specs.Membership.{RoomSets}
 use Rattle.room_maps.specs.Addressed as broadcast
 use Rattle.recovery.specs.PacketLog.{LogContents, LogCall, PlainLogged, Pushed, with_entry, offset_at, next_after, newest, kept, IsRun, Rises, latest}

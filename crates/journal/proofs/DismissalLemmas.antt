@@ -11,7 +11,7 @@ use Rattle.std.proofs.lemmas.List.Kept.{IsStrictlySortedBy-filter, IsStrictlySor
 use Rattle.std.proofs.lemmas.List.Sorted.{list_any-IsPermutation}
 use Rattle.std.proofs.lemmas.Map.Keys.{IsDistinct-from_sorted, IsDistinct-IsPermutation}
 use Rattle.terms.specs.Listing.{ListsRising}
-use Rattle.sio_wire.specs.declared.entry.Entry.{Entry}
+use Rattle.terms.specs.declared.entry.Entry.{Entry}
 use Rattle.sio_wire.specs.Disconnect.{disconnect_text}
 use Rattle.room_maps.specs.Membership.{RoomSets, AreConsistent, is_socket, is_in}
 use Rattle.room_maps.specs.Addressed as broadcast

@@ -3,7 +3,7 @@ use Rattle.std.proofs.Common.{zero, suc, ◌≡◌, ℕ, ◌==◌, Bool, true, f
 use Rattle.std.proofs.lemmas.List.{reverse-append}
 use Rattle.std.specs.List.{find, AllByRecursion}
 use Rattle.std.specs.Option.{option_map, option_map_or}
-use Rattle.sio_wire.specs.declared.entry.Entry.{Entry}
+use Rattle.terms.specs.declared.entry.Entry.{Entry}
 use Rattle.recovery.specs.PacketLog as packets
 use Rattle.recovery.specs.PacketLog.{PlainLogged, LogCall, survives, kept}
 use Rattle.journal.specs.declared.socket.Socket.{Socket}

@@ -13,7 +13,7 @@ use Rattle.room_maps.specs.declared.error.RoomError.TheVariants.{OwnRoom, TooMan
 use Rattle.recovery.specs.Missed.{missed}
 use Rattle.recovery.specs.PacketLog.{PlainLogged}
 use Rattle.recovery.specs.SavedTable.{PlainSaved}
-use Rattle.sio_wire.specs.declared.entry.Entry.{Entry}
+use Rattle.terms.specs.declared.entry.Entry.{Entry}
 use Rattle.journal.specs.declared.error.HubError.{HubError}
 use Rattle.journal.specs.declared.error.HubError.TheVariants.{IdTaken, UnknownClient, UnknownNamespace, UnknownSocket, AlreadyConnected, TooManyClients, OutboxFull, RoomRefused, SavedFull, Spent}
 use Rattle.journal.specs.declared.socket.Socket.{Socket}

@@ -7,8 +7,8 @@ use Rattle.std.proofs.lemmas.Bool.Decides.{nat_tests}
 use Rattle.std.proofs.lemmas.List.{map-append, length-map}
 use Rattle.std.proofs.lemmas.List.Elements.{filter-append}
 use Rattle.std.proofs.lemmas.List.Sums.{sum_by-append, sum_by-cons}
-use Rattle.sio_wire.specs.declared.entry.Entry.{Entry}
-use Rattle.sio_wire.specs.Entry.{entry_size}
+use Rattle.terms.specs.declared.entry.Entry.{Entry}
+use Rattle.terms.specs.Entry.{entry_size}
 use Rattle.recovery.specs.PacketLog.{PlainLogged, IsRun, later_than}
 use Rattle.recovery.specs.SavedTable.{PlainSaved}
 use Rattle.recovery.specs.Missed.{missed, is_for}

@@ -7,7 +7,7 @@ use Rattle.std.proofs.lemmas.Bool.{eqb-true}
 use Rattle.std.proofs.lemmas.Bool.Decides.{nat_tests}
 use Rattle.std.proofs.lemmas.List.{length-map}
 use Rattle.terms.specs.Refusal.{first_refusal}
-use Rattle.sio_wire.specs.declared.entry.Entry.{Entry}
+use Rattle.terms.specs.declared.entry.Entry.{Entry}
 use Rattle.room_maps.specs.Membership.{is_socket, are_too_many}
 use Rattle.recovery.specs.Expiry.{is_outdated}
 use Rattle.recovery.specs.PacketLog.{PlainLogged, IsRun, stands, later_than}
@@ -25,7 +25,7 @@ use Rattle.journal.specs.Membership.{is_open, sockets, sid_of, pid_of, has_id, s
 use Rattle.journal.specs.Sessions.{sessions, session_with, is_sid_saved, is_pid_saved}
 use Rattle.journal.specs.Log.{log, next_number}
 use Rattle.journal.specs.Outboxes.{put, answer, waiting, entries_of, total_size}
-use Rattle.sio_wire.specs.Entry.{entry_size}
+use Rattle.terms.specs.Entry.{entry_size}
 use Rattle.journal.specs.Recovery.{brought_back, no_session, recovery_of, gets}
 use Rattle.journal.specs.Totals.{placed_by, is_spent}
 use Rattle.journal.specs.Refusals.{or_spent, session_refusal, have_no_place, recovered_entries, recover_refusal}

@@ -10,7 +10,7 @@ use Rattle.room_maps.proofs.MembershipLaws.{is_socket-with_socket_in}
 use Rattle.room_maps.specs.Membership as room_maps
 use Rattle.recovery.specs.PacketLog.{LogContents}
 use Rattle.recovery.specs.SavedTable.{PlainSaved, TableContents, removed}
-use Rattle.sio_wire.specs.declared.entry.Entry.{Entry}
+use Rattle.terms.specs.declared.entry.Entry.{Entry}
 use Rattle.journal.specs.declared.socket.Socket.{Socket}
 use Rattle.journal.specs.declared.step.Step.{Step}
 use Rattle.journal.specs.declared.step.What.TheVariants.{Recovered}

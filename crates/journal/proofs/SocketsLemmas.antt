@@ -11,7 +11,7 @@ use Rattle.room_maps.proofs.MembershipLaws.{is_socket-with_socket}
 use Rattle.recovery.specs.PacketLog.{LogContents}
 use Rattle.recovery.specs.SavedTable.{TableContents}
 use Rattle.room_maps.specs.Membership as room_maps
-use Rattle.sio_wire.specs.declared.entry.Entry.{Entry}
+use Rattle.terms.specs.declared.entry.Entry.{Entry}
 use Rattle.terms.specs.Refusal.{first_refusal}
 use Rattle.journal.specs.declared.error.HubError.TheVariants.{UnknownClient, UnknownNamespace, AlreadyConnected, IdTaken, OutboxFull}
 use Rattle.journal.specs.declared.socket.Socket.{Socket}

@@ -1,7 +1,7 @@
 -- From where the entries come that wait for clients: a base has them, or a step brings them in.
 use Rattle.std.specs.Prelude.{◌≡◌, ℕ, Bool, true, List, [], ◌∷◌, map}
 use Rattle.std.specs.List.{AllByRecursion}
-use Rattle.sio_wire.specs.declared.entry.Entry.{Entry}
+use Rattle.terms.specs.declared.entry.Entry.{Entry}
 use Rattle.recovery.specs.PacketLog.{PlainLogged}
 use Rattle.journal.specs.declared.step.Step.{Step}
 use Rattle.journal.specs.declared.step.What.{What}

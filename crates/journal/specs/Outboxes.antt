@@ -7,8 +7,8 @@ use Rattle.journal.specs.declared.socket.Socket.{Socket}
 use Rattle.journal.specs.declared.step.Step.{Step}
 use Rattle.journal.specs.declared.step.What.{What}
 use Rattle.journal.specs.declared.step.What.TheVariants.{Opened, Attached, Recovered, Cast, Told, Took, AllEnded}
-use Rattle.sio_wire.specs.declared.entry.Entry.{Entry}
-use Rattle.sio_wire.specs.Entry.{entry_size}
+use Rattle.terms.specs.declared.entry.Entry.{Entry}
+use Rattle.terms.specs.Entry.{entry_size}
 use Rattle.sio_wire.specs.ConnectAnswer.{connected_text}
 use Rattle.sio_wire.specs.Disconnect.{disconnect_text}
 use Rattle.recovery.specs.PacketLog.{PlainLogged}

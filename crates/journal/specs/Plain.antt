@@ -1,7 +1,7 @@
 -- The data of configuration, steps and base as plain values, in which two are equal
 -- where their contents are.
 use Rattle.std.specs.Prelude.{ℕ, Bool, List, Option}
-use Rattle.sio_wire.specs.declared.entry.Entry.{Entry}
+use Rattle.terms.specs.declared.entry.Entry.{Entry}
 use Rattle.recovery.specs.PacketLog.{PlainLogged}
 use Rattle.recovery.specs.SavedTable.{PlainSaved}
 use Rattle.journal.specs.declared.socket.Socket.{Socket}

@@ -1,7 +1,7 @@
 -- What a session that comes back brings with it, and what it gets (Socket.IO server documentation,
 -- "Connection state recovery").
 use Rattle.std.specs.Prelude.{ℕ, List, [], ◌++◌, map, filter, unwrap_or}
-use Rattle.sio_wire.specs.declared.entry.Entry.{Entry}
+use Rattle.terms.specs.declared.entry.Entry.{Entry}
 use Rattle.recovery.specs.PacketLog.{PlainLogged}
 use Rattle.recovery.specs.SavedTable.{PlainSaved}
 use Rattle.recovery.specs.Missed.{missed, is_for}

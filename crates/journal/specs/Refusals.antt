@@ -9,7 +9,7 @@ use Rattle.recovery.specs.Expiry.{is_outdated}
 use Rattle.recovery.specs.PacketLog.{PlainLogged, stands}
 use Rattle.recovery.specs.SavedTable.{PlainSaved}
 use Rattle.recovery.specs.Missed.{missed}
-use Rattle.sio_wire.specs.declared.entry.Entry.{Entry}
+use Rattle.terms.specs.declared.entry.Entry.{Entry}
 use Rattle.sio_wire.specs.Offset.{is_bracket}
 use Rattle.room_maps.specs.declared.error.RoomError.TheVariants.{OwnRoom, TooManyRooms}
 use Rattle.room_maps.specs.Room.{same_room, own_room}

@@ -4,7 +4,7 @@ use Rattle.std.specs.List.{sum_by}
 use Rattle.journal.specs.declared.step.Step.{Step}
 use Rattle.journal.specs.declared.step.What.{What}
 use Rattle.journal.specs.declared.step.What.TheVariants.{Cast, Told, Took, Parked, Closed}
-use Rattle.sio_wire.specs.Entry.{entry_size}
+use Rattle.terms.specs.Entry.{entry_size}
 use Rattle.journal.specs.declared.totals.Totals.{Totals}
 use Rattle.journal.specs.Plain.{Limits, PlainBase}
 use Rattle.journal.specs.Journal.{total}

@@ -3,9 +3,9 @@
 use crate::totals::Totals;
 use recovery::{Logged, Pid, Saved};
 use room_maps::{Room, Sid};
-use sio_wire::Entry;
 use std::marker::Model;
 use std::sync::Arc;
+use terms::Entry;
 
 /// The state of a hub before its first step, as data. In a contract it is plain data.
 #[derive(Drop)]

@@ -1,9 +1,8 @@
 //! A broadcast that is asked for, and what came of it.
 
 use room_maps::Room;
-use sio_wire::Attachments;
 use std::marker::Model;
-use terms::Text;
+use terms::{Attachments, Text};
 
 /// An event for the sockets of a namespace. In a contract it is plain data.
 #[derive(Drop)]

@@ -2,9 +2,9 @@
 
 use crate::socket::Socket;
 use room_maps::{Room, Sid};
-use sio_wire::Entry;
 use std::marker::Model;
 use std::sync::Arc;
+use terms::Entry;
 
 /// A broadcast that was accepted. In a contract it is plain data.
 #[derive(Drop)]

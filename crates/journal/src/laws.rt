@@ -2,7 +2,7 @@
 
 ghost use Rattle.std.specs.Prelude.{◌≡◌, ℕ, Bool, List};
 ghost use Rattle.room_maps.specs.Membership.{is_in};
-ghost use Rattle.sio_wire.specs.declared.entry.Entry.{Entry};
+ghost use Rattle.terms.specs.declared.entry.Entry.{Entry};
 ghost use Rattle.journal.specs.Plain.{Limits, PlainBase};
 ghost use Rattle.journal.specs.Journal.{History, with_step};
 ghost use Rattle.journal.specs.Membership.{rooms};

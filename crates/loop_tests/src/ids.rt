@@ -1,7 +1,7 @@
 //! The ids that clients are told, and texts in which they stand.
 
-use eio_wire::read_id;
 use std::alloc::Global;
+use terms::read_id;
 
 /// A part of a scene.
 pub type Words = &'static str;

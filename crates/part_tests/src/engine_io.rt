@@ -2,11 +2,10 @@
 
 use crate::play::{Part, play};
 use eio_wire::{
-    Numbers, Packet, WireError, id_text, open_text, read_id, read_packet, read_payload,
-    write_packet, write_payload,
+    Numbers, Packet, WireError, open_text, read_packet, read_payload, write_packet, write_payload,
 };
 use std::alloc::Global;
-use terms::{Text, write_digits};
+use terms::{Text, id_text, read_id, write_digits};
 
 /// A packet's type and what it holds.
 type Held = (char, &'static [u8]);

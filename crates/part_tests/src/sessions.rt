@@ -5,10 +5,9 @@ ghost use Rattle.std.specs.Prelude.{◌≤◌};
 use crate::play::{Part, play};
 use recovery::{PacketLog, Pid, RecoveryError, Saved, SavedTable};
 use room_maps::Sid;
-use sio_wire::{Attachments, Entry};
 use std::alloc::Global;
 use std::sync::Arc;
-use terms::Text;
+use terms::{Attachments, Entry, Text};
 
 /// What is called, with what it answers last.
 pub enum Row {

@@ -2,12 +2,11 @@
 
 use crate::play::{Part, play};
 use sio_wire::{
-    Assembler, Attachments, Entry, Header, Kind, SioError, SioPacket, connected_text,
-    disconnect_text, names, read_header, read_offset, refused_text, resume_of, with_offset,
-    write_header,
+    Assembler, Header, Kind, SioError, SioPacket, connected_text, disconnect_text, names,
+    read_header, read_offset, refused_text, resume_of, with_offset, write_header,
 };
 use std::alloc::Global;
-use terms::{Bytes, Text};
+use terms::{Attachments, Bytes, Entry, Text};
 
 /// What a text is read as: type, namespace, id, payload and number of attachments.
 type Fields = (Kind, &'static str, Option<u64>, &'static str, u32);

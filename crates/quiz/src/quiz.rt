@@ -5,9 +5,9 @@ ghost use Rattle.quiz.specs.Quiz as table;
 ghost use Rattle.quiz.specs.Quiz.{begins_with, is_text, decided};
 
 use events::{App, Arrived, Effect, Emission, Inquiry, Reply, Verdict, Who};
-use sio_wire::{Attachments, SioError, names};
+use sio_wire::{SioError, names};
 use std::alloc::{AllocError, Global};
-use terms::Text;
+use terms::{Attachments, Text};
 
 const QUESTION: &str = r#"["question","How much is six times seven?"]"#;
 

@@ -6,10 +6,10 @@ ghost use Rattle.room_maps.specs.Addressed as addressed;
 ghost use Rattle.recovery.specs.Missed as missed;
 
 use room_maps::Room;
-use sio_wire::Entry;
 use std::alloc::{AllocError, Global};
 use std::marker::Model;
 use std::sync::Arc;
+use terms::Entry;
 
 /// A broadcast that was given an offset. In a contract it is plain data, so that two are equal
 /// where their contents are.

@@ -12,10 +12,10 @@ use crate::expiry::is_outdated;
 use crate::logged::Logged;
 use circular_buffer::HeapCircularBuffer;
 use room_maps::Room;
-use sio_wire::Entry;
 use std::alloc::{AllocError, Global};
 use std::marker::Model;
 use std::sync::Arc;
+use terms::Entry;
 
 /// The latest broadcasts, each with its offset. It takes its memory once, when it is made.
 /// A moment before the last that it saw counts as that one.

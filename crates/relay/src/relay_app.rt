@@ -9,9 +9,9 @@ ghost use Rattle.relay.specs.Relay.{texts_of};
 use crate::word::{Word, room_in, word_in};
 use events::{App, Arrived, Effect, Emission, Inquiry, Message, Reply, Selection, Verdict, Who};
 use room_maps::Room;
-use sio_wire::{Attachments, SioError, names};
+use sio_wire::{SioError, names};
 use std::alloc::{AllocError, Global};
-use terms::Text;
+use terms::{Attachments, Text};
 
 /// The payload of a CONNECT that isn't accepted.
 const NO_TOKEN: &str = r#"{"token":"no"}"#;

@@ -2,7 +2,7 @@
 use Rattle.std.proofs.Common.{◌≡◌, ℕ, ◌+◌, ◌<◌, List, [], ◌∷◌, ◌++◌, take, get_or, length, ap, sym, ◌∙◌, append_assoc}
 use Rattle.std.proofs.lemmas.List.{append-nil}
 use Rattle.std.proofs.lemmas.List.{take_more}
-use Rattle.eio_wire.specs.Ids.{id_digits}
+use Rattle.terms.specs.Ids.{id_digits}
 use Rattle.script.specs.ScriptLine.{SPACE}
 use Rattle.script.specs.Printing.{ids_text}
 

@@ -1,7 +1,7 @@
 -- What a script line prints.
 use Rattle.std.specs.Prelude.{ℕ, ◌==◌, ◌&&◌, not, Bool, true, false, if◌then◌else◌, List, [], ◌∷◌, ◌++◌, codes, Option, Some, None, decimal, flat_map}
 use Rattle.hex.specs.Hex.{encode_lower}
-use Rattle.eio_wire.specs.Ids.{id_digits}
+use Rattle.terms.specs.Ids.{id_digits}
 use Rattle.journal.specs.declared.answers.Swept.{Swept}
 use Rattle.journal.specs.declared.totals.Totals.{Totals}
 use Rattle.room_maps.specs.declared.error.RoomError.{RoomError}

@@ -1,17 +1,16 @@
 //! What a script line prints.
 
 ghost use Rattle.std.specs.Prelude.{◌≡◌, ◌∷◌, ◌++◌, Some, IfOk, OnOk, if◌then◌else◌, codes, string_bytes};
-ghost use Rattle.eio_wire.specs.Ids.{id_digits};
+ghost use Rattle.terms.specs.Ids.{id_digits};
 ghost use Rattle.script.specs.ScriptLine.{SPACE};
 ghost use Rattle.script.specs.Printing.{cause_name, fault_name, reason_name, ignored_text, ids_text, frame_text, more_text, frames_text, is_unread, is_read, posted_of};
 
-use eio_wire::id_text;
 use events::{Cause, CoreFault, Done, WsFrame};
 use journal::{Swept, Totals};
 use room_maps::{RoomError, Sid};
 use std::alloc::{AllocError, Global};
 use std::fmt;
-use terms::{Text, ascii_text};
+use terms::{Text, ascii_text, id_text};
 
 /// The answer to one line of a script. Its `Display` is the line that is printed.
 #[derive(Drop)]

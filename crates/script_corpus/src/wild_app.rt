@@ -6,9 +6,8 @@ ghost use Rattle.events.specs.App.{AllClean, IsCleanEffect};
 use events::{App, Arrived, Effect, Emission, Inquiry, Reply, Selection, Verdict, Who};
 use relay::RelayApp;
 use room_maps::{Room, Sid};
-use sio_wire::Attachments;
 use std::alloc::{AllocError, Global};
-use terms::Text;
+use terms::{Attachments, Text};
 
 fn everybody(alloc: Global) -> Selection {
     Selection {

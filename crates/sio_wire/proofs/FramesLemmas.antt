@@ -2,7 +2,7 @@
 use Rattle.std.proofs.Common.{◌≡◌, ℕ, List, [], ◌∷◌, ◌++◌, length, map, Option, Some, None, refl, sym, ◌∙◌, ap, arith, append_assoc, append-nil, length-append}
 use Rattle.std.specs.Prelude.{false, Result, Ok, Err, OnOk, is_err}
 use Rattle.std.proofs.lemmas.List.{map-append, length-map}
-use Rattle.sio_wire.specs.declared.entry.SioPacket.{SioPacket}
+use Rattle.sio_wire.specs.declared.packet.SioPacket.{SioPacket}
 use Rattle.sio_wire.specs.declared.assembler.Progress.{Progress}
 use Rattle.sio_wire.specs.declared.assembler.Progress.TheVariants.{Ready, Waiting, Failed}
 use Rattle.sio_wire.specs.declared.header.Header.{Header}

@@ -1,7 +1,7 @@
 -- The server's answers to a CONNECT (Socket.IO protocol 5, "Connection to a namespace").
 use Rattle.std.specs.Prelude.{ℕ, List, ◌++◌, codes}
 use Rattle.json.specs.Print.{quoted}
-use Rattle.eio_wire.specs.Ids.{id_digits}
+use Rattle.terms.specs.Ids.{id_digits}
 use Rattle.sio_wire.specs.Header.{space_text}
 
 -- a CONNECT packet with the socket's session id and its private session id

@@ -4,7 +4,6 @@ pub mod Shape
 pub mod Header
 pub mod Faults
 pub mod Scan
-pub mod Entry
 pub mod Frames
 pub mod Offset
 pub mod ConnectAnswer

@@ -4,13 +4,13 @@ ghost use Rattle.std.specs.Prelude.{List, [], ◌≡◌, ◌≢◌, ◌⊎◌, �
 ghost use Rattle.sio_wire.specs.Header.{Sio};
 ghost use Rattle.sio_wire.specs.Frames.{Frame, text as text_frame, binary as binary_frame, Accepted, Accepts, GivesOrKeeps, RefusesText, text_refusal, binary_refusal, awaited, exceeds};
 
-use crate::entry::{Attachments, SioPacket};
 use crate::error::SioError;
 use crate::header::{Header, read_header};
+use crate::packet::SioPacket;
 use std::alloc::Global;
 use std::marker::Model;
 use std::mem;
-use terms::Bytes;
+use terms::{Attachments, Bytes};
 
 /// How far an assembler has come.
 #[derive(Debug, Drop)]

@@ -7,10 +7,9 @@ ghost use Rattle.sio_wire.specs.Header.{space_text};
 
 use crate::error::SioError;
 use crate::header::push_space;
-use eio_wire::id_text;
 use serde_json::Value;
 use std::alloc::{AllocError, Global};
-use terms::ascii_text;
+use terms::{ascii_text, id_text};
 
 /// The answer that the socket is connected: its session id `sid`, and the private session id
 /// `pid` by which the client may resume the session.

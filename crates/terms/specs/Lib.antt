@@ -2,3 +2,5 @@ pub mod Bytes
 pub mod Hexadecimal
 pub mod Listing
 pub mod Refusal
+pub mod Ids
+pub mod Entry

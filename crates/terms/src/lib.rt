@@ -4,10 +4,14 @@
 
 mod ascii;
 mod bytes;
+mod entry;
 mod hexadecimal;
+mod ids;
 mod text;
 
 pub use ascii::ascii_text;
 pub use bytes::Bytes;
+pub use entry::{Attachments, Entry};
 pub use hexadecimal::{digits_differ, read_digits, write_digits};
+pub use ids::{id_text, ids_differ, read_id};
 pub use text::Text;

@@ -12,9 +12,9 @@ use crate::pass::Pass;
 use journal::HubError;
 use recovery::Pid;
 use room_maps::{Room, Sid};
-use sio_wire::Entry;
 use std::alloc::Global;
 use std::sync::ledger::Ledger;
+use terms::Entry;
 
 impl<C: Ledger, T: Ledger> Hub<C, T> {
     /// Opens a client, with no sockets and an empty outbox. Refused as `IdTaken`,

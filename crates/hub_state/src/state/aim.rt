@@ -18,10 +18,10 @@ use crate::state::State;
 use hub_parts::{Client, Seats};
 use journal::{Broadcast, HubError, Message, Socket};
 use room_maps::{Room, Rooms, Sid};
-use sio_wire::Entry;
 use std::alloc::Global;
 use std::collections::BTreeMap;
 use std::sync::Arc;
+use terms::Entry;
 
 /// Adds the socket with an id, where it is in the namespace at a place.
 fn add_socket(

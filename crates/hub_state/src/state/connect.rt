@@ -7,7 +7,7 @@ ghost use Rattle.std.specs.Ordering.{nat_cmp};
 ghost use Rattle.std.specs.BTreeMap.{get};
 ghost use Rattle.std.specs.Arc.{arc_value};
 ghost use Rattle.room_maps.specs.Membership as room_maps;
-ghost use Rattle.sio_wire.specs.Entry.{entry_size};
+ghost use Rattle.terms.specs.Entry.{entry_size};
 ghost use Rattle.sio_wire.specs.ConnectAnswer as connect_answer;
 ghost use Rattle.journal.specs.Membership.{place_of, is_space, is_open, is_connected, pid_of, sid_of, sockets_of, socket_of};
 ghost use Rattle.journal.specs.Sessions.{sessions, is_sid_saved, is_pid_saved};
@@ -27,11 +27,11 @@ use hub_parts::{Client, Seats};
 use journal::{HubError, Socket, What};
 use recovery::Pid;
 use room_maps::{Room, Rooms, Sid};
-use sio_wire::{Attachments, Entry, connected_text};
+use sio_wire::connected_text;
 use std::alloc::Global;
 use std::collections::{BTreeMap, BTreeSet};
 use std::sync::Arc;
-use terms::Text;
+use terms::{Attachments, Entry, Text};
 
 /// How many bytes the answer to a CONNECT to this namespace has.
 fn answer_size(name: &str) -> usize

@@ -14,10 +14,10 @@ ghost use Rattle.hub_state.specs.Changes.{ChangesClient, refusal_now};
 use crate::state::{Added, NONE, State};
 use hub_parts::Client;
 use journal::{HubError, Message, What};
-use sio_wire::Entry;
 use std::alloc::Global;
 use std::collections::BTreeMap;
 use std::sync::Arc;
+use terms::Entry;
 
 /// Takes the first entries of a client's outbox away.
 fn hand_out(clients: &mut BTreeMap<u128, Client>, client: u128, count: usize)

@@ -33,11 +33,11 @@ use hub_parts::{Client, Seats};
 use journal::{Dismissal, Dismissed, HubError, Message, Socket, What};
 use recovery::Pid;
 use room_maps::{Room, Rooms, Sid};
-use sio_wire::{Attachments, Entry, disconnect_text};
+use sio_wire::disconnect_text;
 use std::alloc::Global;
 use std::collections::{BTreeMap, BTreeSet};
 use std::sync::Arc;
-use terms::Text;
+use terms::{Attachments, Entry, Text};
 
 /// What a client is told whose socket in the namespace with this name is ended.
 fn farewell_to(alloc: Global, name: &str) -> Result<Arc<Entry>, HubError>

@@ -11,10 +11,10 @@ ghost use Rattle.journal.specs.Broadcast.{event_header};
 
 use crate::state::State;
 use journal::HubError;
-use sio_wire::{Attachments, Entry, Header, Kind, with_offset, write_header};
+use sio_wire::{Header, Kind, with_offset, write_header};
 use std::alloc::Global;
 use std::sync::Arc;
-use terms::Text;
+use terms::{Attachments, Entry, Text};
 
 /// Whether the text has a `]`.
 pub(crate) fn has_bracket(text: &str) -> bool

@@ -9,8 +9,8 @@ ghost use Rattle.journal.specs.Totals as counted;
 use crate::state::State;
 use journal::{Base, Step, Totals};
 use room_maps::{Room, Sid};
-use sio_wire::Entry;
 use std::collections::{BTreeMap, BTreeSet};
+use terms::Entry;
 
 impl State {
     /// The state from which the journal begins.

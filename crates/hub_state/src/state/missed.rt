@@ -12,9 +12,9 @@ use hub_parts::room_after;
 use journal::HubError;
 use recovery::{Logged, Saved};
 use room_maps::Room;
-use sio_wire::Entry;
 use std::alloc::Global;
 use std::sync::Arc;
+use terms::Entry;
 
 /// A saved session that may come back, and what the log has past the offset that its client named,
 /// in two pieces.

@@ -6,7 +6,7 @@ ghost use Rattle.std.specs.BTreeMap.{get};
 ghost use Rattle.std.specs.Arc.{arc_value};
 ghost use Rattle.recovery.specs.PacketLog.{stands, later_than};
 ghost use Rattle.recovery.specs.SavedTable.{removed};
-ghost use Rattle.sio_wire.specs.Entry.{entry_size};
+ghost use Rattle.terms.specs.Entry.{entry_size};
 ghost use Rattle.journal.specs.Journal.{moment_at};
 ghost use Rattle.journal.specs.Membership.{place_of, is_open};
 ghost use Rattle.journal.specs.Sessions.{sessions, session_with};
@@ -28,10 +28,10 @@ use hub_parts::{Client, Outbox};
 use journal::{HubError, Recovery, RecoveryRefusal, Socket, What};
 use recovery::{Logged, Pid, Saved, SavedTable};
 use room_maps::Sid;
-use sio_wire::Entry;
 use std::alloc::Global;
 use std::collections::BTreeMap;
 use std::sync::Arc;
+use terms::Entry;
 
 /// Puts entries at the end of an outbox, which has a place for all.
 fn push_all(outbox: &mut Outbox, entries: Vec<Arc<Entry>>)

@@ -1,7 +1,7 @@
 use Rattle.std.proofs.Common.{rules, ◌≡◌, ℕ, List, arith, slice_get, take, Some, None, subst}
 use Rattle.std.specs.List.{AllZip}
 use Rattle.std.proofs.lemmas.Option.{slice_get_within}
-use Rattle.sio_wire.specs.declared.entry.Entry.{Entry}
+use Rattle.terms.specs.declared.entry.Entry.{Entry}
 use Rattle.journal.specs.Outboxes.{waiting}
 use Rattle.dispatch.specs.Frames.{IsSentAs}
 use Rattle.dispatch.specs.Takes.{carried}

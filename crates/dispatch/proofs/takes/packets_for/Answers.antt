@@ -1,6 +1,6 @@
 use Rattle.std.proofs.Common.{rules, ◌≡◌, ◌∙◌, ℕ, List, ap, arith, slice_get, take, Some, None}
 use Rattle.std.proofs.lemmas.Option.{slice_get_within}
-use Rattle.sio_wire.specs.declared.entry.Entry.{Entry}
+use Rattle.terms.specs.declared.entry.Entry.{Entry}
 use Rattle.journal.specs.Outboxes.{waiting}
 use Rattle.dispatch.specs.Takes.{carried}
 use Rattle.dispatch.proofs.TakeLemmas.{all-taken, carried-more}

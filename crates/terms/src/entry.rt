@@ -1,11 +1,11 @@
-//! Packets with their attachments: one that came, and one that waits to be sent.
+//! Attachments, and packets that wait to be sent.
 
 ghost use Rattle.std.specs.Prelude.{◌≡◌, [], ◌∷◌, ◌++◌, length, IsTrue, ◌↔◌, OnOk, OnErr};
 
-use crate::header::Header;
+use crate::bytes::Bytes;
+use crate::text::Text;
 use std::alloc::{AllocError, Global};
 use std::marker::Model;
-use terms::{Bytes, Text};
 
 /// The attachments of a packet, in the order of the binary frames that carry them. In a contract
 /// they are a list of lists of bytes.
@@ -86,13 +86,6 @@ impl Clone for Attachments {
             parts: self.parts.clone()?,
         })
     }
-}
-
-/// A packet that came whole: its header, and as many attachments as the header counts.
-#[derive(Debug, Drop)]
-pub struct SioPacket {
-    pub header: Header,
-    pub attachments: Attachments,
 }
 
 /// A packet that waits to be sent: its whole text, and the attachments that follow it.

@@ -1,6 +1,6 @@
 -- Packets that wait to be sent.
 use Rattle.std.specs.Prelude.{ℕ, ◌+◌, length, sum_by}
-use Rattle.sio_wire.specs.declared.entry.Entry.{Entry}
+use Rattle.terms.specs.declared.entry.Entry.{Entry}
 
 -- the bytes that an entry holds: those of its text and of its attachments
 abbrev pub entry_size : Entry → ℕ

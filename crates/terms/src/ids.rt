@@ -2,9 +2,9 @@
 
 ghost use Rattle.std.specs.Prelude.{◌≡◌, ◌≢◌, ◌<◌, ◌^◌, ℕ, IfSome, IfNone};
 ghost use Rattle.std.specs.Str.{IsAscii};
-ghost use Rattle.eio_wire.specs.Ids.{id_digits};
+ghost use Rattle.terms.specs.Ids.{id_digits};
 
-use terms::{read_digits, write_digits};
+use crate::hexadecimal::{digits_differ, read_digits, write_digits};
 
 /// How many digits an id has.
 const DIGITS: usize = 32;
@@ -34,5 +34,5 @@ pub fn read_id(text: &str) -> Option<u128>
 pub fn ids_differ()
     ensures { (m n : ℕ) → m < 2 ^ 128 → n < 2 ^ 128 → id_digits m ≡ id_digits n → m ≡ n }
 {
-    terms::digits_differ();
+    digits_differ();
 }
