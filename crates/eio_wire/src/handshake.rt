@@ -7,9 +7,8 @@ ghost use Rattle.terms.specs.Ids.{id_digits};
 ghost use Rattle.eio_wire.specs.Handshake.{open_packet_text, open_packet_with, upgrades_of};
 
 use crate::error::WireError;
-use crate::ids::id_text;
 use std::alloc::Global;
-use terms::ascii_text;
+use terms::{ascii_text, id_text};
 
 /// What the server tells a client of its limits.
 #[derive(Clone, Copy, Debug, PartialEq, Eq)]
