@@ -3,13 +3,11 @@
 #![tactic(auto)]
 
 #[cfg(test)]
-mod ids;
-#[cfg(test)]
 mod options;
 #[cfg(test)]
-mod player;
+mod place;
 #[cfg(test)]
-mod served;
+mod scenes;
 #[cfg(test)]
 mod server;
 #[cfg(test)]

@@ -1,9 +1,11 @@
 //! A server that runs while its clients play a scene.
 
-use crate::ids::Words;
-use crate::player::Player;
-use crate::served::{Counts, Ear, Heard, counts_of, settings};
+use crate::place::Place;
+use crate::scenes::{polling, speaking};
+use hub_gate::Report;
+use journal::Totals;
 use relay::RelayApp;
+use settings::Settings;
 use std::alloc::Global;
 use std::net::{Net, TcpStream};
 use std::random::RandomSource;
@@ -12,52 +14,69 @@ use std::sync::Wait;
 use std::thread;
 use std::thread::Threads;
 use std::time::Duration;
-use tcp_server::{Server, Shared};
+use tcp_server::{Ended, Log, Server, Shared};
 
-/// One joins a room while its GET waits, and so hears the other.
-const POLLING: Words = r#"open A; open B; join A; join B;
-get A; pause 300; post A 421["join","r"]; hear A 431[];
-get A; pause 300; post B 42["say","r","hi"]; hear A 42["say","r","hi","0000000000000001"]"#;
+/// How many loops a server has.
+const LOOPS: usize = 4;
 
-/// A speaks from the first, B comes over while a GET of it waits.
-const SPEAKING: Words = r#"speak A 40; say A 421["join","r"]; told A 431[];
-client B; get B; pause 300; knock B; say B 5; hear B 6;
-say B 451-["say","r",{"_placeholder":true,"num":0}]; send B;
-told A 451-["say","r",{"_placeholder":true,"num":0},"0000000000000001"]; sent A;
-say A 42["all","hi"];
-told A 42["all","hi","0000000000000002"]; told B 42["all","hi","0000000000000002"];
-close A; close B"#;
+/// Hears nothing.
+#[derive(Drop)]
+struct Deaf;
 
-/// Plays steps, and answers with the first that is not so; then the server is stopped.
-fn fault_in<R: Net<Stream = TcpStream> + Clock + Wait>(
-    rt: &R,
-    alloc: Global,
-    port: u16,
-    shared: &Shared,
-    steps: Words,
-) -> Option<Words> {
-    let mut player = Player::new(rt, alloc, port);
-    for step in steps.split(';') {
-        if player.plays(step.trim()).is_none() {
-            shared.stop(rt, Duration::from_millis(0));
-            return Some(step);
-        }
+impl Log for Deaf {
+    fn hears_clients(&self) -> bool {
+        false
     }
-    None
+
+    fn client_ended(&self, _ended: &Ended) {}
+
+    fn totals(&self, _totals: Totals) {}
 }
 
-/// A server that ends after so many connections.
-fn listen<'h, R: Net>(
-    rt: &R,
-    alloc: Global,
-    connections: u64,
-    heard: &'h Heard,
-) -> Option<Server<Ear<'h>>> {
-    let settings = settings(alloc, connections)?;
-    Server::listen(rt, alloc, settings, Ear { heard }).ok()
+/// A server of which each loop has every fourth connection, until so many have come.
+fn listen<R: Net>(rt: &R, alloc: Global, connections: u64) -> Option<Server<Deaf>> {
+    let mut settings = Settings::usual(alloc, 0, LOOPS).ok()?;
+    settings.together = 1;
+    settings.connections = Some(connections);
+    Server::listen(rt, alloc, settings, Deaf).ok()
 }
 
-/// Plays a scene beside a server, and answers with what that counted, or with what is not so.
+/// Plays a scene, and tells whether all was so; else the server is stopped.
+fn is_so<R: Net<Stream = TcpStream> + Clock + Wait>(
+    place: &Place<'_, R>,
+    shared: &Shared,
+    speaks: bool,
+) -> bool {
+    let played = if speaks {
+        speaking(place)
+    } else {
+        polling(place)
+    };
+    if played.is_none() {
+        shared.stop(place.rt, Duration::from_millis(0));
+    }
+    played.is_some()
+}
+
+/// How many entries were placed, taken and dropped, where it adds up: all loops and the keeper ended well,
+/// their counts are the totals, and each entry that was placed was taken, was discarded or waits.
+fn counts_of(report: &Report) -> Option<[u64; 3]> {
+    let (mut commands, mut taken, mut faults) = (0u64, 0u64, 0usize);
+    for worker in report.workers.as_slice() {
+        commands = commands.wrapping_add(worker.commands);
+        taken = taken.wrapping_add(worker.taken);
+        faults = faults.wrapping_add(worker.faults);
+    }
+    let totals = report.totals;
+    let gone = totals.taken.wrapping_add(totals.discarded);
+    let adds_up = report.workers.len() == LOOPS + 1
+        && faults == 0
+        && (totals.commands, totals.taken) == (commands, taken)
+        && totals.placed == gone.wrapping_add(totals.waiting);
+    adds_up.then_some([totals.placed, totals.taken, totals.dropped])
+}
+
+/// What is counted of a scene beside a server, where all was so.
 fn play<
     R: Threads
         + Wait
@@ -70,33 +89,29 @@ fn play<
         + Sync
         + Send
         + 'static,
->(rt: &R, connections: u64, steps: Words) -> Result<Counts, Words> {
-    let (alloc, heard) = (rt.alloc(), Heard::default());
-    let Some(server) = listen(rt, alloc, connections, &heard) else {
-        return Err("the server listens");
-    };
-    let Ok(shared) = server.shared() else {
-        return Err("what its threads share");
-    };
+>(rt: &R, connections: u64, speaks: bool) -> Option<[u64; 3]> {
+    let alloc = rt.alloc();
+    let server = listen(rt, alloc, connections)?;
+    let shared = server.shared().ok()?;
     let port = server.port();
+    let place = Place { rt, alloc, port };
     let ends = thread::join(
         rt,
         || server.run(rt, alloc, &RelayApp),
-        || fault_in(rt, alloc, port, &shared, steps),
+        || is_so(&place, &shared, speaks),
     );
     match ends {
-        (_, Some(step)) => Err(step),
-        (Ok(report), None) => counts_of(&report, &heard).ok_or("its counts add up"),
-        (Err(_), None) => Err("it runs to its end"),
+        (Ok(report), true) => counts_of(&report),
+        _ => None,
     }
 }
 
 #[test]
-fn clients_that_poll(rt: HostRuntime) {
-    assert_eq!(rt; play(&rt, 10, POLLING), Ok([4, 4, 0, 0, 0, 0]));
+fn polling_over_loopback(rt: HostRuntime) {
+    assert_eq!(rt; play(&rt, 10, false), Some([4, 4, 0]));
 }
 
 #[test]
-fn clients_over_websockets(rt: HostRuntime) {
-    assert_eq!(rt; play(&rt, 6, SPEAKING), Ok([6, 6, 0, 2, 0, 2]));
+fn socket_over_loopback(rt: HostRuntime) {
+    assert_eq!(rt; play(&rt, 6, true), Some([6, 6, 0]));
 }

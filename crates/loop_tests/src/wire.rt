@@ -5,13 +5,6 @@ use std::io;
 use std::io::{ErrorKind, Read, Write};
 use std::net::TcpStream;
 
-/// The headers by which a client asks for a WebSocket, and how that is granted.
-pub const UPGRADE: &str =
-    "Upgrade: websocket\r\nConnection: Upgrade\r\nSec-WebSocket-Key: dGhlIHNhbXBsZSBub25jZQ==\r\nSec-WebSocket-Version: 13\r\n";
-
-pub const SWITCHED: &[u8] =
-    b"HTTP/1.1 101 Switching Protocols\r\nconnection: Upgrade\r\nupgrade: websocket\r\nsec-websocket-accept: s3pPLMBiTxaQ9kYGzzhZRbK+xOo=\r\n\r\n";
-
 /// The body of an answer that comes over a connection until it ends.
 pub fn body_over(alloc: Global, stream: TcpStream) -> Option<String> {
     let text = io::read_to_string(alloc, stream).ok()?;
