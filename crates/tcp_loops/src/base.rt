@@ -6,9 +6,9 @@ use peers::Moments;
 use std::alloc::{AllocError, Global};
 use std::rt::Clock;
 use std::sync::{Arc, Wait};
-use std::time::Duration;
+use std::time::{Duration, Instant};
 use tcp_connections::Watch;
-use tcp_streams::{Handed, Inbox, Log, Rules, Shared};
+use tcp_streams::{Handed, Inbox, Log, Rules, ServerFault, Shared, starting};
 
 /// What a worker goes by: through it a loop, or the keeper, speaks to the others.
 pub struct Base<'a, R, L> {
@@ -38,6 +38,26 @@ impl<R: Drop, L> Drop for Base<'_, R, L> {
 }
 
 impl<'a, R: Clock + Copy, L> Base<'a, R, L> {
+    /// What the first worker goes by. Its time begins now.
+    pub fn new(
+        rt: &R,
+        alloc: Global,
+        log: &'a L,
+        shared: Arc<Shared>,
+        rules: Arc<Rules>,
+    ) -> Result<Base<'a, R, L>, ServerFault> {
+        let start = Instant::now(rt).map_err(starting)?;
+        Ok(Base {
+            rt: *rt,
+            alloc,
+            log,
+            number: 0,
+            shared,
+            rules,
+            watch: Watch::new(*rt, start),
+        })
+    }
+
     /// What the worker of this number goes by.
     pub fn of_worker(&self, number: usize) -> Result<Base<'a, R, L>, AllocError> {
         Ok(Base {

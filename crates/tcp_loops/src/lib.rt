@@ -1,11 +1,19 @@
-//! A loop of a server over TCP: one peer that waits for all of its connections at once, and brings
-//! the events of all of their clients.
+//! Who works at a server over TCP: its loops, each one peer that waits for all of its connections at
+//! once and brings the events of all of their clients, and the keeper of time.
 #![tactic(auto)]
 
 mod answers;
 mod base;
+mod crew;
+mod drawn;
 mod event_loop;
+mod keeper;
 mod requests;
+mod worker;
 
 pub use base::Base;
+pub use crew::{Crew, crew_for};
+pub use drawn::DrawnIds;
 pub use event_loop::EventLoop;
+pub use keeper::{Keeper, KeptCore};
+pub use worker::Worker;

@@ -1,12 +1,8 @@
-//! A server over TCP: its loops and who keeps time, which a pool of threads serves over one locked
-//! core.
+//! A server over TCP: a pool of threads serves its loops and who keeps time, over one locked core.
 #![tactic(auto)]
 
-mod crew;
-mod drawn;
-mod keeper;
+mod locked_core;
 mod server;
-mod worker;
 
 pub use server::Server;
 pub use tcp_streams::{Ended, Log, ServerFault, Shared};

@@ -4,14 +4,11 @@ ghost use Rattle.std.specs.Prelude.{◌≡◌, ◌+◌, None, Err, IfOk, IfSome,
 ghost use Rattle.settings.specs.Wrong.{wrong_setting};
 ghost use Rattle.tcp_streams.specs.declared.fault.ServerFault.TheVariants.{BadSetting};
 
-use crate::crew::{sources, workers_for};
-use crate::drawn::DrawnIds;
-use crate::worker::{Open, Worker};
+use crate::locked_core::LockedCore;
 use dispatch::Core;
-use events::{App, CoreError, CoreFault};
+use events::{App, CoreError, CoreFault, IdSource, Peer};
 use hub::Pass;
-use hub_gate::{Locked, Pool, Report, ServeError, Settled, serve_peers};
-use rand::rngs::StdRng;
+use hub_gate::{Locked, Pool, Report, ServeError, Settled, Turnstile, serve_peers};
 use settings::{Setting, Settings};
 use std::alloc::Global;
 use std::marker::Brand;
@@ -20,21 +17,17 @@ use std::random::RandomSource;
 use std::rt::Clock;
 use std::sync::ledger::{Blank, Ledger};
 use std::sync::{Arc, Wait};
-use std::thread;
-use std::thread::{JoinHandle, Threads};
-use std::time::Instant;
-use tcp_connections::Watch;
-use tcp_loops::Base;
+use std::thread::Threads;
+use tcp_loops::{Base, Crew, crew_for};
 use tcp_streams::{
     Acceptor, Ears, Log, Making, Rules, ServerFault, Shared, acceptor_for, ears_for,
-    rules_and_making, starting,
+    rules_and_making,
 };
 
 /// How many threads may count what they do.
 const PARTS: u64 = 65_536;
 
 /// A server that listens. Where it is dropped, it listens no more.
-#[derive(Drop)]
 pub struct Server<L> {
     log: L,
     port: u16,
@@ -43,6 +36,21 @@ pub struct Server<L> {
     shared: Arc<Shared>,
     rules: Arc<Rules>,
     making: Box<Making>,
+}
+
+/// Written out, so that a crate above takes the drop of all that lies in it by this one call.
+impl<L: Drop> Drop for Server<L> {
+    fn drop(self) {
+        let Self {
+            log: _,
+            port: _,
+            acceptor: _,
+            ears: _,
+            shared: _,
+            rules: _,
+            making: _,
+        } = self;
+    }
 }
 
 impl<L: Log + Sync + Drop> Server<L> {
@@ -95,22 +103,34 @@ impl<L: Log + Sync + Drop> Server<L> {
         ensures taken { IfOk result (λ r.
             r.totals.taken ≡ sum_by (λ w. w.taken) r.workers.items) }
     {
+        let Server {
+            log,
+            port: _,
+            acceptor,
+            ears,
+            shared,
+            rules,
+            making,
+        } = self;
+        let base = Base::new(rt, alloc, &log, shared, rules)?;
         let (commands, taken) = (Blank::new(PARTS), Blank::new(PARTS));
-        run_in::<Brand, Brand, R, L, A>(rt, alloc, self, app, commands, taken)
+        run_in::<Brand, Brand, R, L, A>(&base, app, acceptor, ears, making, commands, taken)
     }
 }
 
+/// Serves over a new core, whose ledgers have no other.
 fn run_in<
     C: Ledger + Send + Sync,
     T: Ledger + Send + Sync,
     R: Threads + Wait + Clock + RandomSource + Copy + Drop + Sync + Send + 'static,
-    L: Log + Sync + Drop,
+    L: Log + Sync,
     A: App + Sync,
 >(
-    rt: &R,
-    alloc: Global,
-    server: Server<L>,
+    base: &Base<'_, R, L>,
     app: &A,
+    acceptor: Box<Acceptor>,
+    ears: Vec<Ears>,
+    making: Box<Making>,
     commands: Blank,
     taken: Blank,
 ) -> Result<Report, ServerFault>
@@ -122,51 +142,20 @@ fn run_in<
     ensures taken { IfOk result (λ r.
         r.totals.taken ≡ sum_by (λ w. w.taken) r.workers.items) }
 {
-    let Server {
-        log,
-        port: _port,
-        acceptor,
-        ears,
-        shared,
-        rules,
-        making,
-    } = server;
-    let (locked, mut pass, looks) = lock_core::<C, T>(alloc, making, commands, taken)?;
-    let base = base_for(rt, alloc, &log, shared, rules)?;
-    serve_over(&base, &locked, &mut pass, looks, app, acceptor, ears)
-}
-
-/// What the first worker goes by. Its time begins now.
-fn base_for<'a, R: Clock + Copy, L>(
-    rt: &R,
-    alloc: Global,
-    log: &'a L,
-    shared: Arc<Shared>,
-    rules: Arc<Rules>,
-) -> Result<Base<'a, R, L>, ServerFault> {
-    let start = Instant::now(rt).map_err(starting)?;
-    Ok(Base {
-        rt: *rt,
-        alloc,
-        log,
-        number: 0,
-        shared,
-        rules,
-        watch: Watch::new(*rt, start),
-    })
+    let (locked, mut pass, looks) = lock_core::<C, T>(base.alloc, making, commands, taken)?;
+    serve_over(base, &locked, &mut pass, looks, app, acceptor, ears)
 }
 
 /// Accepts, and serves by a loop with each of these ears and by the keeper, until all have ended.
 fn serve_over<
-    'a,
     C: Ledger + Send + Sync,
     T: Ledger + Send + Sync,
     R: Threads + Wait + Clock + RandomSource + Copy + Drop + Sync + Send + 'static,
     L: Log + Sync,
     A: App + Sync,
 >(
-    base: &Base<'a, R, L>,
-    locked: &'a Locked<C, T>,
+    base: &Base<'_, R, L>,
+    locked: &Locked<C, T>,
     pass: &mut Pass<C, T>,
     looks: Pass<C, T>,
     app: &A,
@@ -178,34 +167,15 @@ fn serve_over<
     ensures taken { IfOk result (λ r. r.totals.taken
         ≡ pass.old.taken + sum_by (λ w. w.taken) r.workers.items) }
 {
-    let workers = workers_for(base, ears, locked, looks)?;
-    let ids = sources(&base.rt, base.alloc, workers.len())?;
-    serve_all(base, locked, pass, app, acceptor, workers, ids)
-}
-
-/// Accepts and serves in threads of their own until all have ended.
-fn serve_all<
-    C: Ledger + Send + Sync,
-    T: Ledger + Send + Sync,
-    R: Threads + Wait + Clock + Copy + Drop + Sync + Send + 'static,
-    L: Log + Sync,
-    A: App + Sync,
->(
-    base: &Base<'_, R, L>,
-    locked: &Locked<C, T>,
-    pass: &mut Pass<C, T>,
-    app: &A,
-    acceptor: Box<Acceptor>,
-    workers: Vec<Worker<'_, R, L, C, T>>,
-    ids: Vec<DrawnIds<StdRng>>,
-) -> Result<Report, ServerFault>
-    requires { vec_len ids ≡ vec_len workers }
-    ensures commands { IfOk result (λ r. r.totals.commands
-        ≡ pass.old.commands + sum_by (λ w. w.commands) r.workers.items) }
-    ensures taken { IfOk result (λ r. r.totals.taken
-        ≡ pass.old.taken + sum_by (λ w. w.taken) r.workers.items) }
-{
-    let accepting = start_accepting(base, acceptor)?;
+    let core = LockedCore {
+        locked,
+        pass: looks,
+    };
+    let Crew {
+        workers,
+        ids,
+        accepting,
+    } = crew_for(base, ears, core, acceptor)?;
     let pool = Pool {
         rt: &base.rt,
         alloc: base.alloc,
@@ -222,16 +192,17 @@ fn serve_all<
 
 /// Serves until all workers have ended.
 fn serve_pool<
-    C: Ledger + Send + Sync,
-    T: Ledger + Send + Sync,
-    R: Threads + Wait + Clock + Copy + Drop + Sync + Send + 'static,
-    L: Log + Sync,
+    C: Ledger + Send,
+    T: Ledger + Send,
+    R: Threads + Wait + Sync,
     A: App + Sync,
+    P: Peer + Send + Drop,
+    I: IdSource + Send + Drop,
 >(
     pool: &Pool<'_, R, C, T, A, Open>,
     pass: &mut Pass<C, T>,
-    workers: Vec<Worker<'_, R, L, C, T>>,
-    ids: Vec<DrawnIds<StdRng>>,
+    workers: Vec<P>,
+    ids: Vec<I>,
 ) -> Result<Report, ServerFault>
     requires { vec_len ids ≡ vec_len workers }
     ensures commands { IfOk result (λ r. r.totals.commands
@@ -260,18 +231,14 @@ fn fault_of(error: ServeError) -> ServerFault {
     }
 }
 
-/// Accepts in a thread of its own.
-fn start_accepting<R: Threads + Wait + Clock + Copy + Drop + Send + 'static, L>(
-    base: &Base<'_, R, L>,
-    acceptor: Box<Acceptor>,
-) -> Result<JoinHandle<()>, ServerFault> {
-    let shared = Arc::try_clone(&base.shared)?;
-    let handle = base.rt;
-    let mut acceptor = acceptor;
-    match thread::spawn(&base.rt, move || acceptor.accept_all(&handle, &shared)) {
-        Ok(accepting) => Ok(accepting),
-        Err(_) => Err(ServerFault::Starting),
-    }
+/// A gate that lets all pass.
+#[derive(Drop)]
+struct Open;
+
+impl Turnstile for Open {
+    fn before(&self, _worker: usize, _turn: u64) {}
+
+    fn after(&self, _worker: usize, _turn: u64) {}
 }
 
 /// A core without clients under its lock, its pass, and one more, with which it is looked at.
@@ -286,33 +253,17 @@ fn lock_core<C: Ledger, T: Ledger>(
     requires taken { (taken.name ≡ T.name) × (taken.parts ≡ T.parts) × (taken.parts ≡ 65536) }
     ensures pass { IfOk result (λ made. made.1 ≡ record { commands = 0; taken = 0; parts = 1 }) }
 {
-    let (mut core, pass) = new_core::<C, T>(alloc, making, commands, taken)?;
-    match core.new_pass() {
-        Ok(looks) => Ok((lock(alloc, core)?, pass, looks)),
-        Err(_) => Err(ServerFault::Starting),
-    }
-}
-
-/// A core without clients, and its pass.
-fn new_core<C: Ledger, T: Ledger>(
-    alloc: Global,
-    making: Box<Making>,
-    commands: Blank,
-    taken: Blank,
-) -> Result<(Box<Core<C, T>>, Pass<C, T>), ServerFault>
-    requires commands { (commands.name ≡ C.name)
-        × (commands.parts ≡ C.parts) × (commands.parts ≡ 65536) }
-    requires taken { (taken.name ≡ T.name) × (taken.parts ≡ T.parts) × (taken.parts ≡ 65536) }
-    ensures pass { IfOk result (λ made. made.1 ≡ record { commands = 0; taken = 0; parts = 1 }) }
-{
     let Making {
         hub,
         timing,
         numbers,
     } = Box::into_inner(making);
     let made = Core::new(alloc, hub, timing, numbers, commands, taken);
-    let (core, pass) = made.map_err(refused)?;
-    Ok((Box::new(alloc, core)?, pass))
+    let (mut core, pass) = made.map_err(refused)?;
+    let Ok(looks) = core.new_pass() else {
+        return Err(ServerFault::Starting);
+    };
+    Ok((Box::new(alloc, Locked::new(core))?, pass, looks))
 }
 
 /// Why there is no core.
@@ -321,12 +272,4 @@ fn refused(error: CoreError) -> ServerFault {
         CoreFault::Memory => ServerFault::Memory,
         _ => ServerFault::BadSetting(Setting::Limits),
     }
-}
-
-/// Puts a core under its lock.
-fn lock<C: Ledger, T: Ledger>(
-    alloc: Global,
-    core: Box<Core<C, T>>,
-) -> Result<Box<Locked<C, T>>, ServerFault> {
-    Ok(Box::new(alloc, Locked::new(Box::into_inner(core)))?)
 }

@@ -9,11 +9,20 @@ use rand::Rng;
 
 /// Draws ids from a generator of random numbers. All but their ten low bits are as they were drawn;
 /// these are the number of a loop. In a contract it is that number, and what the generator answers.
-#[derive(Drop)]
-pub(crate) struct DrawnIds<G> {
+pub struct DrawnIds<G> {
     number: u128,
     random: G,
     ghost in_range: { number < LOOPS },
+}
+
+/// Written out, so that a crate above takes the drop of all that lies in it by this one call.
+impl<G: Drop> Drop for DrawnIds<G> {
+    fn drop(self) {
+        let Self {
+            number: _,
+            random: _,
+        } = self;
+    }
 }
 
 impl<G> DrawnIds<G> {
@@ -30,7 +39,7 @@ impl<G> DrawnIds<G> {
 }
 
 impl<G: Rng> IdSource for DrawnIds<G> {
-    ghost use Rattle.tcp_server.specs.Drawn.{drawn_ids};
+    ghost use Rattle.tcp_loops.specs.Drawn.{drawn_ids};
 
     ghost stream = { λ d. drawn_ids d.number (G.stream d.random) };
 

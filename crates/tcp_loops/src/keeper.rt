@@ -1,38 +1,40 @@
 //! The keeper: a peer that brings what the passing of time brings, for all clients.
 
+use crate::base::Base;
 use events::{CoreError, Event, Outcome, Peer, PeerFault};
-use hub::Pass;
-use hub_gate::Locked;
+use journal::Totals;
 use loop_rules::{Notes, loop_of};
 use std::alloc::Global;
 use std::mem;
 use std::rt::Clock;
 use std::sync::Wait;
-use std::sync::ledger::Ledger;
 use std::time::Duration;
 use std::vec::IntoIter;
-use tcp_loops::Base;
 use tcp_streams::{Log, ServerFault};
 
 /// How long a round is, in milliseconds: each client is asked once a round what is due to it.
 const ROUND: u64 = 1_000;
 
-/// A journal with so many steps is sealed.
-const STEPS: usize = 65_536;
-
-/// And one whose entries hold so many bytes.
-const BYTES: u64 = 67_108_864;
-
 /// How often in a round the journal is looked at.
 const LOOKS: u64 = 10;
 
+/// The core, as its keeper sees it. Its calls may wait.
+pub trait KeptCore: Drop {
+    /// The clients that are there.
+    fn clients<R: Wait>(&mut self, rt: &R, alloc: Global) -> Result<Vec<u128>, CoreError>;
+
+    /// What it has counted so far.
+    fn totals<R: Wait>(&mut self, rt: &R) -> Totals;
+
+    /// Seals its journal, where that is long.
+    fn seal<R: Wait>(&self, rt: &R, alloc: Global);
+}
+
 /// Asks for each client what is due to it, has the hub sweep, and seals its journal.
 #[derive(Drop)]
-pub(crate) struct Keeper<'a, R, L, C: Ledger, T: Ledger> {
+pub struct Keeper<'a, R, L, K> {
     base: Base<'a, R, L>,
-    locked: &'a Locked<C, T>,
-    /// It counts nothing: with it the core is looked at.
-    pass: Pass<C, T>,
+    core: K,
     clients: IntoIter<u128, Global>,
     /// The client that was asked about last.
     client: u128,
@@ -45,19 +47,14 @@ pub(crate) struct Keeper<'a, R, L, C: Ledger, T: Ledger> {
     begun: bool,
 }
 
-impl<'a, R: Wait + Clock + Copy, L: Log, C: Ledger, T: Ledger> Keeper<'a, R, L, C, T> {
+impl<'a, R: Wait + Clock + Copy, L: Log, K: KeptCore> Keeper<'a, R, L, K> {
     /// The first round is to come.
-    pub(crate) fn new(
-        base: Base<'a, R, L>,
-        locked: &'a Locked<C, T>,
-        pass: Pass<C, T>,
-    ) -> Result<Keeper<'a, R, L, C, T>, ServerFault> {
+    pub(crate) fn new(base: Base<'a, R, L>, core: K) -> Result<Keeper<'a, R, L, K>, ServerFault> {
         let notes = Notes::new(base.alloc, base.rules.loops)?;
         let clients = Vec::new(base.alloc).into_iter();
         Ok(Keeper {
             base,
-            locked,
-            pass,
+            core,
             clients,
             client: 0,
             sweeps: false,
@@ -74,24 +71,9 @@ impl<'a, R: Wait + Clock + Copy, L: Log, C: Ledger, T: Ledger> Keeper<'a, R, L, 
             if self.base.wait_for_loops(part) {
                 return false;
             }
-            // A journal that can't be sealed for want of memory is sealed at the next look.
-            let _ = self
-                .locked
-                .seal(&self.base.rt, self.base.alloc, STEPS, BYTES);
+            self.core.seal(&self.base.rt, self.base.alloc);
         }
         true
-    }
-
-    /// Lists the clients. Where there is no memory for the list, they are asked about in the next
-    /// round.
-    fn list(&mut self) {
-        let listed = self
-            .locked
-            .look(&self.base.rt, &mut self.pass)
-            .clients(self.base.alloc);
-        if let Ok(clients) = listed {
-            self.clients = clients.into_iter();
-        }
     }
 
     /// Tells the totals, where it is time.
@@ -104,23 +86,22 @@ impl<'a, R: Wait + Clock + Copy, L: Log, C: Ledger, T: Ledger> Keeper<'a, R, L, 
             return;
         }
         self.report = now.saturating_add(pause.saturating_mul(1_000));
-        let totals = self
-            .locked
-            .look(&self.base.rt, &mut self.pass)
-            .hub()
-            .state()
-            .totals();
+        let totals = self.core.totals(&self.base.rt);
         self.base.log.totals(totals);
     }
 
-    /// Waits for the next round and begins it, and tells whether there is one.
+    /// Waits for the next round, begins it and lists the clients, and tells whether there is one.
     fn begin_round(&mut self) -> bool {
         self.base.send(&mut self.notes);
         if !self.rests() {
             return false;
         }
         self.tell_totals();
-        self.list();
+        let alloc = self.base.alloc;
+        // Where there is no memory for the list, they are asked about in the next round.
+        if let Ok(clients) = self.core.clients(&self.base.rt, alloc) {
+            self.clients = clients.into_iter();
+        }
         self.sweeps = true;
         true
     }
@@ -137,7 +118,7 @@ impl<'a, R: Wait + Clock + Copy, L: Log, C: Ledger, T: Ledger> Keeper<'a, R, L, 
     }
 }
 
-impl<R: Wait + Clock + Copy, L: Log, C: Ledger, T: Ledger> Peer for Keeper<'_, R, L, C, T> {
+impl<R: Wait + Clock + Copy, L: Log, K: KeptCore> Peer for Keeper<'_, R, L, K> {
     fn next(&mut self) -> Result<Option<(Event, u64)>, PeerFault> {
         if !self.begun {
             self.begun = true;

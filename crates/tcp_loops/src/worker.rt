@@ -1,22 +1,29 @@
 //! What a thread of the pool serves.
 
-use crate::keeper::Keeper;
+use crate::event_loop::EventLoop;
+use crate::keeper::{Keeper, KeptCore};
 use events::{CoreError, Event, Outcome, Peer, PeerFault};
-use hub_gate::Turnstile;
 use std::rt::Clock;
 use std::sync::Wait;
-use std::sync::ledger::Ledger;
-use tcp_loops::EventLoop;
 use tcp_streams::Log;
 
 /// What a thread of the pool serves.
-#[derive(Drop)]
-pub(crate) enum Worker<'a, R, L, C: Ledger, T: Ledger> {
+pub enum Worker<'a, R, L, K> {
     Serves(EventLoop<'a, R, L>),
-    Keeps(Keeper<'a, R, L, C, T>),
+    Keeps(Keeper<'a, R, L, K>),
 }
 
-impl<R: Wait + Clock + Copy + Drop, L: Log, C: Ledger, T: Ledger> Peer for Worker<'_, R, L, C, T> {
+/// Written out, so that a crate above takes the drop of all that lies in it by this one call.
+impl<R: Drop, L, K: Drop> Drop for Worker<'_, R, L, K> {
+    fn drop(self) {
+        match self {
+            Worker::Serves(_) => {}
+            Worker::Keeps(_) => {}
+        }
+    }
+}
+
+impl<R: Wait + Clock + Copy + Drop, L: Log, K: KeptCore> Peer for Worker<'_, R, L, K> {
     fn next(&mut self) -> Result<Option<(Event, u64)>, PeerFault> {
         match self {
             Worker::Serves(own) => own.next(),
@@ -30,14 +37,4 @@ impl<R: Wait + Clock + Copy + Drop, L: Log, C: Ledger, T: Ledger> Peer for Worke
             Worker::Keeps(keeper) => keeper.answer(got),
         }
     }
-}
-
-/// A gate that lets all pass.
-#[derive(Drop)]
-pub(crate) struct Open;
-
-impl Turnstile for Open {
-    fn before(&self, _worker: usize, _turn: u64) {}
-
-    fn after(&self, _worker: usize, _turn: u64) {}
 }

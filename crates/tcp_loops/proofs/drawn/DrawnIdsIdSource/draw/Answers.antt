@@ -2,7 +2,7 @@
 use Rattle.std.proofs.Common.{◌≡◌, ap, refl}
 use native.Mathlib.Numerals.{unary_clauses}
 use Rattle.rand_core.specs.Stream.{next_u64}
-use Rattle.tcp_server.proofs.drawn.DrawnIdsIdSource.draw.Goals as goal
+use Rattle.tcp_loops.proofs.drawn.DrawnIdsIdSource.draw.Goals as goal
 
 pub returns-clause-rest : goal.returns-clause-rest
 unfolding next_u64

@@ -1,0 +1,39 @@
+//! The core, as its keeper sees it.
+
+use events::CoreError;
+use hub::Pass;
+use hub_gate::Locked;
+use journal::Totals;
+use std::alloc::Global;
+use std::sync::Wait;
+use std::sync::ledger::Ledger;
+use tcp_loops::KeptCore;
+
+/// A journal with so many steps is sealed.
+const STEPS: usize = 65_536;
+
+/// And one whose entries hold so many bytes.
+const BYTES: u64 = 67_108_864;
+
+/// A core under its lock.
+#[derive(Drop)]
+pub(crate) struct LockedCore<'a, C: Ledger, T: Ledger> {
+    pub(crate) locked: &'a Locked<C, T>,
+    /// It counts nothing: with it the core is looked at.
+    pub(crate) pass: Pass<C, T>,
+}
+
+impl<C: Ledger, T: Ledger> KeptCore for LockedCore<'_, C, T> {
+    fn clients<R: Wait>(&mut self, rt: &R, alloc: Global) -> Result<Vec<u128>, CoreError> {
+        self.locked.look(rt, &mut self.pass).clients(alloc)
+    }
+
+    fn totals<R: Wait>(&mut self, rt: &R) -> Totals {
+        self.locked.look(rt, &mut self.pass).hub().state().totals()
+    }
+
+    fn seal<R: Wait>(&self, rt: &R, alloc: Global) {
+        // A journal that can't be sealed for want of memory is sealed at the next look.
+        let _ = self.locked.seal(rt, alloc, STEPS, BYTES);
+    }
+}
