@@ -1,4 +1,4 @@
-//! Where a server is, as its clients see it. Each function answers with nothing where it isn't so.
+//! Where a server is, as its clients see it. A function gives nothing, or false, where it isn't so.
 
 use crate::wire::{body_over, brings, next_text, says, sends};
 use std::alloc::Global;
@@ -21,7 +21,7 @@ const CONNECTED: &str = r#"40{"sid":"<>","pid":"<>"}"#;
 
 /// The headers by which a client asks for a WebSocket, and how that is granted.
 const UPGRADE: &str =
-    "Upgrade: websocket\r\nConnection: Upgrade\r\nSec-WebSocket-Key: dGhlIHNhbXBsZSBub25jZQ==\r\nSec-WebSocket-Version: 13\r\n";
+    "Upgrade: websocket\r\nConnection: Upgrade\r\nSec-WebSocket-Key: dGhlIHNhbXBsZSBub25jZQ==\r\nSec-WebSocket-Version: 13\r\n\r\n";
 
 const SWITCHED: &[u8] =
     b"HTTP/1.1 101 Switching Protocols\r\nconnection: Upgrade\r\nupgrade: websocket\r\nsec-websocket-accept: s3pPLMBiTxaQ9kYGzzhZRbK+xOo=\r\n\r\n";
@@ -49,85 +49,99 @@ pub struct Place<'a, R> {
 }
 
 impl<R: Net<Stream = TcpStream> + Clock + Wait> Place<'_, R> {
-    /// A connection over which this request was sent, of the client with this id if it has one. No read and
-    /// no write waits longer than thirty seconds.
+    /// A connection over which these bytes were sent. No read and no write waits longer than thirty seconds.
+    fn connect(&self, request: &str) -> Option<TcpStream> {
+        let stream = TcpStream::connect(self.rt, ("127.0.0.1", self.port)).ok()?;
+        let most = Some(Duration::from_secs(30));
+        let is_sent = stream.set_read_timeout(most).is_ok()
+            && stream.set_write_timeout(most).is_ok()
+            && sends(&stream, request.as_bytes());
+        is_sent.then_some(stream)
+    }
+
+    /// A connection over which a request was sent, of the client with this id if it has one.
     fn ask(&self, verb: &str, kind: &str, id: &str, rest: &str) -> Option<TcpStream> {
         let sid = if id.is_empty() { "" } else { "&sid=" };
         let request = format!(in self.alloc;
             "{verb} /socket.io/?EIO=4&transport={kind}{sid}{id} HTTP/1.1\r\nHost: localhost\r\n{rest}"
         );
-        let stream = TcpStream::connect(self.rt, ("127.0.0.1", self.port)).ok()?;
-        let most = Some(Duration::from_secs(30));
-        stream.set_read_timeout(most).ok()?;
-        stream.set_write_timeout(most).ok()?;
-        sends(&stream, request.ok()?.as_str().as_bytes())?;
-        Some(stream)
+        self.connect(request.ok()?.as_str())
     }
 
-    /// A connection brings an answer whose body fits, and ends.
-    fn answer(&self, stream: TcpStream, body: &str) -> Option<String> {
-        let got = body_over(self.alloc, stream)?;
+    /// A GET of a client that polls.
+    pub fn get(&self, id: &str) -> Option<TcpStream> {
+        self.ask("GET", "polling", id, "\r\n")
+    }
+
+    /// The body of the answer that a connection brings, where it fits; then it ends.
+    fn answer(&self, asked: Option<TcpStream>, body: &str) -> Option<String> {
+        let got = body_over(self.alloc, asked?)?;
         fits(body, got.as_str()).then_some(got)
     }
 
-    /// A GET of the client hears this.
-    pub fn hear(&self, get: TcpStream, body: &str) -> Option<()> {
-        self.answer(get, body)?;
-        Some(())
+    /// What was asked is answered so.
+    pub fn hears(&self, asked: Option<TcpStream>, body: &str) -> bool {
+        self.answer(asked, body).is_some()
     }
 
     /// A client posts a payload.
-    pub fn post(&self, id: &str, text: &str) -> Option<()> {
+    pub fn posts(&self, id: &str, text: &str) -> bool {
         let length = text.len();
-        let rest = format!(in self.alloc; "Content-Length: {length}\r\n\r\n{text}").ok()?;
-        self.hear(self.ask("POST", "polling", id, rest.as_str())?, "ok")
+        match format!(in self.alloc; "Content-Length: {length}\r\n\r\n{text}") {
+            Ok(rest) => self.hears(self.ask("POST", "polling", id, rest.as_str()), "ok"),
+            Err(_) => false,
+        }
     }
 
-    /// A GET of a client waits.
+    /// A GET of a client that waits by now.
     pub fn wait(&self, id: &str) -> Option<TcpStream> {
-        let get = self.ask("GET", "polling", id, "\r\n")?;
+        let get = self.get(id);
         thread::sleep(self.rt, Duration::from_millis(300));
-        Some(get)
+        get
     }
 
     /// The id of a new client that polls, and is connected to the first namespace.
     pub fn open(&self) -> Option<String> {
-        let opened = self.answer(self.ask("GET", "polling", "", "\r\n")?, OPENED)?;
-        let id = String::from_str(self.alloc, opened.as_str().split('"').nth(3)?).ok()?;
-        self.post(id.as_str(), "40")?;
-        self.hear(self.ask("GET", "polling", id.as_str(), "\r\n")?, CONNECTED)?;
-        Some(id)
+        let opened = self.answer(self.get(""), OPENED)?;
+        let id = opened.as_str().split('"').nth(3).unwrap_or("");
+        if self.posts(id, "40") && self.hears(self.get(id), CONNECTED) {
+            String::from_str(self.alloc, id).ok()
+        } else {
+            None
+        }
     }
 
     /// A text comes next over a WebSocket.
-    pub fn told(&self, socket: &TcpStream, text: &str) -> Option<()> {
-        let got = next_text(self.alloc, socket)?;
-        fits(text, got.as_str()).then_some(())
+    pub fn told(&self, socket: &TcpStream, text: &str) -> bool {
+        match next_text(self.alloc, socket) {
+            Some(got) => fits(text, got.as_str()),
+            None => false,
+        }
     }
 
+    /// A new WebSocket, of a client if it has an id.
     fn switch(&self, id: &str) -> Option<TcpStream> {
-        let rest = format!(in self.alloc; "{UPGRADE}\r\n").ok()?;
-        let socket = self.ask("GET", "websocket", id, rest.as_str())?;
-        brings(self.alloc, &socket, SWITCHED)?;
-        Some(socket)
+        let socket = self.ask("GET", "websocket", id, UPGRADE)?;
+        brings(self.alloc, &socket, SWITCHED).then_some(socket)
     }
 
     /// The WebSocket of a new client that is connected to the first namespace.
     pub fn speak(&self) -> Option<TcpStream> {
         let socket = self.switch("")?;
-        self.told(&socket, OPENED_OVER)?;
-        says(self.alloc, &socket, "40")?;
-        self.told(&socket, CONNECTED)?;
-        Some(socket)
+        let is_in = self.told(&socket, OPENED_OVER)
+            && says(self.alloc, &socket, "40")
+            && self.told(&socket, CONNECTED);
+        is_in.then_some(socket)
     }
 
-    /// A client that polls comes over to a WebSocket, and its GET ends.
-    pub fn come_over(&self, id: &str, get: TcpStream) -> Option<TcpStream> {
+    /// The WebSocket to which a client that polls comes over, while a GET of it waits.
+    pub fn come_over(&self, id: &str) -> Option<TcpStream> {
+        let get = self.wait(id);
         let socket = self.switch(id)?;
-        says(self.alloc, &socket, "2probe")?;
-        self.told(&socket, "3probe")?;
-        says(self.alloc, &socket, "5")?;
-        self.hear(get, "6")?;
-        Some(socket)
+        let is_over = says(self.alloc, &socket, "2probe")
+            && self.told(&socket, "3probe")
+            && says(self.alloc, &socket, "5")
+            && self.hears(get, "6");
+        is_over.then_some(socket)
     }
 }

@@ -1,4 +1,4 @@
-//! What clients do beside a server. Each function answers with nothing where it isn't so.
+//! What clients do beside a server, and whether all of it was so.
 
 use crate::place::Place;
 use crate::wire::{brings, closes, says, sends};
@@ -7,38 +7,54 @@ use std::rt::Clock;
 use std::sync::Wait;
 
 /// One joins a room while its GET waits, and so hears the other.
-pub fn polling<R: Net<Stream = TcpStream> + Clock + Wait>(place: &Place<'_, R>) -> Option<()> {
-    let (one, other) = (place.open()?, place.open()?);
+pub fn polling<R: Net<Stream = TcpStream> + Clock + Wait>(place: &Place<'_, R>) -> bool {
+    let (Some(one), Some(other)) = (place.open(), place.open()) else {
+        return false;
+    };
     let (one, other) = (one.as_str(), other.as_str());
-    let get = place.wait(one)?;
-    place.post(one, r#"421["join","r"]"#)?;
-    place.hear(get, "431[]")?;
-    let get = place.wait(one)?;
-    place.post(other, r#"42["say","r","hi"]"#)?;
-    place.hear(get, r#"42["say","r","hi","0000000000000001"]"#)
+    let joining = place.wait(one);
+    let is_in = place.posts(one, r#"421["join","r"]"#) && place.hears(joining, "431[]");
+    let hearing = place.wait(one);
+    is_in
+        && place.posts(other, r#"42["say","r","hi"]"#)
+        && place.hears(hearing, r#"42["say","r","hi","0000000000000001"]"#)
 }
 
 /// One speaks from the first, the other comes over while a GET of it waits.
-pub fn speaking<R: Net<Stream = TcpStream> + Clock + Wait>(place: &Place<'_, R>) -> Option<()> {
-    let (alloc, one) = (place.alloc, place.speak()?);
-    says(alloc, &one, r#"421["join","r"]"#)?;
-    place.told(&one, "431[]")?;
-    let id = place.open()?;
-    let other = place.come_over(id.as_str(), place.wait(id.as_str())?)?;
+pub fn speaking<R: Net<Stream = TcpStream> + Clock + Wait>(place: &Place<'_, R>) -> bool {
+    let Some(one) = place.speak() else {
+        return false;
+    };
+    let is_in = says(place.alloc, &one, r#"421["join","r"]"#) && place.told(&one, "431[]");
+    let Some(id) = place.open() else {
+        return false;
+    };
+    match place.come_over(id.as_str()) {
+        Some(other) => is_in && speak_both(place, &one, &other),
+        None => false,
+    }
+}
+
+/// The other says bytes to the room, and then the one says something to all.
+fn speak_both<R: Net<Stream = TcpStream> + Clock + Wait>(
+    place: &Place<'_, R>,
+    one: &TcpStream,
+    other: &TcpStream,
+) -> bool {
+    let alloc = place.alloc;
     says(
         alloc,
-        &other,
+        other,
         r#"451-["say","r",{"_placeholder":true,"num":0}]"#,
-    )?;
-    sends(&other, b"\x82\x83\0\0\0\0\x01\0\xff")?;
-    place.told(
-        &one,
-        r#"451-["say","r",{"_placeholder":true,"num":0},"0000000000000001"]"#,
-    )?;
-    brings(alloc, &one, b"\x82\x03\x01\0\xff")?;
-    says(alloc, &one, r#"42["all","hi"]"#)?;
-    place.told(&one, r#"42["all","hi","0000000000000002"]"#)?;
-    place.told(&other, r#"42["all","hi","0000000000000002"]"#)?;
-    closes(alloc, &one)?;
-    closes(alloc, &other)
+    ) && sends(other, b"\x82\x83\0\0\0\0\x01\0\xff")
+        && place.told(
+            one,
+            r#"451-["say","r",{"_placeholder":true,"num":0},"0000000000000001"]"#,
+        )
+        && brings(alloc, one, b"\x82\x03\x01\0\xff")
+        && says(alloc, one, r#"42["all","hi"]"#)
+        && place.told(one, r#"42["all","hi","0000000000000002"]"#)
+        && place.told(other, r#"42["all","hi","0000000000000002"]"#)
+        && closes(alloc, one)
+        && closes(alloc, other)
 }

@@ -47,15 +47,15 @@ fn is_so<R: Net<Stream = TcpStream> + Clock + Wait>(
     shared: &Shared,
     speaks: bool,
 ) -> bool {
-    let played = if speaks {
+    let is_so = if speaks {
         speaking(place)
     } else {
         polling(place)
     };
-    if played.is_none() {
+    if !is_so {
         shared.stop(place.rt, Duration::from_millis(0));
     }
-    played.is_some()
+    is_so
 }
 
 /// How many entries were placed, taken and dropped, where it adds up: all loops and the keeper ended well,

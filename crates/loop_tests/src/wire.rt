@@ -20,9 +20,9 @@ pub fn body_over(alloc: Global, stream: TcpStream) -> Option<String> {
 }
 
 /// These bytes could be sent.
-pub fn sends(stream: &TcpStream, bytes: &[u8]) -> Option<()> {
+pub fn sends(stream: &TcpStream, bytes: &[u8]) -> bool {
     let mut writer = stream;
-    writer.write_all(bytes).ok()
+    writer.write_all(bytes).is_ok()
 }
 
 /// So many bytes that come over a connection.
@@ -35,19 +35,26 @@ fn bytes_from(alloc: Global, stream: &TcpStream, count: usize) -> Option<Vec<u8>
 }
 
 /// These bytes come next.
-pub fn brings(alloc: Global, stream: &TcpStream, bytes: &[u8]) -> Option<()> {
-    let got = bytes_from(alloc, stream, bytes.len())?;
-    (got.as_slice() == bytes).then_some(())
+pub fn brings(alloc: Global, stream: &TcpStream, bytes: &[u8]) -> bool {
+    match bytes_from(alloc, stream, bytes.len()) {
+        Some(got) => got.as_slice() == bytes,
+        None => false,
+    }
 }
 
 /// A short text could be sent, in a frame that is masked by zeros.
-pub fn says(alloc: Global, stream: &TcpStream, text: &str) -> Option<()> {
+pub fn says(alloc: Global, stream: &TcpStream, text: &str) -> bool {
+    match frame_of(alloc, text) {
+        Some(frame) => sends(stream, frame.as_slice()),
+        None => false,
+    }
+}
+
+fn frame_of(alloc: Global, text: &str) -> Option<Vec<u8>> {
     let length = u8::try_from(text.len()).ok()?;
-    let start = [0x81, 0x80 | length, 0, 0, 0, 0];
-    let mut frame = Vec::new(alloc);
-    frame.extend_from_slice(&start).ok()?;
+    let mut frame = Vec::from_slice(alloc, &[0x81, 0x80 | length, 0, 0, 0, 0]).ok()?;
     frame.extend_from_slice(text.as_bytes()).ok()?;
-    sends(stream, frame.as_slice())
+    Some(frame)
 }
 
 /// The short text of the next frame.
@@ -63,22 +70,20 @@ fn text_of_frame(alloc: Global, stream: &TcpStream) -> Option<String> {
 /// The next short text. On a slow machine a ping may come before it, which is answered.
 pub fn next_text(alloc: Global, stream: &TcpStream) -> Option<String> {
     let text = text_of_frame(alloc, stream)?;
-    if text.as_str() != "2" {
-        return Some(text);
+    if text.as_str() == "2" && says(alloc, stream, "3") {
+        return text_of_frame(alloc, stream);
     }
-    says(alloc, stream, "3")?;
-    text_of_frame(alloc, stream)
+    Some(text)
 }
 
 /// A close is answered by one, and then the connection ends.
-pub fn closes(alloc: Global, stream: &TcpStream) -> Option<()> {
-    sends(stream, b"\x88\x80\0\0\0\0")?;
-    brings(alloc, stream, b"\x88\0")?;
+pub fn closes(alloc: Global, stream: &TcpStream) -> bool {
+    let is_closed = sends(stream, b"\x88\x80\0\0\0\0") && brings(alloc, stream, b"\x88\0");
     let mut byte = [0; 1];
     let mut reader = stream;
     let is_ended = match reader.read(&mut byte) {
         Ok(count) => count == 0,
         Err(error) => error.kind() == ErrorKind::ConnectionReset,
     };
-    is_ended.then_some(())
+    is_closed && is_ended
 }
