@@ -21,6 +21,7 @@ use hub_state::State;
 use session_clock::Transport;
 use std::alloc::{AllocError, Global};
 use std::collections::BTreeMap;
+use std::slice;
 use terms::{Entry, Text};
 
 /// A frame of more bytes isn't read.
@@ -72,7 +73,7 @@ pub(crate) fn hear<A: App, I: IdSource>(
         return close_unread(visit, state, lines, Cause::TooLong);
     }
     match read_frame(visit.alloc, frame) {
-        Ok(packet) => work_on(visit, state, lines, app, ids, &[packet]),
+        Ok(packet) => work_on(visit, state, lines, app, ids, slice::from_ref(&packet)),
         Err(WireError::Memory) => Err(CoreFault::Memory.at_once()),
         Err(fault) => close_unread(visit, state, lines, Cause::of_wire(fault)),
     }

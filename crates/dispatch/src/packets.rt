@@ -4,7 +4,7 @@
 ghost use Rattle.std.specs.Prelude.{◌≡◌, true, None, OnOk, IfOk, IfErr, is_none};
 ghost use Rattle.connection.specs.Line.{IsWholeIfGiven};
 ghost use Rattle.journal.specs.Membership.{is_open};
-ghost use Rattle.effects.specs.Effects.{scene, IsOpenFor};
+ghost use Rattle.effects.specs.Effects.{IsOpenFor};
 ghost use Rattle.effects.specs.Runs.{Runs};
 ghost use Rattle.effects.specs.Scene.{seen, IsSameEvent, Plays};
 ghost use Rattle.dispatch.specs.Packets.{stage, Draws, IsFresh, ClosesFor, ParksFor, Works, GoesOn, TakesBinary, Handles, HandlesOrBreaks, HandlesInTurn, BreaksAfter};
@@ -12,11 +12,9 @@ ghost use Rattle.dispatch.specs.Packets.{stage, Draws, IsFresh, ClosesFor, Parks
 use crate::connect::connect;
 use crate::parking::park_or_close;
 use crate::serve::serve_joined;
-use connection::Line;
-use effects::{Scene, Tally, Visit};
+use effects::Scene;
 use eio_wire::Packet;
 use events::{App, Cause, CoreError, CoreFault, IdSource, Stopped};
-use hub_state::State;
 use sio_wire::{Kind, SioError, SioPacket};
 
 /// Closes the client for a cause.
@@ -148,7 +146,7 @@ fn handle_in_turn<A: App, I: IdSource>(
 
 /// What the packets of a payload do, in order. After an error so many packets are done, and of the
 /// next one so many effects, as the error says.
-fn handle_each<A: App, I: IdSource>(
+pub(crate) fn handle_each<A: App, I: IdSource>(
     scene: &mut Scene,
     app: &A,
     ids: &mut I,
@@ -176,34 +174,4 @@ fn handle_each<A: App, I: IdSource>(
         count += 1;
     }
     Ok(())
-}
-
-/// What the packets of a payload do to the hub and to the client's line.
-pub(crate) fn handle_all<A: App, I: IdSource>(
-    visit: Visit,
-    state: &mut State,
-    line: &mut Line,
-    app: &A,
-    ids: &mut I,
-    packets: &[Packet],
-    tally: &mut Tally,
-) -> Result<(), CoreError>
-    requires open_client { is_open state.old.base state.old.journal visit.client ≡ true }
-    requires fresh { tally.old.done.closed ≡ None }
-    ensures ok { OnOk result (Runs
-        (HandlesInTurn (A.decides app.now) (A.allows app.now) visit.client visit.moment) packets.now
-        (stage (scene state.old line.old tally.old) (I.stream ids.old))
-        (stage (scene state.new line.new tally.new) (I.stream ids.new))) }
-    ensures err { IfErr result (λ e. BreaksAfter
-        (A.decides app.now) (A.allows app.now) visit.client visit.moment packets.now
-        (stage (scene state.old line.old tally.old) (I.stream ids.old)) e
-        (stage (scene state.new line.new tally.new) (I.stream ids.new))) }
-{
-    let mut scene = Scene {
-        visit,
-        state,
-        line,
-        tally,
-    };
-    handle_each(&mut scene, app, ids, packets)
 }

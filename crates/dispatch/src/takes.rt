@@ -16,6 +16,7 @@ use events::{CoreFault, Outcome};
 use hub_state::State;
 use session_clock::Transport;
 use std::alloc::{AllocError, Global};
+use std::slice;
 use terms::{Entry, Text};
 
 /// Adds the packets of an entry: its text, and then its attachments.
@@ -79,8 +80,8 @@ fn payload_of(alloc: Global, packets: &[Packet]) -> Result<Text, CoreFault>
 fn noop(alloc: Global, line: &mut Line) -> Result<Outcome, CoreFault>
     ensures { (h : History) → TellsNoop result h h line.old line.new }
 {
-    let packets = [Packet::Noop(Text::copy_of(alloc, "")?)];
-    let text = payload_of(alloc, &packets)?;
+    let packet = Packet::Noop(Text::copy_of(alloc, "")?);
+    let text = payload_of(alloc, slice::from_ref(&packet))?;
     line.end_get();
     Ok(Outcome::Payload(text))
 }

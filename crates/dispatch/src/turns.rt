@@ -10,11 +10,11 @@ ghost use Rattle.dispatch.specs.Machine.{Opens, Begins, Ends, Takes, Loses, Work
 
 use crate::greeting::Greeting;
 use crate::lines::{forget, put, transport_of};
-use crate::packets::handle_all;
+use crate::packets::handle_each;
 use crate::parking::park_or_close;
 use crate::takes;
 use connection::Line;
-use effects::{Tally, Visit, commands};
+use effects::{Scene, Tally, Visit, commands};
 use eio_wire::{Packet, WireError, open_text, read_payload};
 use events::{App, Cause, CoreError, CoreFault, Done, IdSource, Opening, Outcome};
 use hub_state::State;
@@ -131,7 +131,13 @@ pub(crate) fn work_on<A: App, I: IdSource>(
         unreachable!()
     };
     let mut tally = Tally::new(visit.alloc);
-    match handle_all(visit, state, line, app, ids, packets, &mut tally) {
+    let mut scene = Scene {
+        visit,
+        state,
+        line,
+        tally: &mut tally,
+    };
+    match handle_each(&mut scene, app, ids, packets) {
         Ok(()) if tally.done.closed.is_some() => {
             forget(lines, visit.client);
             Ok(Outcome::Done(tally.done))

@@ -5,7 +5,6 @@ ghost use Rattle.journal.specs.Journal.{History};
 ghost use Rattle.events.specs.Answer.{at_once};
 ghost use Rattle.dispatch.specs.Answers.{ForClient};
 ghost use Rattle.dispatch.specs.Place.{place};
-ghost use Rattle.events.specs.Plain.{nothing_done};
 ghost use Rattle.dispatch.specs.Upgrade.{fault_of_clock, Probes, Upgrades, LosesProbe};
 
 use connection::Line;
@@ -14,17 +13,6 @@ use session_clock::ClockError;
 use std::alloc::Global;
 use std::collections::BTreeMap;
 use terms::Text;
-
-/// The fault where the clock refuses a change of transport.
-fn fault_of(error: ClockError) -> CoreFault
-    ensures { result ≡ fault_of_clock error }
-{
-    match error {
-        ClockError::NotProbing => CoreFault::NotProbing,
-        ClockError::AlreadyProbing => CoreFault::AlreadyProbing,
-        ClockError::AlreadyUpgraded => CoreFault::AlreadyUpgraded,
-    }
-}
 
 /// The client, which polls, probes a WebSocket. The answer's text is made first, so that a probe
 /// that is refused for memory has not begun.
@@ -42,28 +30,19 @@ pub(crate) fn probe(
     let Ok(text) = Text::copy_of(alloc, "3probe") else {
         return Err(CoreFault::Memory.at_once());
     };
-    answer_probe(text, line.probe())
+    answer(Outcome::Probed(text), line.probe())
 }
 
-/// What comes of a probe: the text, where it has begun.
-fn answer_probe(text: Text, said: Result<(), ClockError>) -> Result<Outcome, CoreError>
-    ensures ok { OnOk said (result ≡ Ok (Outcome.Probed text)) }
+/// What comes of what the clock said: this outcome, or the fault by its name.
+fn answer(outcome: Outcome, said: Result<(), ClockError>) -> Result<Outcome, CoreError>
+    ensures ok { OnOk said (result ≡ Ok outcome) }
     ensures err { IfErr said (λ e. result ≡ Err (at_once (fault_of_clock e))) }
 {
     match said {
-        Ok(()) => Ok(Outcome::Probed(text)),
-        Err(refused) => Err(fault_of(refused).at_once()),
-    }
-}
-
-/// What comes of the end of a probe.
-fn answer_end(alloc: Global, said: Result<(), ClockError>) -> Result<Outcome, CoreError>
-    ensures ok { OnOk said (result ≡ Ok (Outcome.Done nothing_done)) }
-    ensures err { IfErr said (λ e. result ≡ Err (at_once (fault_of_clock e))) }
-{
-    match said {
-        Ok(()) => Ok(Outcome::Done(Done::nothing(alloc))),
-        Err(refusal) => Err(fault_of(refusal).at_once()),
+        Ok(()) => Ok(outcome),
+        Err(ClockError::NotProbing) => Err(CoreFault::NotProbing.at_once()),
+        Err(ClockError::AlreadyProbing) => Err(CoreFault::AlreadyProbing.at_once()),
+        Err(ClockError::AlreadyUpgraded) => Err(CoreFault::AlreadyUpgraded.at_once()),
     }
 }
 
@@ -79,7 +58,7 @@ pub(crate) fn upgrade(
     let Some(line) = lines.get_mut(&client) else {
         return Err(CoreFault::UnknownClient.at_once());
     };
-    answer_end(alloc, line.upgrade())
+    answer(Outcome::Done(Done::nothing(alloc)), line.upgrade())
 }
 
 /// The probe failed, and the client polls on.
@@ -94,5 +73,5 @@ pub(crate) fn probe_lost(
     let Some(line) = lines.get_mut(&client) else {
         return Err(CoreFault::UnknownClient.at_once());
     };
-    answer_end(alloc, line.probe_lost())
+    answer(Outcome::Done(Done::nothing(alloc)), line.probe_lost())
 }

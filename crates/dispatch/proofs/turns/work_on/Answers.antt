@@ -1,6 +1,6 @@
-use Rattle.std.proofs.Common.{rules, ◌≡◌, Some, refl, subst}
+use Rattle.std.proofs.Common.{rules, ◌≡◌, ◌∙◌, ap, Some, refl, subst}
 use Rattle.connection.specs.Line.{PlainLine}
-use Rattle.effects.specs.Effects.{scene}
+use Rattle.effects.specs.Scene.{seen}
 use Rattle.dispatch.specs.Machine.{opening}
 use Rattle.dispatch.specs.Packets.{stage, BreaksAfter}
 use Rattle.dispatch.specs.Place.{line_of, place, KeepsOthers}
@@ -13,12 +13,15 @@ returns-in-Err g c = λ line known.
     let decides = g.A.App.decides c.args.app.now in
     let allows = g.A.App.allows c.args.app.now in
     let ids = g.I.IdSource.stream c.args.ids.now in
-    let left = g.I.IdSource.stream c.handle_all.new.ids in
-    let new = (c.get_mut.follows.lender c.handle_all.new.line).entries in
-    let after = stage (scene c.handle_all.new.state c.handle_all.new.line c.handle_all.new.tally) left in
-    let others : KeepsOthers c.args.visit.client (place c.args.state.now c.args.lines.now.entries) (place c.handle_all.new.state new) = search rules in
-    let has : line_of new c.args.visit.client ≡ Some c.handle_all.new.line = search rules in
+    let left = g.I.IdSource.stream c.handle_each.new.ids in
+    let worked = c.handle_each.new.scene in
+    let state = c.state-1.given.0 in
+    let new = (c.get_mut.follows.lender c.line-1.given.0).entries in
+    let made : state ≡ worked.state.now = search rules in
+    let kept : c.line-1.given.0 ≡ worked.line.now = search rules in
+    let others : KeepsOthers client (place c.args.state.now c.args.lines.now.entries) (place state new) = search rules in
+    let has : line_of new client ≡ Some c.line-1.given.0 = search rules in
     let same : c.in-Some.line.now ≡ line = search rules in
-    ends-with decides allows c.args.visit.moment client c.args.packets.now line (place c.args.state.now c.args.lines.now.entries) (place c.handle_all.new.state new) ids left c.in-Err.error after
-    (subst (λ (l : PlainLine). BreaksAfter decides allows client c.args.visit.moment c.args.packets.now (stage (opening c.args.state.now l) ids) c.in-Err.error after) same (rw c.new-tally.ensures at c.in-Err.ensures.err))
-    refl has others refl
+    ends-with decides allows c.args.visit.moment client c.args.packets.now line (place c.args.state.now c.args.lines.now.entries) (place state new) ids left c.in-Err.error (stage (seen worked) left)
+    (subst (λ (l : PlainLine). BreaksAfter decides allows client c.args.visit.moment c.args.packets.now (stage (opening c.args.state.now l) ids) c.in-Err.error (stage (seen worked) left)) same (rw c.new-tally.ensures at c.in-Err.ensures.err))
+    made (has ∙ ap (λ (l : PlainLine). Some l) kept) others refl

@@ -9,5 +9,5 @@ returns c = λ h.
     let known : line_of c.args.lines.now.entries c.args.client ≡ Some c.in-Some.line.now = search rules in
     let has : line_of new c.args.client ≡ Some c.probe.new.self = search rules in
     let others : KeepsOthers c.args.client (place h c.args.lines.now.entries) (place h new) = search rules in
-    probes-for c.args.client h c.args.lines.now.entries new c.in-Some.line.now c.probe.new.self c.answer_probe.result known has others
-    c.in-Ok.text c.in-Ok.ensures c.probe.result c.probe.ensures.reached c.probe.ensures.answer c.probe.ensures.advances c.probe.ensures.unchanged c.answer_probe.ensures.ok c.answer_probe.ensures.err
+    probes-for c.args.client h c.args.lines.now.entries new c.in-Some.line.now c.probe.new.self c.answer.result known has others
+    c.in-Ok.text c.in-Ok.ensures c.probe.result c.probe.ensures.reached c.probe.ensures.answer c.probe.ensures.advances c.probe.ensures.unchanged c.answer.ensures.ok c.answer.ensures.err
