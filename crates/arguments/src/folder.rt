@@ -73,10 +73,15 @@ pub fn read_folder<R: Files + AllocGlobal + Clone + Drop>(
 ) -> Result<Page, FolderFault> {
     let alloc = rt.alloc();
     let mut page = Page::new(alloc);
-    let entries = fs::read_dir(rt, folder).map_err(|error| fault_at(alloc, folder, &error))?;
+    let entries = match fs::read_dir(rt, folder) {
+        Ok(entries) => entries,
+        Err(error) => return Err(fault_at(alloc, folder, &error)),
+    };
     for entry in entries {
-        let entry = entry.map_err(|error| fault_at(alloc, folder, &error))?;
-        add_entry(rt, &mut page, entry.file_name(), entry.path())?;
+        match entry {
+            Ok(entry) => add_entry(rt, &mut page, entry.file_name(), entry.path())?,
+            Err(error) => return Err(fault_at(alloc, folder, &error)),
+        }
     }
     Ok(page)
 }
@@ -88,26 +93,30 @@ fn add_entry<R: Files + AllocGlobal>(
     name: &str,
     path: Path<'_>,
 ) -> Result<(), FolderFault> {
-    let alloc = rt.alloc();
-    let text = path.as_str();
-    let found = fs::metadata(rt, path).map_err(|error| fault_at(alloc, text, &error))?;
-    if !found.is_file() {
-        return Ok(());
+    match read_file(rt, path, MOST_BYTES - page.size()) {
+        Ok(None) => Ok(()),
+        Ok(Some(bytes)) => {
+            let (name, bytes) = (Text::copy_of(rt.alloc(), name)?, Bytes::from_vec(bytes));
+            page.add(File { name, bytes })?;
+            Ok(())
+        }
+        Err(error) => Err(fault_at(rt.alloc(), path.as_str(), &error)),
     }
-    let read = read_file(rt, path, MOST_BYTES - page.size());
-    let bytes = read.map_err(|error| fault_at(alloc, text, &error))?;
-    page.add(File {
-        name: Text::copy_of(alloc, name)?,
-        bytes: Bytes::from_vec(bytes),
-    })?;
-    Ok(())
 }
 
-/// The bytes of a file, but just one more than there is room for where it has more.
-fn read_file<R: Files + AllocGlobal>(rt: &R, path: Path<'_>, room: usize) -> io::Result<Vec<u8>> {
+/// The bytes of a file, but just one more than there is room for where it has more. Nothing where it
+/// is no file.
+fn read_file<R: Files + AllocGlobal>(
+    rt: &R,
+    path: Path<'_>,
+    room: usize,
+) -> io::Result<Option<Vec<u8>>> {
+    if !fs::metadata(rt, path)?.is_file() {
+        return Ok(None);
+    }
     let file = fs::open(rt, path)?;
     let most = (room as u64).saturating_add(1);
     let mut bytes = Vec::new(rt.alloc());
     file.take(most).read_to_end(&mut bytes)?;
-    Ok(bytes)
+    Ok(Some(bytes))
 }

@@ -1,7 +1,8 @@
-//! The arguments of `event_server` and of other programs that serve: what they ask for, and the folder that
-//! they name.
+//! The arguments of `event_server` and of other programs that serve: what they ask for, the folder that
+//! they name, and what is told where they are refused.
 #![tactic(auto)]
 
 pub mod folder;
 pub mod options;
+pub mod refused;
 pub mod task;

@@ -1,6 +1,5 @@
 //! The options of a program that serves.
 
-use crate::task::boxed;
 use clap::builder::ValueParser;
 use clap::{Arg, ArgAction, ArgMatches, Command};
 use journal::Config;
@@ -26,30 +25,21 @@ pub struct Options {
 struct Entry {
     name: &'static str,
     takes: Takes,
-    unsaid: Unsaid,
     help: &'static str,
 }
 
-/// What an option takes.
+/// What an option takes, and behind it what holds where the option isn't there.
 enum Takes {
+    /// A number between these. It has to be there.
+    Needed(u64, u64),
     /// A number between these.
-    Number(u64, u64),
+    Number(u64, u64, &'static [&'static str]),
     /// A text.
-    Text,
+    Text(&'static [&'static str]),
     /// A text each time that it comes.
-    Texts,
+    Texts(&'static [&'static str]),
     /// Nothing: it is there or not.
     Nothing,
-}
-
-/// What holds where an option isn't there.
-enum Unsaid {
-    /// It has to be there.
-    Refused,
-    /// This.
-    Usual(&'static str),
-    /// No value.
-    Absent,
 }
 
 /// The most that a u32 counts.
@@ -59,172 +49,148 @@ const MANY: u64 = 4_294_967_295;
 static OPTIONS: [Entry; 22] = [
     Entry {
         name: "port",
-        takes: Takes::Number(1, 65_535),
-        unsaid: Unsaid::Refused,
+        takes: Takes::Needed(1, 65_535),
         help: "The port to listen at",
     },
     Entry {
         name: "host",
-        takes: Takes::Text,
-        unsaid: Unsaid::Usual("127.0.0.1"),
+        takes: Takes::Text(&["127.0.0.1"]),
         help: "The address to listen at",
     },
     Entry {
         name: "workers",
-        takes: Takes::Number(1, 1_023),
-        unsaid: Unsaid::Absent,
+        takes: Takes::Number(1, 1_023, &[]),
         help: "The threads that serve [default: one a processor, at most 8]",
     },
     Entry {
         name: "connections",
-        takes: Takes::Number(0, u64::MAX),
-        unsaid: Unsaid::Usual("0"),
+        takes: Takes::Number(0, u64::MAX, &["0"]),
         help: "Ends after so many connections; 0: never",
     },
     Entry {
         name: "clients",
-        takes: Takes::Number(1, MANY),
-        unsaid: Unsaid::Usual("10000"),
+        takes: Takes::Number(1, MANY, &["10000"]),
         help: "The most clients at a time",
     },
     Entry {
         name: "capacity",
-        takes: Takes::Number(1, 65_536),
-        unsaid: Unsaid::Usual("64"),
+        takes: Takes::Number(1, 65_536, &["64"]),
         help: "The most entries that wait for a client",
     },
     Entry {
         name: "bytes",
-        takes: Takes::Number(1, MANY),
-        unsaid: Unsaid::Usual("8388608"),
+        takes: Takes::Number(1, MANY, &["8388608"]),
         help: "The most bytes that wait for a client",
     },
     Entry {
         name: "log",
-        takes: Takes::Number(1, MANY),
-        unsaid: Unsaid::Usual("1024"),
+        takes: Takes::Number(1, MANY, &["1024"]),
         help: "The most broadcasts that are logged",
     },
     Entry {
         name: "saved",
-        takes: Takes::Number(0, MANY),
-        unsaid: Unsaid::Usual("4096"),
+        takes: Takes::Number(0, MANY, &["4096"]),
         help: "The most sessions that are saved",
     },
     Entry {
         name: "keep",
-        takes: Takes::Number(0, u64::MAX),
-        unsaid: Unsaid::Usual("120000"),
+        takes: Takes::Number(0, u64::MAX, &["120000"]),
         help: "How long these are kept, in milliseconds",
     },
     Entry {
         name: "together",
-        takes: Takes::Number(1, u64::MAX),
-        unsaid: Unsaid::Usual("16"),
+        takes: Takes::Number(1, u64::MAX, &["16"]),
         help: "How many connections, one after another, one thread is given",
     },
     Entry {
         name: "poll-entries",
-        takes: Takes::Number(1, 65_536),
-        unsaid: Unsaid::Usual("15"),
+        takes: Takes::Number(1, 65_536, &["15"]),
         help: "The most entries of one answer to a GET",
     },
     Entry {
         name: "space",
-        takes: Takes::Texts,
-        unsaid: Unsaid::Usual("/admin"),
+        takes: Takes::Texts(&["/admin"]),
         help: "A namespace beside /; may come again",
     },
     Entry {
         name: "ping-interval",
-        takes: Takes::Number(1, u64::MAX),
-        unsaid: Unsaid::Usual("25000"),
+        takes: Takes::Number(1, u64::MAX, &["25000"]),
         help: "How often a client is pinged, in milliseconds",
     },
     Entry {
         name: "ping-timeout",
-        takes: Takes::Number(1, u64::MAX),
-        unsaid: Unsaid::Usual("20000"),
+        takes: Takes::Number(1, u64::MAX, &["20000"]),
         help: "How long it may take to answer, in milliseconds",
     },
     Entry {
         name: "connect-timeout",
-        takes: Takes::Number(1, u64::MAX),
-        unsaid: Unsaid::Usual("45000"),
+        takes: Takes::Number(1, u64::MAX, &["45000"]),
         help: "How long it may take to join a namespace, in milliseconds",
     },
     Entry {
         name: "max-payload",
-        takes: Takes::Number(1, MOST_BYTES),
-        unsaid: Unsaid::Usual("1000000"),
+        takes: Takes::Number(1, MOST_BYTES, &["1000000"]),
         help: "How many bytes clients are told that a payload may have",
     },
     Entry {
         name: "report",
-        takes: Takes::Number(0, MANY),
-        unsaid: Unsaid::Usual("0"),
+        takes: Takes::Number(0, MANY, &["0"]),
         help: "Tells the totals on standard error every so many seconds; 0: never",
     },
     Entry {
         name: "origin",
-        takes: Takes::Texts,
-        unsaid: Unsaid::Absent,
+        takes: Takes::Texts(&[]),
         help: "Serves only pages of this origin; may come again",
     },
     Entry {
         name: "page",
-        takes: Takes::Text,
-        unsaid: Unsaid::Absent,
+        takes: Takes::Text(&[]),
         help: "A folder whose files are served beside the socket's path",
     },
     Entry {
         name: "until-eof",
         takes: Takes::Nothing,
-        unsaid: Unsaid::Absent,
         help: "Ends once standard input does",
     },
     Entry {
         name: "verbose",
         takes: Takes::Nothing,
-        unsaid: Unsaid::Absent,
         help: "Tells on standard error of each client that ends",
     },
 ];
 
-/// A command that serves, with its options.
-pub(crate) fn with_options<'a>(
+/// The command of this name that serves, with its options.
+pub(crate) fn server<'a>(
     alloc: Global,
-    serve: Command<'a>,
+    name: &'static str,
+    about: &'static str,
 ) -> Result<Command<'a>, AllocError> {
-    let mut serve = serve;
+    let mut server = Command::new(alloc, name).about(about);
     for entry in OPTIONS.iter() {
-        serve = serve.arg(argument(alloc, entry))?;
+        server = server.arg(argument(alloc, entry))?;
     }
-    Ok(serve)
+    Ok(server)
 }
 
-fn argument<'a>(alloc: Global, entry: &Entry) -> Arg<'a> {
-    let plain = Arg::new(alloc, entry.name)
+fn argument<'a>(alloc: Global, entry: &'static Entry) -> Arg<'a> {
+    let (action, parser, unsaid): (_, _, &'static [&'static str]) = match entry.takes {
+        Takes::Needed(least, most) => (ArgAction::Set, ValueParser::unsigned(least, most), &[]),
+        Takes::Number(least, most, unsaid) => (
+            ArgAction::Set,
+            ValueParser::unsigned(least, most),
+            unsaid,
+        ),
+        Takes::Text(unsaid) => (ArgAction::Set, ValueParser::String, unsaid),
+        Takes::Texts(unsaid) => (ArgAction::Append, ValueParser::String, unsaid),
+        Takes::Nothing => (ArgAction::SetTrue, ValueParser::Bool, &[]),
+    };
+    Arg::new(alloc, entry.name)
         .long(entry.name)
-        .help(entry.help);
-    unless_said(taking(plain, &entry.takes), &entry.unsaid)
-}
-
-fn taking<'a>(arg: Arg<'a>, takes: &Takes) -> Arg<'a> {
-    match takes {
-        Takes::Number(least, most) => arg.value_parser(ValueParser::unsigned(*least, *most)),
-        Takes::Text => arg,
-        Takes::Texts => arg.action(ArgAction::Append),
-        Takes::Nothing => arg.action(ArgAction::SetTrue),
-    }
-}
-
-fn unless_said<'a>(arg: Arg<'a>, unsaid: &Unsaid) -> Arg<'a> {
-    match unsaid {
-        Unsaid::Refused => arg.required(true),
-        Unsaid::Usual(text) => arg.default_value(text),
-        Unsaid::Absent => arg,
-    }
+        .help(entry.help)
+        .required(matches!(entry.takes, Takes::Needed(_, _)))
+        .action(action)
+        .value_parser(parser)
+        .default_values(unsaid)
 }
 
 /// What the options ask for, where so many threads serve if none says how many.
@@ -239,7 +205,7 @@ pub(crate) fn read_options(
         until_eof: matches.get_flag("until-eof"),
         verbose: matches.get_flag("verbose"),
     };
-    boxed(alloc, options)
+    Ok(Box::new(alloc, options)?)
 }
 
 fn settings(
@@ -256,7 +222,11 @@ fn settings(
         workers: matches.get_one::<usize>("workers").unwrap_or(processors),
         connections: unless_0(count(matches, "connections")),
         hub,
-        timing: timing(matches),
+        timing: Timing {
+            ping_interval: count(matches, "ping-interval"),
+            ping_timeout: count(matches, "ping-timeout"),
+            connect_timeout: count(matches, "connect-timeout"),
+        },
         max_payload: count(matches, "max-payload"),
         together: count(matches, "together"),
         poll_entries: size(matches, "poll-entries"),
@@ -266,18 +236,8 @@ fn settings(
     })
 }
 
-/// When a client is pinged, and when it is given up.
-fn timing(matches: &ArgMatches<'_>) -> Timing {
-    Timing {
-        ping_interval: count(matches, "ping-interval"),
-        ping_timeout: count(matches, "ping-timeout"),
-        connect_timeout: count(matches, "connect-timeout"),
-    }
-}
-
 /// The limits of the hub, with the namespaces.
 fn hub(alloc: Global, matches: &ArgMatches<'_>) -> Result<Config, AllocError> {
-    let spaces = spaces(alloc, matches)?;
     Ok(Config {
         clients: size(matches, "clients"),
         capacity: size(matches, "capacity"),
@@ -286,7 +246,7 @@ fn hub(alloc: Global, matches: &ArgMatches<'_>) -> Result<Config, AllocError> {
         saved: size(matches, "saved"),
         keep: count(matches, "keep"),
         first_offset: 1,
-        spaces,
+        spaces: spaces(alloc, matches)?,
     })
 }
 

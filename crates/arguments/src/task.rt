@@ -1,7 +1,7 @@
 //! What a program is asked to do.
 
 use crate::folder::{FolderFault, read_folder};
-use crate::options::{Options, read_options, with_options};
+use crate::options::{Options, read_options, server};
 use clap::error::ErrorKind;
 use clap::{ArgMatches, Command, Error};
 use journal::Config;
@@ -15,6 +15,9 @@ use terms::Text;
 /// What is told of a namespace that is wrong.
 const WRONG_SPACE: &str =
     "it begins without /, has a comma or a control character, or is there already, as / is";
+
+/// What is told of arguments that can't be read as text.
+const NOT_UTF8: &str = "invalid UTF-8 was detected in one or more arguments";
 
 /// What the arguments of `event_server` ask for.
 #[derive(Drop)]
@@ -38,9 +41,7 @@ impl Program {
     fn command<'a>(self, alloc: Global) -> Result<Command<'a>, AllocError> {
         match self {
             Program::EventServer => event_server(alloc),
-            Program::Server(name, about) => {
-                with_options(alloc, Command::new(alloc, name).about(about))
-            }
+            Program::Server(name, about) => server(alloc, name, about),
         }
     }
 
@@ -51,21 +52,13 @@ impl Program {
         words: &'a [S],
     ) -> Result<Box<ArgMatches<'a>>, Error> {
         let matches = self.command(alloc)?.try_get_matches_from(words)?;
-        Ok(boxed(alloc, matches)?)
+        Ok(Box::new(alloc, matches)?)
     }
 
     /// The error of arguments that can't be taken.
     fn refusal(self, alloc: Global, message: &str) -> Result<Error, AllocError> {
         let mut command = self.command(alloc)?;
         command.error(ErrorKind::InvalidValue, message)
-    }
-}
-
-/// The value on the heap.
-pub(crate) fn boxed<T: Drop>(alloc: Global, value: T) -> Result<Box<T>, AllocError> {
-    match Box::new(alloc, value) {
-        Ok(boxed) => Ok(boxed),
-        Err(_) => Err(AllocError),
     }
 }
 
@@ -93,7 +86,8 @@ pub fn read_server_arguments<R: Env + Files + AllocGlobal + Clone + Drop>(
 ) -> Result<Box<Options>, Error> {
     let program = Program::Server(name, about);
     let words = words(rt, program)?;
-    let mut options = options_of(rt.alloc(), program, words.as_slice(), processors)?;
+    let matches = program.matches(rt.alloc(), words.as_slice())?;
+    let mut options = right_options(rt.alloc(), program, &matches, processors)?;
     add_page(rt, program, &mut options)?;
     Ok(options)
 }
@@ -107,27 +101,18 @@ fn add_page<R: Files + AllocGlobal + Clone + Drop>(
     let Some(folder) = &options.folder else {
         return Ok(());
     };
-    match read_folder(rt, folder.as_str()) {
+    let (alloc, folder) = (rt.alloc(), folder.as_str());
+    match read_folder(rt, folder) {
         Ok(page) => {
             options.settings.page = page;
             Ok(())
         }
-        Err(fault) => Err(bad_folder(rt.alloc(), program, folder.as_str(), &fault)?),
+        Err(FolderFault::Memory) => Err(Error::from(AllocError)),
+        Err(fault) => {
+            let message = format!(in alloc; "--page {folder}: {fault}")?;
+            Err(program.refusal(alloc, message.as_str())?)
+        }
     }
-}
-
-/// The error of a folder that can't be served.
-fn bad_folder(
-    alloc: Global,
-    program: Program,
-    folder: &str,
-    fault: &FolderFault,
-) -> Result<Error, AllocError> {
-    if matches!(fault, FolderFault::Memory) {
-        return Err(AllocError);
-    }
-    let message = format!(in alloc; "--page {folder}: {fault}")?;
-    program.refusal(alloc, message.as_str())
 }
 
 /// The arguments as text, the program's name first.
@@ -135,16 +120,9 @@ fn words<R: Env + AllocGlobal>(rt: &R, program: Program) -> Result<Vec<String>, 
     let alloc = rt.alloc();
     match env::args(rt) {
         Ok(words) => Ok(words.collect(alloc)?),
-        Err(error) => Err(no_text(alloc, program, error.kind())?),
+        Err(error) if error.kind() == io::ErrorKind::OutOfMemory => Err(Error::from(AllocError)),
+        Err(_) => Err(program.refusal(alloc, NOT_UTF8)?),
     }
-}
-
-/// The error of arguments that can't be read as text.
-fn no_text(alloc: Global, program: Program, kind: io::ErrorKind) -> Result<Error, AllocError> {
-    if kind == io::ErrorKind::OutOfMemory {
-        return Err(AllocError);
-    }
-    program.refusal(alloc, "invalid UTF-8 was detected in one or more arguments")
 }
 
 /// What these words ask `event_server` for, its name first, where so many threads serve if none says how
@@ -162,17 +140,6 @@ pub fn task_of<'a, S: AsStr>(
         }
         None => Ok(Task::Script),
     }
-}
-
-/// What these words ask a program for that serves and does nothing else.
-fn options_of<'a, S: AsStr>(
-    alloc: Global,
-    program: Program,
-    words: &'a [S],
-    processors: usize,
-) -> Result<Box<Options>, Error> {
-    let matches = program.matches(alloc, words)?;
-    right_options(alloc, program, &matches, processors)
 }
 
 /// What the options ask for. Those with which no server is made are refused.
@@ -221,19 +188,12 @@ fn wrong_space(hub: &mut Config) -> Option<Text> {
 
 /// `event_server` with its subcommands.
 fn event_server<'a>(alloc: Global) -> Result<Command<'a>, AllocError> {
+    let script = Command::new(alloc, "script").about(
+        "Serves the clients of a script from standard input, and prints the answers",
+    );
     let program = Command::new(alloc, "event_server")
         .about("A Socket.IO server")
-        .subcommand_required(true);
-    program.subcommand(script(alloc))?.subcommand(serve(alloc)?)
-}
-
-fn script<'a>(alloc: Global) -> Command<'a> {
-    Command::new(alloc, "script").about(
-        "Serves the clients of a script from standard input, and prints the answers",
-    )
-}
-
-fn serve<'a>(alloc: Global) -> Result<Command<'a>, AllocError> {
-    let serve = Command::new(alloc, "serve").about("Serves browsers and other clients over TCP");
-    with_options(alloc, serve)
+        .subcommand_required(true)
+        .subcommand(script)?;
+    program.subcommand(server(alloc, "serve", "Serves browsers and other clients over TCP")?)
 }

@@ -3,10 +3,11 @@
 #![tactic(auto)]
 
 use arguments::options::Options;
+use arguments::refused::tell_refused;
 use arguments::task::{Task, read_arguments};
 use relay::RelayApp;
 use script::{RunError, run_script};
-use serving::{end_with, listen, processors, serve, tell_refused, wait_for_end};
+use serving::{end_with, listen, processors, serve, wait_for_end};
 use std::io::BufWriter;
 use std::process::ExitCode;
 use std::{io, thread};
@@ -44,7 +45,9 @@ fn main(rt: HostRuntime) -> ExitCode {
 /// Plays the script from standard input.
 fn play<R: Input + Print + AllocGlobal>(rt: &R) -> Result<ExitCode, RunError> {
     let mut reader = rt.reader();
-    let mut writer = BufWriter::new(rt.alloc(), io::writer(rt)).map_err(|_| RunError::Memory)?;
+    let Ok(mut writer) = BufWriter::new(rt.alloc(), io::writer(rt)) else {
+        return Err(RunError::Memory);
+    };
     run_script(rt.alloc(), &RelayApp, &mut reader, &mut writer)?;
     Ok(ExitCode::SUCCESS)
 }

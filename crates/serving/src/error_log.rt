@@ -5,7 +5,7 @@ use script::Answer;
 use tcp_server::{Ended, Log};
 
 /// Tells standard error of a server. Where that fails, nothing is told.
-#[derive(Clone, Copy, Drop)]
+#[derive(Drop)]
 pub struct ErrorLog<R> {
     pub rt: R,
     /// Whether the end of each client is told.

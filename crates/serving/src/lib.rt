@@ -4,10 +4,8 @@
 
 mod error_log;
 mod program;
-mod refused;
 mod served;
 
 pub use error_log::ErrorLog;
 pub use program::{end_with, processors};
-pub use refused::tell_refused;
 pub use served::{Listening, ServeFault, listen, serve, wait_for_end};

@@ -5,7 +5,6 @@ use events::App;
 use hub_gate::{Report, WorkerCounts};
 use script::Answer;
 use settings::Settings;
-use std::io;
 use std::io::Read;
 use std::net::Net;
 use std::process::ExitCode;
@@ -14,19 +13,40 @@ use std::rt::Clock;
 use std::sync::{Arc, Wait};
 use std::thread::Threads;
 use std::time::Duration;
+use std::{fmt, io};
 use tcp_server::{Server, ServerFault, Shared};
-use thiserror::Error;
 
 /// How long what is open may take to end once standard input has ended, in milliseconds.
 const GRACE: u64 = 5_000;
 
 /// Why the server ended.
-#[derive(Debug, Drop, Error)]
+#[derive(Drop)]
 pub enum ServeFault {
-    #[error(transparent)]
-    Server(#[from] ServerFault),
-    #[error("device fault while writing")]
+    /// The server doesn't begin, or ended by this.
+    Server(ServerFault),
+    /// Standard output failed.
     Writing,
+}
+
+impl fmt::Display for ServeFault {
+    fn fmt<W: fmt::Write>(&self, f: &mut fmt::Formatter<W>) -> fmt::Result {
+        match self {
+            ServeFault::Server(fault) => fmt::Display::fmt(fault, f),
+            ServeFault::Writing => f.write_str("device fault while writing"),
+        }
+    }
+}
+
+impl From<ServerFault> for ServeFault {
+    fn from(fault: ServerFault) -> ServeFault {
+        ServeFault::Server(fault)
+    }
+}
+
+impl From<io::Error> for ServeFault {
+    fn from(_error: io::Error) -> ServeFault {
+        ServeFault::Writing
+    }
 }
 
 /// A server that listens, and tells standard error of itself.
@@ -44,7 +64,7 @@ pub fn listen<R: Net + Print + Eprint + AllocGlobal + Copy + Drop + Sync>(
     };
     let log = ErrorLog { rt: *rt, verbose };
     let server = Server::listen(rt, alloc, settings, log)?;
-    println!(rt; "listening {place}").map_err(writing)?;
+    println!(rt; "listening {place}")?;
     Ok(server)
 }
 
@@ -83,9 +103,9 @@ pub fn wait_for_end<R: Wait + Clock + Input>(rt: &R, shared: &Arc<Shared>) {
 }
 
 /// Tells what the server did, and then what each worker did of it.
-fn tell_report<R: Print>(rt: &R, report: &Report) -> Result<(), ServeFault> {
+fn tell_report<R: Print>(rt: &R, report: &Report) -> io::Result<()> {
     let totals = Answer::Totals(report.totals);
-    println!(rt; "{totals}").map_err(writing)?;
+    println!(rt; "{totals}")?;
     let mut number: usize = 0;
     for worker in report.workers.iter() {
         tell_worker(rt, number, worker)?;
@@ -94,11 +114,7 @@ fn tell_report<R: Print>(rt: &R, report: &Report) -> Result<(), ServeFault> {
     Ok(())
 }
 
-fn tell_worker<R: Print>(rt: &R, number: usize, worker: &WorkerCounts) -> Result<(), ServeFault> {
+fn tell_worker<R: Print>(rt: &R, number: usize, worker: &WorkerCounts) -> io::Result<()> {
     let (commands, taken) = (worker.commands, worker.taken);
-    println!(rt; "worker {number}: commands {commands}, taken {taken}").map_err(writing)
-}
-
-fn writing(_error: io::Error) -> ServeFault {
-    ServeFault::Writing
+    println!(rt; "worker {number}: commands {commands}, taken {taken}")
 }

@@ -3,18 +3,34 @@
 ghost use Rattle.std.specs.Prelude.{◌≡◌, ◌≢◌, ◌⊎◌, Err, IsOkAnd, MatchResult};
 ghost use Rattle.std.specs.Process.{exit_status};
 ghost use Rattle.clap.specs.Words.{kind_of};
-ghost use Rattle.tcp_streams.specs.declared.fault.ServerFault.TheVariants.{Memory};
-ghost use Rattle.serving.specs.declared.served.ServeFault.TheVariants as fault;
+ghost use Rattle.arguments.specs.declared.refused.TellFault.TheVariants as fault;
 
-use crate::served::ServeFault;
 use clap::Error;
 use clap::error::ErrorKind;
+use std::fmt;
 use std::process::ExitCode;
-use tcp_server::ServerFault;
+
+/// Why such arguments have no status of their own.
+#[derive(Clone, Copy)]
+pub enum TellFault {
+    /// An allocation was refused as they were read.
+    Memory,
+    /// The help that they ask for can't be written.
+    Writing,
+}
+
+impl fmt::Display for TellFault {
+    fn fmt<W: fmt::Write>(&self, f: &mut fmt::Formatter<W>) -> fmt::Result {
+        f.write_str(match self {
+            TellFault::Memory => "out of memory",
+            TellFault::Writing => "device fault while writing",
+        })
+    }
+}
 
 /// Shows the text of a parse without matches, and gives the status: 0 for help, 2 for bad arguments.
-pub fn tell_refused<R: Print + Eprint>(rt: &R, refused: &Error) -> Result<ExitCode, ServeFault>
-    ensures memory { kind_of refused.now ≡ ErrorKind.OutOfMemory → result ≡ Err (fault.Server Memory) }
+pub fn tell_refused<R: Print + Eprint>(rt: &R, refused: &Error) -> Result<ExitCode, TellFault>
+    ensures memory { kind_of refused.now ≡ ErrorKind.OutOfMemory → result ≡ Err fault.Memory }
     ensures mistake { kind_of refused.now ≢ ErrorKind.OutOfMemory
         → kind_of refused.now ≢ ErrorKind.DisplayHelp → kind_of refused.now ≢ ErrorKind.DisplayVersion
         → IsOkAnd result (λ code. exit_status code ≡ 2) }
@@ -22,7 +38,7 @@ pub fn tell_refused<R: Print + Eprint>(rt: &R, refused: &Error) -> Result<ExitCo
         → MatchResult result (λ code. exit_status code ≡ 0) (λ error. error ≡ fault.Writing) }
 {
     if refused.kind() == ErrorKind::OutOfMemory {
-        return Err(ServeFault::Server(ServerFault::Memory));
+        return Err(TellFault::Memory);
     }
     let shown = refused.print(rt);
     if refused.use_stderr() {
@@ -30,6 +46,6 @@ pub fn tell_refused<R: Print + Eprint>(rt: &R, refused: &Error) -> Result<ExitCo
     }
     match shown {
         Ok(()) => Ok(ExitCode::SUCCESS),
-        Err(_) => Err(ServeFault::Writing),
+        Err(_) => Err(TellFault::Writing),
     }
 }
