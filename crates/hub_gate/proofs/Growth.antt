@@ -1,11 +1,7 @@
 -- A pass that grows over several turns.
-use Rattle.std.proofs.Common.{◌≡◌, ℕ, ◌<◌, ◌≤◌, Bool, true, false, Option, None, Some, Result, List, [], ◌∷◌, ◌++◌, arith, refl, sym, subst, ◌∙◌, length-append}
+use Rattle.std.proofs.Common.{◌≡◌, ℕ, ◌<◌, ◌≤◌, Bool, true, false, Option, None, Some, Result, List, [], ◌∷◌, arith, refl, sym, subst, ◌∙◌}
 use Rattle.std.specs.List.{FoldsTo}
-use Rattle.journal.specs.declared.step.Step.{Step}
-use Rattle.journal.specs.declared.step.What.{What}
-use Rattle.journal.specs.Plain.{PlainBase}
-use Rattle.journal.specs.Journal.{total}
-use Rattle.journal.specs.Totals.{commands, handed_out, handed_out_by}
+use Rattle.hub.proofs.CountingLemmas.{commands-grow, handed_out-grows}
 use Rattle.hub.specs.Pass.{PlainHub, PlainPass, AtLeast, commands_of, taken_of}
 use Rattle.dispatch.specs.Counting.{TurnsFor}
 use Rattle.events.specs.declared.event.Event.{Event}
@@ -49,25 +45,12 @@ grows_trans a b c p q = record {
   parts = q.parts ∙ p.parts;
 }
 
-total_grows : (counts : List Step → What → ℕ) (start : ℕ) (steps before : List Step) → total counts start before ≤ total counts start (steps ++ before)
-unfolding total
-total_grows counts start [] before = omega arith
-total_grows counts start (step ∷ steps) before = omega (arith, total_grows counts start steps before)
-
-commands_grow : (base : PlainBase) (steps before : List Step) → commands base before ≤ commands base (steps ++ before)
-unfolding commands
-commands_grow base steps before = omega (arith, length-append steps before)
-
-taken_grow : (base : PlainBase) (steps before : List Step) → handed_out base before ≤ handed_out base (steps ++ before)
-unfolding handed_out
-taken_grow base steps before = total_grows (λ _ what. handed_out_by what) base.totals.taken steps before
-
 -- the pass rose by as much as the hub's totals, which are u64s
 grows_by_event : (c : ℕ) (before after : PlainHub) (old new : PlainPass) → TurnsFor c before after old new → AtLeast before old → AtLeast after new → Grows old new
 grows_by_event c before after old new works small great =
     let follows = works.follows in
-    let commands_rise : commands_of before ≤ commands_of after = rw (follows.base, follows.journal) (commands_grow before.history.base follows.steps before.history.journal) in
-    let taken_rise : taken_of before ≤ taken_of after = rw (follows.base, follows.journal) (taken_grow before.history.base follows.steps before.history.journal) in
+    let commands_rise : commands_of before ≤ commands_of after = rw (follows.base, follows.journal) (commands-grow before.history.base follows.steps before.history.journal) in
+    let taken_rise : taken_of before ≤ taken_of after = rw (follows.base, follows.journal) (handed_out-grows before.history.base follows.steps before.history.journal) in
     record {
       commands = omega (arith, works.rises.commands, commands_rise);
       commands_fit = λ _. omega (arith, great.commands, great.fits.0);

@@ -207,32 +207,19 @@ fn make_jobs<R: Wait, C: Ledger, T: Ledger, A, G, P: Drop, I: Drop>(
         let Some(source) = ids.next() else {
             unreachable!()
         };
-        let job = make_job(pool, queue, source)?;
+        let Ok(pass) = pool.locked.new_pass(pool.rt) else {
+            return Err(ServeError::Spent);
+        };
+        let job = Job {
+            pass,
+            queue: Queue::new(queue),
+            ids: source,
+        };
         let Ok(()) = jobs.push(job) else {
             return Err(ServeError::Memory);
         };
     }
     Ok(jobs)
-}
-
-/// A new pass, with these peers and these ids.
-fn make_job<R: Wait, C: Ledger, T: Ledger, A, G, P: Drop, I: Drop>(
-    pool: &Pool<R, C, T, A, G>,
-    peers: Vec<P>,
-    ids: I,
-) -> Result<Job<C, T, P, I>, ServeError>
-    ensures peers { IfOk result (λ job. into_iter_items job.queue.peers ≡ peers.items) }
-    ensures ids { IfOk result (λ job. job.ids ≡ ids) }
-    ensures spent { IfErr result (λ e. e ≡ ServeError.Spent) }
-{
-    match pool.locked.new_pass(pool.rt) {
-        Ok(pass) => Ok(Job {
-            pass,
-            queue: Queue::new(peers),
-            ids,
-        }),
-        Err(_) => Err(ServeError::Spent),
-    }
 }
 
 /// Runs each job in a thread of its own, and joins all.

@@ -25,14 +25,14 @@ pub struct WorkerCounts {
     pub faults: usize,
 }
 
-/// The client that an event is of; for one that opens a client, the one that was opened. A sweep is
-/// of none.
-fn client_of(event: &Event, got: &Result<Outcome, CoreError>) -> Option<u128>
-    ensures { result ≡ client_of event.now got.now }
+/// Whom a fault that follows the event loses, with the event's moment: the client that the event is
+/// of; for one that opens a client, the one that was opened. A sweep is of none.
+fn lost_after(event: &Event, got: &Result<Outcome, CoreError>, now: u64) -> Option<(u128, u64)>
+    ensures { result ≡ option_map (λ c. (c, now)) (client_of event.now got.now) }
 {
     match event {
         Event::Opened { .. } => match got {
-            Ok(Outcome::Opened(opening)) => Some(opening.client),
+            Ok(Outcome::Opened(opening)) => Some((opening.client, now)),
             _ => None,
         },
         Event::Post { client, .. }
@@ -45,17 +45,9 @@ fn client_of(event: &Event, got: &Result<Outcome, CoreError>) -> Option<u128>
         | Event::Upgraded { client }
         | Event::ProbeLost { client }
         | Event::TransportLost { client }
-        | Event::Tick { client } => Some(*client),
+        | Event::Tick { client } => Some((*client, now)),
         Event::Sweep => None,
     }
-}
-
-/// Whom a fault that follows the event loses, with the event's moment.
-fn lost_after(event: &Event, got: &Result<Outcome, CoreError>, now: u64) -> Option<(u128, u64)>
-    ensures { result ≡ option_map (λ c. (c, now)) (client_of event.now got.now) }
-{
-    let client = client_of(event, got)?;
-    Some((client, now))
 }
 
 impl<R: Wait, C: Ledger, T: Ledger, A: App, G: Turnstile> Pool<'_, R, C, T, A, G> {

@@ -1,4 +1,4 @@
-use Rattle.std.proofs.Common.{◌≡◌, ◌∷◌, map, arith, ap, sym, ◌∙◌, append-nil}
+use Rattle.std.proofs.Common.{◌≡◌, ◌∷◌, map, arith, ap, refl, sym, ◌∙◌, append-nil}
 use Rattle.std.specs.Vec.Iter.{into_iter_items}
 use Rattle.hub_gate.proofs.Dealing.{nothing_left}
 use Rattle.hub_gate.proofs.PoolLemmas.{moved_on}
@@ -10,12 +10,12 @@ loop-queue-preserved g c =
     let queue : into_iter_items at.queue-iterator ≡ c.in-Some.queue ∷ into_iter_items c.next.new.self = c.in-Some.ensures.steps.0 in
     let source : into_iter_items at.ids ≡ c.in-Some-next.source ∷ into_iter_items c.next-in-loop-queue.new.self = c.in-Some-next.ensures.cases.0 in
     record {
-      count = omega (arith, c.in-Ok.ensures.len, at.invariant.count, c.in-Some.ensures.steps.1);
+      count = omega (arith, c.in-Ok-push.ensures.len, at.invariant.count, c.in-Some.ensures.steps.1);
       left = omega (arith, at.invariant.left, c.in-Some.ensures.steps.1, c.in-Some-next.ensures.cases.1);
-      queues = rw c.in-Ok.ensures.items (moved_on (λ j. into_iter_items j.queue.peers) at.jobs.items c.in_ok-job.job c.in-Some.queue.items (map (λ q. q.items) (into_iter_items c.next.new.self)) _
-          c.in_ok-job.ensures.peers (rw queue at at.invariant.queues));
-      ids = rw c.in-Ok.ensures.items (moved_on (λ j. j.ids) at.jobs.items c.in_ok-job.job c.in-Some-next.source (into_iter_items c.next-in-loop-queue.new.self) _
-          c.in_ok-job.ensures.ids (rw source at at.invariant.ids));
+      queues = rw c.in-Ok-push.ensures.items (moved_on (λ j. into_iter_items j.queue.peers) at.jobs.items _ c.in-Some.queue.items (map (λ q. q.items) (into_iter_items c.next.new.self)) _
+          c.new.ensures (rw queue at at.invariant.queues));
+      ids = rw c.in-Ok-push.ensures.items (moved_on (λ j. j.ids) at.jobs.items _ c.in-Some-next.source (into_iter_items c.next-in-loop-queue.new.self) _
+          refl (rw source at at.invariant.ids));
     }
 
 pub returns-clause-queues : goal.returns-clause-queues
