@@ -5,26 +5,22 @@
 
 ghost use Rattle.std.specs.Prelude.{◌≡◌};
 
-mod bands;
-mod fault;
-mod hall;
+mod players;
 mod rows;
 
-use bands::{Concert, play_pool};
 use dispatch::Core;
-use fault::Fault;
-use hall::{play_hub, settings};
 use hub::Hub;
 use journal::Totals;
-use rows::{BATCH, Counted, MISSPELLED, Measured, POOLS, ROWS, Row};
-use std::env;
+use players::{CAPACITY, FEW, play_core, play_hub};
+use rows::{BATCH, Counted, Fault, MISSPELLED, Measured, POOLS, ROWS, Row};
 use std::marker::Brand;
 use std::rt::{Clock, Files};
 use std::sync::Wait;
 use std::sync::ledger::{Blank, Ledger};
 use std::thread::Threads;
 use std::time::{Duration, Instant};
-use usual_core::{NUMBERS, PARTS, TIMING, on_new_server};
+use std::{env, io};
+use usual_core::{Limits, NUMBERS, PARTS, TIMING};
 
 /// Does what the arguments ask for. The greatest room has 256 members.
 fn main(rt: HostRuntime) -> Result<(), Fault> {
@@ -59,15 +55,13 @@ fn number(word: &str, least: u64) -> Result<u64, Fault> {
 /// and taken; the rest follows from the deeds:
 /// - a room of M: M joins, 10 casts and M takes; 10 M are placed and taken;
 /// - all 16 of a namespace: 16 attaches and takes, 10 casts and 16 takes; 16 and 160;
-/// - joins and leaves: 600; of a room: 256 joins, and 20 commands;
-/// - a room that ends: ten times 256 joins, attaches and takes, and one command; 256 are told and
-///   256 answered each time;
+/// - joins and leaves: 600; of a room: 256 joins, and 20 commands; a seal: 64 casts, which wait;
+/// - a room that ends: ten times 256 joins, attaches and takes, and one command; 512 are placed;
 /// - attaches beside saved sessions: nothing is taken, but 300 join, are parked, opened and
 ///   attached; of 600 that are placed 300 are discarded, and the others wait;
 /// - parks: nothing is taken, but 300 join and are parked, and a sweep; 300 are discarded;
 /// - recoveries: nothing is taken before 300 join and are parked, 1,024 casts find nobody, and 300
 ///   are opened, recovered and taken of 65 each; the first 300 are discarded;
-/// - a seal of 64 steps: 64 casts to all, which wait;
 /// - posts: 16 joins, 10 casts and 15 takes; 150. Takes: 16 joins, 64 casts and 15 takes; 960;
 /// - bands: 64 clients open, connect, take and join; 512 casts and 120 takes; 64 and 7,680.
 fn print_rows<R: Clock + Files + Threads + Wait + Sync + Print + AllocGlobal>(
@@ -79,36 +73,34 @@ fn print_rows<R: Clock + Files + Threads + Wait + Sync + Print + AllocGlobal>(
 ) -> Result<(), Fault> {
     for line in rows.lines() {
         let row = Row::read(sockets, casts, line).ok_or(MISSPELLED)?;
-        if !counts {
-            let start = Instant::now(rt)?;
-            let (counted, _totals) = measure(rt, &row)?;
-            print_figure(rt, &row, &counted, start.elapsed(rt)?)?;
-        } else if !matches!(row.counted, "bytes" | "requests") {
-            let (counted, totals) = measure(rt, &row)?;
-            print_counts(rt, &row, counted.number, &totals)?;
+        if !counts || !matches!(row.counted, "bytes" | "requests") {
+            measure(rt, &row, counts)?;
         }
     }
     Ok(())
 }
 
-/// Plays the row over a new hub or a new core.
-fn measure<R: Clock + Files + Threads + Wait + Sync + AllocGlobal>(
+/// Plays the row over a new hub or a new core, and prints its counts or its figure.
+fn measure<R: Clock + Files + Threads + Wait + Sync + Print + AllocGlobal>(
     rt: &R,
     row: &Row<'_>,
-) -> Measured {
-    let (counted, totals) = if matches!(row.player, "band" | "0") {
-        on_new_server(rt.alloc(), &settings(row.sockets), Concert { rt, row })??
-    } else {
-        let (commands, taken) = (Blank::new(PARTS), Blank::new(PARTS));
-        measure_in::<Brand, Brand, R>(rt, row, commands, taken)?
-    };
+    counts: bool,
+) -> Result<(), Fault> {
+    let start = Instant::now(rt)?;
+    let (commands, taken) = (Blank::new(PARTS), Blank::new(PARTS));
+    let (counted, totals) = measure_in::<Brand, Brand, R>(rt, row, commands, taken)?;
     if totals.dropped > 0 {
         return Err(Fault::Wrong("a broadcast was dropped"));
     }
-    Ok((counted, totals))
+    if counts {
+        print_counts(rt, row, counted.number, &totals)?;
+    } else {
+        print_figure(rt, row, &counted, start.elapsed(rt)?)?;
+    }
+    Ok(())
 }
 
-/// Plays the row over a new hub, or has it played over a new core, with these ledgers.
+/// Plays the row over a new hub or a new core, with these ledgers.
 fn measure_in<
     C: Ledger + Send + Sync,
     T: Ledger + Send + Sync,
@@ -118,43 +110,35 @@ fn measure_in<
         × (commands.parts ≡ C.parts) × (commands.parts ≡ 65536) }
     requires taken { (taken.name ≡ T.name) × (taken.parts ≡ T.parts) × (taken.parts ≡ 65536) }
 {
-    let (alloc, settings) = (rt.alloc(), settings(row.sockets));
-    let config = settings.limits.config(alloc, settings.spaces)?;
+    let (alloc, mut limits) = (rt.alloc(), Limits::usual(row.sockets as usize));
+    limits.capacity = CAPACITY;
+    limits.saved = limits.clients;
+    let config = limits.config(alloc, &["/", FEW])?;
     if row.player == "hub" {
         let (hub, pass) = Hub::<C, T>::new(alloc, config, commands, taken)?;
         return play_hub(rt, row, hub, pass);
     }
     let (core, pass) = Core::<C, T>::new(alloc, config, TIMING, NUMBERS, commands, taken)?;
-    play_pool(alloc, rt, row, core, pass)
+    play_core(rt, row, core, pass)
 }
 
-fn print_counts(rt: &impl Print, row: &Row<'_>, number: u64, totals: &Totals) -> Result<(), Fault> {
+fn print_counts(rt: &impl Print, row: &Row<'_>, number: u64, totals: &Totals) -> io::Result<()> {
     let (name, counted, commands, placed) = (row.name, row.counted, totals.commands, totals.placed);
     print!(rt; "{name}: {counted} {number}, commands {commands}, placed {placed}")?;
     let (taken, discarded, waiting) = (totals.taken, totals.discarded, totals.waiting);
-    println!(rt; ", taken {taken}, discarded {discarded}, waiting {waiting}")?;
-    Ok(())
+    println!(rt; ", taken {taken}, discarded {discarded}, waiting {waiting}")
 }
 
 /// Prints how many there were in a second while the clock ran, or for turns all the while.
-fn print_figure(
-    rt: &impl Print,
-    row: &Row<'_>,
-    counted: &Counted,
-    whole: Duration,
-) -> Result<(), Fault> {
-    let (name, what, number) = (row.name, row.counted, u128::from(counted.number));
+fn print_figure(rt: &impl Print, row: &Row<'_>, all: &Counted, whole: Duration) -> io::Result<()> {
+    let (name, what, number) = (row.name, row.counted, u128::from(all.number));
     if what == "bytes" {
         let each = number / u128::from(row.sockets.max(1));
-        println!(rt; "{name}: {each} bytes an open client with a socket")?;
-        return Ok(());
+        return println!(rt; "{name}: {each} bytes an open client with a socket");
     }
-    let took = if what == "turns" { whole } else { counted.time };
+    let took = if what == "turns" { whole } else { all.time };
     let rate = number * 1_000_000_000 / took.as_nanos().max(1);
-    let (mean, most) = (
-        counted.time.as_nanos() / number.max(1),
-        counted.longest.as_micros(),
-    );
-    println!(rt; "{name}: {rate} {what} a second, each {mean} ns, at most {most} us")?;
-    Ok(())
+    let mean = all.time.as_nanos() / number.max(1);
+    let most = all.longest.as_micros();
+    println!(rt; "{name}: {rate} {what} a second, each {mean} ns, at most {most} us")
 }

@@ -1,11 +1,13 @@
 //! What is measured: a row a figure, whose deeds are done in turn, some of them by the clock.
 
-use crate::fault::Fault;
-use journal::Totals;
-use std::alloc::Global;
-use std::fs;
+use events::{CoreError, PeerFault};
+use hub_gate::ServeError;
+use journal::{HubError, Totals};
+use std::alloc::{AllocError, Global};
 use std::rt::Files;
 use std::time::Duration;
+use std::{fmt, fs, io};
+use thiserror::Error;
 
 /// What is measured of the hub, of requests and of clients' events. A line has the row's name, what
 /// is counted, how many rounds are played, what is there first, a round, and who plays it, where
@@ -50,12 +52,10 @@ pub const NOW: u64 = 0;
 /// What is told of a row that isn't one.
 pub const MISSPELLED: Fault = Fault::Wrong("a row is misspelled");
 
-/// A row, as its line has it, with how much is done.
+/// A row, as its line has it, for so many sockets, each of a client of its own, and so many casts.
 #[derive(Clone, Copy)]
 pub struct Row<'a> {
-    /// How many sockets there are, each of a client of its own.
     pub sockets: u64,
-    /// How many casts are made.
     casts: u64,
     pub name: &'a str,
     pub counted: &'a str,
@@ -100,38 +100,31 @@ impl<'a> Row<'a> {
 
     fn add_words(&self, words: &mut Vec<Word<'a>>, text: &'a str, round: u64) -> Result<(), Fault> {
         for word in text.split_whitespace() {
-            words.push(self.word(word, round)?)?;
+            let bare = word.strip_prefix('!');
+            let (word, timed) = (bare.unwrap_or(word), bare.is_some());
+            let (deed, times) = word.split_once(':').unwrap_or((word, "all"));
+            let times = self.times(times, round)?;
+            words.push(Word { deed, times, timed })?;
         }
         Ok(())
     }
 
-    fn word(&self, word: &'a str, round: u64) -> Result<Word<'a>, Fault> {
-        let timed = word.strip_prefix('!');
-        let word = timed.unwrap_or(word);
-        let (deed, times) = word.split_once(':').unwrap_or((word, "all"));
-        let (times, timed) = (self.times(times, round)?, timed.is_some());
-        Ok(Word { deed, times, timed })
-    }
-
     /// How often a deed is done in this round, or how many rounds are played.
     fn times(&self, word: &str, round: u64) -> Result<u64, Fault> {
-        match word {
-            "all" => Ok(self.sockets),
-            "most" => Ok(self.sockets.min(1_000)),
-            "batches" => Ok(self.casts.div_ceil(BATCH)),
-            "batch" => {
-                let done = round.saturating_mul(BATCH);
-                Ok(self.casts.saturating_sub(done).min(BATCH))
-            }
+        Ok(match word {
+            "all" => self.sockets,
+            "most" => self.sockets.min(1_000),
+            "batches" => self.casts.div_ceil(BATCH),
+            "batch" => (self.casts.saturating_sub(round.saturating_mul(BATCH))).min(BATCH),
             // Each is a long step of the journal.
-            "few" => Ok(self.casts.min(1_000)),
-            number => number.parse().map_err(|_| MISSPELLED),
-        }
+            "few" => self.casts.min(1_000),
+            number => number.parse::<u64>().ok().ok_or(MISSPELLED)?,
+        })
     }
 }
 
 /// How many the clock counted, how long they took, and the longest time that it ran for.
-#[derive(Clone, Copy)]
+#[derive(Clone, Copy, Default)]
 pub struct Counted {
     pub number: u64,
     pub time: Duration,
@@ -139,12 +132,6 @@ pub struct Counted {
 }
 
 impl Counted {
-    pub const NONE: Counted = Counted {
-        number: 0,
-        time: Duration::ZERO,
-        longest: Duration::ZERO,
-    };
-
     /// So many more, which took so long together.
     pub fn add(&mut self, number: u64, time: Duration) {
         self.number = self.number.saturating_add(number);
@@ -162,4 +149,32 @@ pub fn memory<R: Files + AllocGlobal>(rt: &R) -> Option<u64> {
     let counts = fs::read_to_string(rt, "/proc/self/statm").ok()?;
     let pages = counts.as_str().split_whitespace().nth(1)?;
     pages.parse::<u64>().ok()?.checked_mul(4_096)
+}
+
+/// Why a run ended before all its lines were printed.
+#[derive(Clone, Copy, Error)]
+pub enum Fault {
+    #[error("usage: bench [SOCKETS CASTS | BATCHES], 256 sockets at least, and one cast or batch")]
+    Arguments,
+    #[error("out of memory")]
+    Memory(#[from(alloc)] AllocError),
+    #[error("the hub refused a command: {0:?}")]
+    Refused(#[from] HubError),
+    #[error("the core refused an event: {0:?}")]
+    RefusedEvent(#[from] CoreError),
+    #[error("a pool of workers failed: {0}")]
+    Pool(#[from] ServeError),
+    #[error("the clock was not read, or a line not written: {0:?}")]
+    Device(#[from] io::Error),
+    #[error("a band was not played")]
+    Band(#[from] PeerFault),
+    /// What was done didn't come to what it has to.
+    #[error("{0}")]
+    Wrong(&'static str),
+}
+
+impl fmt::Debug for Fault {
+    fn fmt<W: fmt::Write>(&self, f: &mut fmt::Formatter<W>) -> fmt::Result {
+        write!(f, "{self}")
+    }
 }
