@@ -1,20 +1,15 @@
 -- What the workers of a pool did, put together.
-use Rattle.std.proofs.Common.{◌≡◌, ℕ, zero, suc, ◌+◌, ◌<◌, ◌≤◌, List, [], ◌∷◌, ◌++◌, map, Option, None, Some, option_map, Result, Ok, Err, IfOk, IfErr, append_assoc, refl, sym, ◌∙◌, ap, subst}
+use Rattle.std.proofs.Common.{◌≡◌, ℕ, zero, suc, List, [], ◌∷◌, ◌++◌, map, Option, None, Some, option_map, Result, Ok, Err, IfOk, append_assoc, refl, sym, ◌∙◌, ap, subst}
 use Rattle.std.proofs.lemmas.List.{map-append}
 use Rattle.std.proofs.lemmas.Option.{slice_get-map}
 use Rattle.std.specs.Iterator.{Drains, Yields}
 use Rattle.std.specs.List.{AllZip, slice_get}
-use Rattle.std.specs.Prelude.{IfNone, MatchResult, option_to_list}
+use Rattle.std.specs.Prelude.{IfNone, option_to_list}
 use Rattle.std.specs.Vec.Iter.{into_iter_items}
-use Rattle.journal.specs.declared.totals.Totals.{Totals}
 use Rattle.hub.specs.Pass.{PlainPass, new_pass}
-use Rattle.dispatch.specs.Place.{PlainCore}
 use Rattle.hub_gate.specs.declared.peer.Queue.{Queue}
-use Rattle.hub_gate.specs.declared.serve.ServeError.{ServeError}
-use Rattle.hub_gate.specs.declared.serve.ServeError.TheVariants as refused
 use Rattle.hub_gate.specs.declared.worker.WorkerCounts.{WorkerCounts}
 use Rattle.hub_gate.specs.Dealing.{AreDealt, dealt}
-use Rattle.hub_gate.specs.Serving.{AreCounted, IsLackingFor, IsRefused}
 
 -- ---- two lists, place by place
 
@@ -72,26 +67,6 @@ served {J} {F} {P} {I} peers_of ids_of counts_of Works jobs finished queues ids 
 pub reported : {S E W : Type 0} (r : Result S E) (w : W) (workers_of : S → W) (Q : W → Type 0) → IfOk r (λ s. workers_of s ≡ w) → Q w → IfOk r (λ s. Q (workers_of s))
 reported (Ok s) w workers_of Q is holds = subst Q (sym is) holds
 reported (Err e) w workers_of Q is holds = tt
-
--- the totals are those that the pass has counted: what it had, and what the workers did
-pub summed : {S E W : Type 0} (r : Result S E) (p : PlainPass) (w : W) (core_of : S → PlainCore) (totals_of : S → Totals) (workers_of : S → W) (commands taken : W → ℕ) (m n : ℕ)
-    → IfOk r (λ s. workers_of s ≡ w) → IfOk r (λ s. AreCounted p (core_of s) (totals_of s)) → p.commands ≡ m + commands w → p.taken ≡ n + taken w
-    → IfOk r (λ s. (totals_of s).commands ≡ m + commands (workers_of s)) × IfOk r (λ s. (totals_of s).taken ≡ n + taken (workers_of s))
-summed {W = W} (Ok s) p w core_of totals_of workers_of commands taken m n is (sound, all, own, other) said gave = (
-  ap (λ (t : Totals). t.commands) all ∙ sym own ∙ said ∙ ap (λ (v : W). m + commands v) (sym is),
-  ap (λ (t : Totals). t.taken) all ∙ sym other ∙ gave ∙ ap (λ (v : W). n + taken v) (sym is),
-)
-summed (Err e) p w core_of totals_of workers_of commands taken m n is counted said gave = (tt, tt)
-
--- the pass lacks something, if there is no report
-pub lacking : {S : Type 0} (r : Result S ServeError) (workers : ℕ) (old new : PlainPass) → 0 < workers → workers ≤ 1024 → IfErr r (IsLackingFor new)
-    → MatchResult r (λ s. (0 < workers) × (workers ≤ 1024)) (λ e. IsRefused workers old new e)
-lacking (Ok s) workers old new some few lacks = (some, few)
-lacking (Err e) workers old new some few lacks = by e lacks
-  where
-    by : (e : ServeError) → IsLackingFor new e → IsRefused workers old new e
-    by (refused.NotAll lack) lacks = ((some, few), lacks)
-    by _ lacks = absurd lacks
 
 -- ---- a queue that was worked off
 
