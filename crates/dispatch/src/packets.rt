@@ -1,7 +1,7 @@
 //! What the packets of a client do (Engine.IO protocol 4, "Packet types"; Socket.IO protocol 5,
 //! "Exchange protocol").
 
-ghost use Rattle.std.specs.Prelude.{◌≡◌, true, None, OnOk, IfOk, IfErr, is_none};
+ghost use Rattle.std.specs.Prelude.{◌≡◌, None, OnOk, IfOk, IfErr, is_none};
 ghost use Rattle.connection.specs.Line.{IsWholeIfGiven};
 ghost use Rattle.journal.specs.Membership.{is_open};
 ghost use Rattle.effects.specs.Effects.{IsOpenFor};
