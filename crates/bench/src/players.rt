@@ -11,14 +11,13 @@ use hub_gate::{Locked, Pool, Turnstile, serve_peers};
 use journal::{Cast, HubError, Totals};
 use recovery::Pid;
 use relay::RelayApp;
-use room_maps::{Room, Sid};
 use std::alloc::Global;
 use std::rt::{Clock, Files};
 use std::sync::ledger::Ledger;
 use std::sync::{Mutex, Wait};
 use std::thread::Threads;
 use std::time::Instant;
-use terms::{Attachments, Text};
+use terms::{Attachments, Room, Sid, Text};
 use usual_core::Ids;
 
 /// How many entries may wait for a client.

@@ -6,9 +6,9 @@ ghost use Rattle.ack_book.specs.Book.{LeadsTo, ForEachHistory, ask_refusal, answ
 ghost use Rattle.connection.specs.Line.{fresh_book, book_in};
 
 use ack_book::{AckBook, AckError};
-use room_maps::Sid;
 use std::alloc::Global;
 use std::collections::BTreeMap;
+use terms::Sid;
 
 /// Forgets a socket's book.
 pub(crate) fn forget(books: &mut BTreeMap<Sid, AckBook>, sid: Sid)

@@ -13,12 +13,12 @@ ghost use Rattle.connection.specs.Line.{LeadsTo, ForEachHistory, HasHistory, Adv
 
 use crate::books;
 use ack_book::{AckBook, AckError};
-use room_maps::Sid;
 use session_clock::{Clock, ClockError, Due, Timing, Transport};
 use sio_wire::{Assembler, SioError, SioPacket};
 use std::alloc::Global;
 use std::collections::BTreeMap;
 use std::marker::Model;
+use terms::Sid;
 
 /// A client's line: its assembler and its clock, whether a GET of it waits and whether it is due a
 /// ping, and the questions to its sockets. All moments are milliseconds of one clock.

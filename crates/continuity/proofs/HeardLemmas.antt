@@ -5,7 +5,7 @@ use Rattle.std.specs.Option.{option_map_or, option_to_list}
 use Rattle.std.proofs.lemmas.Bool.{eqb-true, eq-eqb}
 use Rattle.std.proofs.lemmas.Cmp.{nat_eq_equiv}
 use Rattle.room_maps.specs.Membership.{is_socket, is_in}
-use Rattle.room_maps.specs.Addressed as broadcast
+use Rattle.terms.specs.Audience as broadcast
 use Rattle.recovery.specs.SavedTable.{PlainSaved}
 use Rattle.recovery.specs.PacketLog.{number_of, stands}
 use Rattle.journal.specs.declared.socket.Socket.{Socket}

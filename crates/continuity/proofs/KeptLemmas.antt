@@ -11,7 +11,7 @@ use Rattle.std.specs.Cmp.Lexicographic.{nat_list_cmp_total}
 use Rattle.std.specs.FinSet as set
 use Rattle.std.specs.FinMap as finite
 use Rattle.std.specs.FinMap.Entries as entries
-use Rattle.room_maps.specs.Room.{room_cmp}
+use Rattle.terms.specs.Room.{room_cmp}
 use Rattle.room_maps.specs.Membership.{RoomSets, is_in, rooms_in}
 use Rattle.room_maps.proofs.MembershipLemmas.{contains-rooms_in}
 use Rattle.room_maps.proofs.OrderLemmas.{same_room-cmp}

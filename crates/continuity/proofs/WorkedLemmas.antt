@@ -3,7 +3,7 @@ use Rattle.std.proofs.Common.{◌≡◌, [], ◌∷◌, refl}
 use Rattle.std.specs.Cmp.{nat_cmp_total}
 use Rattle.std.specs.FinSet.{contains-insert, contains-union, contains-from_list}
 use Rattle.terms.specs.Hexadecimal.{hex_digits}
-use Rattle.room_maps.specs.Room.{own_room}
+use Rattle.terms.specs.Room.{own_room}
 use Rattle.room_maps.proofs.OrderLemmas.{pair_cmp_total}
 use Rattle.room_maps.proofs.MembershipLaws.{is_socket-without_socket, is_in-without_socket}
 use Rattle.recovery.specs.PacketLog as packets

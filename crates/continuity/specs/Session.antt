@@ -3,7 +3,7 @@
 use Rattle.std.specs.Prelude.{ℕ, ◌==◌, Bool, false, ◌&&◌, List, Option}
 use Rattle.std.specs.Option.{option_map, option_map_or, option_or}
 use Rattle.room_maps.specs.Membership.{is_in}
-use Rattle.room_maps.specs.Addressed as broadcast
+use Rattle.terms.specs.Audience as broadcast
 use Rattle.recovery.specs.SavedTable.{PlainSaved}
 use Rattle.recovery.specs.Missed.{is_one_of}
 use Rattle.journal.specs.declared.socket.Socket.{Socket}

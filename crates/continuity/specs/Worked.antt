@@ -1,7 +1,7 @@
 -- A worked history: a client is lost twice and comes back each time, naming the
 -- last offset that it got.
 use Rattle.std.specs.Prelude.{◌≡◌, ℕ, List, [], ◌∷◌, Some}
-use Rattle.room_maps.specs.Room.{own_room}
+use Rattle.terms.specs.Room.{own_room}
 use Rattle.recovery.specs.PacketLog.{PlainLogged}
 use Rattle.journal.specs.declared.socket.Socket.{Socket}
 use Rattle.journal.specs.declared.step.Step.{Step}

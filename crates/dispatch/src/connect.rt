@@ -10,10 +10,9 @@ use crate::packets::close_for;
 use effects::{Scene, act_all, commands};
 use events::{App, Cause, CoreFault, Effect, IdSource, Stopped, Verdict, Who};
 use recovery::Pid;
-use room_maps::Sid;
 use sio_wire::{Header, Resume, SioError, read_offset, refused_text, resume_of};
 use std::alloc::Global;
-use terms::{Attachments, Entry, Text, read_id};
+use terms::{Attachments, Entry, Sid, Text, read_id};
 
 /// Tells the client that it isn't connected, or closes it where its outbox has no place for that.
 fn refuse(scene: &mut Scene, space: &str, message: &str) -> Result<(), Stopped>

@@ -14,8 +14,8 @@ use crate::visit::Visit;
 use ack_book::AckError;
 use connection::Line;
 use events::{Cause, CoreFault, Inquiry, Who};
-use room_maps::Sid;
 use std::alloc::Global;
+use terms::Sid;
 
 /// Enters a question into the socket's book, and gives its id.
 fn enter(alloc: Global, line: &mut Line, sid: Sid, tag: u64, until: u64) -> Result<u64, CoreFault>

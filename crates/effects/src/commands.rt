@@ -15,8 +15,7 @@ use events::{CoreFault, Who};
 use hub_state::State;
 use journal::{HubError, Swept};
 use recovery::Pid;
-use room_maps::Sid;
-use terms::Entry;
+use terms::{Entry, Sid};
 
 /// Opens a client.
 pub fn open(visit: Visit, state: &mut State) -> Result<(), CoreFault>

@@ -18,7 +18,7 @@ use crate::visit::Visit;
 use connection::Line;
 use events::{CoreFault, Selection, Who};
 use journal::{Dismissed, HubError};
-use room_maps::{Room, Sid};
+use terms::{Room, Sid};
 
 /// Counts a change of rooms that the hub answered so, or skips it where the rooms don't allow it.
 fn change<X: Drop>(answer: Result<X, HubError>, tally: &mut Tally) -> Result<(), CoreFault>

@@ -3,7 +3,7 @@ use Rattle.std.proofs.Common.{◌≡◌, ◌⊎◌, ℕ, ◌≤◌, Bool, true, 
 use Rattle.std.specs.List.{list_any}
 use Rattle.std.specs.FinSet as set
 use Rattle.std.proofs.lemmas.Bool.{eqb-true, eq-eqb}
-use Rattle.room_maps.specs.Room.{same_room, own_room}
+use Rattle.terms.specs.Room.{same_room, own_room}
 use Rattle.room_maps.specs.Membership.{RoomSets, is_socket, is_in, rooms_in, with_pair, without_pair, with_members, without_members, with_socket, with_socket_in, without_socket, is_full, are_too_many, AreConsistent}
 use Rattle.room_maps.proofs.MembershipLemmas.{same_rooms, with_pair-again, few_with_pair, few_without_pair, few_without_members, few_without_socket, few_with_socket, few_of_new}
 use Rattle.room_maps.proofs.MembershipLaws.{is_socket-with_pair, is_in-with_pair, is_socket-without_pair, is_in-without_pair, is_socket-with_members, is_in-with_members, is_socket-without_members, is_in-without_members, is_socket-with_socket, is_in-with_socket, is_socket-with_socket_in, is_in-with_socket_in, is_socket-without_socket, is_in-without_socket}

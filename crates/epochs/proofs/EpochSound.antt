@@ -8,7 +8,7 @@ use Rattle.std.proofs.lemmas.Bool.{eqb-true, eq-eqb}
 use Rattle.terms.specs.Refusal.{first_refusal}
 use Rattle.terms.specs.declared.entry.Entry.{Entry}
 use Rattle.room_maps.specs.declared.error.RoomError.{RoomError}
-use Rattle.room_maps.specs.Room.{same_room, own_room}
+use Rattle.terms.specs.Room.{same_room, own_room}
 use Rattle.room_maps.specs.Membership as room_maps
 use Rattle.room_maps.specs.Membership.{RoomSets, AreConsistent, is_socket, is_in}
 use Rattle.room_maps.proofs.OrderLemmas.{same_room_is, same_room_itself}

@@ -4,9 +4,9 @@ use crate::lines::Line;
 use events::{CoreError, CoreFault};
 use hub_state::State;
 use relay::RelayApp;
-use room_maps::Room;
 use std::alloc::Global;
 use std::sync::ledger::Ledger;
+use terms::Room;
 use usual_core::{OnServer, Server, Settings, on_new_server};
 
 /// Two clients join a room. The first one joins another room, and speaks to the first.

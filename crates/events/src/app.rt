@@ -8,9 +8,8 @@ ghost use Rattle.events.specs.App.{PlainVerdict, plain_verdict, IsCleanVerdict, 
 
 use crate::emission::Emission;
 use crate::selection::Selection;
-use room_maps::{Room, Sid};
 use std::alloc::{AllocError, Global};
-use terms::{Attachments, Text};
+use terms::{Attachments, Room, Sid, Text};
 
 /// The socket that an event came from.
 #[derive(Debug, Drop)]

@@ -1,8 +1,7 @@
 //! An event that the app sends.
 
-use room_maps::Room;
 use std::marker::Model;
-use terms::{Attachments, Text};
+use terms::{Attachments, Room, Text};
 
 /// An event for the sockets of some rooms. In a contract it is plain data.
 #[derive(Drop)]

@@ -1,7 +1,7 @@
 //! Sockets that the app speaks of together.
 
-use room_maps::Room;
 use std::marker::Model;
+use terms::Room;
 
 /// The sockets of a namespace that are in one of some rooms. In a contract it is plain data.
 #[derive(Drop)]

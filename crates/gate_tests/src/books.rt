@@ -5,13 +5,13 @@ use crate::peers::{SAYS, talkers};
 use hub::Pass;
 use hub_gate::{Locked, Report, Turnstile};
 use journal::{Step, What};
-use room_maps::Room;
 use std::alloc::Global;
 use std::sync::atomic::{AtomicU64, Ordering};
 use std::sync::ledger::Ledger;
 use std::sync::{Mutex, Wait};
 use std::thread::Threads;
 use std::time::Clock;
+use terms::Room;
 
 /// The talker, by its number, that said a thing to all, and the number of the thing.
 fn said(step: &Step) -> Option<(usize, u8)> {

@@ -4,7 +4,7 @@ use Rattle.std.specs.Ordering.{nat_cmp}
 use Rattle.std.specs.BTreeMap.{get}
 use Rattle.room_maps.specs.Links.{is_linked}
 use Rattle.room_maps.specs.Mirror.{SocketMap, RoomMap, IsMirrored}
-use Rattle.room_maps.specs.Room.{room_cmp}
+use Rattle.terms.specs.Room.{room_cmp}
 use Rattle.journal.specs.declared.step.Step.{Step}
 use Rattle.journal.specs.declared.step.What.TheVariants.{Cast}
 use Rattle.journal.specs.Plain.{Limits, PlainBroadcast}

@@ -16,12 +16,12 @@ use dispatch::Core;
 use events::{App, CoreError, CoreFault, Event, IdSource, Outcome};
 use hub::Pass;
 use journal::{Epoch, HubError};
-use room_maps::{Room, Sid};
 use std::alloc::Global;
 use std::collections::{BTreeMap, BTreeSet};
 use std::snapshot::Snapshot;
 use std::sync::ledger::Ledger;
 use std::sync::{Mutex, MutexGuard, Wait};
+use terms::{Room, Sid};
 
 /// A core under its lock. Each event is one `Core::apply` under it, and no other lock stands around
 /// the state.

@@ -6,10 +6,10 @@ use Rattle.std.specs.declared.cmp.Ordering.{Ordering}
 use Rattle.std.specs.contracts.alloc.Global as global
 use Rattle.std.specs.contracts.collections.BTreeMap as tree
 use Rattle.std.specs.contracts.impls.GlobalAllocator.TheImpl.{ghosts}
-use Rattle.room_maps.specs.contracts.sid.Sid as sid
-use Rattle.room_maps.specs.contracts.sid.SidOrd.TheImpl as ord
-use Rattle.room_maps.specs.contracts.sid.SidPartialEq.TheImpl as eq
-use Rattle.room_maps.specs.contracts.sid.SidPartialOrd.TheImpl as partial_ord
+use Rattle.terms.specs.contracts.sid.Sid as sid
+use Rattle.terms.specs.contracts.sid.SidOrd.TheImpl as ord
+use Rattle.terms.specs.contracts.sid.SidPartialEq.TheImpl as eq
+use Rattle.terms.specs.contracts.sid.SidPartialOrd.TheImpl as partial_ord
 use Rattle.journal.specs.contracts.socket.Socket as socket
 use Rattle.std.specs.Ordering.{nat_cmp, ordering_then}
 use Rattle.std.specs.BTreeMap.{BTreeMap, get}

@@ -11,10 +11,10 @@ ghost use Rattle.journal.specs.Casting.{is_here};
 ghost use Rattle.hub_parts.specs.Seats.{IsIndex, seat_cmp, SameSeats, WithSeat, WithoutSeat};
 
 use journal::Socket;
-use room_maps::Sid;
 use std::alloc::{AllocError, Global};
 use std::collections::{BTreeMap, BTreeSet};
 use std::marker::Model;
+use terms::Sid;
 
 /// The connected sockets. In a contract they are the map from session ids to sockets. In the costs
 /// below, "the logarithm" is that of the number of sockets of all namespaces.

@@ -4,10 +4,10 @@ use crate::printing::{see, write_entries, write_sids, write_totals};
 use crate::words::Words;
 use hub::{Hub, Pass};
 use journal::{HubError, Totals};
-use room_maps::Sid;
 use std::alloc::Global;
 use std::mem::{replace, swap};
 use std::sync::ledger::Ledger;
+use terms::Sid;
 
 #[derive(Drop)]
 pub struct Player<C: Ledger, T: Ledger> {

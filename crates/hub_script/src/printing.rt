@@ -4,10 +4,9 @@ use crate::words::Words;
 use hub_state::State;
 use journal::{BaseClient, HubError, Step, Totals, What};
 use recovery::{Logged, Saved};
-use room_maps::{Room, Sid};
 use std::alloc::{AllocError, Global};
 use std::str;
-use terms::Entry;
+use terms::{Entry, Room, Sid};
 
 /// Writes an entry, followed by its attachments.
 pub fn write_entry(entry: &Entry, text: &mut String) -> Result<(), AllocError> {

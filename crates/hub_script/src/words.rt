@@ -2,9 +2,8 @@
 
 use journal::{Cast, Config, HubError};
 use recovery::Pid;
-use room_maps::{Room, Sid};
 use std::alloc::{AllocError, Global};
-use terms::{Attachments, Bytes, Entry, Text};
+use terms::{Attachments, Bytes, Entry, Room, Sid, Text};
 
 /// A line's words. In lines that are repeated `*` is the number of times that they were played.
 #[derive(Clone, Copy)]

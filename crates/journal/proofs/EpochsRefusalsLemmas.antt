@@ -5,7 +5,7 @@ use Rattle.std.specs.Option.{option_map_or}
 use Rattle.std.proofs.lemmas.Bool.{eqb-true}
 use Rattle.terms.specs.Listing.{ListsRising}
 use Rattle.terms.specs.Refusal.{first_refusal}
-use Rattle.room_maps.specs.Room.{same_room, own_room}
+use Rattle.terms.specs.Room.{same_room, own_room}
 use Rattle.room_maps.specs.Membership as room_maps
 use Rattle.room_maps.specs.Membership.{is_in}
 use Rattle.room_maps.specs.Addressed as broadcast

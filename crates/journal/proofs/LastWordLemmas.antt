@@ -1,7 +1,7 @@
 -- The running set of pairs is what the last words say.
 use Rattle.std.proofs.Common.{◌≡◌, ℕ, ◌==◌, Bool, true, false, ◌&&◌, ◌||◌, not, List, [], ◌∷◌, filter, refl, ◌∙◌, ap, if◌then◌else◌, Some, None, unwrap_or}
 use Rattle.std.specs.List.{list_any}
-use Rattle.room_maps.specs.Room.{same_room, own_room}
+use Rattle.terms.specs.Room.{same_room, own_room}
 use Rattle.room_maps.specs.Membership.{RoomSets, is_in, without_socket}
 use Rattle.room_maps.proofs.MembershipLaws.{is_in-with_pair, is_in-without_pair, is_in-with_members, is_in-without_members, is_in-with_socket, is_in-with_socket_in, is_in-without_socket}
 use Rattle.journal.specs.declared.socket.Socket.{Socket}

@@ -14,7 +14,7 @@ use Rattle.std.specs.FinMap.Entries as entries
 use Rattle.std.proofs.lemmas.Bool.{eqb-true, eq-eqb}
 use Rattle.terms.specs.Listing.{ListsRising}
 use Rattle.room_maps.specs.Addressed as broadcast
-use Rattle.room_maps.specs.Room.{same_room, own_room}
+use Rattle.terms.specs.Room.{same_room, own_room}
 use Rattle.room_maps.specs.Membership.{RoomSets, AreConsistent, is_socket, is_in, is_full, with_members, without_members, has_unknown, join_all_refusal, leave_all_refusal}
 use Rattle.room_maps.specs.declared.error.RoomError.TheVariants.{UnknownSocket, TooManyRooms, OwnRoom}
 use Rattle.room_maps.proofs.BooleanLemmas.{same_bool}

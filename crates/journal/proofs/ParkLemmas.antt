@@ -12,7 +12,7 @@ use Rattle.std.specs.FinMap.Entries.{is_sorted, below_all}
 use Rattle.std.specs.FinMap.Entries as entries
 use Rattle.std.proofs.lemmas.Bool.{eqb-true, eq-eqb}
 use Rattle.terms.specs.Listing.{ListsRising}
-use Rattle.room_maps.specs.Room.{room_cmp}
+use Rattle.terms.specs.Room.{room_cmp}
 use Rattle.room_maps.specs.Membership.{RoomSets, AreConsistent, is_socket, is_in, rooms_in, are_too_many}
 use Rattle.room_maps.proofs.MembershipLemmas.{contains-rooms_in, few_listed}
 use Rattle.recovery.specs.PacketLog.{LogContents, IsRun, Rises, latest}

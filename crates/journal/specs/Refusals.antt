@@ -12,7 +12,7 @@ use Rattle.recovery.specs.Missed.{missed}
 use Rattle.terms.specs.declared.entry.Entry.{Entry}
 use Rattle.sio_wire.specs.Offset.{is_bracket}
 use Rattle.room_maps.specs.declared.error.RoomError.TheVariants.{OwnRoom, TooManyRooms}
-use Rattle.room_maps.specs.Room.{same_room, own_room}
+use Rattle.terms.specs.Room.{same_room, own_room}
 use Rattle.journal.specs.declared.error.HubError.{HubError}
 use Rattle.journal.specs.declared.error.HubError.TheVariants.{IdTaken, UnknownClient, UnknownSocket, UnknownNamespace, AlreadyConnected, TooManyClients, OutboxFull, RoomRefused, NotRecoverable, Spent, SavedFull, BadPayload}
 use Rattle.journal.specs.declared.error.RecoveryRefusal.TheVariants.{UnknownPid, Expired, OffsetGone}

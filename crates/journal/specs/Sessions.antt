@@ -7,7 +7,7 @@ use Rattle.journal.specs.declared.socket.Socket.{Socket}
 use Rattle.journal.specs.declared.step.Step.{Step}
 use Rattle.journal.specs.declared.step.What.{What}
 use Rattle.journal.specs.declared.step.What.TheVariants.{Recovered, Parked, Swept}
-use Rattle.room_maps.specs.Room.{room_cmp}
+use Rattle.terms.specs.Room.{room_cmp}
 use Rattle.room_maps.specs.Membership.{RoomSets, rooms_in}
 use Rattle.recovery.specs.Expiry.{is_outdated}
 use Rattle.recovery.specs.SavedTable.{PlainSaved, with_session}

@@ -1,7 +1,7 @@
 //! What commands answer.
 
-use room_maps::Sid;
 use std::marker::Model;
+use terms::Sid;
 
 /// What came of a broadcast. In a contract it is plain data.
 #[derive(Debug, Drop)]

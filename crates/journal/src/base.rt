@@ -2,10 +2,9 @@
 
 use crate::totals::Totals;
 use recovery::{Logged, Pid, Saved};
-use room_maps::{Room, Sid};
 use std::marker::Model;
 use std::sync::Arc;
-use terms::Entry;
+use terms::{Entry, Room, Sid};
 
 /// The state of a hub before its first step, as data. In a contract it is plain data.
 #[derive(Drop)]

@@ -1,8 +1,7 @@
 //! A broadcast that is asked for, and what came of it.
 
-use room_maps::Room;
 use std::marker::Model;
-use terms::{Attachments, Text};
+use terms::{Attachments, Room, Text};
 
 /// An event for the sockets of a namespace. In a contract it is plain data.
 #[derive(Drop)]

@@ -1,10 +1,9 @@
 //! What the steps of broadcasts, messages and recoveries hold.
 
 use crate::socket::Socket;
-use room_maps::{Room, Sid};
 use std::marker::Model;
 use std::sync::Arc;
-use terms::Entry;
+use terms::{Entry, Room, Sid};
 
 /// A broadcast that was accepted. In a contract it is plain data.
 #[derive(Drop)]

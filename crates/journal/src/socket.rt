@@ -2,7 +2,7 @@
 //! namespace").
 
 use recovery::Pid;
-use room_maps::Sid;
+use terms::Sid;
 
 /// A socket of a client. A client has at most one in each namespace.
 #[derive(Clone, Copy, Debug, PartialEq, Eq)]

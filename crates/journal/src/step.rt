@@ -2,7 +2,7 @@
 
 use crate::contents::{Broadcast, Dismissal, Message, Recovery, RoomChange};
 use crate::socket::Socket;
-use room_maps::{Room, Sid};
+use terms::{Room, Sid};
 
 /// A command that was accepted, and when.
 #[derive(Drop)]

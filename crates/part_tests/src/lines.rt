@@ -3,10 +3,10 @@
 use crate::play::{Part, play};
 use ack_book::{AckBook, AckError};
 use connection::Line;
-use room_maps::Sid;
 use session_clock::{Clock, ClockError, ClockState, Due, Timing, Transport};
 use sio_wire::{SioError, SioPacket};
 use std::alloc::Global;
+use terms::Sid;
 
 const DEFAULTS: Timing = Timing {
     ping_interval: 25_000,

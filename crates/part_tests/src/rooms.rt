@@ -1,8 +1,9 @@
 //! Which sockets are in which rooms.
 
 use crate::play::{Part, play};
-use room_maps::{Room, RoomError, Rooms, Sid};
+use room_maps::{RoomError, Rooms};
 use std::alloc::{AllocError, Global};
+use terms::{Room, Sid};
 
 /// A room, by its name or as the own one of a socket.
 #[derive(Clone, Copy)]

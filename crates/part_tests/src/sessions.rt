@@ -4,10 +4,9 @@ ghost use Rattle.std.specs.Prelude.{◌≤◌};
 
 use crate::play::{Part, play};
 use recovery::{PacketLog, Pid, RecoveryError, Saved, SavedTable};
-use room_maps::Sid;
 use std::alloc::Global;
 use std::sync::Arc;
-use terms::{Attachments, Entry, Text};
+use terms::{Attachments, Entry, Sid, Text};
 
 /// What is called, with what it answers last.
 pub enum Row {

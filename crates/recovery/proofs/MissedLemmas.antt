@@ -4,7 +4,7 @@ use Rattle.std.proofs.lemmas.Bool.Decides.{nat_tests}
 use Rattle.std.proofs.lemmas.List.Elements.{filter-append}
 use Rattle.std.proofs.lemmas.List.{map-append, length-drop}
 use Rattle.std.proofs.Math.Seq.{take-length}
-use Rattle.room_maps.specs.Addressed.{names_no_room}
+use Rattle.terms.specs.Audience.{names_no_room}
 use Rattle.recovery.specs.PacketLog.{PlainLogged}
 
 pub no_room : (rooms : List (List ℕ)) → (length rooms == 0) ≡ names_no_room rooms

@@ -1,8 +1,8 @@
 -- What a session has missed (Socket.IO server documentation, "Connection state recovery").
 use Rattle.std.specs.Prelude.{ℕ, ◌==◌, Bool, not, ◌&&◌, List, [], ◌∷◌, map, filter, Option}
 use Rattle.std.specs.List.{list_any}
-use Rattle.room_maps.specs.Room.{same_room}
-use Rattle.room_maps.specs.Addressed as addressed
+use Rattle.terms.specs.Room.{same_room}
+use Rattle.terms.specs.Audience as addressed
 use Rattle.terms.specs.Refusal.{first_refusal}
 use Rattle.recovery.specs.declared.error.RecoveryError.{RecoveryError}
 use Rattle.recovery.specs.declared.error.RecoveryError.TheVariants.{OffsetGone}

@@ -2,14 +2,13 @@
 
 ghost use Rattle.std.specs.Prelude.{◌≡◌, IfOk};
 ghost use Rattle.std.specs.List.{list_any};
-ghost use Rattle.room_maps.specs.Addressed as addressed;
+ghost use Rattle.terms.specs.Audience as addressed;
 ghost use Rattle.recovery.specs.Missed as missed;
 
-use room_maps::Room;
 use std::alloc::{AllocError, Global};
 use std::marker::Model;
 use std::sync::Arc;
-use terms::Entry;
+use terms::{Entry, Room};
 
 /// A broadcast that was given an offset. In a contract it is plain data, so that two are equal
 /// where their contents are.

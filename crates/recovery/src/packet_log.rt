@@ -11,11 +11,10 @@ use crate::error::RecoveryError;
 use crate::expiry::is_outdated;
 use crate::logged::Logged;
 use circular_buffer::HeapCircularBuffer;
-use room_maps::Room;
 use std::alloc::{AllocError, Global};
 use std::marker::Model;
 use std::sync::Arc;
-use terms::Entry;
+use terms::{Entry, Room};
 
 /// The latest broadcasts, each with its offset. It takes its memory once, when it is made.
 /// A moment before the last that it saw counts as that one.

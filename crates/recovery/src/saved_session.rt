@@ -4,9 +4,9 @@ ghost use Rattle.std.specs.Prelude.{◌≡◌, IfOk};
 ghost use Rattle.recovery.specs.Expiry as expiry;
 
 use crate::expiry::is_outdated;
-use room_maps::{Room, Sid};
 use std::alloc::{AllocError, Global};
 use std::marker::Model;
+use terms::{Room, Sid};
 
 /// A private session id, by which a client asks for its session back. In a contract it is the
 /// number.

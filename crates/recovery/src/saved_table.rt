@@ -15,10 +15,10 @@ ghost use Rattle.recovery.specs.SavedTable as table;
 use crate::error::RecoveryError;
 use crate::expiry::is_outdated;
 use crate::saved_session::{Pid, Saved};
-use room_maps::Sid;
 use std::alloc::{AllocError, Global};
 use std::collections::{BTreeMap, BTreeSet};
 use std::marker::Model;
+use terms::Sid;
 
 /// The lost sessions, at most as many as a limit. Each moment counts as it is handed in. A look-up
 /// by private id or by session id takes the logarithm of the sessions.

@@ -2,7 +2,7 @@
 use Rattle.std.specs.Prelude.{◌≡◌, ◌≢◌, ℕ, Bool, true, false, if◌then◌else◌, List, [], ◌∷◌, ◌++◌, length, codes, bytes_eq, nat_lt, Option, Some, None, Result, Ok, Err, slice_get}
 use Rattle.sio_wire.specs.declared.error.SioError.{SioError}
 use Rattle.sio_wire.specs.JsonFields.{names_at}
-use Rattle.room_maps.specs.Room.{own_room}
+use Rattle.terms.specs.Room.{own_room}
 use Rattle.events.specs.App.{PlainVerdict, Accepted, Refused}
 use Rattle.events.specs.declared.app.Who.{Who}
 use Rattle.events.specs.declared.app.Message.{Message}

@@ -2,16 +2,15 @@
 
 ghost use Rattle.std.specs.Prelude.{◌≡◌, ◌∷◌, ◌++◌, [], IfOk, OnOk, Some, None, true, false, option_map};
 ghost use Rattle.eio_wire.specs.Payload.{IsWhole};
-ghost use Rattle.room_maps.specs.Room.{own_room};
+ghost use Rattle.terms.specs.Room.{own_room};
 ghost use Rattle.relay.specs.Relay as table;
 ghost use Rattle.relay.specs.Relay.{texts_of};
 
 use crate::word::{Word, room_in, word_in};
 use events::{App, Arrived, Effect, Emission, Inquiry, Message, Reply, Selection, Verdict, Who};
-use room_maps::Room;
 use sio_wire::{SioError, names};
 use std::alloc::{AllocError, Global};
-use terms::{Attachments, Text};
+use terms::{Attachments, Room, Text};
 
 /// The payload of a CONNECT that isn't accepted.
 const NO_TOKEN: &str = r#"{"token":"no"}"#;

@@ -3,8 +3,7 @@
 ghost use Rattle.std.specs.Prelude.{◌≡◌, Option, Some, None};
 ghost use Rattle.relay.specs.Relay.{word_of, word_in, room_in};
 
-use room_maps::Room;
-use terms::Text;
+use terms::{Room, Text};
 
 /// What the name of an event asks for.
 #[derive(Clone, Copy, Debug, PartialEq, Eq)]

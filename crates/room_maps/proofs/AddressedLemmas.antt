@@ -14,11 +14,12 @@ use Rattle.std.specs.Map.{keys_of, lookup}
 use Rattle.std.specs.Cmp.{IsTotalOrder, Equal-is}
 use Rattle.std.specs.BTreeMap as tree
 use Rattle.std.specs.BTreeSet as sorted
-use Rattle.room_maps.specs.Room.{room_cmp}
+use Rattle.terms.specs.Room.{room_cmp}
 use Rattle.room_maps.specs.Links.{is_linked, is_in_some}
 use Rattle.room_maps.specs.Membership.{is_socket, is_in}
 use Rattle.room_maps.specs.Mirror.{SocketMap, RoomMap, Mirror, pairs_of, sets_of}
-use Rattle.room_maps.specs.Addressed.{names_no_room, is_for, is_addressed}
+use Rattle.terms.specs.Audience.{names_no_room, is_for}
+use Rattle.room_maps.specs.Addressed.{is_addressed}
 use Rattle.room_maps.proofs.MirrorLemmas.{contains-sockets_of, contains-pairs_of, known_of}
 use Rattle.room_maps.proofs.BooleanLemmas.{and_comm}
 use Rattle.room_maps.proofs.OrderLemmas.{list_any-filter, list_any-at, nat_tied, none_equal}

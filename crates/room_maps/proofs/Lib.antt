@@ -1,7 +1,6 @@
 pub mod BooleanLemmas
 pub mod OrderLemmas
 pub mod ListLemmas
-pub mod RoomLemmas
 pub mod LinksLemmas
 pub mod MembershipLemmas
 pub mod MembershipLaws

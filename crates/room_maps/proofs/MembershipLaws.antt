@@ -6,7 +6,7 @@ use Rattle.std.specs.List.{list_any}
 use Rattle.std.specs.Cmp.Lexicographic.{nat_list_eq_equiv}
 use Rattle.std.proofs.lemmas.Bool.{eqb-true}
 use Rattle.std.specs.FinSet.{contains-empty}
-use Rattle.room_maps.specs.Room.{room_cmp, same_room, own_room}
+use Rattle.terms.specs.Room.{room_cmp, same_room, own_room}
 use Rattle.room_maps.specs.Membership.{RoomSets, pair_cmp, is_socket, is_in, no_sockets, is_named, with_pair, without_pair, with_members, without_members, with_socket, with_socket_in, without_socket}
 use Rattle.room_maps.proofs.BooleanLemmas.{same_bool}
 use Rattle.room_maps.proofs.OrderLemmas.{nat_tied, nat_itself, same_room-cmp}

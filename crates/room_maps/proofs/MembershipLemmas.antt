@@ -8,7 +8,7 @@ use Rattle.std.specs.FinSet as set
 use Rattle.std.specs.FinSet.{nat_cmp-IsAntisymmetric, contains-empty, contains-insert, contains-remove, contains-from_list, contains-retain, contains-union, contains-difference, contains-items, len-empty, len-insert, len-remove, same_set}
 use Rattle.std.proofs.lemmas.Bool.Decides.{nat_tests}
 use Rattle.std.proofs.lemmas.List.Folds.{list_any-append}
-use Rattle.room_maps.specs.Room.{room_cmp, own_room}
+use Rattle.terms.specs.Room.{room_cmp, own_room}
 use Rattle.room_maps.specs.Membership.{pair_cmp, RoomSets, is_socket, is_in, is_named, rooms_in, pairs_with, no_sockets, with_pair, without_pair, with_pairs, with_members, without_members, with_socket, with_socket_in, without_socket, is_full, are_too_many, HasFewRooms, AreConsistent}
 use Rattle.room_maps.proofs.BooleanLemmas.{and_comm, or_comm, same_bool, taken_back_bool, added_again_bool}
 use Rattle.room_maps.proofs.OrderLemmas.{pair_cmp_total, room_cmp-IsAntisymmetric, pair_cmp-IsAntisymmetric, then-eq, nat_tied, room_tied, pair_tied, nat_itself, eq-pair, list_any-map, list_any-and, list_any-filter}

@@ -11,7 +11,7 @@ use Rattle.std.specs.FinSet as set
 use Rattle.std.specs.FinSet.{nat_cmp-IsAntisymmetric, contains-insert, contains-remove, contains-from_list, contains-retain, same_set}
 use Rattle.std.specs.BTreeMap as tree
 use Rattle.std.proofs.lemmas.Map.Made.{is_some-lookup}
-use Rattle.room_maps.specs.Room.{room_cmp, same_room, own_room}
+use Rattle.terms.specs.Room.{room_cmp, same_room, own_room}
 use Rattle.room_maps.specs.Links.{is_linked, is_in_some, HasNoEmptySet, IsUnchanged, AddsLink}
 use Rattle.room_maps.specs.Membership.{pair_cmp, RoomSets, is_named, rooms_in, with_pair, with_socket, without_pair, without_members, without_socket, no_sockets, HasFewRooms, AreConsistent}
 use Rattle.room_maps.specs.Mirror.{SocketMap, RoomMap, rooms_at, pairs_at, sockets_of, pairs_of, sets_of, Mirror, IsMirrored}

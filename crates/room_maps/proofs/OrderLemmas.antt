@@ -9,7 +9,7 @@ use Rattle.std.specs.List.Sorted.{IsStrictlySortedBy}
 use Rattle.std.specs.FinSet as set
 use Rattle.std.specs.FinSet.{IsAntisymmetric, nat_cmp-IsAntisymmetric, slice_cmp-IsAntisymmetric, contains-from_list, len-empty, len-insert}
 use Rattle.std.proofs.lemmas.List.Folds.{list_any-append}
-use Rattle.room_maps.specs.Room.{room_cmp, same_room}
+use Rattle.terms.specs.Room.{room_cmp, same_room}
 use Rattle.room_maps.specs.Membership.{pair_cmp}
 use Rattle.room_maps.proofs.BooleanLemmas.{same_bool}
 

@@ -10,7 +10,7 @@ use Rattle.std.specs.BTreeMap as tree
 use Rattle.std.proofs.lemmas.List.Folds.{list_any-append}
 use Rattle.std.proofs.lemmas.Map.Made.{is_some-lookup}
 use Rattle.terms.specs.Listing.{ListsRising}
-use Rattle.room_maps.specs.Room.{room_cmp}
+use Rattle.terms.specs.Room.{room_cmp}
 use Rattle.room_maps.specs.Links.{is_in_some}
 use Rattle.room_maps.specs.Membership.{pair_cmp, is_in}
 use Rattle.room_maps.specs.Mirror.{SocketMap, entry_pairs, HasRisingRooms, sets_of}

@@ -9,7 +9,7 @@ use Rattle.std.proofs.lemmas.List.{take-append-drop}
 use Rattle.terms.specs.Listing.{ListsRising}
 use Rattle.terms.specs.Refusal.{first_refusal}
 use Rattle.room_maps.specs.declared.error.RoomError.{RoomError}
-use Rattle.room_maps.specs.Room.{room_cmp, same_room, own_room}
+use Rattle.terms.specs.Room.{room_cmp, same_room, own_room}
 use Rattle.room_maps.specs.Membership.{RoomSets, is_socket, is_in, is_full, is_named, with_pair, with_members, without_members, has_unknown, has_full, has_own_room, join_all_refusal, leave_all_refusal, AreConsistent}
 use Rattle.room_maps.proofs.BooleanLemmas.{left, right, same_bool}
 use Rattle.room_maps.proofs.OrderLemmas.{nat_tied, nat_itself, room_tied, room_itself, same_room_is}

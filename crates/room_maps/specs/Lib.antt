@@ -1,4 +1,3 @@
-pub mod Room
 pub mod Links
 pub mod Membership
 pub mod Mirror

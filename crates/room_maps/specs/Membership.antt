@@ -9,7 +9,7 @@ use Rattle.std.specs.List.{filter, list_any}
 use Rattle.std.specs.FinSet as set
 use Rattle.std.specs.Coded.{Coded, code_by, coded×, coded_ℕ, coded_list}
 use Rattle.terms.specs.Refusal.{first_refusal}
-use Rattle.room_maps.specs.Room.{room_cmp, same_room, own_room}
+use Rattle.terms.specs.Room.{room_cmp, same_room, own_room}
 
 -- pairs stand in the order of their sockets, and those of one socket in that of their rooms
 abbrev pub pair_cmp : ℕ × List ℕ → ℕ × List ℕ → Ordering

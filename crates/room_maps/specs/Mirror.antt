@@ -7,7 +7,7 @@ use Rattle.std.specs.FinSet as set
 use Rattle.std.specs.BTreeMap.{BTreeMap}
 use Rattle.std.specs.BTreeMap as tree
 use Rattle.std.specs.BTreeSet.{BTreeSet}
-use Rattle.room_maps.specs.Room.{room_cmp, own_room}
+use Rattle.terms.specs.Room.{room_cmp, own_room}
 use Rattle.room_maps.specs.Links.{is_linked, HasNoEmptySet}
 use Rattle.room_maps.specs.Membership.{pair_cmp, RoomSets, is_socket}
 

@@ -5,11 +5,7 @@
 mod error;
 mod links;
 mod lookup;
-mod room;
 mod rooms;
-mod sid;
 
 pub use error::RoomError;
-pub use room::Room;
 pub use rooms::Rooms;
-pub use sid::Sid;

@@ -9,14 +9,13 @@ ghost use Rattle.std.specs.BTreeMap as tree;
 ghost use Rattle.std.specs.BTreeSet as sorted;
 ghost use Rattle.room_maps.specs.Links.{is_linked};
 ghost use Rattle.room_maps.specs.Mirror.{entry_pairs, HasRisingRooms, is_in_one_of, is_member_of_one};
-ghost use Rattle.room_maps.specs.Room.{room_cmp};
+ghost use Rattle.terms.specs.Room.{room_cmp};
 ghost use Rattle.terms.specs.Listing.{ListsRising};
 
 use crate::links;
-use crate::room::Room;
-use crate::sid::Sid;
 use std::alloc::{AllocError, Global};
 use std::collections::{BTreeMap, BTreeSet};
+use terms::{Room, Sid};
 
 /// Whether one of the rooms is in the set.
 fn meets(inside: &BTreeSet<Room>, rooms: &[Room]) -> bool

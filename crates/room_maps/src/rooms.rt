@@ -6,7 +6,7 @@ ghost use Rattle.std.specs.FinSet as set;
 ghost use Rattle.std.specs.Ordering.{nat_cmp};
 ghost use Rattle.terms.specs.Refusal.{ok_unless};
 ghost use Rattle.terms.specs.Listing.{ListsRising};
-ghost use Rattle.room_maps.specs.Room.{room_cmp, same_room, own_room};
+ghost use Rattle.terms.specs.Room.{room_cmp, same_room, own_room};
 ghost use Rattle.room_maps.specs.Links.{is_linked, HasNoEmptySet, IsUnchanged, AddsLink};
 ghost use Rattle.room_maps.specs.Membership.{pair_cmp, no_sockets, is_socket, is_in, rooms_in, is_full, with_pair, without_pair, with_pairs, with_socket, with_socket_in, without_socket, enter_refusal, enter_all_refusal, join_refusal, leave_refusal, unknown_refusal, AreConsistent};
 ghost use Rattle.room_maps.specs.Membership as membership;
@@ -16,12 +16,11 @@ ghost use Rattle.room_maps.specs.Mirror.{IsMirrored};
 mod together;
 
 use crate::error::RoomError;
-use crate::room::Room;
-use crate::sid::Sid;
 use crate::{links, lookup};
 use std::alloc::{AllocError, Global};
 use std::collections::{BTreeMap, BTreeSet};
 use std::marker::Model;
+use terms::{Room, Sid};
 
 /// A socket is in at most so many rooms, its own among them.
 const MOST_ROOMS: usize = 256;

@@ -15,10 +15,10 @@ use events::{App, Cause, CoreError, CoreFault, Done, Event, Outcome};
 use hub::Pass;
 use journal::HubError;
 use relay::Counter;
-use room_maps::Room;
 use std::alloc::{AllocError, Global};
 use std::collections::BTreeMap;
 use std::sync::ledger::Ledger;
+use terms::Room;
 
 /// A server under way, and the clients that the names stand for.
 #[derive(Drop)]

@@ -7,10 +7,10 @@ ghost use Rattle.script.specs.Printing.{cause_name, fault_name, reason_name, ign
 
 use events::{Cause, CoreFault, Done, WsFrame};
 use journal::{Swept, Totals};
-use room_maps::{RoomError, Sid};
+use room_maps::RoomError;
 use std::alloc::{AllocError, Global};
 use std::fmt;
-use terms::{Text, ascii_text, id_text};
+use terms::{Sid, Text, ascii_text, id_text};
 
 /// The answer to one line of a script. Its `Display` is the line that is printed.
 #[derive(Drop)]

@@ -5,9 +5,8 @@ ghost use Rattle.events.specs.App.{AllClean, IsCleanEffect};
 
 use events::{App, Arrived, Effect, Emission, Inquiry, Reply, Selection, Verdict, Who};
 use relay::RelayApp;
-use room_maps::{Room, Sid};
 use std::alloc::{AllocError, Global};
-use terms::{Attachments, Text};
+use terms::{Attachments, Room, Sid, Text};
 
 fn everybody(alloc: Global) -> Selection {
     Selection {

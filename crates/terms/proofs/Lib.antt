@@ -1,1 +1,2 @@
 pub mod HexadecimalLemmas
+pub mod RoomLemmas

@@ -4,3 +4,5 @@ pub mod Listing
 pub mod Refusal
 pub mod Ids
 pub mod Entry
+pub mod Room
+pub mod Audience

@@ -11,10 +11,9 @@ use crate::hub::Hub;
 use crate::pass::Pass;
 use journal::HubError;
 use recovery::Pid;
-use room_maps::{Room, Sid};
 use std::alloc::Global;
 use std::sync::ledger::Ledger;
-use terms::Entry;
+use terms::{Entry, Room, Sid};
 
 impl<C: Ledger, T: Ledger> Hub<C, T> {
     /// Opens a client, with no sockets and an empty outbox. Refused as `IdTaken`,

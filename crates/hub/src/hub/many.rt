@@ -9,9 +9,9 @@ ghost use Rattle.journal.specs.declared.step.What.{What};
 use crate::hub::Hub;
 use crate::pass::Pass;
 use journal::{Dismissed, HubError};
-use room_maps::{Room, Sid};
 use std::alloc::Global;
 use std::sync::ledger::Ledger;
+use terms::{Room, Sid};
 
 impl<C: Ledger, T: Ledger> Hub<C, T> {
     /// All sockets of a namespace that match join a room, or none does. It gives those that weren't

@@ -16,9 +16,9 @@ use crate::hub::Hub;
 use crate::pass::Pass;
 use journal::{Epoch, HubError, Swept};
 use recovery::Pid;
-use room_maps::Sid;
 use std::alloc::Global;
 use std::sync::ledger::Ledger;
+use terms::Sid;
 
 impl<C: Ledger, T: Ledger> Hub<C, T> {
     /// Parks a client that was lost: the sessions of its sockets are saved with their rooms, its

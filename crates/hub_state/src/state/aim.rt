@@ -17,11 +17,11 @@ ghost use Rattle.journal.specs.Casting as casting;
 use crate::state::State;
 use hub_parts::{Client, Seats};
 use journal::{Broadcast, HubError, Message, Socket};
-use room_maps::{Room, Rooms, Sid};
+use room_maps::Rooms;
 use std::alloc::Global;
 use std::collections::BTreeMap;
 use std::sync::Arc;
-use terms::Entry;
+use terms::{Entry, Room, Sid};
 
 /// Adds the socket with an id, where it is in the namespace at a place.
 fn add_socket(

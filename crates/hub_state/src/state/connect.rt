@@ -26,12 +26,12 @@ use crate::state::{Added, NONE, State};
 use hub_parts::{Client, Seats};
 use journal::{HubError, Socket, What};
 use recovery::Pid;
-use room_maps::{Room, Rooms, Sid};
+use room_maps::Rooms;
 use sio_wire::connected_text;
 use std::alloc::Global;
 use std::collections::{BTreeMap, BTreeSet};
 use std::sync::Arc;
-use terms::{Attachments, Entry, Text};
+use terms::{Attachments, Entry, Room, Sid, Text};
 
 /// How many bytes the answer to a CONNECT to this namespace has.
 fn answer_size(name: &str) -> usize

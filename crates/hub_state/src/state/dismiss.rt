@@ -32,12 +32,12 @@ use crate::state::{Added, NONE, State};
 use hub_parts::{Client, Seats};
 use journal::{Dismissal, Dismissed, HubError, Message, Socket, What};
 use recovery::Pid;
-use room_maps::{Room, Rooms, Sid};
+use room_maps::Rooms;
 use sio_wire::disconnect_text;
 use std::alloc::Global;
 use std::collections::{BTreeMap, BTreeSet};
 use std::sync::Arc;
-use terms::{Attachments, Entry, Text};
+use terms::{Attachments, Entry, Room, Sid, Text};
 
 /// What a client is told whose socket in the namespace with this name is ended.
 fn farewell_to(alloc: Global, name: &str) -> Result<Arc<Entry>, HubError>

@@ -17,9 +17,10 @@ use crate::state::{NONE, State};
 use hub_parts::{Client, Seats, Sockets};
 use journal::{HubError, Socket, What};
 use recovery::Pid;
-use room_maps::{Rooms, Sid};
+use room_maps::Rooms;
 use std::alloc::Global;
 use std::collections::{BTreeMap, BTreeSet};
+use terms::Sid;
 
 /// Takes the socket at a place out of its client's list.
 pub(crate) fn drop_from(clients: &mut BTreeMap<u128, Client>, client: u128, place: usize)

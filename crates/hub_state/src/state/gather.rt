@@ -14,8 +14,9 @@ ghost use Rattle.hub_state.specs.Changes.{MakesStep};
 use crate::state::members::keep_here;
 use crate::state::{NONE, State};
 use journal::{HubError, RoomChange, What};
-use room_maps::{Room, Rooms, Sid};
+use room_maps::Rooms;
 use std::alloc::Global;
+use terms::{Room, Sid};
 
 /// Keeps the sockets that aren't in the room.
 fn keep_outside(sids: &mut Vec<Sid>, inside: &Rooms, room: Room)

@@ -8,9 +8,8 @@ ghost use Rattle.journal.specs.Totals as counted;
 
 use crate::state::State;
 use journal::{Base, Step, Totals};
-use room_maps::{Room, Sid};
 use std::collections::{BTreeMap, BTreeSet};
-use terms::Entry;
+use terms::{Entry, Room, Sid};
 
 impl State {
     /// The state from which the journal begins.

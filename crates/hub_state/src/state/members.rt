@@ -11,8 +11,8 @@ ghost use Rattle.journal.specs.Casting.{is_here};
 use crate::state::State;
 use hub_parts::Seats;
 use journal::HubError;
-use room_maps::{Room, Sid};
 use std::alloc::Global;
+use terms::{Room, Sid};
 
 /// Adds the id of a socket, where this is in the namespace at a place.
 fn add_here(kept: &mut Vec<Sid>, seats: &Seats, sid: Sid, place: usize) -> Result<(), HubError>

@@ -11,10 +11,9 @@ ghost use Rattle.hub_state.specs.Returning.{gets_back};
 use hub_parts::room_after;
 use journal::HubError;
 use recovery::{Logged, Saved};
-use room_maps::Room;
 use std::alloc::Global;
 use std::sync::Arc;
-use terms::Entry;
+use terms::{Entry, Room};
 
 /// A saved session that may come back, and what the log has past the offset that its client named,
 /// in two pieces.

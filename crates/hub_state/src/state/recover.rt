@@ -27,11 +27,10 @@ use crate::state::{Added, NONE, State};
 use hub_parts::{Client, Outbox};
 use journal::{HubError, Recovery, RecoveryRefusal, Socket, What};
 use recovery::{Logged, Pid, Saved, SavedTable};
-use room_maps::Sid;
 use std::alloc::Global;
 use std::collections::BTreeMap;
 use std::sync::Arc;
-use terms::Entry;
+use terms::{Entry, Sid};
 
 /// Puts entries at the end of an outbox, which has a place for all.
 fn push_all(outbox: &mut Outbox, entries: Vec<Arc<Entry>>)

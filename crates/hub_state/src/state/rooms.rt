@@ -9,8 +9,9 @@ ghost use Rattle.hub_state.specs.Changes.{refusal_now};
 
 use crate::state::{NONE, State};
 use journal::{HubError, What};
-use room_maps::{Room, RoomError, Rooms, Sid};
+use room_maps::{RoomError, Rooms};
 use std::alloc::Global;
+use terms::{Room, Sid};
 
 /// Takes a socket out of a room that it may leave.
 fn take_out(rooms: &mut Rooms, sid: Sid, room: Room)

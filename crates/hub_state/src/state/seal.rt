@@ -15,10 +15,10 @@ use crate::state::State;
 use hub_parts::{Client, Sockets};
 use journal::{Base, BaseClient, Epoch, HubError};
 use recovery::{Logged, Pid, Saved};
-use room_maps::{Room, Sid};
 use std::alloc::{AllocError, Global};
 use std::collections::BTreeMap;
 use std::mem::replace;
+use terms::{Room, Sid};
 
 /// The namespace, the session id and the private session id of each of the sockets.
 fn socket_ids(alloc: Global, sockets: &Sockets) -> Result<Vec<(u16, Sid, Pid)>, AllocError>

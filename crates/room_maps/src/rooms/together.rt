@@ -4,16 +4,15 @@
 ghost use Rattle.std.specs.Prelude.{◌≡◌, ◌&&◌, ℕ, IfOk, IfErr, IfSome, OnOk, OnErr, None, true, false, not};
 ghost use Rattle.std.specs.Ordering.{nat_cmp};
 ghost use Rattle.terms.specs.Listing.{ListsRising};
-ghost use Rattle.room_maps.specs.Room.{same_room, own_room};
+ghost use Rattle.terms.specs.Room.{same_room, own_room};
 ghost use Rattle.room_maps.specs.Membership.{is_socket, is_in, is_full, is_named, with_members, without_members, join_all_refusal, leave_all_refusal};
 ghost use Rattle.room_maps.specs.Membership as membership;
 
 use crate::error::RoomError;
-use crate::room::Room;
 use crate::rooms::{MOST_ROOMS, Rooms};
-use crate::sid::Sid;
 use crate::{links, lookup};
 use std::alloc::{AllocError, Global};
+use terms::{Room, Sid};
 
 /// Whether the room is the own one of one of these.
 fn has_own_room(sids: &[Sid], room: Room) -> bool

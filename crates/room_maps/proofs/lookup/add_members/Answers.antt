@@ -3,7 +3,7 @@ use Rattle.std.specs.Ordering.{eq_by_cmp}
 use Rattle.std.specs.List.{list_any, filter}
 use Rattle.std.proofs.lemmas.List.Folds.{list_any-append}
 use Rattle.room_maps.specs.Links.{is_linked, is_in_some}
-use Rattle.room_maps.specs.Room.{room_cmp}
+use Rattle.terms.specs.Room.{room_cmp}
 use Rattle.room_maps.proofs.AddressedLemmas.{on_ok, contains-filter}
 use Rattle.room_maps.proofs.lookup.add_members.Goals as goal
 

@@ -1,7 +1,7 @@
 use Rattle.std.proofs.Common.{◌≡◌, false, List, [], ◌∷◌, refl, ap, ◌∙◌}
 use Rattle.std.specs.List.{list_any}
 use Rattle.room_maps.specs.Links.{is_in_some}
-use Rattle.room_maps.specs.Room.{room_cmp}
+use Rattle.terms.specs.Room.{room_cmp}
 use Rattle.room_maps.proofs.lookup.is_in_any.Goals as goal
 
 none_of : {A : Type 0} (xs : List A) → false ≡ list_any (λ x. false) xs

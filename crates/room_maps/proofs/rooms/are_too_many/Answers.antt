@@ -1,7 +1,7 @@
 use Rattle.std.proofs.Common.{◌≡◌, ◌<◌, ◌≤◌, ◌+◌, ℕ, ◌∷◌, length, nat_le, nat_lt, true, false, sym, ap, ◌∙◌, arith}
 use Rattle.std.specs.FinSet as set
 use Rattle.std.proofs.lemmas.Bool.Decides.{nat_tests}
-use Rattle.room_maps.specs.Room.{room_cmp, own_room, same_room}
+use Rattle.terms.specs.Room.{room_cmp, own_room, same_room}
 use Rattle.std.specs.List.{list_any}
 use Rattle.room_maps.proofs.OrderLemmas.{len-from_cons, len-from_list}
 use Rattle.room_maps.proofs.rooms.are_too_many.Goals as goal

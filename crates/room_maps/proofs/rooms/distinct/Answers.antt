@@ -1,6 +1,6 @@
 use Rattle.std.proofs.Common.{length, sym, ap, ◌∙◌, arith}
 use Rattle.std.specs.FinSet as set
-use Rattle.room_maps.specs.Room.{room_cmp}
+use Rattle.terms.specs.Room.{room_cmp}
 use Rattle.room_maps.proofs.OrderLemmas.{len-from_cons, len-from_list}
 use Rattle.room_maps.proofs.rooms.distinct.Goals as goal
 

@@ -1,6 +1,6 @@
 use Rattle.std.proofs.Common.{◌≡◌, ◌≤◌, ◌+◌, length}
 use Rattle.std.specs.FinSet as set
-use Rattle.room_maps.specs.Room.{room_cmp}
+use Rattle.terms.specs.Room.{room_cmp}
 use Rattle.room_maps.proofs.rooms.distinct.Given as goal
 
 abbrev pub invariant-rooms : goal.invariant-rooms

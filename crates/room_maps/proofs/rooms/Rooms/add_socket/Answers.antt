@@ -1,5 +1,5 @@
 use Rattle.std.proofs.Common.{sym, ap, ◌∙◌, subst, nat_cmp}
-use Rattle.room_maps.specs.Room.{room_cmp}
+use Rattle.terms.specs.Room.{room_cmp}
 use Rattle.room_maps.specs.Links.{AddsLink}
 use Rattle.room_maps.specs.Membership.{is_socket, with_socket, HasFewRooms}
 use Rattle.room_maps.specs.Mirror.{sets_of}

@@ -2,7 +2,7 @@ use Rattle.std.proofs.Common.{sym, ap, ◌∙◌, nat_cmp, not, BTreeSet, List, 
 use Rattle.std.specs.List.{list_any}
 use Rattle.std.specs.BTreeSet as sorted
 use Rattle.std.specs.Cmp.{nat_cmp_total}
-use Rattle.room_maps.specs.Room.{room_cmp}
+use Rattle.terms.specs.Room.{room_cmp}
 use Rattle.room_maps.specs.Addressed.{is_addressed}
 use Rattle.room_maps.proofs.AddressedLemmas.{listed, relisted, room_named, kept_keys, rises_kept, contains_kept, addressed_sockets, addressed_members}
 use Rattle.room_maps.proofs.rooms.Rooms.addressed_list.Goals as goal

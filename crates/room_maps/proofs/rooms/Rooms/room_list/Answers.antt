@@ -2,7 +2,7 @@ use Rattle.std.proofs.Common.{ap, ◌∙◌}
 use Rattle.std.specs.FinSet as set
 use Rattle.std.specs.List.Sorted.{IsStrictlySortedBy}
 use Rattle.room_maps.specs.Links.{is_in_some}
-use Rattle.room_maps.specs.Room.{room_cmp}
+use Rattle.terms.specs.Room.{room_cmp}
 use Rattle.room_maps.proofs.AddressedLemmas.{listed}
 use Rattle.room_maps.proofs.rooms.Rooms.room_list.Goals as goal
 

@@ -1,7 +1,7 @@
 use Rattle.std.proofs.Common.{sym, ap, ◌∙◌, refl, false, subst}
 use Rattle.std.specs.BTreeSet as sorted
 use Rattle.room_maps.specs.Links.{is_in_some}
-use Rattle.room_maps.specs.Room.{room_cmp}
+use Rattle.terms.specs.Room.{room_cmp}
 use Rattle.room_maps.specs.Membership.{without_socket, HasFewRooms}
 use Rattle.room_maps.specs.Mirror.{sets_of}
 use Rattle.room_maps.proofs.MembershipLemmas.{few_without_socket}

@@ -1,6 +1,6 @@
 use Rattle.std.proofs.Common.{◌++◌, ap, length}
 use Rattle.std.proofs.lemmas.List.{drop-replicate}
-use Rattle.room_maps.proofs.room.fill.Goals as goal
+use Rattle.terms.proofs.room.fill.Goals as goal
 
 pub returns : goal.returns
 returns c =

@@ -5,12 +5,12 @@ ghost use Rattle.std.specs.Str.{IsUtf8};
 ghost use Rattle.std.specs.Ordering.{as_partial_cmp};
 ghost use Rattle.std.specs.Cmp.Rules.{comparing};
 ghost use Rattle.std.proofs.Common.{rules};
-ghost use Rattle.room_maps.specs.Room.{room_cmp, same_room, padded, own_room};
+ghost use Rattle.terms.specs.Room.{room_cmp, same_room, padded, own_room};
 
+use crate::hexadecimal::write_digits;
 use crate::sid::Sid;
 use std::cmp::Ordering;
 use std::marker::Model;
-use terms::write_digits;
 
 /// The most bytes of a room's name.
 const MOST_BYTES: usize = 64;
@@ -25,7 +25,7 @@ pub struct Room {
 
 impl Model for Room {
     ghost use Rattle.std.specs.Prelude.{List, ℕ, length, take};
-    ghost use Rattle.room_maps.specs.Room.{padded, HoldsName};
+    ghost use Rattle.terms.specs.Room.{padded, HoldsName};
 
     ghost Value = { List ℕ };
 

@@ -6,7 +6,7 @@ use Rattle.std.proofs.lemmas.Str.Ascii.{IsAscii-nil, IsAscii-push}
 use Rattle.std.proofs.lemmas.Bool.Decides.{nat_tests}
 use Rattle.terms.specs.Hexadecimal.{hex_digit, hex_digits}
 use Rattle.terms.proofs.HexadecimalLemmas.{hex_digits-suc, hex_digits-zero}
-use Rattle.room_maps.specs.Room.{padded}
+use Rattle.terms.specs.Room.{padded}
 
 pub take-padded : (n : ℕ) (xs : List ℕ) → length xs ≡ n → take n (padded xs) ≡ xs
 take-padded n xs e = ap (λ m. take m (padded xs)) (sym e) ∙ take_front xs (replicate (64 - length xs) 0)

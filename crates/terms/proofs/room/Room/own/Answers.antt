@@ -2,9 +2,9 @@ use Rattle.std.proofs.Common.{◌≡◌, length, take, lit≤, sym, ap, ◌∙�
 use Rattle.std.specs.Str.{IsUtf8}
 use Rattle.terms.specs.Hexadecimal.{hex_digits}
 use Rattle.terms.proofs.HexadecimalLemmas.{length-hex_digits}
-use Rattle.room_maps.specs.Room.{padded, own_room}
-use Rattle.room_maps.proofs.RoomLemmas.{take-padded, hex_digits-IsUtf8}
-use Rattle.room_maps.proofs.room.Room.own.Goals as goal
+use Rattle.terms.specs.Room.{padded, own_room}
+use Rattle.terms.proofs.RoomLemmas.{take-padded, hex_digits-IsUtf8}
+use Rattle.terms.proofs.room.Room.own.Goals as goal
 
 pub invariant_of-result : goal.invariant_of-result
 invariant_of-result c =
