@@ -1,86 +1,203 @@
-//! The bytes of an answer.
+//! What a request is answered with, for what its events were answered with. No core serves it.
 
-use crate::memory_wire::MemoryWire;
-use http_edge::{EdgeError, Status, write_response};
-use std::alloc::Global;
+use crate::sheet::{Sheet, Still};
+use events::CoreFault::{
+    self, BadEffect, IdTaken, Memory, NotProbing, Spent, TooManyClients, UnknownClient,
+    WrongTransport,
+};
+use events::{Cause, CoreError, Done, Opening, Outcome, Peer, PeerFault};
+use peers::{PollPeer, PollRequest};
+use std::alloc::{AllocError, Global};
+use terms::Text;
 
-/// Each status, how its head begins, and its body.
-static ANSWERS: [(Status, &str, &str); 5] = [
+/// What a request asks for.
+#[derive(Clone, Copy)]
+enum Asks {
+    Open,
+    Get,
+    Post,
+}
+
+/// What an event is answered with.
+#[derive(Clone, Copy)]
+enum Given {
+    Opened,
+    Does(usize, Option<Cause>),
+    Begun,
+    Payload,
+    Nothing,
+    Refused(CoreFault),
+}
+
+use Asks::{Get, Open, Post};
+use Given::{Begun, Does, Nothing, Opened, Payload, Refused};
+
+/// A request, what its events are answered with, and the status line and the end of what it is answered
+/// with, if anything.
+type Row = (Asks, &'static [Given], Want);
+
+type Want = Option<(&'static [u8], &'static [u8])>;
+
+const SUCCESS: &[u8] = b"HTTP/1.1 200 OK\r\n";
+
+const BAD: &[u8] = b"HTTP/1.1 400 Bad Request\r\n";
+
+const UNAVAILABLE: &[u8] = b"HTTP/1.1 503 Service Unavailable\r\n";
+
+const OPEN_PACKET: Want = Some((SUCCESS, b"\r\n\r\n0{}"));
+
+const OK: Want = Some((SUCCESS, b"\r\n\r\nok"));
+
+const BAD_REQUEST: Want = Some((BAD, b"\r\n\r\n{\"code\":3,\"message\":\"Bad request\"}"));
+
+const UNKNOWN: Want = Some((
+    BAD,
+    b"\r\n\r\n{\"code\":1,\"message\":\"Session ID unknown\"}",
+));
+
+const BUSY: Want = Some((
+    UNAVAILABLE,
+    b"Content-Length: 0\r\nConnection: close\r\n\r\n",
+));
+
+const CLOSE: Want = Some((SUCCESS, b"\r\n\r\n1"));
+
+const MESSAGE: Want = Some((SUCCESS, b"\r\n\r\n4hi"));
+
+static ROWS: [Row; 26] = [
+    (Open, &[Opened], OPEN_PACKET),
+    (Open, &[Refused(TooManyClients)], BUSY),
+    (Open, &[Refused(IdTaken)], BUSY),
+    (Open, &[Refused(Memory)], BUSY),
+    (Open, &[Refused(Spent)], BUSY),
+    (Post, &[Does(1, None)], OK),
+    (Post, &[Does(1, Some(Cause::BadKind))], OK),
+    (Post, &[Does(1, Some(Cause::Empty))], OK),
+    (Post, &[Does(0, Some(Cause::Empty))], BAD_REQUEST),
+    (Post, &[Does(0, Some(Cause::BadType))], BAD_REQUEST),
+    (Post, &[Does(0, Some(Cause::BadBase64))], BAD_REQUEST),
+    (Post, &[Refused(UnknownClient)], UNKNOWN),
+    (Post, &[Refused(WrongTransport)], BAD_REQUEST),
+    (Post, &[Refused(BadEffect)], BUSY),
+    (Post, &[Refused(NotProbing)], None),
+    (Post, &[Begun], None),
+    (Get, &[Does(0, Some(Cause::DoubleGet))], BAD_REQUEST),
+    (Get, &[Refused(UnknownClient)], UNKNOWN),
+    (Get, &[Refused(WrongTransport)], BAD_REQUEST),
+    (Get, &[Refused(Memory)], BUSY),
+    (Get, &[Begun, Payload], MESSAGE),
+    (Get, &[Begun, Nothing, Payload], MESSAGE),
+    (Get, &[Begun, Refused(UnknownClient)], CLOSE),
+    (Get, &[Begun, Refused(WrongTransport)], BAD_REQUEST),
     (
-        Status::Success,
-        "200 OK\r\nContent-Type: text/plain; charset=UTF-8",
-        "ok",
+        Get,
+        &[Begun, Refused(Memory), Refused(Spent), Payload],
+        MESSAGE,
     ),
-    (
-        Status::BadRequest,
-        "400 Bad Request\r\nContent-Type: application/json",
-        REFUSED,
-    ),
-    (
-        Status::NotFound,
-        "404 Not Found\r\nContent-Type: text/plain; charset=UTF-8",
-        "",
-    ),
-    (
-        Status::TooLarge,
-        "413 Payload Too Large\r\nContent-Type: text/plain; charset=UTF-8",
-        "",
-    ),
-    (
-        Status::Unavailable,
-        "503 Service Unavailable\r\nContent-Type: text/plain; charset=UTF-8",
-        "",
-    ),
+    (Get, &[Begun, Refused(NotProbing)], None),
 ];
 
-const REFUSED: &str = "{\"code\":0,\"message\":\"Transport unknown\"}";
+fn request(alloc: Global, asks: Asks) -> Result<PollRequest, AllocError> {
+    Ok(match asks {
+        Open => PollRequest::Open,
+        Get => PollRequest::Get { client: 7 },
+        Post => PollRequest::Post {
+            client: 7,
+            body: Text::copy_of(alloc, "40")?,
+        },
+    })
+}
 
-const OK: &[u8] =
+fn answer(alloc: Global, given: Given) -> Result<Result<Outcome, CoreError>, AllocError> {
+    Ok(match given {
+        Opened => Ok(Outcome::Opened(Opening {
+            client: 7,
+            text: Text::copy_of(alloc, "0{}")?,
+        })),
+        Does(packets, closed) => Ok(Outcome::Done(Done {
+            packets,
+            closed,
+            ..Done::nothing(alloc)
+        })),
+        Begun => Ok(Outcome::Begun),
+        Payload => Ok(Outcome::Payload(Text::copy_of(alloc, "4hi")?)),
+        Nothing => Ok(Outcome::Nothing),
+        Refused(fault) => Err(fault.at_once()),
+    })
+}
+
+/// Gives the peer these answers, for an event each.
+fn hear(
+    alloc: Global,
+    peer: &mut PollPeer<Sheet, Still>,
+    given: &[Given],
+) -> Result<(), PeerFault> {
+    for one in given {
+        let Ok(got) = answer(alloc, *one) else {
+            return Err(PeerFault::Memory);
+        };
+        if peer.next()?.is_none() {
+            return Err(PeerFault::Ended);
+        }
+        peer.answer(&got)?;
+    }
+    Ok(())
+}
+
+/// What is written for a request, whose wire takes `room` bytes, and whether the writing failed. Nothing
+/// where it has a further event.
+fn written(alloc: Global, asks: Asks, given: &[Given], room: usize) -> Option<(Vec<u8>, bool)> {
+    let request = request(alloc, asks).ok()?;
+    let mut peer = PollPeer::new(alloc, Sheet::with_room(alloc, room), Still, request, 64);
+    let heard = hear(alloc, &mut peer, given);
+    match peer.next() {
+        Ok(None) => Some((peer.into_wire().written, heard.is_err())),
+        _ => None,
+    }
+}
+
+/// Whether a row is answered as it has to be.
+fn is_answered(alloc: Global, (asks, given, want): Row) -> bool {
+    match (written(alloc, asks, given, 1_000), want) {
+        (Some((written, false)), Some((line, end))) => {
+            written.starts_with(line) && written.ends_with(end)
+        }
+        (Some((written, false)), None) => written.is_empty(),
+        _ => false,
+    }
+}
+
+/// Of a run's allocations at most one is refused, so one of two runs has ample memory.
+#[test]
+fn to_opened_clients_posts_and_gets(rt: HostRuntime) {
+    for (place, row) in ROWS.iter().enumerate() {
+        let is_right = is_answered(rt.alloc(), *row) || is_answered(rt.alloc(), *row);
+        assert!(rt; is_right, "row {place}");
+    }
+}
+
+/// What a POST is answered with.
+static WHOLE: &[u8] =
     b"HTTP/1.1 200 OK\r\nContent-Type: text/plain; charset=UTF-8\r\nContent-Length: 2\r\nConnection: close\r\n\r\nok";
 
-/// What is answered over a wire that takes `room` bytes, so many at a time, and whether what was
-/// written is the beginning of `want`, all of it where the answer is Ok.
-fn answered(
-    alloc: Global,
-    (step, room): (usize, usize),
-    status: Status,
-    body: &str,
-    want: &[u8],
-) -> (Result<(), EdgeError>, bool) {
-    let mut wire = MemoryWire::with_room(alloc, step, room);
-    let answer = write_response(alloc, &mut wire, status, body);
-    let written = wire.written.as_slice();
-    let is_right = match answer {
-        Ok(()) => written == want,
-        Err(_) => want.starts_with(written),
-    };
-    (answer, is_right)
-}
-
-/// Whether all of this is written, so many bytes at a time.
-fn is_answered(alloc: Global, step: usize, status: Status, body: &str, want: &[u8]) -> bool {
-    answered(alloc, (step, 1_000), status, body, want) == (Ok(()), true)
-}
-
-#[test]
-fn whole_answers(rt: HostRuntime) {
-    assert!(rt; is_answered(rt.alloc(), 1_000, Status::Success, "ok", OK));
-    for (status, head, body) in ANSWERS.iter() {
-        let length = body.len();
-        let want = format!(in rt.alloc();
-            "HTTP/1.1 {head}\r\nContent-Length: {length}\r\nConnection: close\r\n\r\n{body}"
-        ).expect(&rt, "an answer");
-        for step in [1_000, 1] {
-            let is_right = is_answered(rt.alloc(), step, *status, body, want.as_bytes());
-            assert!(rt; is_right, "by {step}: {head}");
+/// Whether a POST, whose wire takes only `room` bytes, is answered with a beginning of the whole, and fails
+/// where that isn't the whole.
+fn is_beginning(alloc: Global, room: usize) -> bool {
+    match written(alloc, Post, &[Does(1, None)], room) {
+        Some((written, failed)) => {
+            written.len() <= room
+                && WHOLE.starts_with(written.as_slice())
+                && failed == (room < WHOLE.len())
+                && (failed || written.as_slice() == WHOLE)
         }
+        None => false,
     }
 }
 
 #[test]
 fn the_writer_fails_at_each_byte(rt: HostRuntime) {
-    for room in 0..OK.len() {
-        let got = answered(rt.alloc(), (10, room), Status::Success, "ok", OK);
-        assert!(rt; got == (Err(EdgeError::Device), true), "after {room}");
+    for room in 0..WHOLE.len() + 1 {
+        let is_right = is_beginning(rt.alloc(), room) || is_beginning(rt.alloc(), room);
+        assert!(rt; is_right, "after {room}");
     }
 }

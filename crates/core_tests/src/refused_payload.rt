@@ -1,6 +1,6 @@
 //! A payload whose growths are refused.
 
-use crate::lines::Line;
+use crate::event_lines::Line;
 use events::{CoreError, CoreFault};
 use hub_state::State;
 use relay::RelayApp;

@@ -3,7 +3,7 @@
 //! A line has a moment and an event, and behind `=` the answer, which goes on in lines that begin with a
 //! space, or `next` and the id that is drawn next. The last line has what the core tells of itself then.
 
-use crate::lines::{Line, write_answer};
+use crate::event_lines::{Line, write_answer};
 use dispatch::Core;
 use events::{CoreError, Event, Outcome};
 use hub::Pass;

@@ -1,5 +1,5 @@
 -- Each blank's own name and parts are those of its ledger.
-use Rattle.gate_tests.proofs.tasks.run_once.Given as goal
+use Rattle.core_tests.proofs.tasks.run_once.Given as goal
 
 abbrev pub ghosts-run-C-Ledger : goal.ghosts-run-C-Ledger
 ghosts-run-C-Ledger g a = record { name = a.commands.name; parts = a.commands.parts }
