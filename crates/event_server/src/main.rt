@@ -6,18 +6,17 @@ use arguments::options::Options;
 use arguments::refused::tell_refused;
 use arguments::task::{Task, read_arguments};
 use relay::RelayApp;
-use script::{RunError, run_script};
+use script::play_script;
 use serving::{end_with, listen, processors, serve, wait_for_end};
-use std::io::BufWriter;
 use std::process::ExitCode;
-use std::{io, thread};
+use std::thread;
 
 /// The program's name.
 const NAME: &str = "event_server";
 
 fn main(rt: HostRuntime) -> ExitCode {
     match read_arguments(&rt, processors(&rt)) {
-        Ok(Task::Script) => end_with(&rt, NAME, play(&rt)),
+        Ok(Task::Script) => end_with(&rt, NAME, play_script(&rt, &RelayApp)),
         Ok(Task::Serve(options)) => {
             let Options {
                 settings,
@@ -40,14 +39,4 @@ fn main(rt: HostRuntime) -> ExitCode {
         }
         Err(refused) => end_with(&rt, NAME, tell_refused(&rt, &refused)),
     }
-}
-
-/// Plays the script from standard input.
-fn play<R: Input + Print + AllocGlobal>(rt: &R) -> Result<ExitCode, RunError> {
-    let mut reader = rt.reader();
-    let Ok(mut writer) = BufWriter::new(rt.alloc(), io::writer(rt)) else {
-        return Err(RunError::Memory);
-    };
-    run_script(rt.alloc(), &RelayApp, &mut reader, &mut writer)?;
-    Ok(ExitCode::SUCCESS)
 }

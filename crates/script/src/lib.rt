@@ -13,5 +13,5 @@ mod setup;
 
 pub use faults::RunError;
 pub use printing::Answer;
-pub use run::run_script;
+pub use run::{play_script, run_script};
 pub use script_line::{Key, Notice, ScriptLine, read_line};

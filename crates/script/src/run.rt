@@ -15,9 +15,11 @@ use crate::script_line::{Key, ScriptLine, read_line};
 use crate::setup::Setup;
 use events::{App, CoreFault};
 use std::alloc::Global;
-use std::io::{ErrorKind, Read, Write};
+use std::io;
+use std::io::{BufWriter, ErrorKind, Read, Write};
 use std::marker::Brand;
 use std::mem::replace;
+use std::process::ExitCode;
 use std::sync::ledger::{Blank, Ledger};
 
 /// Into how many parts each of the server's ledgers is cut.
@@ -25,6 +27,20 @@ const PARTS: u64 = 65_536;
 
 /// How many bytes one read asks for.
 const READ_SIZE: usize = 4096;
+
+/// Plays a script from standard input to a server with this app, prints the answers, and answers the
+/// program's status.
+pub fn play_script<R: Input + Print + AllocGlobal, A: App>(
+    rt: &R,
+    app: &A,
+) -> Result<ExitCode, RunError> {
+    let mut reader = rt.reader();
+    let Ok(mut writer) = BufWriter::new(rt.alloc(), io::writer(rt)) else {
+        return Err(RunError::Memory);
+    };
+    run_script(rt.alloc(), app, &mut reader, &mut writer)?;
+    Ok(ExitCode::SUCCESS)
+}
 
 /// Reads script lines to the end of the input, plays them to a server with this app, and writes
 /// the answers. What was answered is flushed before each read and at the end. The last line may
