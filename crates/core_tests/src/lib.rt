@@ -1,5 +1,5 @@
 //! Tests of the core: lists of events with their answers, workers on threads over its lock, and scripts
-//! over devices that fail. `script_corpus` plays most scripts.
+//! over devices that fail. `corpus` plays most scripts.
 #![tactic(auto)]
 
 #[cfg(test)]

@@ -21,10 +21,7 @@ pub fn play_all<W: Write>(alloc: Global, corpus: &[u8], writer: &mut W) -> Resul
         }
     }
     seals = seals.saturating_add(play_each_way(alloc, &script, writer)?);
-    writeln!(writer, "=== {seals} scripts print the same with seals").map_err(
-        |_| RunError::Writing,
-    )?;
-    writer.flush().map_err(|_| RunError::Writing)
+    writeln!(writer, "=== {seals} scripts print the same with seals").map_err(|_| RunError::Writing)
 }
 
 /// Plays a script in its three ways, and writes what it prints. Gives how often it was sealed.

@@ -1,5 +1,5 @@
 -- Each blank's own name and parts are those of its ledger.
-use Rattle.hub_script.proofs.chats.perform.Given as goal
+use Rattle.corpus.proofs.chats.perform.Given as goal
 
 abbrev pub ghosts-perform_over-C-Ledger : goal.ghosts-perform_over-C-Ledger
 ghosts-perform_over-C-Ledger g = record { name = g.commands.name; parts = g.commands.parts }

@@ -6,8 +6,8 @@ use crate::player::Player;
 use crate::words::Words;
 use hub::Hub;
 use journal::HubError;
+use script::RunError;
 use std::alloc::Global;
-use std::io;
 use std::io::Write;
 use std::marker::Brand;
 use std::sync::ledger::{Blank, Ledger};
@@ -28,21 +28,18 @@ struct Way<'a> {
     is_sealed: bool,
 }
 
-/// Writes the lines of all chats with their answers, and how many chats print the same with seals. Answers what failed.
-pub fn write_all<W: Write>(alloc: Global, chats: &str, writer: &mut W) -> Result<(), &'static str> {
+/// Writes the lines of all chats with their answers, and how many chats print the same with seals. Chats are text.
+pub fn play_all<W: Write>(alloc: Global, chats: &[u8], writer: &mut W) -> Result<(), RunError> {
+    let chats = str::from_utf8(chats).map_err(|_| RunError::Reading)?;
     let mut count: u64 = 0;
     for chat in chats.trim().split("\n\n") {
         count = count.saturating_add(write_each_way(alloc, chat, writer)?);
     }
-    writeln!(writer, "=== {count} chats print the same with seals").map_err(unwritten)
+    writeln!(writer, "=== {count} chats print the same with seals").map_err(|_| RunError::Writing)
 }
 
 /// Writes what a chat prints. Gives whether it prints the same with seals.
-fn write_each_way<W: Write>(
-    alloc: Global,
-    chat: &str,
-    writer: &mut W,
-) -> Result<u64, &'static str> {
+fn write_each_way<W: Write>(alloc: Global, chat: &str, writer: &mut W) -> Result<u64, RunError> {
     let played = performed(
         alloc,
         Way {
@@ -50,7 +47,7 @@ fn write_each_way<W: Write>(
             is_sealed: false,
         },
     )?;
-    writeln!(writer, "{played}").map_err(unwritten)?;
+    writeln!(writer, "{played}").map_err(|_| RunError::Writing)?;
     if chat.lines().any(speaks_of_seals) {
         return Ok(0);
     }
@@ -62,13 +59,9 @@ fn write_each_way<W: Write>(
         },
     )?;
     if sealed.as_str() != played.as_str() {
-        writeln!(writer, "=== with seals:\n{sealed}").map_err(unwritten)?;
+        writeln!(writer, "=== with seals:\n{sealed}").map_err(|_| RunError::Writing)?;
     }
     Ok(u64::from(sealed.as_str() == played.as_str()))
-}
-
-fn unwritten(_error: io::Error) -> &'static str {
-    "standard output can't be written"
 }
 
 /// Whether a line seals, or asks for what a seal changes.
@@ -80,10 +73,10 @@ fn speaks_of_seals(line: &str) -> bool {
 }
 
 /// What a chat prints that is played to a new hub, or to another one where memory for the first was refused.
-fn performed(alloc: Global, way: Way<'_>) -> Result<String, &'static str> {
+fn performed(alloc: Global, way: Way<'_>) -> Result<String, RunError> {
     match perform(alloc, way) {
         Ok(played) => Ok(played),
-        Err(_) => perform(alloc, way).map_err(|_| "out of memory"),
+        Err(_) => perform(alloc, way).map_err(|_| RunError::Memory),
     }
 }
 
