@@ -1,4 +1,4 @@
-"""Chats: what a hub answers to each line of commands (crates/corpus)."""
+"""Chats: what a hub answers to each line of commands (crates/trials)."""
 from hub import Entry, Hub, Refused
 from wire import id_text
 

@@ -11,7 +11,7 @@ WORDS = ("join", "join", "join", "leave", "say", "say", "say", "two", "but", "qu
 # Payloads of a CONNECT that bring no session back.
 CONNECTS = ("", "", "", "", "", "{}", '{"do":"join"}', '{"do":"late"}', '{"token":"no"}', '{"pid":1,"offset":"0"}',
             '{"pid":"x","offset":"y"}', '{"pid": "' + "A" * 32 + '"}')
-# Events of which the corpus' app wants what can't be done.
+# Events of which the app of `trials` wants what can't be done.
 WISHES = ("mute", "vague", "again", "late", "over", "gone", "own")
 # Texts of packets that a server refuses, or takes though they look odd.
 ODD = (

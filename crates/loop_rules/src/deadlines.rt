@@ -61,8 +61,8 @@ fn is_stuck(stalled: Option<u64>) -> bool
     }
 }
 
-/// What is to be done with a connection that has been so long at this part, and whose bytes to be sent
-/// have not gone on for so long, if there are any.
+/// What is to be done with a connection that has been so long at this part, and whose bytes to be
+/// sent have not gone on for so long, if there are any.
 pub fn find_overdue(part: Part, age: u64, stalled: Option<u64>) -> Overdue
     ensures { result ≡ overdue_at part age stalled }
 {

@@ -16,8 +16,8 @@ fn head_length(payload: usize) -> usize
     }
 }
 
-/// How many of these bytes are left at the most, once a message of so many was taken out of them. Where
-/// none is left, no other message is among them.
+/// How many of these bytes are left at the most, once a message of so many was taken out of them.
+/// Where none is left, no other message is among them.
 pub fn left_after_message(bytes: usize, payload: usize) -> usize
     ensures { result ≡ frames.left_after_message bytes payload }
 {

@@ -1,5 +1,5 @@
-//! What the loops of a server decide, as functions of plain values: whose loop a request goes to, what a
-//! connection does next, and what is done with one that takes too long.
+//! What the loops of a server decide, as functions of plain values: whose loop a request goes to,
+//! what a connection does next, and what is done with one that takes too long.
 #![tactic(auto)]
 
 mod deadlines;

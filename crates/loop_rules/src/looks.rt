@@ -15,14 +15,15 @@ pub enum LookState {
     Rests,
     /// Something came while it rested: it stands in the queue, and its look begins with its turn.
     Called,
-    /// It stands in the queue while a look is under way: it goes on with that, and then looks once more.
+    /// It stands in the queue while a look is under way: it goes on with that, and then looks once
+    /// more.
     Again,
     /// It is not served until its bytes have gone.
     Full,
     /// It is not served until its moment has come.
     Early,
-    /// It is its turn, and nothing came since it began to look. Whether its stream had no more while all
-    /// that waited for its client was taken.
+    /// It is its turn, and nothing came since it began to look. Whether its stream had no more
+    /// while all that waited for its client was taken.
     Looks { dry: bool },
     /// It is its turn, and something came since it began to look: it looks once more.
     Stirred { dry: bool },

@@ -19,8 +19,8 @@ pub struct Mail<H> {
     pub everyone: bool,
 }
 
-/// What others hand to a loop. A loop that is asleep has nothing there: whoever hands it something is
-/// told whether it is to be woken.
+/// What others hand to a loop. A loop that is asleep has nothing there: whoever hands it something
+/// is told whether it is to be woken.
 #[derive(Drop)]
 pub struct Mailbox<H> {
     mail: Mail<H>,
@@ -78,8 +78,8 @@ impl<H: Drop> Mailbox<H> {
         self.mail.handed.push(handed).is_ok()
     }
 
-    /// Something was put for these clients. Where there is no memory for them, all connections are to be
-    /// looked at.
+    /// Something was put for these clients. Where there is no memory for them, all connections are
+    /// to be looked at.
     pub fn wake(&mut self, clients: &[u128])
         ensures awake { self.new.asleep ≡ false }
         ensures told { mails.Tells clients.now self.old.mail self.new.mail }

@@ -29,7 +29,8 @@ impl Notes {
         })
     }
 
-    /// Notes a client of this loop. Where there is no memory for it, or no such loop, everybody is noted.
+    /// Notes a client of this loop. Where there is no memory for it, or no such loop, everybody is
+    /// noted.
     pub fn note(&mut self, number: usize, client: u128)
         ensures noted { is_noted number client self.new ≡ true }
         ensures kept { (n c : ℕ) → is_noted n c self.old ≡ true → is_noted n c self.new ≡ true }

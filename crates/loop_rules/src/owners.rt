@@ -19,8 +19,8 @@ pub fn owner_of(target: Target, loops: usize, own: usize) -> usize
     }
 }
 
-/// The loop to which a connection is given, after so many others: each is given some together before
-/// the next one is.
+/// The loop to which a connection is given, after so many others: each is given some together
+/// before the next one is.
 pub fn dealt_to(given: u64, together: u64, loops: usize) -> usize
     ensures { result ≡ dealt_to loops together given }
 {

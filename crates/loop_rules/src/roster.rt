@@ -11,7 +11,8 @@ use crate::rota::Rota;
 use crate::takers::Takers;
 use std::alloc::Global;
 
-/// The connections of a loop that have something to do, and the clients that are listed with theirs.
+/// The connections of a loop that have something to do, and the clients that are listed with
+/// theirs.
 #[derive(Drop)]
 pub struct Roster {
     pub rota: Rota,
@@ -27,8 +28,8 @@ impl Roster {
         }
     }
 
-    /// Something was put for a client of this loop: the connection to which that goes is called. Where
-    /// there was no memory to list some, all are called.
+    /// Something was put for a client of this loop: the connection to which that goes is called.
+    /// Where there was no memory to list some, all are called.
     pub fn wake(&mut self, client: u128)
         ensures woken { IsWoken (taker_of self.new.takers client) self.new.takers.unlisted self.new.rota.looks }
         ensures kept { Keeps self.old.rota.looks self.new.rota.looks }
@@ -57,7 +58,8 @@ impl Roster {
         }
     }
 
-    /// Something was put for these clients: each one of this loop is woken, and each other one is noted.
+    /// Something was put for these clients: each one of this loop is woken, and each other one is
+    /// noted.
     pub fn tell_all(&mut self, own: usize, loops: usize, clients: &[u128], notes: &mut Notes)
         requires { 0 < loops }
         ensures told { AreTold own loops clients.now self.new notes.new }
@@ -70,8 +72,8 @@ impl Roster {
         }
     }
 
-    /// An event put something for the clients of these lists: each one of this loop is woken, and each
-    /// other one is noted.
+    /// An event put something for the clients of these lists: each one of this loop is woken, and
+    /// each other one is noted.
     pub fn tell_lists(&mut self, own: usize, loops: usize, lists: &[Vec<u128>], notes: &mut Notes)
         requires { 0 < loops }
         ensures { (k : ℕ) → k < length lists.now →

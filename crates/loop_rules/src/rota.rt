@@ -13,9 +13,9 @@ use std::alloc::Global;
 use std::collections::VecDeque;
 use std::marker::Model;
 
-/// Which connections of a loop have something to do, by their keys, and whose turn is next. A key stands
-/// in the queue once where its connection is called or goes on with its look, and else not at all; and
-/// there is room for all, so that no wake needs memory.
+/// Which connections of a loop have something to do, by their keys, and whose turn is next. A key
+/// stands in the queue once where its connection is called or goes on with its look, and else not
+/// at all; and there is room for all, so that no wake needs memory.
 #[derive(Drop)]
 pub struct Rota {
     looks: Vec<Look>,
@@ -121,8 +121,8 @@ impl Rota {
         }
     }
 
-    /// Something came for the connection with this key: it stands in the queue from now on, or looks once
-    /// more in its turn.
+    /// Something came for the connection with this key: it stands in the queue from now on, or
+    /// looks once more in its turn.
     pub fn call(&mut self, key: usize)
         ensures state { self.new ≡ rotas.called_at key self.old }
         ensures looks { key < length self.old.looks → will_look (look_of self.new.looks key) ≡ true }
@@ -181,8 +181,8 @@ impl Rota {
         }
     }
 
-    /// An event was answered in the turn of this connection. Answers what follows, where it has too much
-    /// unsent or not. Where it isn't its turn, it rests.
+    /// An event was answered in the turn of this connection. Answers what follows, where it has too
+    /// much unsent or not. Where it isn't its turn, it rests.
     pub fn follow(&mut self, key: usize, turn: &mut Turn, found: Found, full: bool) -> Verdict
         ensures verdict { result ≡ rotas.verdict_at key turn.old found full self.old }
         ensures state { self.new ≡ rotas.followed_at key found result self.old }

@@ -45,8 +45,8 @@ impl Turn {
         Turn { left: EVENTS }
     }
 
-    /// What follows, where a connection is idle or not and has too much unsent or not. One more event
-    /// of the turn is counted where the connection goes on.
+    /// What follows, where a connection is idle or not and has too much unsent or not. One more
+    /// event of the turn is counted where the connection goes on.
     pub fn next(&mut self, idle: bool, full: bool) -> Verdict
         ensures verdict { result ≡ verdict_for self.old idle full }
         ensures left { self.new ≡ left_after self.old result }

@@ -1,0 +1,86 @@
+//! A payload whose growths are refused.
+
+use crate::cores::event_lines::Line;
+use events::{CoreError, CoreFault};
+use hub_state::State;
+use relay::RelayApp;
+use std::alloc::Global;
+use std::sync::ledger::Ledger;
+use terms::Room;
+use usual_core::{OnServer, Server, Settings, on_new_server};
+
+/// Two clients join a room. The first one joins another room, and speaks to the first.
+const JOINED: &str = r#"open
+post 1 40|42["join","r"]
+take 1
+open
+post 4 40|42["join","r"]
+take 4"#;
+
+const TWO_PACKETS: &str = r#"post 1 42["join","q"]|42["say","r","x"]"#;
+
+/// How many of the two packets are done, by what the hub tells: the members of the other room, the
+/// commands and the entries that were placed.
+fn done_of(alloc: Global, state: &State) -> Option<(usize, u64, u64)> {
+    let members = state.members(alloc, "/", Room::read("q")?).ok()?;
+    let totals = state.totals();
+    Some((members.len(), totals.commands, totals.placed))
+}
+
+/// The same where the payload ended so: both are done, or so many, of which each has one effect.
+fn done_by(before: (usize, u64, u64), error: Option<CoreError>) -> Option<(usize, u64, u64)> {
+    let (_, commands, placed) = before;
+    match error {
+        None => Some((1, commands.checked_add(2)?, placed.checked_add(1)?)),
+        Some(error) if error.fault == CoreFault::Memory && error.packets <= 1 => {
+            let effects = error.packets.checked_add(error.effects)?;
+            Some((effects, commands.checked_add(effects as u64)?, placed))
+        }
+        Some(_) => None,
+    }
+}
+
+/// Why a line is refused.
+fn refusal<C: Ledger, T: Ledger>(
+    alloc: Global,
+    server: &mut Server<C, T>,
+    line: &str,
+) -> Option<Option<CoreError>> {
+    let event = Line::read(line).event(alloc).ok()?;
+    Some(server.apply(alloc, &RelayApp, &event, 0).err())
+}
+
+/// Whether so much of the payload is done as is told; nothing where memory was refused elsewhere.
+#[derive(Clone, Copy)]
+struct TellsHowFar;
+
+impl OnServer for TellsHowFar {
+    type Found = Option<bool>;
+
+    fn run<C: Ledger + Send + Sync, T: Ledger + Send + Sync>(
+        self,
+        alloc: Global,
+        server: &mut Server<C, T>,
+    ) -> Option<bool> {
+        for line in JOINED.lines() {
+            if refusal(alloc, server, line)?.is_some() {
+                return None;
+            }
+        }
+        let before = done_of(alloc, server.core.hub().state())?;
+        let error = refusal(alloc, server, TWO_PACKETS)?;
+        let after = done_of(alloc, server.core.hub().state())?;
+        Some(done_by(before, error) == Some(after))
+    }
+}
+
+#[test]
+fn a_refused_growth_ends_between_two_packets(rt: HostRuntime) {
+    for _ in 0..2 {
+        if let Ok(Some(is_right)) = on_new_server(rt.alloc(), &Settings::usual(3), TellsHowFar) {
+            assert!(rt; is_right);
+            return;
+        }
+    }
+    panic!(rt; "no memory in two runs");
+}

@@ -1,0 +1,173 @@
+//! GETs that wait, served by a core.
+
+use crate::edge::served::{End, serve};
+use crate::edge::sheet::{Sheet, Still};
+use events::Event;
+use peers::{PollPeer, PollRequest};
+use relay::RelayApp;
+use std::alloc::Global;
+use std::sync::ledger::Ledger;
+use usual_core::{OnServer, Server, Settings, on_new_server};
+
+/// What is done with a GET of a client, and seen of it.
+#[derive(Clone, Copy)]
+enum Move {
+    /// So many events at the most are served, and it ends so.
+    Serve(u64, End),
+    /// It is given up.
+    GiveUp,
+    /// It needn't be driven until something is put for its client, or has to.
+    IsIdle(bool),
+    /// All that was written ends so.
+    Writes(&'static [u8]),
+    /// Its client probes.
+    Probe,
+}
+
+use Move::{GiveUp, IsIdle, Probe, Serve, Writes};
+
+const NOOP: &[u8] = b"\r\n\r\n6";
+
+const CLOSE: &[u8] = b"\r\n\r\n1";
+
+const REFUSED: &[u8] = b"\r\n\r\n{\"code\":3,\"message\":\"Bad request\"}";
+
+/// Two GETs of a client, the first and the second, one pair after another. The clients 1 and 2
+/// poll.
+static ROWS: [(u128, &[(usize, Move)]); 4] = [
+    // For one nothing comes: it asks 1,200 times, and then ends.
+    (
+        1,
+        &[
+            (1, Serve(1, End::Spent)),
+            (1, IsIdle(false)),
+            (1, Serve(1_199, End::Spent)),
+            (1, IsIdle(true)),
+            (1, Serve(2, End::Spent)),
+            (1, Serve(1, End::Over)),
+            (1, Writes(NOOP)),
+        ],
+    ),
+    // One that is given up ends with its next event, and waits no more.
+    (
+        1,
+        &[
+            (1, GiveUp),
+            (1, Serve(3, End::Spent)),
+            (1, GiveUp),
+            (1, Serve(1, End::Spent)),
+            (1, Serve(1, End::Over)),
+            (1, Writes(NOOP)),
+        ],
+    ),
+    // A client that probes is answered by a noop packet.
+    (
+        1,
+        &[
+            (1, Serve(1, End::Spent)),
+            (1, Probe),
+            (1, Serve(9, End::Over)),
+            (1, Writes(NOOP)),
+        ],
+    ),
+    // One beside another that waits ends both.
+    (
+        2,
+        &[
+            (1, Serve(3, End::Spent)),
+            (2, Serve(9, End::Over)),
+            (1, Serve(9, End::Over)),
+            (2, Writes(REFUSED)),
+            (1, Writes(CLOSE)),
+        ],
+    ),
+];
+
+type Getter = PollPeer<Sheet, Still>;
+
+fn getter(alloc: Global, client: u128) -> Getter {
+    let request = PollRequest::Get { client };
+    PollPeer::new(alloc, Sheet::with_room(alloc, 1_000), Still, request, 64)
+}
+
+/// Opens a client by a request, and says which.
+fn opened<C: Ledger, T: Ledger>(alloc: Global, server: &mut Server<C, T>) -> Option<u128> {
+    let wire = Sheet::with_room(alloc, 1_000);
+    let mut peer = PollPeer::new(alloc, wire, Still, PollRequest::Open, 64);
+    serve(alloc, server, &mut peer, 1);
+    peer.client()
+}
+
+/// Whether it goes as the move says.
+fn goes<C: Ledger, T: Ledger>(
+    alloc: Global,
+    server: &mut Server<C, T>,
+    peer: &mut Getter,
+    client: u128,
+    one: Move,
+) -> bool {
+    match one {
+        Serve(most, end) => serve(alloc, server, peer, most) == end,
+        GiveUp => {
+            peer.give_up();
+            true
+        }
+        IsIdle(idle) => peer.is_idle() == idle && peer.client() == Some(client),
+        Writes(end) => peer.wire().written.as_slice().ends_with(end),
+        Probe => server
+            .apply(alloc, &RelayApp, &Event::Probe { client }, 0)
+            .is_ok(),
+    }
+}
+
+/// Makes these moves with two new GETs of a client. Says whether all goes as they say.
+fn all_go<C: Ledger, T: Ledger>(
+    alloc: Global,
+    server: &mut Server<C, T>,
+    client: u128,
+    moves: &[(usize, Move)],
+) -> bool {
+    let (mut first, mut second) = (getter(alloc, client), getter(alloc, client));
+    let mut is_right = true;
+    for (place, one) in moves {
+        let peer = if *place == 1 { &mut first } else { &mut second };
+        is_right = goes(alloc, server, peer, client, *one) && is_right;
+    }
+    is_right
+}
+
+/// Plays all rows, and gives the place of the first one that doesn't go as it should, if any.
+#[derive(Clone, Copy)]
+struct AllRows;
+
+impl OnServer for AllRows {
+    type Found = Option<usize>;
+
+    fn run<C: Ledger + Send + Sync, T: Ledger + Send + Sync>(
+        self,
+        alloc: Global,
+        server: &mut Server<C, T>,
+    ) -> Option<usize> {
+        let clients = (opened(alloc, server), opened(alloc, server));
+        if clients != (Some(1), Some(2)) {
+            return Some(ROWS.len());
+        }
+        for (place, (client, moves)) in ROWS.iter().enumerate() {
+            if !all_go(alloc, server, *client, *moves) {
+                return Some(place);
+            }
+        }
+        None
+    }
+}
+
+/// Of a run's allocations at most one is refused, so one of two runs has ample memory.
+#[test]
+fn gets_that_wait(rt: HostRuntime) {
+    let once = || on_new_server(rt.alloc(), &Settings::usual(3), AllRows);
+    let (first, second) = (once(), once());
+    assert!(rt;
+        first == Ok(None) || second == Ok(None),
+        "{first:?} {second:?}"
+    );
+}

@@ -1,0 +1,118 @@
+//! A server that runs while its clients play a scene.
+
+use crate::loops::place::Place;
+use crate::loops::scenes::{polling, speaking};
+use hub_gate::Report;
+use journal::Totals;
+use relay::RelayApp;
+use settings::Settings;
+use std::alloc::Global;
+use std::net::{Net, TcpStream};
+use std::random::RandomSource;
+use std::rt::Clock;
+use std::sync::Wait;
+use std::thread;
+use std::thread::Threads;
+use std::time::Duration;
+use tcp_server::{Ended, Log, Server, Shared};
+
+/// How many loops a server has.
+const LOOPS: usize = 4;
+
+/// Hears nothing.
+#[derive(Drop)]
+struct Deaf;
+
+impl Log for Deaf {
+    fn hears_clients(&self) -> bool {
+        false
+    }
+
+    fn client_ended(&self, _ended: &Ended) {}
+
+    fn totals(&self, _totals: Totals) {}
+}
+
+/// A server of which each loop has every fourth connection, until so many have come.
+fn listen<R: Net>(rt: &R, alloc: Global, connections: u64) -> Option<Server<Deaf>> {
+    let mut settings = Settings::usual(alloc, 0, LOOPS).ok()?;
+    settings.together = 1;
+    settings.connections = Some(connections);
+    Server::listen(rt, alloc, settings, Deaf).ok()
+}
+
+/// Plays a scene, and tells whether all was so; else the server is stopped.
+fn is_so<R: Net<Stream = TcpStream> + Clock + Wait>(
+    place: &Place<'_, R>,
+    shared: &Shared,
+    speaks: bool,
+) -> bool {
+    let is_so = if speaks {
+        speaking(place)
+    } else {
+        polling(place)
+    };
+    if !is_so {
+        shared.stop(place.rt, Duration::from_millis(0));
+    }
+    is_so
+}
+
+/// How many entries were placed, taken and dropped, where it adds up: all loops and the keeper
+/// ended well, their counts are the totals, and each entry that was placed was taken, was discarded
+/// or waits.
+fn counts_of(report: &Report) -> Option<[u64; 3]> {
+    let (mut commands, mut taken, mut faults) = (0u64, 0u64, 0usize);
+    for worker in report.workers.as_slice() {
+        commands = commands.wrapping_add(worker.commands);
+        taken = taken.wrapping_add(worker.taken);
+        faults = faults.wrapping_add(worker.faults);
+    }
+    let totals = report.totals;
+    let gone = totals.taken.wrapping_add(totals.discarded);
+    let adds_up = report.workers.len() == LOOPS + 1
+        && faults == 0
+        && (totals.commands, totals.taken) == (commands, taken)
+        && totals.placed == gone.wrapping_add(totals.waiting);
+    adds_up.then_some([totals.placed, totals.taken, totals.dropped])
+}
+
+/// What is counted of a scene beside a server, where all was so.
+fn play<
+    R: Threads
+        + Wait
+        + Clock
+        + RandomSource
+        + Net<Stream = TcpStream>
+        + AllocGlobal
+        + Copy
+        + Drop
+        + Sync
+        + Send
+        + 'static,
+>(rt: &R, connections: u64, speaks: bool) -> Option<[u64; 3]> {
+    let alloc = rt.alloc();
+    let server = listen(rt, alloc, connections)?;
+    let shared = server.shared().ok()?;
+    let port = server.port();
+    let place = Place { rt, alloc, port };
+    let ends = thread::join(
+        rt,
+        || server.run(rt, alloc, &RelayApp),
+        || is_so(&place, &shared, speaks),
+    );
+    match ends {
+        (Ok(report), true) => counts_of(&report),
+        _ => None,
+    }
+}
+
+#[test]
+fn polling_over_loopback(rt: HostRuntime) {
+    assert_eq!(rt; play(&rt, 10, false), Some([4, 4, 0]));
+}
+
+#[test]
+fn socket_over_loopback(rt: HostRuntime) {
+    assert_eq!(rt; play(&rt, 6, true), Some([6, 6, 0]));
+}

@@ -1,0 +1,116 @@
+//! The demonstration app, which of some events and CONNECTs wants what can't be done.
+
+ghost use Rattle.std.specs.Prelude.{IfOk, IfSome};
+ghost use Rattle.events.specs.App.{AllClean, IsCleanEffect};
+
+use events::{App, Arrived, Effect, Emission, Inquiry, Reply, Selection, Verdict, Who};
+use relay::RelayApp;
+use std::alloc::{AllocError, Global};
+use terms::{Attachments, Room, Sid, Text};
+
+fn everybody(alloc: Global) -> Selection {
+    Selection {
+        rooms: Vec::new(alloc),
+        excepted: Vec::new(alloc),
+    }
+}
+
+fn nobody(alloc: Global) -> Result<Selection, AllocError> {
+    let mut selection = everybody(alloc);
+    selection.rooms.push(Room::own(Sid::new(0)))?;
+    Ok(selection)
+}
+
+/// What is no array is sent, asked or acknowledged.
+fn no_array(alloc: Global, wish: &str) -> Option<Effect>
+    ensures { IfSome result IsCleanEffect }
+{
+    let payload = Text::from_string(String::new(alloc));
+    let attachments = Attachments::new(alloc);
+    match wish {
+        "[\"mute\"]" => Some(Effect::Emit(Emission {
+            rooms: Vec::new(alloc),
+            excepted: Vec::new(alloc),
+            logged: false,
+            payload,
+            attachments,
+        })),
+        "[\"vague\"]" => Some(Effect::EmitAsk(Inquiry {
+            payload,
+            attachments,
+            tag: 0,
+            wait: 1,
+        })),
+        "[\"again\"]" => Some(Effect::Reply(Reply {
+            payload,
+            attachments,
+        })),
+        _ => None,
+    }
+}
+
+/// What an event or a CONNECT wants that the demonstration app never wants, or the last of two such
+/// effects.
+fn last_effect(alloc: Global, own: Room, wish: &str) -> Result<Option<Effect>, AllocError>
+    ensures { IfOk result (λ found. IfSome found IsCleanEffect) }
+{
+    match wish {
+        "[\"over\"]" => Ok(Some(Effect::AllEnd(everybody(alloc)))),
+        "[\"gone\"]" => Ok(Some(Effect::AllEnd(nobody(alloc)?))),
+        "[\"own\"]" => Ok(Some(Effect::Leave(own))),
+        "[\"late\"]" | "{\"do\":\"late\"}" | "{\"do\":\"join\"}" => {
+            Ok(Some(Effect::Join(Room::own(Sid::new(7)))))
+        }
+        wish => Ok(no_array(alloc, wish)),
+    }
+}
+
+/// The effects that are wanted: that all are disconnected, twice, or to join a room after the
+/// disconnection, or one.
+fn effects_of(alloc: Global, own: Room, wish: &str) -> Result<Option<Vec<Effect>>, AllocError>
+    ensures { IfOk result (λ found. IfSome found (λ effects. AllClean effects.items)) }
+{
+    let Some(last) = last_effect(alloc, own, wish)? else {
+        return Ok(None);
+    };
+    match wish {
+        "[\"over\"]" => Ok(Some(vec![in alloc; Effect::AllEnd(everybody(alloc)), last]?)),
+        "[\"late\"]" | "{\"do\":\"late\"}" => Ok(Some(vec![in alloc; Effect::Disconnect, last]?)),
+        _ => Ok(Some(vec![in alloc; last]?)),
+    }
+}
+
+/// The demonstration app, but for some events and some CONNECTs.
+#[derive(Clone, Copy)]
+pub struct WildApp;
+
+impl App for WildApp {
+    ghost allows = { λ app space payload verdict. Unit {0} };
+
+    ghost decides = { λ app who arrived effects. Unit {0} };
+
+    fn connects(&self, alloc: Global, space: &str, payload: &str) -> Result<Verdict, AllocError> {
+        match effects_of(alloc, Room::own(Sid::new(7)), payload)? {
+            Some(effects) => Ok(Verdict::Accept(effects)),
+            None => RelayApp.connects(alloc, space, payload),
+        }
+    }
+
+    fn decides(
+        &self,
+        alloc: Global,
+        who: &Who,
+        arrived: &Arrived,
+    ) -> Result<Vec<Effect>, AllocError> {
+        if let Arrived::Event(message) = arrived
+            && let Some(effects) = effects_of(
+                alloc,
+                Room::own(who.sid),
+                message.payload.as_str(),
+            )?
+        {
+            return Ok(effects);
+        }
+        RelayApp.decides(alloc, who, arrived)
+    }
+}
