@@ -305,10 +305,10 @@ CHECKS = {
 }
 
 
-async def main(port, word):
+async def main(port, word, checks=CHECKS):
     failed = 0
     for transport in TRANSPORTS:
-        for name, check in CHECKS.items():
+        for name, check in checks.items():
             name = f'{transport}: {name}'
             if word not in name:
                 continue

@@ -4,5 +4,8 @@
 
 pub mod folder;
 pub mod options;
+mod origin;
+mod path;
 pub mod refused;
 pub mod task;
+pub mod token;

@@ -15,6 +15,10 @@ pub struct Options {
     pub settings: Settings,
     /// The folder whose files are served, if there is one.
     pub folder: Option<String>,
+    /// The file with the token, if there is one.
+    pub token_file: Option<String>,
+    /// The token that clients need, if they need one. It stands in no output.
+    pub token: Option<Text>,
     /// Whether the server ends once standard input does.
     pub until_eof: bool,
     /// Whether the end of each client is told.
@@ -46,7 +50,7 @@ enum Takes {
 const MANY: u64 = 4_294_967_295;
 
 /// The options, in the order in which help tells them.
-static OPTIONS: [Entry; 22] = [
+static OPTIONS: [Entry; 24] = [
     Entry {
         name: "port",
         takes: Takes::Needed(1, 65_535),
@@ -140,12 +144,22 @@ static OPTIONS: [Entry; 22] = [
     Entry {
         name: "origin",
         takes: Takes::Texts(&[]),
-        help: "Serves only pages of this origin; may come again",
+        help: "Serves only pages of this origin, * for any, and tells browsers so; may come again",
+    },
+    Entry {
+        name: "token-file",
+        takes: Takes::Text(&[]),
+        help: "A file with the token that clients need",
     },
     Entry {
         name: "page",
         takes: Takes::Text(&[]),
         help: "A folder whose files are served beside the socket's path",
+    },
+    Entry {
+        name: "metrics",
+        takes: Takes::Text(&[]),
+        help: "A path at which a GET is answered by the counts, for Prometheus",
     },
     Entry {
         name: "until-eof",
@@ -201,7 +215,9 @@ pub(crate) fn read_options(
 ) -> Result<Box<Options>, AllocError> {
     let options = Options {
         settings: settings(alloc, matches, processors)?,
-        folder: folder(alloc, matches)?,
+        folder: text(alloc, matches, "page")?,
+        token_file: text(alloc, matches, "token-file")?,
+        token: None,
         until_eof: matches.get_flag("until-eof"),
         verbose: matches.get_flag("verbose"),
     };
@@ -232,6 +248,7 @@ fn settings(
         poll_entries: size(matches, "poll-entries"),
         origins,
         page: Page::new(alloc),
+        metrics: text(alloc, matches, "metrics")?,
         report: unless_0(count(matches, "report")),
     })
 }
@@ -265,9 +282,9 @@ fn unless_0(number: u64) -> Option<u64> {
     if number == 0 { None } else { Some(number) }
 }
 
-fn folder(alloc: Global, matches: &ArgMatches<'_>) -> Result<Option<String>, AllocError> {
-    match matches.get_str("page") {
-        Some(folder) => Ok(Some(String::from_str(alloc, folder)?)),
+fn text(alloc: Global, matches: &ArgMatches<'_>, name: &str) -> Result<Option<String>, AllocError> {
+    match matches.get_str(name) {
+        Some(text) => Ok(Some(String::from_str(alloc, text)?)),
         None => Ok(None),
     }
 }

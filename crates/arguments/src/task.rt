@@ -2,10 +2,13 @@
 
 use crate::folder::{FolderFault, read_folder};
 use crate::options::{Options, read_options, server};
+use crate::origin::is_origin;
+use crate::path::is_path;
+use crate::token::{TokenFault, read_token};
 use clap::error::ErrorKind;
 use clap::{ArgMatches, Command, Error};
 use journal::Config;
-use settings::Setting;
+use settings::{Setting, Settings};
 use std::alloc::{AllocError, Global};
 use std::convert::AsStr;
 use std::rt::{Env, Files};
@@ -15,6 +18,14 @@ use terms::Text;
 /// What is told of a namespace that is wrong.
 const WRONG_SPACE: &str =
     "it begins without /, has a comma or a control character, or is there already, as / is";
+
+/// What is told of an origin that is none.
+const WRONG_ORIGIN: &str =
+    "it is none that a browser names, as http://localhost:8080 is one; * stands for all";
+
+/// What is told of a path that is none.
+const WRONG_PATH: &str =
+    "it begins without /, has a ?, a #, a blank or no ASCII, or is the socket's";
 
 /// What is told of arguments that can't be read as text.
 const NOT_UTF8: &str = "invalid UTF-8 was detected in one or more arguments";
@@ -71,7 +82,7 @@ pub fn read_arguments<R: Env + Files + AllocGlobal + Clone + Drop>(
     let words = words(rt, Program::EventServer)?;
     let mut task = task_of(rt.alloc(), words.as_slice(), processors)?;
     if let Task::Serve(options) = &mut task {
-        add_page(rt, Program::EventServer, options)?;
+        read_files(rt, Program::EventServer, options)?;
     }
     Ok(task)
 }
@@ -88,8 +99,18 @@ pub fn read_server_arguments<R: Env + Files + AllocGlobal + Clone + Drop>(
     let words = words(rt, program)?;
     let matches = program.matches(rt.alloc(), words.as_slice())?;
     let mut options = right_options(rt.alloc(), program, &matches, processors)?;
-    add_page(rt, program, &mut options)?;
+    read_files(rt, program, &mut options)?;
     Ok(options)
+}
+
+/// Reads what the options name: the files of a folder, and a token.
+fn read_files<R: Files + AllocGlobal + Clone + Drop>(
+    rt: &R,
+    program: Program,
+    options: &mut Options,
+) -> Result<(), Error> {
+    add_page(rt, program, options)?;
+    add_token(rt, program, options)
 }
 
 /// Reads the files of the folder that the options name, if they name one.
@@ -110,6 +131,29 @@ fn add_page<R: Files + AllocGlobal + Clone + Drop>(
         Err(FolderFault::Memory) => Err(Error::from(AllocError)),
         Err(fault) => {
             let message = format!(in alloc; "--page {folder}: {fault}")?;
+            Err(program.refusal(alloc, message.as_str())?)
+        }
+    }
+}
+
+/// Reads the token in the file that the options name, if they name one.
+fn add_token<R: Files + AllocGlobal>(
+    rt: &R,
+    program: Program,
+    options: &mut Options,
+) -> Result<(), Error> {
+    let Some(file) = &options.token_file else {
+        return Ok(());
+    };
+    let (alloc, file) = (rt.alloc(), file.as_str());
+    match read_token(rt, file) {
+        Ok(token) => {
+            options.token = Some(token);
+            Ok(())
+        }
+        Err(TokenFault::Memory) => Err(Error::from(AllocError)),
+        Err(fault) => {
+            let message = format!(in alloc; "--token-file {file}: {fault}")?;
             Err(program.refusal(alloc, message.as_str())?)
         }
     }
@@ -150,9 +194,28 @@ fn right_options(
     processors: usize,
 ) -> Result<Box<Options>, Error> {
     let mut options = read_options(alloc, matches, processors)?;
-    match options.settings.wrong() {
-        Some(setting) => Err(wrong(alloc, program, setting, &mut options.settings.hub)?),
+    if let Some(setting) = options.settings.wrong() {
+        return Err(wrong(alloc, program, setting, &mut options.settings.hub)?);
+    }
+    match wrong_text(&options.settings) {
+        Some((name, text, why)) => {
+            let message = format!(in alloc; "--{name} {text:?}: {why}")?;
+            Err(program.refusal(alloc, message.as_str())?)
+        }
         None => Ok(options),
+    }
+}
+
+/// The option whose text is none of its kind, with the text and what is told of it, if there is one.
+fn wrong_text(settings: &Settings) -> Option<(&'static str, &str, &'static str)> {
+    for origin in settings.origins.iter() {
+        if !is_origin(origin.as_str()) {
+            return Some(("origin", origin.as_str(), WRONG_ORIGIN));
+        }
+    }
+    match &settings.metrics {
+        Some(path) if !is_path(path.as_str()) => Some(("metrics", path.as_str(), WRONG_PATH)),
+        _ => None,
     }
 }
 

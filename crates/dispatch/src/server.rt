@@ -1,6 +1,6 @@
 //! The whole state of the server, and what each event does to it.
 
-ghost use Rattle.std.specs.Prelude.{◌≡◌, ℕ, ◌+◌, List, [], ◌∷◌, Some, None, is_some, IsOk, IfOk, IfErr, IfSome, OnOk, OnErr};
+ghost use Rattle.std.specs.Prelude.{◌≡◌, ℕ, ◌+◌, List, [], ◌∷◌, length, Some, None, is_some, IsOk, IfOk, IfErr, IfSome, OnOk, OnErr};
 ghost use Rattle.std.specs.Ordering.{nat_cmp};
 ghost use Rattle.terms.specs.Listing.{ListsRising};
 ghost use Rattle.journal.specs.Config.{config_refusal, empty_base};
@@ -208,6 +208,13 @@ impl<C: Ledger, T: Ledger> Core<C, T> {
             Ok(clients) => Ok(clients),
             Err(_) => Err(CoreFault::Memory.at_once()),
         }
+    }
+
+    /// How many clients are open: each has a line.
+    pub fn clients_len(&self) -> usize
+        ensures { result ≡ length self.now.lines }
+    {
+        self.lines.len()
     }
 
     /// A pass that has counted nothing, for one more thread. Refused as `Spent` alone, after 65,534

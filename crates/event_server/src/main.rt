@@ -5,24 +5,36 @@
 use arguments::options::Options;
 use arguments::refused::tell_refused;
 use arguments::task::{Task, read_arguments};
+use guarded::Guarded;
 use relay::RelayApp;
 use script::play_script;
 use serving::{end_with, listen, processors, serve, wait_for_end};
 use std::process::ExitCode;
 use std::thread;
+use terms::Text;
 
 /// The program's name.
 const NAME: &str = "event_server";
 
+/// The demonstration app, behind this token if there is one.
+fn app(token: Option<Text>) -> Guarded<RelayApp> {
+    Guarded {
+        app: RelayApp,
+        token,
+    }
+}
+
 fn main(rt: HostRuntime) -> ExitCode {
     match read_arguments(&rt, processors(&rt)) {
-        Ok(Task::Script) => end_with(&rt, NAME, play_script(&rt, &RelayApp)),
+        Ok(Task::Script) => end_with(&rt, NAME, play_script(&rt, &app(None))),
         Ok(Task::Serve(options)) => {
             let Options {
                 settings,
                 until_eof,
                 verbose,
+                token,
                 folder: _,
+                token_file: _,
             } = Box::into_inner(options);
             match listen(&rt, settings, verbose) {
                 Ok(server) => {
@@ -32,7 +44,7 @@ fn main(rt: HostRuntime) -> ExitCode {
                             let _ = thread::spawn(&rt, move || wait_for_end(&rt, &shared));
                         }
                     }
-                    end_with(&rt, NAME, serve(&rt, server, &RelayApp))
+                    end_with(&rt, NAME, serve(&rt, server, &app(token)))
                 }
                 Err(fault) => end_with(&rt, NAME, Err(fault)),
             }

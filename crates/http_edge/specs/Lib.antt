@@ -8,3 +8,4 @@ pub mod Head
 pub mod Stages
 pub mod Taken
 pub mod Routes
+pub mod Origins

@@ -3,11 +3,13 @@
 #![tactic(auto)]
 
 mod error;
+mod field_lines;
 mod fields;
 mod gathered;
 mod head;
 mod laws;
 mod line;
+mod origins;
 mod reading;
 mod replay;
 mod request;
@@ -18,8 +20,10 @@ mod steps;
 mod wire;
 
 pub use error::EdgeError;
+pub use field_lines::{push_field, push_length, push_origin};
 pub use gathered::Gathered;
 pub use laws::heads_end;
+pub use origins::direct;
 pub use reading::read_request;
 pub use replay::Replay;
 pub use request::Request;

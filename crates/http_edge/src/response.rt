@@ -1,7 +1,6 @@
 //! An answer, written to a wire (RFC 9112, sections 4 to 6).
 
-ghost use Rattle.std.specs.Prelude.{◌≡◌, ◌⊎◌, ◌++◌, true, codes, IfOk, OnOk, OnErr, IfErr};
-ghost use Rattle.std.specs.Fmt.{decimal};
+ghost use Rattle.std.specs.Prelude.{◌≡◌, ◌⊎◌, ◌++◌, true, IfOk, OnOk, OnErr, IfErr, option_map};
 ghost use Rattle.std.specs.String.{string_bytes};
 ghost use Rattle.std.specs.Io.KnownBytes.{Appends};
 ghost use Rattle.http_edge.specs.Answer as http;
@@ -9,6 +8,7 @@ ghost use Rattle.http_edge.specs.Written.{AppendsFront};
 ghost use Rattle.http_edge.specs.declared.error.EdgeError.TheVariants.{Memory, Device};
 
 use crate::error::EdgeError;
+use crate::field_lines::{push_field, push_length, push_origin};
 use crate::wire::{Broken, Wire};
 use std::alloc::{AllocError, Global};
 use std::fmt::Write;
@@ -18,6 +18,8 @@ use std::fmt::Write;
 pub enum Status {
     /// 200.
     Success,
+    /// 204, without a body: what a page of another origin may ask.
+    NoContent,
     /// 400. Its body is JSON.
     BadRequest,
     /// 404.
@@ -35,6 +37,7 @@ impl Status {
     {
         match self {
             Status::Success => 200,
+            Status::NoContent => 204,
             Status::BadRequest => 400,
             Status::NotFound => 404,
             Status::TooLarge => 413,
@@ -47,6 +50,7 @@ impl Status {
     {
         match self {
             Status::Success => "OK",
+            Status::NoContent => "No Content",
             Status::BadRequest => "Bad Request",
             Status::NotFound => "Not Found",
             Status::TooLarge => "Payload Too Large",
@@ -64,15 +68,16 @@ impl Status {
     }
 }
 
-/// Writes the whole answer.
+/// Writes the whole answer, which pages of this origin may read, if one is named.
 pub fn write_response<W: Wire>(
     alloc: Global,
     wire: &mut W,
     status: Status,
+    origin: &Option<String>,
     body: &str,
 ) -> Result<(), EdgeError>
-    ensures whole { OnOk result
-        (Appends (W.written wire.old) (W.written wire.new) (http.answer status body.now)) }
+    ensures whole { OnOk result (Appends (W.written wire.old) (W.written wire.new)
+        (http.answer status (option_map string_bytes origin.now) body.now)) }
     ensures kinds { IfErr result (λ e. (e ≡ Memory) ⊎ (e ≡ Device)) }
 
     // Where memory was refused, nothing was asked of the wire.
@@ -80,10 +85,11 @@ pub fn write_response<W: Wire>(
 
     // Where the wire broke, a first part of the answer was written.
     ensures front { IfErr result (λ e. e ≡ Device
-        → AppendsFront (W.written wire.old) (W.written wire.new) (http.answer status body.now)) }
+        → AppendsFront (W.written wire.old) (W.written wire.new)
+        (http.answer status (option_map string_bytes origin.now) body.now)) }
     ensures broken { IfErr result (λ e. e ≡ Device → W.is_broken wire.new ≡ true) }
 {
-    let Ok(text) = answer_text(alloc, status, body) else {
+    let Ok(text) = answer_text(alloc, status, origin, body) else {
         return Err(EdgeError::Memory);
     };
     match write_all(wire, text.as_str().as_bytes()) {
@@ -94,13 +100,19 @@ pub fn write_response<W: Wire>(
 
 // The bytes of an answer are text.
 #[tactic(auto, unfolding(crate::specs::Answer::answer))]
-fn answer_text(alloc: Global, status: Status, body: &str) -> Result<String, AllocError>
-    ensures { IfOk result (λ text. string_bytes text ≡ http.answer status body.now) }
+fn answer_text(
+    alloc: Global,
+    status: Status,
+    origin: &Option<String>,
+    body: &str,
+) -> Result<String, AllocError>
+    ensures { IfOk result (λ text.
+        string_bytes text ≡ http.answer status (option_map string_bytes origin.now) body.now) }
 {
     let mut text = String::new(alloc);
     push_status_line(&mut text, status.code(), status.reason())?;
-    push_field(&mut text, "Content-Type", status.media_type())?;
-    push_length(&mut text, body.len())?;
+    push_content(&mut text, status, body.len())?;
+    push_origin(&mut text, origin)?;
     push_field(&mut text, "Connection", "close")?;
     text.push_str("\r\n")?;
     text.push_str(body)?;
@@ -114,21 +126,28 @@ fn push_status_line(text: &mut String, code: u16, reason: &str) -> Result<(), Al
     write!(text, "HTTP/1.1 {code} {reason}\r\n")
 }
 
-fn push_field(text: &mut String, name: &str, value: &str) -> Result<(), AllocError>
+/// Adds what the body is, or to an answer without one what a page may ask.
+fn push_content(text: &mut String, status: Status, length: usize) -> Result<(), AllocError>
     ensures { OnOk result
-        (string_bytes text.new ≡ string_bytes text.old ++ http.field name.now value.now) }
+        (string_bytes text.new ≡ string_bytes text.old ++ http.content status length) }
 {
-    text.push_str(name)?;
-    text.push_str(": ")?;
-    text.push_str(value)?;
-    text.push_str("\r\n")
+    if status == Status::NoContent {
+        push_permission(text)?;
+    } else {
+        push_field(text, "Content-Type", status.media_type())?;
+        push_length(text, length)?;
+    }
+    Ok(())
 }
 
-fn push_length(text: &mut String, length: usize) -> Result<(), AllocError>
-    ensures { OnOk result (string_bytes text.new
-        ≡ string_bytes text.old ++ http.field (codes "Content-Length") (decimal length)) }
+/// Adds what a page of another origin may ask.
+fn push_permission(text: &mut String) -> Result<(), AllocError>
+    ensures { OnOk result (string_bytes text.new ≡ string_bytes text.old ++ http.permission) }
 {
-    write!(text, "Content-Length: {length}\r\n")
+    push_field(text, "Access-Control-Allow-Methods", "GET, POST")?;
+    push_field(text, "Access-Control-Allow-Headers", "Content-Type")?;
+    push_field(text, "Access-Control-Max-Age", "7200")?;
+    Ok(())
 }
 
 // Writes all of the bytes, by as many writes as it takes.

@@ -59,6 +59,8 @@ pub enum Target {
     Post(u128),
     /// This client's transport is to become a WebSocket.
     ProbeSocket(u128),
+    /// What a page of another origin may ask, which its browser wants to know first.
+    Preflight,
 }
 
 /// What the request asks for.

@@ -13,12 +13,14 @@ use Rattle.peers.specs.Noops.{is_noop}
 use Rattle.peers.specs.Polling.{next_of, after, is_idle}
 use Rattle.peers.specs.Replies.{PlainReply, answer_to}
 
--- how far the request has come, the wire that it came by, its moments, and how many entries one payload may have
+-- how far the request has come, the wire that it came by, its moments, how many entries one payload may have, and the
+-- origin that the answer names, if it names one
 pub record Polled (W M : Type 0) : Type 0 where
   pub stage : PollStage
   pub wire : W
   pub moments : M
   pub most : ℕ
+  pub origin : Option (List ℕ)
 
 -- the event of an event and its moment
 abbrev pub event_of : Option (Event × ℕ) → Option Event
@@ -28,7 +30,7 @@ module _ {W M : Type 0} (gives : M → ℕ → M → Type 0) (pauses : M → M �
   -- a GET that waits pauses before it asks again; the next event is the table's, with the moment that was given for it
   pub record Asks (old : Polled W M) (given : Option (Event × ℕ)) (new : Polled W M) : Type 0 where
     pub next : (new.stage, event_of given) ≡ next_of old.most old.stage
-    pub kept : (new.wire ≡ old.wire) × (new.most ≡ old.most)
+    pub kept : (new.wire ≡ old.wire) × (new.most ≡ old.most) × (new.origin ≡ old.origin)
     pub paused : M
     pub pauses_first : PausesIf pauses (is_idle old.stage) old.moments paused
     pub timed : IsTimed gives given paused new.moments
@@ -41,17 +43,17 @@ module _ {W M : Type 0} (gives : M → ℕ → M → Type 0) (pauses : M → M �
 module _ {W : Type 0} (written : W → Option (List ℕ)) (is_broken : W → Bool) where
   -- the whole answer was written; or memory was refused, and nothing was asked of the wire; or the wire broke, and a
   -- first part was written
-  abbrev pub Writes : PlainReply → W → Result (Unit {0}) PeerFault → W → Type 0
-  Writes reply old (Ok _) new = Appends (written old) (written new) (http.answer reply.status reply.body)
-  Writes reply old (Err fault.Memory) new = new ≡ old
-  Writes reply old (Err fault.Device) new =
-      AppendsFront (written old) (written new) (http.answer reply.status reply.body) × (is_broken new ≡ true)
-  Writes reply old (Err fault.Ended) new = ⊥
+  abbrev pub Writes : Option (List ℕ) → PlainReply → W → Result (Unit {0}) PeerFault → W → Type 0
+  Writes origin reply old (Ok _) new = Appends (written old) (written new) (http.answer reply.status origin reply.body)
+  Writes origin reply old (Err fault.Memory) new = new ≡ old
+  Writes origin reply old (Err fault.Device) new =
+      AppendsFront (written old) (written new) (http.answer reply.status origin reply.body) × (is_broken new ≡ true)
+  Writes origin reply old (Err fault.Ended) new = ⊥
 
   -- where the table names no answer, nothing is written
-  abbrev pub Replies : Option PlainReply → W → Result (Unit {0}) PeerFault → W → Type 0
-  Replies None old result new = (result ≡ Ok tt) × (new ≡ old)
-  Replies (Some reply) old result new = Writes reply old result new
+  abbrev pub Replies : Option (List ℕ) → Option PlainReply → W → Result (Unit {0}) PeerFault → W → Type 0
+  Replies origin None old result new = (result ≡ Ok tt) × (new ≡ old)
+  Replies origin (Some reply) old result new = Writes origin reply old result new
 
 module _ {W M : Type 0} (written : W → Option (List ℕ)) (is_broken : W → Bool) (pauses : M → M → Type 0) where
   -- before it is written that nothing waits, the peer pauses, and before no other answer
@@ -62,6 +64,6 @@ module _ {W M : Type 0} (written : W → Option (List ℕ)) (is_broken : W → B
   -- the stage and the answer are the tables'
   pub record Hears (old : Polled W M) (got : Answer) (result : Result (Unit {0}) PeerFault) (new : Polled W M) : Type 0 where
     pub stage : new.stage ≡ after old.stage got
-    pub answered : Replies written is_broken (answer_to old.stage got) old.wire result new.wire
+    pub answered : Replies written is_broken old.origin (answer_to old.stage got) old.wire result new.wire
     pub paces : Paces (answer_to old.stage got) got old.moments new.moments
-    pub most : new.most ≡ old.most
+    pub kept : (new.most ≡ old.most) × (new.origin ≡ old.origin)

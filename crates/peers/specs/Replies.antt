@@ -68,10 +68,11 @@ of_edge edge.NoLength = Some (refused why.BadRequest)
 of_edge edge.NotUtf8 = Some (refused why.BadRequest)
 of_edge edge.TurnsSpent = None
 
--- where a request asks for nothing that is here, or that is allowed
+-- where a request asks for nothing that is here, or that is allowed, or for what a page may ask
 abbrev pub of_target : Target → Option PlainReply
 of_target target.NotFound = Some (record { status = status.NotFound; body = [] })
 of_target (target.Refuse refusal) = Some (refused refusal)
+of_target target.Preflight = Some (record { status = status.NoContent; body = [] })
 of_target _ = None
 
 -- where an event was refused

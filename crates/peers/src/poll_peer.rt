@@ -1,6 +1,6 @@
 //! One request over HTTP, as a peer.
 
-ghost use Rattle.std.specs.Prelude.{◌≡◌};
+ghost use Rattle.std.specs.Prelude.{◌≡◌, option_map, string_bytes};
 ghost use Rattle.peers.specs.Polling.{client_of, given_up, is_idle};
 ghost use Rattle.peers.specs.declared.poll_stage.PollStage.TheVariants as stage;
 ghost use Rattle.peers.specs.Polled.{Writes};
@@ -19,13 +19,15 @@ use std::mem;
 
 /// Serves one request over HTTP: its event, the takes of a GET that waits, and the answer. A GET that
 /// waits pauses before it asks again, and before it is answered by a lone noop packet. In a contract
-/// it is its stage, its wire, its moments and how many entries one payload may have.
+/// it is its stage, its wire, its moments, how many entries one payload may have, and the origin that
+/// the answer names.
 pub struct PollPeer<W, M> {
     alloc: Global,
     wire: W,
     moments: M,
     stage: PollStage,
     most: usize,
+    origin: Option<String>,
 }
 
 /// Written out, so that a crate above takes the drop of all that lies in it by this one call.
@@ -37,16 +39,24 @@ impl<W: Drop, M: Drop> Drop for PollPeer<W, M> {
             moments: _,
             stage: _,
             most: _,
+            origin: _,
         } = self;
     }
 }
 
 impl<W, M> Model for PollPeer<W, M> {
+    ghost use Rattle.std.specs.Prelude.{option_map, string_bytes};
     ghost use Rattle.peers.specs.Polled.{Polled};
 
     ghost Value = { Polled W M };
 
-    ghost view = { λ p. record { stage = p.stage; wire = p.wire; moments = p.moments; most = p.most } };
+    ghost view = { λ p. record {
+      stage = p.stage;
+      wire = p.wire;
+      moments = p.moments;
+      most = p.most;
+      origin = option_map string_bytes p.origin;
+    } };
 }
 
 impl<W, M> PollPeer<W, M> {
@@ -54,15 +64,22 @@ impl<W, M> PollPeer<W, M> {
     ghost use Rattle.peers.specs.contracts.poll_peer.PollPeer.{the_row};
 
     /// Nothing was asked of the core yet, and nothing written. A payload has at most so many entries.
+    /// The answer names this origin, if there is one.
     pub fn new(
         alloc: Global,
         wire: W,
         moments: M,
         request: PollRequest,
         most: usize,
+        origin: Option<String>,
     ) -> PollPeer<W, M>
-        ensures { result
-            ≡ record { stage = stage.First request; wire = wire; moments = moments; most = most } }
+        ensures { result ≡ record {
+          stage = stage.First request;
+          wire = wire;
+          moments = moments;
+          most = most;
+          origin = option_map string_bytes origin;
+        } }
     {
         PollPeer {
             alloc,
@@ -70,6 +87,7 @@ impl<W, M> PollPeer<W, M> {
             moments,
             stage: PollStage::First(request),
             most,
+            origin,
         }
     }
 
@@ -123,6 +141,7 @@ impl<W, M: Drop> PollPeer<W, M> {
             moments: _,
             stage: _,
             most: _,
+            origin: _,
         } = self;
         wire
     }
@@ -154,15 +173,21 @@ impl<W: Wire, M: Moments> Peer for PollPeer<W, M> {
             return Ok(());
         };
         pause_if(&mut self.moments, is_noop(got));
-        write_reply(self.alloc, &mut self.wire, &reply)
+        write_reply(self.alloc, &mut self.wire, &self.origin, &reply)
     }
 }
 
 /// Writes an answer.
-fn write_reply<W: Wire>(alloc: Global, wire: &mut W, reply: &Reply<'_>) -> Result<(), PeerFault>
-    ensures { Writes W.written W.is_broken (plain_reply reply.now) wire.old result wire.new }
+fn write_reply<W: Wire>(
+    alloc: Global,
+    wire: &mut W,
+    origin: &Option<String>,
+    reply: &Reply<'_>,
+) -> Result<(), PeerFault>
+    ensures { Writes W.written W.is_broken (option_map string_bytes origin.now)
+        (plain_reply reply.now) wire.old result wire.new }
 {
-    match write_response(alloc, wire, reply.status, reply.body) {
+    match write_response(alloc, wire, reply.status, origin, reply.body) {
         Ok(()) => Ok(()),
         Err(EdgeError::Memory) => Err(PeerFault::Memory),
         Err(_) => Err(PeerFault::Device),

@@ -33,13 +33,14 @@ pub fn reply_to_fault(fault: EdgeError) -> Option<Reply<'static>>
     }
 }
 
-/// The answer where a target asks for nothing that is allowed, or none where a peer serves it.
+/// The answer where no peer serves a target, or none.
 pub fn reply_to_target(target: Target) -> Option<Reply<'static>>
     ensures { option_map plain_reply result ≡ replies.of_target target }
 {
     match target {
         Target::NotFound => Some(empty(Status::NotFound)),
         Target::Refuse(refusal) => Some(refused(refusal)),
+        Target::Preflight => Some(empty(Status::NoContent)),
         _ => None,
     }
 }

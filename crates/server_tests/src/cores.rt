@@ -6,6 +6,7 @@ mod devices;
 mod event_lines;
 mod expected;
 mod gates;
+mod guards;
 mod hall;
 mod lists;
 mod long_lines;

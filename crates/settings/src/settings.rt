@@ -38,10 +38,13 @@ pub struct Settings {
     pub together: u64,
     /// How many entries one payload over HTTP may have, at least 1.
     pub poll_entries: usize,
-    /// The origins that a browser's request may have; all where there are none.
+    /// The origins of the pages that are served and may read answers, `*` for all. Where there are
+    /// none, all are served, and answers say nothing of origins.
     pub origins: Vec<String>,
     /// The files that are served beside the socket's path.
     pub page: Page,
+    /// The path at which a GET is answered by the counts, if one is.
+    pub metrics: Option<String>,
     /// Every how many seconds the log is told the totals, if it is.
     pub report: Option<u64>,
 }
@@ -67,6 +70,7 @@ impl Settings {
             poll_entries: 15,
             origins: Vec::new(alloc),
             page: Page::new(alloc),
+            metrics: None,
             report: None,
         })
     }

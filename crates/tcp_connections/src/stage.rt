@@ -2,7 +2,7 @@
 
 use crate::watch::Watch;
 use events::{CoreError, Event, Outcome, Peer, PeerFault};
-use http_edge::{EdgeError, Gathered, OnStream, Replay, Request, Target, write_response};
+use http_edge::{EdgeError, Gathered, OnStream, Replay, Request, Status, Target, write_response};
 use page::Page;
 use peers::{
     PollPeer, PollRequest, Reply, SocketPeer, SocketRequest, accept_socket, reply_to_fault,
@@ -152,15 +152,27 @@ impl<R: Clock + Drop> Stage<R> {
 /// The answer where no request was read, if there is somebody to be answered.
 pub fn answered_fault<R>(alloc: Global, stream: Stream, fault: EdgeError) -> Stage<R> {
     match reply_to_fault(fault) {
-        Some(reply) => answered(alloc, stream, &reply),
+        Some(reply) => answered(alloc, stream, &None, &reply),
         None => Stage::Gone,
     }
 }
 
+/// The answer that is a text, which pages of this origin may read.
+pub fn told<R>(alloc: Global, stream: Stream, origin: &Option<String>, text: &str) -> Stage<R> {
+    let status = Status::Success;
+    let reply = Reply { status, body: text };
+    answered(alloc, stream, origin, &reply)
+}
+
 /// An answer that isn't a peer's.
-fn answered<R>(alloc: Global, stream: Stream, reply: &Reply<'_>) -> Stage<R> {
+fn answered<R>(
+    alloc: Global,
+    stream: Stream,
+    origin: &Option<String>,
+    reply: &Reply<'_>,
+) -> Stage<R> {
     let mut wire = OnStream::new(stream);
-    match write_response(alloc, &mut wire, reply.status, reply.body) {
+    match write_response(alloc, &mut wire, reply.status, origin, reply.body) {
         Ok(()) => Stage::Answered(wire.into_stream()),
         Err(_) => Stage::Gone,
     }
@@ -196,7 +208,7 @@ pub fn stage_for<R: Clock + Drop>(
         return downloading(alloc, stream, &rules.page, request);
     }
     if let Some(reply) = reply_to_target(target) {
-        return answered(alloc, stream, &reply);
+        return answered(alloc, stream, &request.origin, &reply);
     }
     let served = match SocketRequest::of(target) {
         Some(wanted) => speaking(alloc, stream, request, wanted, watch),
@@ -228,8 +240,9 @@ fn polling<R: Clock + Drop>(
     watch: Watch<R>,
     most: usize,
 ) -> Option<Stage<R>> {
-    let Request { body, .. } = Box::into_inner(request);
+    let Request { body, origin, .. } = Box::into_inner(request);
     let wanted = PollRequest::of(target, body)?;
-    let peer = PollPeer::new(alloc, OnStream::new(stream), watch, wanted, most);
+    let wire = OnStream::new(stream);
+    let peer = PollPeer::new(alloc, wire, watch, wanted, most, origin);
     Some(Stage::Polling(Box::new(alloc, peer).ok()?))
 }

@@ -1,7 +1,7 @@
 //! One connection.
 
 use crate::progress::Progress;
-use crate::stage::{Stage, answered_fault, stage_for};
+use crate::stage::{Stage, answered_fault, stage_for, told};
 use crate::watch::Watch;
 use events::{CoreError, Event, Loss, Outcome, Telling};
 use http_edge::{EdgeError, Gathered, Request, Target};
@@ -145,6 +145,14 @@ impl<R: Clock + Drop> Connection<R> {
     pub fn refuse(&mut self, alloc: Global, fault: EdgeError, now: u64) {
         if let Some(stream) = self.stage.take_stream() {
             self.stage = answered_fault(alloc, stream, fault);
+        }
+        self.end(now);
+    }
+
+    /// Answers with a text, which pages of this origin may read. It ends then.
+    pub fn tell(&mut self, alloc: Global, origin: &Option<String>, text: &str, now: u64) {
+        if let Some(stream) = self.stage.take_stream() {
+            self.stage = told(alloc, stream, origin, text);
         }
         self.end(now);
     }

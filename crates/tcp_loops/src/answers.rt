@@ -3,6 +3,7 @@
 use crate::event_loop::EventLoop;
 use events::{Cause, CoreError, Done, Outcome, Telling};
 use loop_rules::{Pause, Verdict};
+use metrics::Reason;
 use peers::is_noop;
 use std::rt::Clock;
 use std::sync::Wait;
@@ -28,6 +29,9 @@ impl<R: Wait + Clock + Copy + Drop, L: Log> EventLoop<'_, R, L> {
 
     /// An event of a connection that is served was answered.
     fn follow(&mut self, key: usize, got: &Result<Outcome, CoreError>, now: u64) {
+        if let Err(error) = got {
+            self.base.note_refused(Reason::of_core(error.fault));
+        }
         let verdict = self
             .connections
             .follow(key, &mut self.current.turn, got, now);

@@ -2,6 +2,7 @@
 
 use events::Cause;
 use loop_rules::{Mail, Notes};
+use metrics::{CoreCounts, Reason};
 use peers::Moments;
 use std::alloc::{AllocError, Global};
 use std::rt::Clock;
@@ -91,6 +92,31 @@ impl<R: Wait + Clock, L: Log> Base<'_, R, L> {
     /// A connection was closed.
     pub fn note_closed(&self) {
         self.shared.note_closed(&self.rt);
+    }
+
+    /// The loop was given a connection.
+    pub fn note_connection(&self) {
+        self.shared.tallies().note_connection(&self.rt, self.number);
+    }
+
+    /// A request came whole to the loop.
+    pub fn note_request(&self) {
+        self.shared.tallies().note_request(&self.rt, self.number);
+    }
+
+    /// Something was refused.
+    pub fn note_refused(&self, reason: Reason) {
+        self.shared.tallies().note_refused(&self.rt, reason);
+    }
+
+    /// The core's counts are these.
+    pub fn note_core(&self, counts: CoreCounts) {
+        self.shared.tallies().note_core(&self.rt, counts);
+    }
+
+    /// What was counted, as text.
+    pub fn counts_text(&self) -> Result<String, AllocError> {
+        self.shared.tallies().text(&self.rt, self.alloc)
     }
 
     /// Whether nothing is open, and nothing more will be.

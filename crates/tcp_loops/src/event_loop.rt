@@ -253,6 +253,7 @@ impl<'a, R: Wait + Clock + Copy + Drop, L: Log> EventLoop<'a, R, L> {
     /// Adds a stream of which nothing was read yet.
     fn add_new(&mut self, stream: TcpStream) -> Option<usize> {
         let alloc = self.base.alloc;
+        self.base.note_connection();
         self.add(Box::new(alloc, Buffered::new(alloc, stream)).ok()?)
     }
 

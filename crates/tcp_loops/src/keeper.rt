@@ -2,8 +2,8 @@
 
 use crate::base::Base;
 use events::{CoreError, Event, Outcome, Peer, PeerFault};
-use journal::Totals;
 use loop_rules::{Notes, loop_of};
+use metrics::CoreCounts;
 use std::alloc::Global;
 use std::mem;
 use std::rt::Clock;
@@ -23,8 +23,8 @@ pub trait KeptCore: Drop {
     /// The clients that are there.
     fn clients<R: Wait>(&mut self, rt: &R, alloc: Global) -> Result<Vec<u128>, CoreError>;
 
-    /// What it has counted so far.
-    fn totals<R: Wait>(&mut self, rt: &R) -> Totals;
+    /// What it has counted so far, and what it holds.
+    fn counts<R: Wait>(&mut self, rt: &R) -> CoreCounts;
 
     /// Seals its journal, where that is long.
     fn seal<R: Wait>(&self, rt: &R, alloc: Global);
@@ -76,18 +76,32 @@ impl<'a, R: Wait + Clock + Copy, L: Log, K: KeptCore> Keeper<'a, R, L, K> {
         true
     }
 
-    /// Tells the totals, where it is time.
-    fn tell_totals(&mut self) {
-        let Some(pause) = self.base.rules.report else {
-            return;
-        };
-        let now = self.base.now();
-        if now < self.report {
+    /// Tells the core's counts, where somebody may ask for them, and the log, where it is time.
+    fn tell_counts(&mut self) {
+        let (asked, due) = (self.base.rules.metrics.is_some(), self.is_report_due());
+        if !asked && !due {
             return;
         }
-        self.report = now.saturating_add(pause.saturating_mul(1_000));
-        let totals = self.core.totals(&self.base.rt);
-        self.base.log.totals(totals);
+        let counts = self.core.counts(&self.base.rt);
+        if asked {
+            self.base.note_core(counts);
+        }
+        if due {
+            self.base.log.totals(counts.totals);
+        }
+    }
+
+    /// Whether it is time for a report; then it is so again a pause later.
+    fn is_report_due(&mut self) -> bool {
+        let Some(pause) = self.base.rules.report else {
+            return false;
+        };
+        let now = self.base.now();
+        let is_due = now >= self.report;
+        if is_due {
+            self.report = now.saturating_add(pause.saturating_mul(1_000));
+        }
+        is_due
     }
 
     /// Waits for the next round, begins it and lists the clients, and tells whether there is one.
@@ -96,7 +110,7 @@ impl<'a, R: Wait + Clock + Copy, L: Log, K: KeptCore> Keeper<'a, R, L, K> {
         if !self.rests() {
             return false;
         }
-        self.tell_totals();
+        self.tell_counts();
         let alloc = self.base.alloc;
         // Where there is no memory for the list, they are asked about in the next round.
         if let Ok(clients) = self.core.clients(&self.base.rt, alloc) {

@@ -1,11 +1,12 @@
 //! What a loop does with the requests of its connections.
 
 use crate::event_loop::EventLoop;
-use http_edge::{EdgeError, Refusal, Request, Target, route};
+use http_edge::{EdgeError, Request, Target, direct};
 use loop_rules::{Pause, owner_of};
+use metrics::Reason;
 use std::rt::Clock;
 use std::sync::Wait;
-use tcp_streams::{Handed, Log, Reading, Stream};
+use tcp_streams::{Handed, Log, Reading, Stream, asks_for_file};
 
 impl<R: Wait + Clock + Copy + Drop, L: Log> EventLoop<'_, R, L> {
     /// Reads what has come of a request, and begins to serve it once it is whole.
@@ -24,6 +25,9 @@ impl<R: Wait + Clock + Copy + Drop, L: Log> EventLoop<'_, R, L> {
 
     /// Answers where no request was read.
     fn refuse(&mut self, key: usize, fault: EdgeError, now: u64) {
+        if let Some(reason) = Reason::of_edge(fault) {
+            self.base.note_refused(reason);
+        }
         if let Some(connection) = self.connections.get_mut(key) {
             connection.refuse(self.base.alloc, fault, now);
         }
@@ -32,21 +36,40 @@ impl<R: Wait + Clock + Copy + Drop, L: Log> EventLoop<'_, R, L> {
     }
 
     /// Answers a request, or has it served.
-    fn direct(&mut self, key: usize, request: Box<Request>, now: u64) {
-        match self.target_of(&request) {
-            Ok(target) => self.assign(key, request, target),
+    fn direct(&mut self, key: usize, mut request: Box<Request>, now: u64) {
+        match direct(self.base.alloc, &self.base.rules.origins, &mut request) {
+            Ok(Target::NotFound) if self.base.rules.asks_for_counts(&request) => {
+                self.tell(key, &request, now)
+            }
+            Ok(target) => {
+                self.count(&request, target);
+                self.assign(key, request, target);
+            }
             Err(fault) => self.refuse(key, fault, now),
         }
     }
 
-    /// What a request asks for. One of a foreign origin asks for nothing that is allowed.
-    fn target_of(&self, request: &Request) -> Result<Target, EdgeError> {
-        let target = route(self.base.alloc, request)?;
-        if self.base.rules.allows(&request.origin) {
-            Ok(target)
-        } else {
-            Ok(Target::Refuse(Refusal::BadRequest))
+    /// Counts a request, and why it isn't served where it isn't.
+    fn count(&self, request: &Request, target: Target) {
+        self.base.note_request();
+        match Reason::of_target(target) {
+            Some(reason) if !asks_for_file(&self.base.rules.page, request) => {
+                self.base.note_refused(reason)
+            }
+            _ => {}
         }
+    }
+
+    /// Answers a request by what was counted.
+    fn tell(&mut self, key: usize, request: &Request, now: u64) {
+        let Ok(text) = self.base.counts_text() else {
+            return self.refuse(key, EdgeError::Memory, now);
+        };
+        if let Some(connection) = self.connections.get_mut(key) {
+            connection.tell(self.base.alloc, &request.origin, text.as_str(), now);
+        }
+        self.pause(key, Pause::Done);
+        self.connections.note_unsent(key);
     }
 
     /// Serves a request, or hands it to the loop that has its client.

@@ -3,7 +3,7 @@
 use events::CoreError;
 use hub::Pass;
 use hub_gate::Locked;
-use journal::Totals;
+use metrics::{CoreCounts, Sizes};
 use std::alloc::Global;
 use std::sync::Wait;
 use std::sync::ledger::Ledger;
@@ -28,8 +28,18 @@ impl<C: Ledger, T: Ledger> KeptCore for LockedCore<'_, C, T> {
         self.locked.look(rt, &mut self.pass).clients(alloc)
     }
 
-    fn totals<R: Wait>(&mut self, rt: &R) -> Totals {
-        self.locked.look(rt, &mut self.pass).hub().state().totals()
+    fn counts<R: Wait>(&mut self, rt: &R) -> CoreCounts {
+        let core = self.locked.look(rt, &mut self.pass);
+        let state = core.hub().state();
+        let (sockets, rooms) = state.mirrors();
+        CoreCounts {
+            totals: state.totals(),
+            sizes: Sizes {
+                clients: core.clients_len() as u64,
+                sockets: sockets.len() as u64,
+                rooms: rooms.len() as u64,
+            },
+        }
     }
 
     fn seal<R: Wait>(&self, rt: &R, alloc: Global) {

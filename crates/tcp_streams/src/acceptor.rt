@@ -4,6 +4,7 @@ use crate::fault::{ServerFault, starting};
 use crate::shared::Shared;
 use http_edge::{OnStream, Status, write_response};
 use loop_rules::dealt_to;
+use metrics::Reason;
 use mio::net::{TcpListener, TcpStream};
 use mio::{Events, Interest, Poll, Token};
 use settings::Settings;
@@ -143,7 +144,7 @@ impl Acceptor {
     fn turn_away(&mut self, stream: TcpStream) {
         let mut wire = OnStream::new(stream);
         // It is closed without an answer where none can be written.
-        let _ = write_response(self.alloc, &mut wire, Status::Unavailable, "");
+        let _ = write_response(self.alloc, &mut wire, Status::Unavailable, &None, "");
         let stream = wire.into_stream();
         let _ = stream.shutdown(Shutdown::Write);
         if self.refused.len() >= MOST_REFUSED {
@@ -161,6 +162,7 @@ impl Acceptor {
         // Without it a small answer may wait for the acknowledgement of the one before.
         let _ = stream.set_nodelay(true);
         if !shared.note_accepted(rt, self.most) {
+            shared.tallies().note_refused(rt, Reason::NoPlace);
             self.turn_away(stream);
             return;
         }

@@ -38,7 +38,8 @@ impl Download {
         page: Arc<Page>,
         request: Box<Request>,
     ) -> io::Result<Download> {
-        write_head(alloc, stream, page.look_up(request.path.as_str()))?;
+        let file = page.look_up(request.path.as_str());
+        write_head(alloc, stream, file, &request.origin)?;
         let Request { method, path, .. } = Box::into_inner(request);
         let mut download = Download {
             page,
@@ -75,11 +76,16 @@ impl Download {
 }
 
 /// Writes the head of the answer that a file is.
-fn write_head<S>(alloc: Global, stream: &mut Buffered<S>, file: Option<&File>) -> io::Result<()> {
+fn write_head<S>(
+    alloc: Global,
+    stream: &mut Buffered<S>,
+    file: Option<&File>,
+    origin: &Option<String>,
+) -> io::Result<()> {
     let Some(file) = file else {
         return Err(io::Error::from(ErrorKind::NotFound));
     };
-    let head = file.head(alloc)?;
+    let head = file.head(alloc, origin)?;
     let _ = stream.write(head.as_str().as_bytes())?;
     Ok(())
 }

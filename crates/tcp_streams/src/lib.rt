@@ -12,6 +12,7 @@ mod opening;
 mod reading;
 mod rules;
 mod shared;
+mod tallies;
 
 pub use acceptor::Acceptor;
 pub use buffered::{Buffered, Stream};
@@ -23,3 +24,4 @@ pub use opening::{acceptor_for, ears_for};
 pub use reading::{Drained, Reading, drain, read_request};
 pub use rules::{Making, Rules, rules_and_making};
 pub use shared::Shared;
+pub use tallies::Tallies;

@@ -3,6 +3,7 @@
 ghost use Rattle.std.specs.Prelude.{◌<◌};
 
 use eio_wire::Numbers;
+use http_edge::Request;
 use journal::Config;
 use page::Page;
 use session_clock::Timing;
@@ -17,10 +18,12 @@ pub struct Rules {
     pub loops: usize,
     /// How many entries one payload over HTTP may have.
     pub poll_entries: usize,
-    /// The origins that a request may have; all where there are none.
+    /// The origins of the pages that are served, `*` for all; all too where there are none.
     pub origins: Vec<String>,
     /// The files that are served beside the socket's path.
     pub page: Arc<Page>,
+    /// The path at which the counts are told, if they are.
+    pub metrics: Option<String>,
     /// Every how many seconds the totals are told, if they are.
     pub report: Option<u64>,
     ghost some: { 0 < loops },
@@ -35,17 +38,13 @@ pub struct Making {
 }
 
 impl Rules {
-    /// Whether a request with this `Origin` is served.
-    pub fn allows(&self, origin: &Option<String>) -> bool {
-        match origin {
-            Some(origin) => {
-                self.origins.is_empty()
-                    || self
-                        .origins
-                        .iter()
-                        .any(|known| known.as_str() == origin.as_str())
+    /// Whether a request asks for the counts.
+    pub fn asks_for_counts(&self, request: &Request) -> bool {
+        match &self.metrics {
+            Some(path) => {
+                request.method.as_str() == "GET" && request.path.as_str() == path.as_str()
             }
-            None => true,
+            None => false,
         }
     }
 }
@@ -65,6 +64,7 @@ pub fn rules_and_making(
         poll_entries,
         origins,
         page,
+        metrics,
         report,
         ..
     } = settings;
@@ -80,6 +80,7 @@ pub fn rules_and_making(
         poll_entries,
         origins,
         page,
+        metrics,
         report,
     };
     Ok((Arc::new(alloc, rules)?, making))

@@ -3,6 +3,7 @@
 use crate::fault::ServerFault;
 use crate::inbox::Inbox;
 use crate::news::Lives;
+use crate::tallies::Tallies;
 use mio::Waker;
 use std::alloc::Global;
 use std::rt::Clock;
@@ -14,6 +15,7 @@ pub struct Shared {
     inboxes: Vec<Inbox>,
     acceptor: Waker,
     lives: Lives,
+    tallies: Tallies,
     standing: Mutex<Standing>,
     changed: Condvar,
 }
@@ -25,6 +27,7 @@ impl Drop for Shared {
             inboxes: _,
             acceptor: _,
             lives: _,
+            tallies: _,
             standing: _,
             changed: _,
         } = self;
@@ -68,10 +71,12 @@ impl Shared {
             closing: false,
             cutting: false,
         };
+        let tallies = Tallies::new(alloc, inboxes.len())?;
         let shared = Shared {
             inboxes,
             acceptor,
             lives: Lives::new(alloc, hears_clients),
+            tallies,
             standing: Mutex::new(standing),
             changed: Condvar::new(),
         };
@@ -86,6 +91,11 @@ impl Shared {
     /// The clients that are there, if somebody hears of them.
     pub fn lives(&self) -> &Lives {
         &self.lives
+    }
+
+    /// What is counted.
+    pub fn tallies(&self) -> &Tallies {
+        &self.tallies
     }
 
     /// A connection was accepted. Answers whether it has a place among so many.

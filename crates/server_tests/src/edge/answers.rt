@@ -148,7 +148,14 @@ fn hear(
 /// Nothing where it has a further event.
 fn written(alloc: Global, asks: Asks, given: &[Given], room: usize) -> Option<(Vec<u8>, bool)> {
     let request = request(alloc, asks).ok()?;
-    let mut peer = PollPeer::new(alloc, Sheet::with_room(alloc, room), Still, request, 64);
+    let mut peer = PollPeer::new(
+        alloc,
+        Sheet::with_room(alloc, room),
+        Still,
+        request,
+        64,
+        None,
+    );
     let heard = hear(alloc, &mut peer, given);
     match peer.next() {
         Ok(None) => Some((peer.into_wire().written, heard.is_err())),

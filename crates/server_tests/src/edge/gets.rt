@@ -87,13 +87,20 @@ type Getter = PollPeer<Sheet, Still>;
 
 fn getter(alloc: Global, client: u128) -> Getter {
     let request = PollRequest::Get { client };
-    PollPeer::new(alloc, Sheet::with_room(alloc, 1_000), Still, request, 64)
+    PollPeer::new(
+        alloc,
+        Sheet::with_room(alloc, 1_000),
+        Still,
+        request,
+        64,
+        None,
+    )
 }
 
 /// Opens a client by a request, and says which.
 fn opened<C: Ledger, T: Ledger>(alloc: Global, server: &mut Server<C, T>) -> Option<u128> {
     let wire = Sheet::with_room(alloc, 1_000);
-    let mut peer = PollPeer::new(alloc, wire, Still, PollRequest::Open, 64);
+    let mut peer = PollPeer::new(alloc, wire, Still, PollRequest::Open, 64, None);
     serve(alloc, server, &mut peer, 1);
     peer.client()
 }

@@ -46,7 +46,14 @@ fn asker(alloc: Global, line: Line, room: usize) -> Result<Asker, AllocError> {
             body: Text::copy_of(alloc, body)?,
         },
     };
-    Ok(PollPeer::new(alloc, Sheet::with_room(alloc, room), Still, request, 64))
+    Ok(PollPeer::new(
+        alloc,
+        Sheet::with_room(alloc, room),
+        Still,
+        request,
+        64,
+        None,
+    ))
 }
 
 fn askers(alloc: Global) -> Result<Vec<Asker>, AllocError> {

@@ -43,7 +43,14 @@ fn paused_get(alloc: Global) -> Result<([(Option<u64>, u64); 4], u64), PeerFault
         pauses: &pauses,
     };
     let request = PollRequest::Get { client: 7 };
-    let mut peer = PollPeer::new(alloc, Sheet::with_room(alloc, 1_000), counted, request, 64);
+    let mut peer = PollPeer::new(
+        alloc,
+        Sheet::with_room(alloc, 1_000),
+        counted,
+        request,
+        64,
+        None,
+    );
     let made = paused(&mut peer, &pauses, noop)?;
     Ok((made, pauses.get()))
 }

@@ -4,31 +4,50 @@ use crate::edge::memory_wire::MemoryWire;
 use http_edge::{EdgeError, Status, write_response};
 use std::alloc::Global;
 
-/// Each status, how its head begins, and its body.
-static ANSWERS: [(Status, &str, &str); 5] = [
+/// A status, the origin that is named, if one is, what stands before the last field, and the body.
+type Row = (Status, &'static str, &'static str, &'static str);
+
+static ANSWERS: [Row; 7] = [
     (
         Status::Success,
-        "200 OK\r\nContent-Type: text/plain; charset=UTF-8",
+        "",
+        "200 OK\r\nContent-Type: text/plain; charset=UTF-8\r\nContent-Length: 2",
         "ok",
     ),
     (
+        Status::Success,
+        "http://a:1",
+        "200 OK\r\nContent-Type: text/plain; charset=UTF-8\r\nContent-Length: 2\r\nAccess-Control-Allow-Origin: http://a:1\r\nVary: Origin",
+        "ok",
+    ),
+    (
+        Status::NoContent,
+        "null",
+        "204 No Content\r\nAccess-Control-Allow-Methods: GET, POST\r\nAccess-Control-Allow-Headers: Content-Type\r\nAccess-Control-Max-Age: 7200\r\nAccess-Control-Allow-Origin: null\r\nVary: Origin",
+        "",
+    ),
+    (
         Status::BadRequest,
-        "400 Bad Request\r\nContent-Type: application/json",
+        "",
+        "400 Bad Request\r\nContent-Type: application/json\r\nContent-Length: 40",
         REFUSED,
     ),
     (
         Status::NotFound,
-        "404 Not Found\r\nContent-Type: text/plain; charset=UTF-8",
+        "",
+        "404 Not Found\r\nContent-Type: text/plain; charset=UTF-8\r\nContent-Length: 0",
         "",
     ),
     (
         Status::TooLarge,
-        "413 Payload Too Large\r\nContent-Type: text/plain; charset=UTF-8",
+        "",
+        "413 Payload Too Large\r\nContent-Type: text/plain; charset=UTF-8\r\nContent-Length: 0",
         "",
     ),
     (
         Status::Unavailable,
-        "503 Service Unavailable\r\nContent-Type: text/plain; charset=UTF-8",
+        "",
+        "503 Service Unavailable\r\nContent-Type: text/plain; charset=UTF-8\r\nContent-Length: 0",
         "",
     ),
 ];
@@ -43,12 +62,12 @@ const OK: &[u8] =
 fn answered(
     alloc: Global,
     (step, room): (usize, usize),
-    status: Status,
-    body: &str,
+    (status, body): (Status, &str),
+    origin: &Option<String>,
     want: &[u8],
 ) -> (Result<(), EdgeError>, bool) {
     let mut wire = MemoryWire::with_room(alloc, step, room);
-    let answer = write_response(alloc, &mut wire, status, body);
+    let answer = write_response(alloc, &mut wire, status, origin, body);
     let written = wire.written.as_slice();
     let is_right = match answer {
         Ok(()) => written == want,
@@ -57,22 +76,31 @@ fn answered(
     (answer, is_right)
 }
 
-/// Whether all of this is written, so many bytes at a time.
-fn is_answered(alloc: Global, step: usize, status: Status, body: &str, want: &[u8]) -> bool {
-    answered(alloc, (step, 1_000), status, body, want) == (Ok(()), true)
+/// Whether a row is written, so many bytes at a time.
+fn is_answered(alloc: Global, step: usize, row: &Row) -> Option<bool> {
+    let (status, origin, head, body) = *row;
+    let origin = if origin.is_empty() {
+        None
+    } else {
+        Some(String::from_str(alloc, origin).ok()?)
+    };
+    let want = format!(in alloc; "HTTP/1.1 {head}\r\nConnection: close\r\n\r\n{body}").ok()?;
+    let got = answered(
+        alloc,
+        (step, 1_000),
+        (status, body),
+        &origin,
+        want.as_bytes(),
+    );
+    Some(got == (Ok(()), true))
 }
 
 #[test]
 fn whole_answers(rt: HostRuntime) {
-    assert!(rt; is_answered(rt.alloc(), 1_000, Status::Success, "ok", OK));
-    for (status, head, body) in ANSWERS.iter() {
-        let length = body.len();
-        let want = format!(in rt.alloc();
-            "HTTP/1.1 {head}\r\nContent-Length: {length}\r\nConnection: close\r\n\r\n{body}"
-        ).expect(&rt, "an answer");
+    for row in ANSWERS.iter() {
         for step in [1_000, 1] {
-            let is_right = is_answered(rt.alloc(), step, *status, body, want.as_bytes());
-            assert!(rt; is_right, "by {step}: {head}");
+            let is_right = is_answered(rt.alloc(), step, row) == Some(true);
+            assert!(rt; is_right, "by {step}: {}", row.2);
         }
     }
 }
@@ -80,7 +108,7 @@ fn whole_answers(rt: HostRuntime) {
 #[test]
 fn the_writer_fails_at_each_byte(rt: HostRuntime) {
     for room in 0..OK.len() {
-        let got = answered(rt.alloc(), (10, room), Status::Success, "ok", OK);
+        let got = answered(rt.alloc(), (10, room), (Status::Success, "ok"), &None, OK);
         assert!(rt; got == (Err(EdgeError::Device), true), "after {room}");
     }
 }

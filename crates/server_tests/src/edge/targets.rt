@@ -50,8 +50,9 @@ type Row = (Target, Said, Option<Option<u128>>, Option<SocketRequest>);
 
 #[test]
 fn targets(rt: HostRuntime) {
-    static ROWS: [Row; 7] = [
+    static ROWS: [Row; 8] = [
         (Target::NotFound, Some((404, "")), None, None),
+        (Target::Preflight, Some((204, "")), None, None),
         (Target::Refuse(Refusal::BadRequest), REFUSED, None, None),
         (Target::OpenSocket, None, None, Some(SocketRequest::Open)),
         (

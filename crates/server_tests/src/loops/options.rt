@@ -3,6 +3,7 @@
 use arguments::folder::{FolderFault, read_folder};
 use arguments::options::Options;
 use arguments::task::{Task, task_of};
+use arguments::token::{TokenFault, read_token};
 use page::Page;
 use settings::Settings;
 use std::alloc::{AllocError, Global};
@@ -10,7 +11,7 @@ use std::fs;
 
 /// Arguments behind the program's name, and what they ask for, on a machine of two processors: why
 /// they are refused, or the options of a server, as `told` and `written` have them.
-static ROWS: [(&str, &str); 24] = [
+static ROWS: [(&str, &str); 33] = [
     ("script", "Script"),
     ("", "MissingSubcommand"),
     ("play", "InvalidSubcommand"),
@@ -31,18 +32,33 @@ static ROWS: [(&str, &str); 24] = [
     ("serve --port 3000 --space /a\u{1}", "InvalidValue"),
     ("serve --port 3000 --space /a --space /a", "InvalidValue"),
     ("serve --port 3000 --space /", "InvalidValue"),
+    ("serve --port 3000 --metrics metrics", "InvalidValue"),
+    ("serve --port 3000 --metrics /a?b", "InvalidValue"),
+    ("serve --port 3000 --metrics /socket.io/", "InvalidValue"),
+    ("serve --port 3000 --origin http://a/", "InvalidValue"),
+    ("serve --port 3000 --origin a", "InvalidValue"),
+    ("serve --port 3000 --origin http://", "InvalidValue"),
+    ("serve --port 3000 --origin http://A", "InvalidValue"),
+    (
+        "serve --port 3000 --origin http://a --origin http://b?",
+        "InvalidValue",
+    ),
+    (
+        "serve --port 3000 --origin * --origin null --origin https://[::1]:80 --token-file f --metrics /m",
+        "127.0.0.1 3000 2 None Config { clients: 10000, capacity: 64, bytes: 8388608, log: 1024, saved: 4096, keep: 120000, first_offset: 1, spaces: [Text { text: \"/\" }, Text { text: \"/admin\" }] } Timing { ping_interval: 25000, ping_timeout: 20000, connect_timeout: 45000 } 1000000 16 15 None [\"*\", \"null\", \"https://[::1]:80\"] None Some(\"f\") Some(\"/m\") false false",
+    ),
     ("serve --help", "DisplayHelp"),
     (
         "serve --port 3000 --host ::1 --workers 3 --connections 5 --clients 6 --capacity 7 --bytes 8 --log 9 --saved 10 --keep 11 --together 14 --poll-entries 12 --ping-interval 15 --ping-timeout 16 --connect-timeout 17 --max-payload 18 --report 13 --space /a --space /b --origin http://a --origin http://b --page folder --until-eof --verbose",
-        "::1 3000 3 Some(5) Config { clients: 6, capacity: 7, bytes: 8, log: 9, saved: 10, keep: 11, first_offset: 1, spaces: [Text { text: \"/\" }, Text { text: \"/a\" }, Text { text: \"/b\" }] } Timing { ping_interval: 15, ping_timeout: 16, connect_timeout: 17 } 18 14 12 Some(13) [\"http://a\", \"http://b\"] Some(\"folder\") true true",
+        "::1 3000 3 Some(5) Config { clients: 6, capacity: 7, bytes: 8, log: 9, saved: 10, keep: 11, first_offset: 1, spaces: [Text { text: \"/\" }, Text { text: \"/a\" }, Text { text: \"/b\" }] } Timing { ping_interval: 15, ping_timeout: 16, connect_timeout: 17 } 18 14 12 Some(13) [\"http://a\", \"http://b\"] Some(\"folder\") None None true true",
     ),
     (
         "serve --port 3000",
-        "127.0.0.1 3000 2 None Config { clients: 10000, capacity: 64, bytes: 8388608, log: 1024, saved: 4096, keep: 120000, first_offset: 1, spaces: [Text { text: \"/\" }, Text { text: \"/admin\" }] } Timing { ping_interval: 25000, ping_timeout: 20000, connect_timeout: 45000 } 1000000 16 15 None [] None false false",
+        "127.0.0.1 3000 2 None Config { clients: 10000, capacity: 64, bytes: 8388608, log: 1024, saved: 4096, keep: 120000, first_offset: 1, spaces: [Text { text: \"/\" }, Text { text: \"/admin\" }] } Timing { ping_interval: 25000, ping_timeout: 20000, connect_timeout: 45000 } 1000000 16 15 None [] None None None false false",
     ),
     (
         "serve --port 80",
-        "127.0.0.1 80 2 None Config { clients: 10000, capacity: 64, bytes: 8388608, log: 1024, saved: 4096, keep: 120000, first_offset: 1, spaces: [Text { text: \"/\" }, Text { text: \"/admin\" }] } Timing { ping_interval: 25000, ping_timeout: 20000, connect_timeout: 45000 } 1000000 16 15 None [] None false false",
+        "127.0.0.1 80 2 None Config { clients: 10000, capacity: 64, bytes: 8388608, log: 1024, saved: 4096, keep: 120000, first_offset: 1, spaces: [Text { text: \"/\" }, Text { text: \"/admin\" }] } Timing { ping_interval: 25000, ping_timeout: 20000, connect_timeout: 45000 } 1000000 16 15 None [] None None None false false",
     ),
 ];
 
@@ -65,7 +81,8 @@ fn told(alloc: Global, settings: &Settings) -> Result<String, AllocError> {
 fn written(alloc: Global, options: &Options) -> Result<String, AllocError> {
     let (settings, folder) = (told(alloc, &options.settings)?, &options.folder);
     let (until_eof, verbose) = (options.until_eof, options.verbose);
-    format!(in alloc; "{settings} {folder:?} {until_eof} {verbose}")
+    let (token, metrics) = (&options.token_file, &options.settings.metrics);
+    format!(in alloc; "{settings} {folder:?} {token:?} {metrics:?} {until_eof} {verbose}")
 }
 
 /// Whether a command line asks for this.
@@ -101,6 +118,31 @@ fn has(page: &Page, path: &str, bytes: &[u8]) -> bool {
         Some(file) => file.bytes.as_slice() == bytes,
         None => false,
     }
+}
+
+#[test]
+fn tokens_in_files(rt: HostRuntime) {
+    static ROWS: [(&[u8], Result<&str, TokenFault>); 7] = [
+        (b"secret", Ok("secret")),
+        (b"secret\n", Ok("secret")),
+        (b"two words\r\n", Ok("two words")),
+        (b"one\ntwo\n", Ok("one\ntwo")),
+        (b"", Err(TokenFault::Empty)),
+        (b"\r\n", Err(TokenFault::Empty)),
+        (b"\xff", Err(TokenFault::NotUtf8)),
+    ];
+    for (bytes, want) in ROWS.iter() {
+        assert!(rt; fs::write(&rt, "token", *bytes).is_ok());
+        let is_right = match (read_token(&rt, "token"), want) {
+            (Ok(token), Ok(text)) => token.as_str() == *text,
+            (Err(fault), Err(due)) => fault == *due,
+            _ => false,
+        };
+        assert!(rt; is_right, "of {bytes:?}");
+    }
+    assert!(rt; fs::remove_file(&rt, "token").is_ok());
+    let missing = read_token(&rt, "token").err();
+    assert!(rt; missing == Some(TokenFault::Unreadable));
 }
 
 /// Whether a folder can't be read.

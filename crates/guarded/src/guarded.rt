@@ -1,0 +1,63 @@
+//! An app behind a token.
+
+ghost use Rattle.std.specs.Prelude.{◌≡◌, IfOk};
+ghost use Rattle.guarded.specs.Guarded.{has_token};
+
+use events::{App, Arrived, Effect, Verdict, Who};
+use serde_json::{Category, Value};
+use std::alloc::{AllocError, Global};
+use terms::Text;
+
+/// What a client without the token is told.
+const NOT_ALLOWED: &str = "Not allowed";
+
+/// An app, and the token without which it is asked nothing, if there is one. `Debug` doesn't show it,
+/// since the token is a secret.
+#[derive(Drop)]
+pub struct Guarded<A> {
+    pub app: A,
+    /// What stands as `token` in the payload of a CONNECT, an object.
+    pub token: Option<Text>,
+}
+
+impl<A: App> App for Guarded<A> {
+    ghost use Rattle.guarded.specs.Guarded.{Admits, comes_in};
+
+    ghost allows = { λ guarded space payload verdict.
+        Admits (comes_in guarded.token payload) (A.allows guarded.app space payload) verdict };
+
+    ghost decides = { λ guarded who arrived effects. A.decides guarded.app who arrived effects };
+
+    fn connects(&self, alloc: Global, space: &str, payload: &str) -> Result<Verdict, AllocError> {
+        if let Some(token) = &self.token {
+            if !has_token(alloc, token.as_str(), payload)? {
+                return Ok(Verdict::Refuse(Text::copy_of(alloc, NOT_ALLOWED)?));
+            }
+        }
+        self.app.connects(alloc, space, payload)
+    }
+
+    fn decides(
+        &self,
+        alloc: Global,
+        who: &Who,
+        arrived: &Arrived,
+    ) -> Result<Vec<Effect>, AllocError> {
+        self.app.decides(alloc, who, arrived)
+    }
+}
+
+/// Whether a payload is an object whose `token` is this text.
+fn has_token(alloc: Global, token: &str, payload: &str) -> Result<bool, AllocError>
+    ensures { IfOk result (λ has. has ≡ has_token token.now payload.now) }
+{
+    let value = match Value::from_str(alloc, payload) {
+        Ok(value) => value,
+        Err(error) if error.classify() == Category::Memory => return Err(AllocError),
+        Err(_) => return Ok(false),
+    };
+    match value.get("token").and_then(Value::as_str) {
+        Some(text) => Ok(text == token),
+        None => Ok(false),
+    }
+}

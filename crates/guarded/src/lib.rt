@@ -1,0 +1,6 @@
+//! An app behind a token: who comes without it is let into no namespace.
+#![tactic(auto)]
+
+mod guarded;
+
+pub use guarded::Guarded;

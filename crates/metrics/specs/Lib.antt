@@ -1,0 +1,2 @@
+pub mod Reason
+pub mod Metrics

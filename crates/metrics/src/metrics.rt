@@ -1,0 +1,222 @@
+//! The counts as text (Prometheus, "Exposition formats", the text-based format).
+
+ghost use Rattle.std.specs.Prelude.{◌≡◌, ◌++◌, IfOk, OnOk, string_bytes};
+ghost use Rattle.metrics.specs.Metrics as metrics;
+
+use crate::counts::{CoreCounts, LoopCounts, Refusals, Sizes};
+use journal::Totals;
+use std::alloc::{AllocError, Global};
+use std::fmt::Write;
+
+/// What a server tells.
+#[derive(Debug, Drop)]
+pub struct Metrics {
+    pub core: CoreCounts,
+    /// In the order of their numbers.
+    pub loops: Vec<LoopCounts>,
+    pub refused: Vec<Refusals>,
+}
+
+impl Metrics {
+    /// The counts, each with what it says.
+    #[tactic(auto, unfolding(crate::specs::Metrics::text_of))]
+    pub fn text(&self, alloc: Global) -> Result<String, AllocError>
+        ensures { IfOk result (λ text. string_bytes text ≡ metrics.text_of
+            self.now.core self.now.loops.items self.now.refused.items) }
+    {
+        let mut text = totals_text(alloc, &self.core.totals)?;
+        text.push_str(sizes_text(alloc, &self.core.sizes)?.as_str())?;
+        text.push_str(connections_text(alloc, self.loops.as_slice())?.as_str())?;
+        text.push_str(requests_text(alloc, self.loops.as_slice())?.as_str())?;
+        text.push_str(refused_text(alloc, self.refused.as_slice())?.as_str())?;
+        Ok(text)
+    }
+}
+
+fn totals_text(alloc: Global, totals: &Totals) -> Result<String, AllocError>
+    ensures { IfOk result (λ text. string_bytes text ≡ metrics.totals_text totals.now) }
+{
+    let mut text = String::new(alloc);
+    push_row(
+        &mut text,
+        "socketio_commands_total",
+        "counter",
+        "Changes of the state that were accepted.",
+        totals.commands,
+    )?;
+    push_row(
+        &mut text,
+        "socketio_messages_placed_total",
+        "counter",
+        "Messages put into outboxes.",
+        totals.placed,
+    )?;
+    push_row(
+        &mut text,
+        "socketio_messages_dropped_total",
+        "counter",
+        "Messages that had no place in one.",
+        totals.dropped,
+    )?;
+    push_row(
+        &mut text,
+        "socketio_messages_taken_total",
+        "counter",
+        "Messages handed to clients.",
+        totals.taken,
+    )?;
+    push_row(
+        &mut text,
+        "socketio_messages_discarded_total",
+        "counter",
+        "Messages that waited when their client ended.",
+        totals.discarded,
+    )?;
+    push_row(
+        &mut text,
+        "socketio_messages_waiting",
+        "gauge",
+        "Messages that wait.",
+        totals.waiting,
+    )?;
+    Ok(text)
+}
+
+fn sizes_text(alloc: Global, sizes: &Sizes) -> Result<String, AllocError>
+    ensures { IfOk result (λ text. string_bytes text ≡ metrics.sizes_text sizes.now) }
+{
+    let mut text = String::new(alloc);
+    push_row(
+        &mut text,
+        "socketio_clients",
+        "gauge",
+        "Clients that are open.",
+        sizes.clients,
+    )?;
+    push_row(
+        &mut text,
+        "socketio_sockets",
+        "gauge",
+        "Sockets that are connected to a namespace.",
+        sizes.sockets,
+    )?;
+    push_row(
+        &mut text,
+        "socketio_rooms",
+        "gauge",
+        "Rooms that have a socket, each socket's own one among them.",
+        sizes.rooms,
+    )?;
+    Ok(text)
+}
+
+fn connections_text(alloc: Global, loops: &[LoopCounts]) -> Result<String, AllocError>
+    ensures { IfOk result (λ text. string_bytes text ≡ metrics.connections_text loops.now) }
+{
+    let mut text = String::new(alloc);
+    push_head(
+        &mut text,
+        "socketio_connections_total",
+        "counter",
+        "Connections that a loop was given.",
+    )?;
+    for it in loops {
+        push_connections(&mut text, it)?;
+    }
+    Ok(text)
+}
+
+fn requests_text(alloc: Global, loops: &[LoopCounts]) -> Result<String, AllocError>
+    ensures { IfOk result (λ text. string_bytes text ≡ metrics.requests_text loops.now) }
+{
+    let mut text = String::new(alloc);
+    push_head(
+        &mut text,
+        "socketio_requests_total",
+        "counter",
+        "Requests that came whole to a loop.",
+    )?;
+    for it in loops {
+        push_requests(&mut text, it)?;
+    }
+    Ok(text)
+}
+
+fn refused_text(alloc: Global, refused: &[Refusals]) -> Result<String, AllocError>
+    ensures { IfOk result (λ text. string_bytes text ≡ metrics.refused_text refused.now) }
+{
+    let mut text = String::new(alloc);
+    push_head(
+        &mut text,
+        "socketio_refused_total",
+        "counter",
+        "What was refused, by reason.",
+    )?;
+    for it in refused {
+        push_refused(&mut text, it)?;
+    }
+    Ok(text)
+}
+
+/// Adds what numbers of a name say.
+fn push_head(text: &mut String, name: &str, kind: &str, help: &str) -> Result<(), AllocError>
+    ensures { OnOk result (string_bytes text.new
+        ≡ string_bytes text.old ++ metrics.head name.now kind.now help.now) }
+{
+    write!(text, "# HELP {name} {help}\n# TYPE {name} {kind}\n")
+}
+
+/// Adds a name with one number.
+fn push_row(
+    text: &mut String,
+    name: &str,
+    kind: &str,
+    help: &str,
+    number: u64,
+) -> Result<(), AllocError>
+    ensures { OnOk result (string_bytes text.new
+        ≡ string_bytes text.old ++ metrics.row name.now kind.now help.now number) }
+{
+    push_head(text, name, kind, help)?;
+    write!(text, "{name} {number}\n")
+}
+
+fn push_connections(text: &mut String, it: &LoopCounts) -> Result<(), AllocError>
+    ensures { OnOk result
+        (string_bytes text.new ≡ string_bytes text.old ++ metrics.connections_of it.now) }
+{
+    push_labelled(
+        text,
+        "socketio_connections_total",
+        it.number,
+        it.connections,
+    )
+}
+
+fn push_requests(text: &mut String, it: &LoopCounts) -> Result<(), AllocError>
+    ensures { OnOk result
+        (string_bytes text.new ≡ string_bytes text.old ++ metrics.requests_of it.now) }
+{
+    push_labelled(text, "socketio_requests_total", it.number, it.requests)
+}
+
+fn push_labelled(text: &mut String, name: &str, number: u64, count: u64) -> Result<(), AllocError>
+    ensures { OnOk result (string_bytes text.new
+        ≡ string_bytes text.old ++ metrics.of_loop name.now number count) }
+{
+    write!(text, "{name}{{loop=\"{number}\"}} {count}\n")
+}
+
+fn push_refused(text: &mut String, it: &Refusals) -> Result<(), AllocError>
+    ensures { OnOk result
+        (string_bytes text.new ≡ string_bytes text.old ++ metrics.refused_of it.now) }
+{
+    push_reason(text, "socketio_refused_total", it.reason.label(), it.count)
+}
+
+fn push_reason(text: &mut String, name: &str, reason: &str, count: u64) -> Result<(), AllocError>
+    ensures { OnOk result (string_bytes text.new
+        ≡ string_bytes text.old ++ metrics.for_reason name.now reason.now count) }
+{
+    write!(text, "{name}{{reason=\"{reason}\"}} {count}\n")
+}
