@@ -13,7 +13,8 @@ from python_client import ensure, main
 
 COUNTERS = {'socketio_commands', 'socketio_messages_placed', 'socketio_messages_dropped', 'socketio_messages_taken',
             'socketio_messages_discarded', 'socketio_connections', 'socketio_requests', 'socketio_refused'}
-GAUGES = {'socketio_messages_waiting', 'socketio_clients', 'socketio_sockets', 'socketio_rooms'}
+GAUGES = {'socketio_messages_waiting', 'socketio_clients', 'socketio_sockets', 'socketio_rooms',
+          'socketio_sessions_saved', 'socketio_log_entries'}
 
 
 def families(port):

@@ -1,5 +1,5 @@
 -- Rising lists of the sockets that match, and what joining or leaving a room together makes of a hub.
-use Rattle.std.proofs.Common.{◌≡◌, ℕ, ◌+◌, ◌≤◌, ◌==◌, Bool, true, false, ◌&&◌, ◌||◌, not, List, [], ◌∷◌, map, filter, max, refl, sym, ◌∙◌, ap, subst, arith, if◌then◌else◌, Option, None, Some, nat_eq, nat_cmp, inl, inr}
+use Rattle.std.proofs.Common.{◌≡◌, ℕ, ◌+◌, ◌≤◌, ◌==◌, Bool, true, false, ◌&&◌, ◌||◌, not, List, [], ◌∷◌, map, filter, max, refl, sym, ◌∙◌, ap, subst, arith, if◌then◌else◌, Option, None, Some, nat_cmp, inl, inr}
 use Rattle.std.specs.Prelude.{is_some, T, Result, Ok, Err, OnOk, OnErr, IfErr}
 use Rattle.std.specs.List.{list_any, AllByRecursion}
 use Rattle.std.specs.List.Sorted.{IsStrictlySortedBy}
@@ -16,7 +16,7 @@ use Rattle.terms.specs.Listing.{ListsRising}
 use Rattle.room_maps.specs.Addressed as broadcast
 use Rattle.terms.specs.Room.{same_room, own_room}
 use Rattle.room_maps.specs.Membership.{RoomSets, AreConsistent, is_socket, is_in, is_full, with_members, without_members, has_unknown, join_all_refusal, leave_all_refusal}
-use Rattle.room_maps.specs.declared.error.RoomError.TheVariants.{UnknownSocket, TooManyRooms, OwnRoom}
+use Rattle.room_maps.specs.declared.error.RoomError.TheVariants.{TooManyRooms, OwnRoom}
 use Rattle.room_maps.proofs.BooleanLemmas.{same_bool}
 use Rattle.room_maps.proofs.OrderLemmas.{same_room_is}
 use Rattle.room_maps.proofs.MembershipLaws.{is_socket-with_members, is_socket-without_members}

@@ -9,7 +9,7 @@ use Rattle.loop_rules.specs.declared.looks.Pause.TheVariants as pause
 use Rattle.loop_rules.specs.declared.turns.Verdict.{Verdict}
 use Rattle.loop_rules.specs.declared.turns.Verdict.TheVariants as verdict
 use Rattle.loop_rules.specs.Turns.{verdict_for}
-use Rattle.loop_rules.specs.Looks.{is_awake, called, begun, paused, followed, going_on, is_dry, is_calm, finds_dry, has_looked, may_rest, cuts, Step, Comes, Begins, Follows, Pauses, state_after, was_dry, is_under_way, came_since_look, NeverRests}
+use Rattle.loop_rules.specs.Looks.{is_awake, called, begun, paused, followed, is_dry, is_calm, finds_dry, has_looked, may_rest, Step, Comes, Begins, Follows, Pauses, state_after, was_dry, is_under_way, came_since_look, NeverRests}
 
 awake-called : (s : LookState) → is_awake (called s) ≡ true
 awake-called state.Rests = refl

@@ -1,5 +1,5 @@
 -- What others hand to a loop.
-use Rattle.std.specs.Prelude.{◌≡◌, ◌⊎◌, ◌+◌, ◌++◌, ℕ, Bool, true, false, ◌&&◌, cond, nat_eq, not, List, vec_len}
+use Rattle.std.specs.Prelude.{◌≡◌, ◌⊎◌, ◌+◌, ◌++◌, ℕ, Bool, true, ◌&&◌, cond, nat_eq, not, List, vec_len}
 use Rattle.loop_rules.specs.declared.mailbox.Mail.{Mail}
 
 -- how much was handed in

@@ -1,5 +1,5 @@
 -- The connections of a loop that have something to do, by their keys.
-use Rattle.std.specs.Prelude.{◌≡◌, ◌≢◌, ℕ, ◌≤◌, ◌<◌, Bool, true, false, cond, nat_eq, nat_lt, Option, None, Some, List, [], ◌∷◌, ◌++◌, length, count_by, slice_index_or, slice_set}
+use Rattle.std.specs.Prelude.{◌≡◌, ℕ, ◌≤◌, Bool, true, false, cond, nat_eq, nat_lt, Option, None, Some, List, [], ◌∷◌, ◌++◌, length, count_by, slice_index_or, slice_set}
 use Rattle.loop_rules.specs.declared.looks.LookState.{LookState}
 use Rattle.loop_rules.specs.declared.looks.LookState.TheVariants as state
 use Rattle.loop_rules.specs.declared.looks.Pause.{Pause}

@@ -12,6 +12,10 @@ pub struct Sizes {
     pub sockets: u64,
     /// The rooms that have a socket, each socket's own one among them.
     pub rooms: u64,
+    /// The sessions that are saved, outdated ones among them.
+    pub saved: u64,
+    /// The broadcasts that are logged.
+    pub logged: u64,
 }
 
 /// What a core has done, and what it holds then.

@@ -107,6 +107,20 @@ fn sizes_text(alloc: Global, sizes: &Sizes) -> Result<String, AllocError>
         "Rooms that have a socket, each socket's own one among them.",
         sizes.rooms,
     )?;
+    push_row(
+        &mut text,
+        "socketio_sessions_saved",
+        "gauge",
+        "Sessions that may come back.",
+        sizes.saved,
+    )?;
+    push_row(
+        &mut text,
+        "socketio_log_entries",
+        "gauge",
+        "Broadcasts that are logged.",
+        sizes.logged,
+    )?;
     Ok(text)
 }
 

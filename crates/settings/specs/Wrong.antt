@@ -1,5 +1,5 @@
 -- Which settings allow no server.
-use Rattle.std.specs.Prelude.{ℕ, ◌==◌, Bool, ◌||◌, [], ◌∷◌, Option, nat_lt}
+use Rattle.std.specs.Prelude.{◌==◌, Bool, ◌||◌, [], ◌∷◌, Option, nat_lt}
 use Rattle.terms.specs.Refusal.{first_refusal}
 use Rattle.session_clock.specs.declared.timing.Timing.{Timing}
 use Rattle.journal.specs.Config.{is_bad_config}

@@ -38,6 +38,8 @@ impl<C: Ledger, T: Ledger> KeptCore for LockedCore<'_, C, T> {
                 clients: core.clients_len() as u64,
                 sockets: sockets.len() as u64,
                 rooms: rooms.len() as u64,
+                saved: state.saved_len() as u64,
+                logged: state.log_len() as u64,
             },
         }
     }

@@ -19,6 +19,8 @@ const NONE: CoreCounts = CoreCounts {
         clients: 0,
         sockets: 0,
         rooms: 0,
+        saved: 0,
+        logged: 0,
     },
 };
 

@@ -3,7 +3,9 @@
 ghost use Rattle.std.specs.Prelude.{◌≡◌, min, length, reverse, None, Some, option_copied, slice_get, if◌then◌else◌};
 ghost use Rattle.room_maps.specs.Mirror.{IsMirrored};
 ghost use Rattle.journal.specs.Membership.{place_of, is_space, is_open, is_connected, sid_of, rooms};
+ghost use Rattle.journal.specs.Log.{log};
 ghost use Rattle.journal.specs.Outboxes.{waiting, total_size};
+ghost use Rattle.journal.specs.Sessions.{sessions};
 ghost use Rattle.journal.specs.Totals as counted;
 
 use crate::state::State;
@@ -32,6 +34,20 @@ impl State {
         ensures { result ≡ min (counted.held self.now.journal) u64.MAX }
     {
         self.records.steps.held()
+    }
+
+    /// How many broadcasts the log has.
+    pub fn log_len(&self) -> usize
+        ensures { let h = self.now in result ≡ length (log h.base h.limits h.journal) }
+    {
+        self.log.len()
+    }
+
+    /// How many sessions are saved, outdated ones among them.
+    pub fn saved_len(&self) -> usize
+        ensures { let h = self.now in result ≡ length (sessions h.base h.limits h.journal) }
+    {
+        self.saved.len()
     }
 
     /// Whether the hub has a namespace with this name. It takes the logarithm of the namespaces.

@@ -1,6 +1,4 @@
-use Rattle.std.proofs.Common.{◌≡◌, ◌<◌, ◌++◌, ◌∷◌, [], ℕ, true, List, length, is_ok, refl, arith, Vec, Global}
-use Rattle.loop_rules.specs.declared.notes.Notes.{Notes}
-use Rattle.loop_rules.specs.Notes.{is_noted}
+use Rattle.std.proofs.Common.{◌≡◌, ◌<◌, ◌++◌, ◌∷◌, [], ℕ, true, length, is_ok, refl, arith, Vec, Global}
 use Rattle.loop_rules.proofs.NotesLemmas.{noted_here, noted_kept}
 use Rattle.loop_rules.proofs.notes.Notes.note.Goals as goal
 use Rattle.loop_rules.proofs.notes.Notes.note.Goals.{in-Some, in-None}

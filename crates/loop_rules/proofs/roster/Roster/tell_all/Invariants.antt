@@ -1,4 +1,4 @@
-use Rattle.std.proofs.Common.{◌≡◌, ℕ, ◌<◌, true, length, slice_index_or}
+use Rattle.std.proofs.Common.{◌≡◌, ℕ, ◌<◌, true, slice_index_or}
 use Rattle.loop_rules.specs.Notes.{is_noted}
 use Rattle.loop_rules.specs.Rosters.{IsTold, Keeps}
 use Rattle.loop_rules.proofs.roster.Roster.tell_all.Given as goal

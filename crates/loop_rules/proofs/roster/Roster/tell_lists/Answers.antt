@@ -1,4 +1,4 @@
-use Rattle.std.proofs.Common.{◌≡◌, ◌∙◌, ℕ, ◌<◌, length, slice_index_or, map, [], sym, ap, subst, List, Vec, Global}
+use Rattle.std.proofs.Common.{◌≡◌, ◌∙◌, ℕ, slice_index_or, map, [], sym, ap, subst, List, Vec, Global}
 use Rattle.std.proofs.lemmas.List.{get_or-map}
 use Rattle.loop_rules.specs.Rosters.{AreTold}
 use Rattle.loop_rules.proofs.RosterLemmas.{list_more}

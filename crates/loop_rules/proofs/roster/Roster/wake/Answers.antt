@@ -1,4 +1,4 @@
-use Rattle.std.proofs.Common.{◌≡◌, sym, subst, List}
+use Rattle.std.proofs.Common.{sym, subst}
 use Rattle.loop_rules.specs.Rotas.{Waiting}
 use Rattle.loop_rules.specs.Rosters.{Keeps}
 use Rattle.loop_rules.proofs.RosterLemmas.{called_kept}

@@ -1,6 +1,6 @@
-use Rattle.std.proofs.Common.{rules, ◌≡◌, ◌≤◌, ◌<◌, ◌++◌, true, false, ℕ, length, ◌+◌, List, [], ◌∷◌, refl, arith, ap, sym, ◌∙◌}
+use Rattle.std.proofs.Common.{◌≡◌, ◌++◌, [], refl, arith}
 use Rattle.loop_rules.specs.Looks.{is_queued}
-use Rattle.std.proofs.Common.{IsOk, is_ok}
+use Rattle.std.proofs.Common.{IsOk}
 use Rattle.std.proofs.lemmas.List.Sums.{count_by-le-length}
 use Rattle.loop_rules.proofs.rota.Rota.begin_turn.Goals as goal
 

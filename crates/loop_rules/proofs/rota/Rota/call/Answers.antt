@@ -1,9 +1,8 @@
-use Rattle.std.proofs.Common.{rules, ◌≡◌, ◌≤◌, ◌<◌, ◌++◌, true, false, ℕ, IsTrue, length, ◌+◌, Bool, List, [], ◌∷◌, refl, arith, ap, sym, ◌∙◌}
+use Rattle.std.proofs.Common.{◌≡◌, ◌<◌, true, false, length, arith}
 use Rattle.std.proofs.lemmas.List.{get_or_read}
 use Rattle.loop_rules.specs.declared.looks.LookState.TheVariants as state
-use Rattle.loop_rules.specs.Looks.{is_queued, may_rest, is_to_queue}
-use Rattle.loop_rules.specs.Rotas as rotas
-use Rattle.loop_rules.specs.Rotas.{look_of, will_look, has_turn}
+use Rattle.loop_rules.specs.Looks.{is_queued, is_to_queue}
+use Rattle.loop_rules.specs.Rotas.{look_of}
 use Rattle.loop_rules.proofs.RotaLemmas.{room, to_queue_isnt_queued}
 use Rattle.loop_rules.proofs.rota.Rota.call.Goals as goal
 

@@ -1,4 +1,4 @@
-use Rattle.std.proofs.Common.{◌≡◌, ◌∙◌, ℕ, ◌+◌, ◌≤◌, ◌++◌, length, List, is_ok, IsTrue, refl, arith, ap, cond}
+use Rattle.std.proofs.Common.{◌∙◌, is_ok, refl, arith, ap}
 use Rattle.loop_rules.specs.Rotas.{Waiting, look_of}
 use Rattle.loop_rules.proofs.RotaLemmas.{look_pushed, grown}
 use Rattle.loop_rules.proofs.rota.Rota.grow.Goals as goal

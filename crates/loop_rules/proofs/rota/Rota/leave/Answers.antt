@@ -1,7 +1,7 @@
-use Rattle.std.proofs.Common.{rules, ◌≡◌, ◌≤◌, ◌<◌, ◌++◌, true, false, ℕ, length, ◌+◌, List, [], ◌∷◌, refl, arith, ap, sym, ◌∙◌}
+use Rattle.std.proofs.Common.{◌≡◌, ◌<◌, true, false, length, arith, ap, sym, ◌∙◌}
 use Rattle.loop_rules.specs.Looks.{is_queued}
 use Rattle.loop_rules.specs.Rotas.{Waiting, look_of, has_turn}
-use Rattle.loop_rules.proofs.RotaLemmas.{room, marked, pushed_again, turn_known, turn_isnt_queued}
+use Rattle.loop_rules.proofs.RotaLemmas.{room, marked, turn_known, turn_isnt_queued}
 use Rattle.loop_rules.proofs.rota.Rota.leave.Goals as goal
 
 pub index_mut-requires : goal.index_mut-requires

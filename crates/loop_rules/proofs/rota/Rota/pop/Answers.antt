@@ -1,6 +1,5 @@
-use Rattle.std.proofs.Common.{rules, ◌≡◌, ◌≤◌, ◌<◌, ◌++◌, true, false, ℕ, length, ◌+◌, List, [], ◌∷◌, refl, arith, ap, sym, ◌∙◌}
+use Rattle.std.proofs.Common.{◌≡◌, ◌++◌, false, ℕ, List, arith, ap}
 use Rattle.loop_rules.specs.Looks.{is_queued}
-use Rattle.loop_rules.specs.Rotas.{Waiting, look_of, has_turn}
 use Rattle.loop_rules.proofs.RotaLemmas.{first_known, popped, begun_isnt_queued}
 use Rattle.loop_rules.proofs.rota.Rota.pop.Goals as goal
 
