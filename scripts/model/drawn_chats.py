@@ -140,6 +140,7 @@ class Draw:
             self.play(" ".join(map(self.word, line.split(" "))).rstrip(" "))
             if turn % 20 == 0:
                 self.look()
+                self.play("departed")
                 self.play("seal")
                 self.play("kept")
 

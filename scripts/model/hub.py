@@ -129,14 +129,14 @@ class Hub:
         self.sockets[sid] = Socket(client, space, pid)
         self.rooms[sid] = {id_text(sid), *rooms}
 
-    def unseat(self, sid):
+    def unseat(self, sid, ending):
         socket = self.sockets.pop(sid)
         del self.clients[socket.client].sockets[socket.space]
-        del self.rooms[sid]
+        self.departed.append((sid, socket, self.rooms.pop(sid), ending))
 
-    def drop_client(self, client):
+    def drop_client(self, client, ending):
         for sid in list(self.clients[client].sockets.values()):
-            self.unseat(sid)
+            self.unseat(sid, ending)
         self.counts["discarded"] += len(self.clients.pop(client).outbox)
 
     def open(self, client, now):
@@ -250,18 +250,18 @@ class Hub:
         for sid in sids:
             saved = Saved(sid, self.sockets[sid], self.rooms[sid], self.moment(now))
             self.saved[saved.pid] = saved
-        self.drop_client(client)
+        self.drop_client(client, "Saved")
         self.step("parked", now)
 
     def end(self, sid, now):
         if sid not in self.sockets:
             raise Refused("UnknownSocket")
-        self.unseat(sid)
+        self.unseat(sid, "Alone")
         self.step("ended", now)
 
     def close(self, client, now):
         self.look_at_client(client)
-        self.drop_client(client)
+        self.drop_client(client, "Closed")
         self.step("closed", now)
 
     def sweep(self, now):
@@ -298,14 +298,14 @@ class Hub:
             if self.has_place(client, [farewell]):
                 self.put(client, farewell)
                 told.append(client)
-            self.unseat(sid)
+            self.unseat(sid, "Together")
         self.step("all-ended", now)
         return sids, sorted(told)
 
     def seal(self):
         """Makes a copy of the present state the base. Gives how many steps led to it."""
         count = len(self.steps)
-        self.steps, self.held, self.base = [], 0, Base(self)
+        self.steps, self.held, self.departed, self.base = [], 0, [], Base(self)
         return count
 
 

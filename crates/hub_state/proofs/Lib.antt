@@ -1,4 +1,5 @@
 pub mod CastLemmas
+pub mod DepartLemmas
 pub mod WalkLemmas
 pub mod RetainLemmas
 pub mod ReturnLemmas

@@ -36,6 +36,7 @@ use Rattle.journal.proofs.RecoverStepLemmas.{recovered, returned, with_return}
 use Rattle.hub_state.specs.declared.state.State.TheInside.{Inside}
 use Rattle.hub_state.specs.declared.state.missed.Found.{Found}
 use Rattle.hub_state.specs.Inside.{history_of, Describes}
+use Rattle.hub_state.proofs.DepartLemmas.{hub-of}
 use Rattle.hub_state.specs.Returning.{socket_again, gets_back}
 
 -- ---- a session that was found
@@ -156,4 +157,4 @@ came-back hub r k es now n mid new seat is_pid sets table holds b number first s
     let clients = subst (λ (k : Socket). (q : ℕ) → new q ≡ (if k.client == q then option_map (with_return k es) (find q) else find q)) b.same (returned find mid new k.client k es first second) in
     let out' = out ∙ ap (λ (k : Socket). removed hub.saved k.pid) b.same in
     recovered hub.base hub.limits r now hub.records.last n find new (get nat_cmp hub.seats) seat (sorted.contains nat_cmp hub.pids) is_pid hub.rooms sets hub.saved table hub.log hub.records.counts (hub.records.steps.steps) es
-    holds b.accepted b.right b.entries number clients seats pids rooms consistent out'
+    (hub-of hub holds) b.accepted b.right b.entries number clients seats pids rooms consistent out'

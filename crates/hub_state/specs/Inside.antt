@@ -1,10 +1,12 @@
 -- How the fields of a hub's state stand to what contracts see of it.
+use Rattle.std.specs.Prelude.{◌≡◌}
 use Rattle.std.specs.Ordering.{nat_cmp}
 use Rattle.std.specs.BTreeMap.{get}
 use Rattle.std.specs.BTreeSet as sorted
 use Rattle.journal.specs.Journal.{History}
 use Rattle.journal.specs.Legal.{IsLegal, IsSound}
 use Rattle.journal.specs.Fields.{Fields, Counted}
+use Rattle.hub_state.specs.Departing.{departed}
 use Rattle.hub_state.specs.declared.state.State.TheInside.{Inside}
 
 abbrev pub history_of : Inside → History
@@ -16,3 +18,4 @@ Describes h =
     × IsLegal h.base h.limits (h.records.steps.steps)
     × IsSound h.base h.limits (h.records.steps.steps)
     × Counted h.base h.limits h.records.counts (h.records.steps.steps)
+    × (h.departed.items ≡ departed h.base (h.records.steps.steps))

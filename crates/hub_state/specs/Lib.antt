@@ -1,3 +1,4 @@
+pub mod Departing
 pub mod Inside
 pub mod Returning
 pub mod Changes

@@ -1,6 +1,8 @@
 //! Clients, their sockets, rooms and outboxes, kept as the journal of all accepted commands says.
 #![tactic(auto)]
 
+mod departed;
 mod state;
 
+pub use departed::{Departed, Ending};
 pub use state::State;

@@ -27,6 +27,7 @@ mod cast;
 mod close;
 mod connect;
 mod deliver;
+mod depart;
 mod dismiss;
 mod end;
 mod event;
@@ -41,6 +42,7 @@ mod rooms;
 mod seal;
 mod sweep;
 
+use crate::departed::Departed;
 use continuity::heard_is_due;
 use hub_parts::{Client, Limits, Seats, Steps};
 use journal::{Base, Config, Counts, HubError, Step, Totals, What};
@@ -64,6 +66,8 @@ pub struct State {
     saved: SavedTable,
     /// The broadcasts that a session which comes back may have missed.
     log: PacketLog,
+    /// The sockets that ended since the base.
+    departed: Vec<Departed>,
 }
 
 /// Written out, so that a crate above takes the drop of all that lies in it by this one call.
@@ -79,6 +83,7 @@ impl Drop for State {
             rooms: _,
             saved: _,
             log: _,
+            departed: _,
         } = self;
     }
 }
@@ -266,6 +271,7 @@ impl State {
             rooms,
             saved,
             log,
+            departed: Vec::new(alloc),
         }
     }
 

@@ -1,7 +1,7 @@
 //! What is answered, and what is seen of a hub, in text.
 
 use crate::words::Words;
-use hub_state::State;
+use hub_state::{Departed, State};
 use journal::{BaseClient, HubError, Step, Totals, What};
 use recovery::{Logged, Saved};
 use std::alloc::{AllocError, Global};
@@ -85,6 +85,21 @@ fn write_room(room: &Room, text: &mut String) -> Result<(), AllocError> {
     }
 }
 
+/// Sockets that ended: of each its client, the place of its namespace, its ids, how it ended, and the rooms that it was in.
+fn write_departed(departed: &[Departed], text: &mut String) -> Result<(), AllocError> {
+    for gone in departed {
+        let (socket, ending) = (gone.socket, gone.ending);
+        let (sid, pid) = (socket.sid.number(), socket.pid.number());
+        write!(
+            text,
+            "  {} {} {sid} {pid} {ending:?}",
+            socket.client, socket.space
+        )?;
+        write_rooms(&gone.rooms, text)?;
+    }
+    Ok(())
+}
+
 fn write_session(saved: &Saved, text: &mut String) -> Result<(), AllocError> {
     let (pid, sid) = (saved.pid.number(), saved.sid.number());
     write!(text, "  {pid} {sid} {} {}", saved.lost_at, saved.space)?;
@@ -123,6 +138,7 @@ fn tell(state: &State, words: &Words<'_>, text: &mut String) -> Result<(), Alloc
         "held" => write!(text, "  {}", state.held()),
         "space" => write!(text, "  {}", state.has_space(words.word(1))),
         "steps" => write_steps(state.steps(), text),
+        "departed" => write_departed(state.departed(), text),
         "base" => write_base(state, text),
         "kept" => write_kept(state, text),
         "mirrors" => write_mirrors(state, text),

@@ -9,6 +9,7 @@ ghost use Rattle.journal.specs.Fields.{held_sockets, held_entries};
 ghost use Rattle.journal.specs.declared.step.What.{What};
 ghost use Rattle.hub_state.specs.Changes.{CanForget, WithoutSeats, WithoutPids, refusal_now};
 
+use crate::state::depart::note;
 use crate::state::end::forget_all;
 use crate::state::{Added, NONE, State};
 use hub_parts::{Client, Seats};
@@ -62,13 +63,15 @@ impl State {
     /// discarded. Refused as `UnknownClient`, `Spent`, then for `Memory`. It takes the logarithm of
     /// the clients and, for each of the client's sockets, that of the sockets, and each of their
     /// rooms takes the logarithm of the sockets and of the rooms.
-    pub fn close(&mut self, _alloc: Global, client: u128, now: u64) -> Result<(), HubError>
+    pub fn close(&mut self, alloc: Global, client: u128, now: u64) -> Result<(), HubError>
         ensures { Does self.old self.new now (What.Closed client) result }
     {
         if let Some(refusal) = self.close_refusal(client) {
             return Err(refusal);
         }
+        let ended = self.departed_by(alloc, &What::Closed(client))?;
         self.records.steps.reserve()?;
+        note(&mut self.departed, ended)?;
         let discards = forget_client(
             &mut self.clients,
             &mut self.seats,

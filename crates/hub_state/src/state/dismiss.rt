@@ -27,6 +27,7 @@ ghost use Rattle.hub_state.specs.Changes.{WithoutSeats, WithoutPids, MakesStep};
 
 use crate::state::aim::{messages_for, sockets_in};
 use crate::state::cast::{put_messages, receivers};
+use crate::state::depart::note;
 use crate::state::end::{drop_from, forget};
 use crate::state::{Added, NONE, State};
 use hub_parts::{Client, Seats};
@@ -182,6 +183,7 @@ impl State {
     /// Tells the clients and ends the sockets of a dismissal that may be made.
     fn dismiss(
         &mut self,
+        alloc: Global,
         dismissal: Dismissal,
         sockets: Vec<Socket>,
         messages: Vec<Message>,
@@ -199,11 +201,15 @@ impl State {
             placed: dismissal.told.len() as u64,
             ..NONE
         };
-        self.records.write(now, What::AllEnded(dismissal), added)?;
+        let what = What::AllEnded(dismissal);
+        let ended = self.departed_by(alloc, &what)?;
+        self.records.steps.reserve()?;
+        note(&mut self.departed, ended)?;
         put_messages(&mut self.clients, messages);
         drop_all(&mut self.clients, &sockets, place);
         forget_each(&mut self.seats, &mut self.pids, &mut self.rooms, &sockets);
         self.rooms.kept_facts();
+        self.records.add(now, what, added);
         Ok(())
     }
 
@@ -228,7 +234,7 @@ impl State {
         if let Some(refusal) = self.dismissal_refusal(&dismissal) {
             return Err(refusal);
         }
-        self.dismiss(dismissal, sockets, messages, now)?;
+        self.dismiss(alloc, dismissal, sockets, messages, now)?;
         Ok(done)
     }
 

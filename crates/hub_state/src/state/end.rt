@@ -13,6 +13,7 @@ ghost use Rattle.hub_parts.specs.Seats.{WithoutSeat};
 ghost use Rattle.hub_state.specs.Changes.{ChangesClient, WithoutPid, WithoutSeats, WithoutPids, refusal_now};
 
 use crate::state::connect::drop_ids;
+use crate::state::depart::note;
 use crate::state::{NONE, State};
 use hub_parts::{Client, Seats, Sockets};
 use journal::{HubError, Socket, What};
@@ -63,7 +64,7 @@ pub(crate) fn forget_all(
 
 impl State {
     /// The connected socket with a session id.
-    fn socket_with(&self, sid: Sid) -> Option<Socket>
+    pub(crate) fn socket_with(&self, sid: Sid) -> Option<Socket>
         ensures { result ≡ socket_with sid_of self.now.base self.now.journal sid }
     {
         match self.seats.get(sid) {
@@ -91,14 +92,17 @@ impl State {
     /// Ends a socket: it leaves its client and all its rooms, and nothing is saved. Refused as
     /// `UnknownSocket`, `Spent`, then for `Memory`. It takes the logarithm of the clients and
     /// sockets, and each of the socket's rooms takes the logarithm of the sockets and of the rooms.
-    pub fn end(&mut self, _alloc: Global, sid: Sid, now: u64) -> Result<(), HubError>
+    pub fn end(&mut self, alloc: Global, sid: Sid, now: u64) -> Result<(), HubError>
         ensures { Does self.old self.new now (What.Ended sid) result }
     {
         let socket = self.ending(sid)?;
-        self.records.write(now, What::Ended(sid), NONE)?;
+        let ended = self.departed_by(alloc, &What::Ended(sid))?;
+        self.records.steps.reserve()?;
+        note(&mut self.departed, ended)?;
         drop_from(&mut self.clients, socket.client, usize::from(socket.space));
         forget(&mut self.seats, &mut self.pids, &mut self.rooms, socket);
         self.rooms.kept_facts();
+        self.records.add(now, What::Ended(sid), NONE);
         Ok(())
     }
 }

@@ -14,6 +14,7 @@ ghost use Rattle.journal.specs.declared.step.What.{What};
 ghost use Rattle.hub_state.specs.Changes.{refusal_now};
 
 use crate::state::close::forget_client;
+use crate::state::depart::{note, rooms_in};
 use crate::state::recover::take_session;
 use crate::state::{Added, NONE, State};
 use hub_parts::{Client, Sockets, Steps};
@@ -28,9 +29,7 @@ fn lost_session(rooms: &Rooms, alloc: Global, socket: Socket, at: u64) -> Result
     ensures session { IfOk result (λ session. session ≡ lost_in rooms.now at socket) }
     ensures memory { IfErr result (λ e. e ≡ HubError.Memory) }
 {
-    let Ok(inside) = rooms.rooms_of(alloc, socket.sid) else {
-        return Err(HubError::Memory);
-    };
+    let inside = rooms_in(rooms, alloc, socket.sid)?;
     Ok(Saved {
         sid: socket.sid,
         pid: socket.pid,
@@ -162,7 +161,10 @@ impl State {
             return Err(refusal);
         }
         let at = now.max(self.records.last);
-        save_client(
+        let ended = self.departed_by(alloc, &What::Parked(client))?;
+        let before = self.departed.len();
+        note(&mut self.departed, ended)?;
+        if let Err(refusal) = save_client(
             &mut self.records.steps,
             &mut self.saved,
             &self.clients,
@@ -170,7 +172,10 @@ impl State {
             alloc,
             client,
             at,
-        )?;
+        ) {
+            self.departed.truncate(before);
+            return Err(refusal);
+        }
         let discards = forget_client(
             &mut self.clients,
             &mut self.seats,

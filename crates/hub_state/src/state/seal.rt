@@ -140,6 +140,7 @@ impl State {
         let present = self.present(alloc)?;
         let base = replace(&mut self.base, present);
         let steps = self.records.steps.take(alloc);
+        self.departed.clear();
         Ok(Epoch { base, steps })
     }
 }

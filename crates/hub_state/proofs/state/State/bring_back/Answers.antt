@@ -1,4 +1,4 @@
-use Rattle.std.proofs.Common.{rules, ◌≡◌, ◌||◌, ◌==◌, ◌∙◌, sym, ap, map, length, ℕ, Some, if◌then◌else◌}
+use Rattle.std.proofs.Common.{rules, ◌≡◌, ◌||◌, ◌==◌, ◌∙◌, sym, ap, map, length, ℕ, Some, if◌then◌else◌, refl}
 use Rattle.std.specs.Ordering.{nat_cmp}
 use Rattle.std.specs.BTreeMap.{get}
 use Rattle.std.specs.BTreeSet as sorted
@@ -8,6 +8,7 @@ use Rattle.room_maps.specs.Membership as room_maps
 use Rattle.journal.proofs.SocketsLemmas.{same-fields}
 use Rattle.journal.proofs.RecoverStepLemmas.{places-fit, bytes-fit}
 use Rattle.hub_state.proofs.ReturnLemmas.{comes-back, came-back}
+use Rattle.hub_state.proofs.DepartLemmas.{none-departs, plus}
 use Rattle.hub_state.proofs.state.State.bring_back.Goals as goal
 
 pub seat-requires-clause-alone : goal.seat-requires-clause-alone
@@ -24,7 +25,7 @@ seat-requires-clause-new c =
 pub invariant_of-self-in_err-seat : goal.invariant_of-self-in_err-seat
 invariant_of-self-in_err-seat c =
     let same = c.in_err-seat.ensures.unchanged in
-    rw c.reserve.ensures.same (same-fields _ _ _ _ _ _ _ _ _ _ _ _ _ _ c.self.invariant.0 same.0 same.1 same.2 same.3, c.self.invariant.1, c.self.invariant.2, c.self.invariant.3)
+    rw c.reserve.ensures.same (same-fields _ _ _ _ _ _ _ _ _ _ _ _ _ _ c.self.invariant.0 same.0 same.1 same.2 same.3, c.self.invariant.1, c.self.invariant.2, c.self.invariant.3, c.self.invariant.4)
 
 pub put_all-requires-clause-places : goal.put_all-requires-clause-places
 put_all-requires-clause-places c =
@@ -57,6 +58,7 @@ invariant_of-self-2 c =
     let pids : (p : ℕ) → sorted.contains nat_cmp c.seat.new.pids p ≡ ((r.socket.pid == p) || sorted.contains nat_cmp hub.pids p) = rw (← c.recovery.view_is) ids.2 in
     let rooms : c.seat.new.rooms ≡ room_maps.with_socket_in hub.rooms r.socket.sid r.rooms = rw (← c.recovery.view_is) entered.0 in
     rw (c.add.ensures.steps, c.add.ensures.last, c.reserve.ensures.same, c.add.ensures.counts)
-    (came-back hub r c.recovery.inside.socket es c.args.now c.len-number.result (get nat_cmp c.seat.new.clients) (get nat_cmp c.put_all.new.clients) (get nat_cmp c.seat.new.seats)
+    (plus (came-back hub r c.recovery.inside.socket es c.args.now c.len-number.result (get nat_cmp c.seat.new.clients) (get nat_cmp c.put_all.new.clients) (get nat_cmp c.seat.new.seats)
     (sorted.contains nat_cmp c.seat.new.pids) c.seat.new.rooms c.take_session.new.saved c.self.invariant b (number ∙ sym (length-map c.args.puts.items arc_value))
     ids.0 c.put_all.ensures seats pids rooms entered.1 c.take_session.ensures)
+    (none-departs _ _ _ _ c.self.invariant.4 refl))

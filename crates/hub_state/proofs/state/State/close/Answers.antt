@@ -2,13 +2,15 @@ use Rattle.std.proofs.Common.{rules}
 use Rattle.std.specs.Ordering.{nat_cmp}
 use Rattle.std.specs.BTreeMap.{get}
 use Rattle.journal.proofs.CloseLemmas.{closed, can_close, can_forget}
+use Rattle.hub_state.proofs.DepartLemmas.{hub-of, plus, some-depart}
 use Rattle.hub_state.proofs.state.State.close.Goals as goal
 
 pub invariant_of-self-2 : goal.invariant_of-self-2
 invariant_of-self-2 c =
     rw (c.add.ensures.steps, c.add.ensures.last, c.reserve.ensures.same, c.add.ensures.counts)
-    (closed _ _ c.args.client c.forget_client-discards.result c.args.now _ _ _ _ _ _ _ _ _ _ _ _ _ c.self.invariant (search rules) c.forget_client-discards.ensures.discards c.forget_client-discards.ensures.clients
+    (plus (closed _ _ c.args.client c.forget_client-discards.result c.args.now _ _ _ _ _ _ _ _ _ _ _ _ _ (hub-of c.self.inside c.self.invariant) (search rules) c.forget_client-discards.ensures.discards c.forget_client-discards.ensures.clients
     c.forget_client-discards.ensures.seats c.forget_client-discards.ensures.pids c.forget_client-discards.ensures.rooms c.kept_facts.ensures)
+    (some-depart _ _ _ _ _ _ c.self.invariant.4 (rw (← c.self.view_is) at c.in_ok-ended.ensures.ok) c.in_ok-note.ensures.ok))
 
 pub add-requires-clause-counted : goal.add-requires-clause-counted
 add-requires-clause-counted c =
@@ -16,4 +18,4 @@ add-requires-clause-counted c =
     c.args.client c.forget_client-discards.result (search rules) c.forget_client-discards.ensures.discards
 
 pub forget_client-discards-requires : goal.forget_client-discards-requires
-forget_client-discards-requires c = can_forget _ _ c.args.client _ (get nat_cmp c.self.inside.clients) _ _ _ _ _ _ _ c.self.invariant (search rules)
+forget_client-discards-requires c = can_forget _ _ c.args.client _ (get nat_cmp c.self.inside.clients) _ _ _ _ _ _ _ (hub-of c.self.inside c.self.invariant) (search rules)

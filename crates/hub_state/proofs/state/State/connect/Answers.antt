@@ -1,4 +1,4 @@
-use Rattle.std.proofs.Common.{◌∙◌, ap}
+use Rattle.std.proofs.Common.{◌∙◌, ap, refl}
 use Rattle.std.specs.Prelude.{is_some}
 use Rattle.std.specs.Ordering.{nat_cmp}
 use Rattle.std.specs.BTreeMap.{get}
@@ -11,6 +11,7 @@ use Rattle.journal.specs.Totals.{is_spent}
 use Rattle.journal.specs.declared.step.What.TheVariants.{Attached}
 use Rattle.journal.proofs.CountsLemmas.{unrefused}
 use Rattle.journal.proofs.SocketsLemmas.{attached, can_attach, seated, may-attach, free-there, same-fields}
+use Rattle.hub_state.proofs.DepartLemmas.{hub-of, none-departs, plus}
 use Rattle.hub_state.proofs.state.State.connect.Goals as goal
 
 pub add-requires-clause-counted : goal.add-requires-clause-counted
@@ -35,7 +36,7 @@ seat-requires-clause-new c =
 pub invariant_of-self-in_err-seat : goal.invariant_of-self-in_err-seat
 invariant_of-self-in_err-seat c =
     let same = c.in_err-seat.ensures.unchanged in
-    rw c.reserve.ensures.same (same-fields _ _ _ _ _ _ _ _ _ _ _ _ _ _ c.self.invariant.0 same.0 same.1 same.2 same.3, c.self.invariant.1, c.self.invariant.2, c.self.invariant.3)
+    rw c.reserve.ensures.same (same-fields _ _ _ _ _ _ _ _ _ _ _ _ _ _ c.self.invariant.0 same.0 same.1 same.2 same.3, c.self.invariant.1, c.self.invariant.2, c.self.invariant.3, c.self.invariant.4)
 
 pub invariant_of-self-2 : goal.invariant_of-self-2
 invariant_of-self-2 c =
@@ -44,7 +45,9 @@ invariant_of-self-2 c =
     let rooms = c.in_ok-seat.ensures.rooms in
     let puts = seated (get nat_cmp c.self.inside.clients) (get nat_cmp c.seat.new.clients) (get nat_cmp c.put_entry.new.clients) c.args.socket.client c.args.socket (answer c.self.inside.limits c.args.socket)
     ids.0 (rw told at c.put_entry.ensures) in
+    let hub = hub-of c.self.inside c.self.invariant in
     rw (c.add.ensures.steps, c.add.ensures.last, c.reserve.ensures.same, c.add.ensures.counts)
-    (attached c.self.inside.base c.self.inside.limits c.args.socket c.args.now c.self.inside.records.last (get nat_cmp c.self.inside.clients) (get nat_cmp c.put_entry.new.clients) (get nat_cmp c.self.inside.seats) (get nat_cmp c.seat.new.seats)
+    (plus (attached c.self.inside.base c.self.inside.limits c.args.socket c.args.now c.self.inside.records.last (get nat_cmp c.self.inside.clients) (get nat_cmp c.put_entry.new.clients) (get nat_cmp c.self.inside.seats) (get nat_cmp c.seat.new.seats)
     (sorted.contains nat_cmp c.self.inside.pids) (sorted.contains nat_cmp c.seat.new.pids) c.self.inside.rooms c.seat.new.rooms c.self.inside.saved c.self.inside.log c.self.inside.records.counts c.self.inside.records.steps.steps
-    c.self.invariant (rw (← c.self.view_is) at c.requires.accepted) puts ids.1 ids.2 (rooms.0 ∙ with_pairs-none (with_socket c.self.inside.rooms c.args.socket.sid) c.args.socket.sid) rooms.1)
+    hub (rw (← c.self.view_is) at c.requires.accepted) puts ids.1 ids.2 (rooms.0 ∙ with_pairs-none (with_socket c.self.inside.rooms c.args.socket.sid) c.args.socket.sid) rooms.1)
+    (none-departs _ _ _ _ c.self.invariant.4 refl))

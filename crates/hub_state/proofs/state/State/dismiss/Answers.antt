@@ -9,6 +9,7 @@ use Rattle.journal.specs.Plain.{PlainMessage}
 use Rattle.journal.specs.Fields.{client_at, without_place}
 use Rattle.journal.specs.Casting.{is_full_in}
 use Rattle.journal.proofs.DismissalLemmas.{receivers-once, have-places, goers-known, dismissed, can_dismiss}
+use Rattle.hub_state.proofs.DepartLemmas.{hub-of, plus, some-depart}
 use Rattle.hub_state.proofs.state.State.dismiss.Goals as goal
 
 pub put_messages-requires-clause-apart : goal.put_messages-requires-clause-apart
@@ -32,8 +33,8 @@ forget_each-requires-clause-known c =
     rw c.deref-2.ensures.value
     (goers-known c.self.inside.base c.self.inside.limits c.self.inside.records.steps.steps c.self.invariant.2 c.args.dismissal c.args.sockets.items c.args.messages.items makes c.self.inside.rooms c.self.invariant.0.rooms_are)
 
-pub write-requires : goal.write-requires
-write-requires c =
+pub add-requires-clause-counted : goal.add-requires-clause-counted
+add-requires-clause-counted c =
     let makes = rw (← c.self.view_is) at c.requires.makes in
     let room = rw (← c.self.view_is) at c.requires.unspent in
     let told : length c.dismissal.inside.told.items ≡ c.len.result = search rules in
@@ -52,8 +53,9 @@ invariant_of-self-2 c =
     ≡ (if list_any (λ (k : Socket). k.client == q) c.args.sockets.items then option_map (without_place c.args.dismissal.space) (get nat_cmp c.put_messages.new.clients q) else get nat_cmp c.put_messages.new.clients q)
     = rw (← place, ← c.deref.ensures.value) c.drop_all.ensures in
     let gone = rw c.deref-2.ensures.value at c.forget_each.ensures in
-    rw (c.in_ok-write.ensures.steps, c.in_ok-write.ensures.last, c.in_ok-write.ensures.counts, ← number)
-    (dismissed c.self.inside.base c.self.inside.limits c.self.inside.records.steps.steps c.self.invariant.2 c.args.dismissal c.args.sockets.items c.args.messages.items makes c.args.now c.self.inside.records.last
+    rw (c.add.ensures.steps, c.add.ensures.last, c.reserve.ensures.same, c.add.ensures.counts, ← number)
+    (plus (dismissed c.self.inside.base c.self.inside.limits c.self.inside.records.steps.steps c.self.invariant.2 c.args.dismissal c.args.sockets.items c.args.messages.items makes c.args.now c.self.inside.records.last
     (get nat_cmp c.self.inside.clients) (get nat_cmp c.put_messages.new.clients) (get nat_cmp c.drop_all.new.clients) (get nat_cmp c.self.inside.seats) (get nat_cmp c.forget_each.new.seats)
     (sorted.contains nat_cmp c.self.inside.pids) (sorted.contains nat_cmp c.forget_each.new.pids) c.self.inside.rooms c.forget_each.new.rooms c.self.inside.saved c.self.inside.log c.self.inside.records.counts
-    c.self.invariant known room c.put_messages.ensures drops gone.seats gone.pids gone.rooms c.kept_facts.ensures)
+    (hub-of c.self.inside c.self.invariant) known room c.put_messages.ensures drops gone.seats gone.pids gone.rooms c.kept_facts.ensures)
+    (some-depart _ _ _ _ _ _ c.self.invariant.4 (rw (← c.self.view_is) at c.in_ok-ended.ensures.ok) c.in_ok-note.ensures.ok))

@@ -1,10 +1,11 @@
-use Rattle.std.proofs.Common.{◌≡◌, not}
+use Rattle.std.proofs.Common.{◌≡◌, not, refl}
 use Rattle.std.specs.Ordering.{nat_cmp}
 use Rattle.std.specs.BTreeMap.{get}
 use Rattle.room_maps.specs.Membership.{is_in, with_members}
 use Rattle.journal.specs.Membership.{rooms}
 use Rattle.journal.specs.ManySockets.{may_enter}
 use Rattle.journal.proofs.ManySocketsLemmas.{all-joined, can_join_all, all-changed, both-true}
+use Rattle.hub_state.proofs.DepartLemmas.{hub-of, none-departs, plus}
 use Rattle.hub_state.proofs.state.State.join_all.Goals as goal
 
 pub invariant_of-self-2 : goal.invariant_of-self-2
@@ -13,8 +14,10 @@ invariant_of-self-2 c =
     let right = rw (← c.self.view_is) at c.requires.right in
     let made = rw c.deref.ensures.value at c.in-Ok.ensures.joined in
     let change : c.join_all.new.self ≡ with_members c.self.inside.rooms c.args.change.changed c.args.change.room = rw (← c.change.view_is) made in
+    let hub = hub-of c.self.inside c.self.invariant in
     rw (c.add.ensures.steps, c.add.ensures.last, c.reserve.ensures.same, c.add.ensures.counts)
-    (all-joined _ _ c.args.change c.args.now _ _ _ _ _ _ _ _ _ _ c.self.invariant accepted right change c.kept_facts.ensures)
+    (plus (all-joined _ _ c.args.change c.args.now _ _ _ _ _ _ _ _ _ _ hub accepted right change c.kept_facts.ensures)
+    (none-departs _ _ _ _ c.self.invariant.4 refl))
 
 pub add-requires-clause-counted : goal.add-requires-clause-counted
 add-requires-clause-counted c = can_join_all _ _ _ _ c.self.invariant.3 c.self.invariant.2 c.args.change (rw (← c.self.view_is) at c.requires.accepted)

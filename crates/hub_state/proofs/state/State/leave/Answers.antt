@@ -1,11 +1,14 @@
-use Rattle.std.proofs.Common.{rules}
+use Rattle.std.proofs.Common.{rules, refl}
 use Rattle.journal.proofs.RoomsLemmas.{left, can_leave, may_leave}
+use Rattle.hub_state.proofs.DepartLemmas.{hub-of, none-departs, plus}
 use Rattle.hub_state.proofs.state.State.leave.Goals as goal
 
 pub invariant_of-self-2 : goal.invariant_of-self-2
 invariant_of-self-2 c =
+    let hub = hub-of c.self.inside c.self.invariant in
     rw (c.in_ok-write.ensures.steps, c.in_ok-write.ensures.last, c.in_ok-write.ensures.counts)
-    (left _ _ c.args.sid c.args.room c.args.now _ _ _ _ _ _ _ _ _ _ c.self.invariant (search rules) c.take_out.ensures.left c.take_out.ensures.agree)
+    (plus (left _ _ c.args.sid c.args.room c.args.now _ _ _ _ _ _ _ _ _ _ hub (search rules) c.take_out.ensures.left c.take_out.ensures.agree)
+    (none-departs _ _ _ _ c.self.invariant.4 refl))
 
 pub write-requires : goal.write-requires
 write-requires c = can_leave _ _ _ _ c.self.invariant.3 c.self.invariant.2 c.args.sid c.args.room (search rules)

@@ -1,4 +1,4 @@
-use Rattle.std.proofs.Common.{◌≡◌, false, subst, sym, ap, ◌∙◌, length}
+use Rattle.std.proofs.Common.{◌≡◌, false, subst, sym, ap, ◌∙◌, length, refl}
 use Rattle.std.specs.List.{AllByRecursion}
 use Rattle.std.specs.Ordering.{nat_cmp}
 use Rattle.std.specs.BTreeMap.{get}
@@ -6,6 +6,7 @@ use Rattle.std.specs.BTreeSet as sorted
 use Rattle.journal.specs.Plain.{PlainCastDone, PlainMessage}
 use Rattle.journal.specs.Casting.{is_full_in, with_logged}
 use Rattle.journal.proofs.CastStepLemmas.{casted}
+use Rattle.hub_state.proofs.DepartLemmas.{hub-of, none-departs, plus}
 use Rattle.hub_state.proofs.state.State.send.Goals as goal
 
 pub put_messages-requires-clause-places : goal.put_messages-requires-clause-places
@@ -24,8 +25,10 @@ invariant_of-self-2 c =
     let told_of = rw c.deref.ensures.value at (c.done.view_is ∙ c.in_ok-done.ensures.ok) in
     let placed : c.done.inside.placed ≡ length c.args.messages.items = ap (λ (d : PlainCastDone). d.placed) told_of in
     let dropped : c.done.inside.dropped ≡ length c.args.broadcast.dropped = ap (λ (d : PlainCastDone). d.dropped) told_of in
+    let hub = hub-of c.self.inside c.self.invariant in
     rw (c.in_ok-write.ensures.steps, c.in_ok-write.ensures.last, c.in_ok-write.ensures.counts, placed, dropped)
-    (casted c.self.inside.base c.self.inside.limits c.self.inside.records.steps.steps c.args.broadcast c.self.invariant.1 c.self.invariant.2 event.0 event.1 event.2 given
+    (plus (casted c.self.inside.base c.self.inside.limits c.self.inside.records.steps.steps c.args.broadcast c.self.invariant.1 c.self.invariant.2 event.0 event.1 event.2 given
     c.args.messages.items told c.args.now c.self.inside.records.last (get nat_cmp c.self.inside.clients) (get nat_cmp c.put_messages.new.clients) (get nat_cmp c.self.inside.seats)
     (sorted.contains nat_cmp c.self.inside.pids) c.self.inside.rooms c.self.inside.saved c.self.inside.log c.push_logged.new.log c.self.inside.records.counts
-    c.self.invariant room logged c.put_messages.ensures)
+    hub room logged c.put_messages.ensures)
+    (none-departs _ _ _ _ c.self.invariant.4 refl))

@@ -1,11 +1,14 @@
-use Rattle.std.proofs.Common.{rules, sym}
+use Rattle.std.proofs.Common.{rules, sym, refl}
 use Rattle.journal.proofs.SweepLemmas.{swept-hub, can_sweep, dropped-log, dropped-saved}
+use Rattle.hub_state.proofs.DepartLemmas.{hub-of, none-departs, plus}
 use Rattle.hub_state.proofs.state.State.sweep.Goals as goal
 
 pub invariant_of-self-2 : goal.invariant_of-self-2
 invariant_of-self-2 c =
+    let hub = hub-of c.self.inside c.self.invariant in
     rw (c.in_ok-write.ensures.steps, c.in_ok-write.ensures.last, c.in_ok-write.ensures.counts)
-    (swept-hub _ _ c.args.now _ c.max-at.result _ _ _ _ _ _ _ _ _ _ c.self.invariant (search rules) (search rules) c.drop_outdated-swept.ensures.saved c.drop_outdated-swept.ensures.log)
+    (plus (swept-hub _ _ c.args.now _ c.max-at.result _ _ _ _ _ _ _ _ _ _ hub (search rules) (search rules) c.drop_outdated-swept.ensures.saved c.drop_outdated-swept.ensures.log)
+    (none-departs _ _ _ _ c.self.invariant.4 refl))
 
 pub write-requires : goal.write-requires
 write-requires c = can_sweep _ _ _ _ c.self.invariant.3 c.self.invariant.2 (search rules)

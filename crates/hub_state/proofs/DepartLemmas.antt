@@ -1,0 +1,51 @@
+-- What a step adds to the sockets that ended.
+use Rattle.std.proofs.Common.{◌≡◌, ℕ, Bool, true, false, List, [], ◌++◌, ◌∷◌, refl, sym, ap, ◌∙◌, append-nil, Option, None, Some, if◌then◌else◌}
+use Rattle.std.specs.List.{AllByRecursion}
+use Rattle.std.specs.Ordering.{nat_cmp}
+use Rattle.std.specs.BTreeMap.{get}
+use Rattle.std.specs.BTreeSet as sorted
+use Rattle.journal.specs.declared.step.Step.{Step}
+use Rattle.journal.specs.declared.socket.Socket.{Socket}
+use Rattle.journal.specs.Plain.{PlainBase, PlainClient, Limits}
+use Rattle.journal.specs.Fields.{client_at, held_sockets}
+use Rattle.journal.specs.Outboxes.{waiting}
+use Rattle.journal.specs.Membership.{is_open, sockets, sockets_of}
+use Rattle.journal.proofs.HubLemmas.{sockets_of-none}
+use Rattle.journal.proofs.CommandLemmas.{IsHub}
+use Rattle.hub_state.specs.declared.state.State.TheInside.{Inside}
+use Rattle.hub_state.specs.Departing.{PlainDeparted, departed_by, departed}
+use Rattle.hub_state.specs.Inside.{Describes}
+
+-- what the state says beside it
+pub hub-of : (h : Inside) → Describes h
+    → IsHub h.base h.limits (get nat_cmp h.clients) (get nat_cmp h.seats) (sorted.contains nat_cmp h.pids) h.rooms h.saved h.log h.records.last h.records.counts (h.records.steps.steps)
+hub-of h holds = (holds.0, holds.1, holds.2, holds.3)
+
+-- and this too
+pub plus : {A B C D E : Type 0} → A × B × C × D → E → A × B × C × D × E
+plus hub more = (hub.0, hub.1, hub.2, hub.3, more)
+
+-- a step that ends none
+pub none-departs : (base : PlainBase) (before : List Step) (step : Step) (list : List PlainDeparted) → list ≡ departed base before → departed_by base before step.what ≡ [] → list ≡ departed base (step ∷ before)
+unfolding departed
+none-departs base before step list is none = is ∙ sym (ap (λ xs. departed base before ++ xs) none ∙ append-nil (departed base before))
+
+-- and one that ends these
+pub some-depart : (base : PlainBase) (before : List Step) (step : Step) (list ended new : List PlainDeparted) → list ≡ departed base before → ended ≡ departed_by base before step.what → new ≡ list ++ ended → new ≡ departed base (step ∷ before)
+unfolding departed
+some-depart base before step list ended new is which more = more ∙ ap (λ xs. xs ++ ended) is ∙ ap (λ xs. departed base before ++ xs) which
+
+-- nobody has since the base
+pub nobody-departed : (base : PlainBase) (list : List PlainDeparted) → list ≡ [] → list ≡ departed base []
+unfolding departed
+nobody-departed base list none = none
+
+-- what is held of a client's sockets is all of them: one that isn't open has none
+pub held-all : (base : PlainBase) (limits : Limits) (find : ℕ → Option PlainClient) (journal : List Step) (c : ℕ) → ((q : ℕ) → find q ≡ client_at base limits journal q)
+    → AllByRecursion (λ (k : Socket). is_open base journal k.client ≡ true) (sockets base journal) → held_sockets (find c) ≡ sockets_of base journal c
+held-all base limits find journal c are known = ap held_sockets (are c) ∙ on (is_open base journal c) refl
+  where
+    on : (b : Bool) → is_open base journal c ≡ b
+        → held_sockets (if b then Some (record { sockets = sockets_of base journal c; outbox = record { waiting = waiting base limits journal c; capacity = limits.capacity; bytes = limits.bytes } }) else None) ≡ sockets_of base journal c
+    on true e = refl
+    on false e = sym (sockets_of-none base limits c journal e known)

@@ -1,0 +1,24 @@
+use Rattle.std.proofs.Common.{◌∙◌, ap, sym, map}
+use Rattle.std.specs.Prelude.{option_copied}
+use Rattle.std.specs.Ordering.{nat_cmp}
+use Rattle.std.specs.BTreeMap.{get}
+use Rattle.journal.specs.Membership.{rooms}
+use Rattle.journal.specs.Fields.{held_sockets}
+use Rattle.hub_state.specs.Departing.{departing}
+use Rattle.hub_state.proofs.DepartLemmas.{held-all}
+use Rattle.hub_state.proofs.state.State.its_departed.Goals as goal
+
+pub returns-in_default-clause-ok : goal.returns-in_default-clause-ok
+returns-in_default-clause-ok c =
+    let hub = c.self.inside in
+    let held = held-all hub.base hub.limits (get nat_cmp hub.clients) hub.records.steps.steps c.args.client c.self.invariant.0.clients c.self.invariant.2.of_open_clients in
+    let none = sym c.get.ensures.value ∙ ap option_copied c.in_default.is in
+    rw (← c.self.view_is) (c.new.ensures.items ∙ ap (map (departing c.args.ending (rooms hub.base hub.records.steps.steps))) (ap held_sockets (sym none) ∙ held))
+
+pub returns-clause-ok : goal.returns-clause-ok
+returns-clause-ok c =
+    let hub = c.self.inside in
+    let held = held-all hub.base hub.limits (get nat_cmp hub.clients) hub.records.steps.steps c.args.client c.self.invariant.0.clients c.self.invariant.2.of_open_clients in
+    let some = sym c.get.ensures.value ∙ ap option_copied c.in-Some.is in
+    let all = c.deref.ensures.value ∙ c.in_ok-sockets.ensures.ok ∙ ap (λ k. k.sockets) c.known.view_is ∙ ap held_sockets (sym some) ∙ held in
+    rw (← c.self.view_is) (rw (all, c.self.invariant.0.rooms_are) at c.departing.ensures.ok)
