@@ -51,8 +51,10 @@ const told = {
     wasLost = true;
     tell("connection lost, trying again");
   },
-  event([name, room, message]) {
-    if (name !== "say" || room !== joined || typeof message !== "object" || message === null) return;
+  event([name, subject, message]) {
+    // A server with `--tell-left` says who has left.
+    if (name === "left") show("", subject + " has left", "note");
+    if (name !== "say" || subject !== joined || typeof message !== "object" || message === null) return;
     const by = String(message.name);
     show(by, String(message.text ?? ""), returning ? "missed" : "", message.picture);
   },

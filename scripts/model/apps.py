@@ -1,4 +1,4 @@
-"""What apps want of a CONNECT and of an event."""
+"""What apps want of a CONNECT, of an event, and where a socket has ended."""
 from wire import id_text, is_text
 
 
@@ -13,6 +13,9 @@ class Relay:
         texts = [it if is_text(it) else None for it in header.tree]
         effects = self.first(texts[0], room_in(texts, 1), room_in(texts, 2), id_text(sid))
         return effects + [("reply",)] * (header.id is not None) + [("bye",)] * (texts[0] == "bye")
+
+    def left(self, sid, rooms, ending):
+        return []
 
     @staticmethod
     def first(name, room, second, own):
@@ -39,13 +42,19 @@ def room_in(texts, place):
 
 
 class Wild(Relay):
-    """The demonstration app, but for some events and some CONNECTs, of which it wants what can't be done."""
+    """The demonstration app, but for some events and some CONNECTs, of which it wants what can't be done, and some rooms."""
 
     def connects(self, payload):
         return self.wild(payload, id_text(7)) or super().connects(payload)
 
     def decides(self, sid, header):
         return self.wild(header.payload, id_text(sid)) or super().decides(sid, header)
+
+    def left(self, sid, rooms, ending):
+        """A room's name says what is wanted where a socket of it has ended."""
+        others = [room for room in rooms if room != id_text(sid)]
+        told = [("emit", others, [id_text(sid)], True, f'["left","{id_text(sid)}","{ending.lower()}"]')]
+        return [("bye",)] if "oops" in rooms else told if "wake" in rooms else []
 
     @staticmethod
     def wild(wish, own):

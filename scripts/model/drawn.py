@@ -116,7 +116,8 @@ class Drawer:
 
     def room(self):
         sids = list(self.script.server.hub.sockets) or [1]
-        return self.random.choice(("r", "r", "q", "ä", "", id_text(self.random.choice(sids))))
+        own = id_text(self.random.choice(sids))
+        return self.random.choice(("r", "r", "r", "r", "q", "q", "wake", "wake", "wake", "oops", "ä", "", own, own))
 
     def say(self, name):
         line = self.line(self.script.names.get(name))

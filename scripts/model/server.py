@@ -1,4 +1,6 @@
 """A server: each client's connection and its packets, and the demonstration app behind it."""
+import contextlib
+
 from hub import Entry, Hub, Refused
 from wire import (SEPARATOR, Fault, Header, event_text, named_session, open_text, read_packet, read_payload, start,
                   write_base64)
@@ -90,8 +92,25 @@ class Done:
         self.is_unread, self.skipped, self.is_ignored, self.closed = False, None, False, None
 
 
+def then_heard(event):
+    """An event that may end sockets: the app hears of these then, also where the event is refused, which stays the answer."""
+
+    def heard(self, client, *words):
+        before = len(self.hub.departed)
+        try:
+            answer = event(self, client, *words)
+        except Refused:
+            with contextlib.suppress(Refused):
+                self.hear_of(self.hub.departed[before:], words[-1])
+            raise
+        self.hear_of(self.hub.departed[before:], words[-1])
+        return answer
+
+    return heard
+
+
 class Server:
-    """Ids count from 1. An app says what it wants of a CONNECT and of an event."""
+    """Ids count from 1. An app says what it wants of a CONNECT, of an event, and where a socket has ended."""
 
     def __init__(self, app, **limits):
         self.app, self.hub, self.lines, self.id = app, Hub(**limits), {}, 0
@@ -123,6 +142,13 @@ class Server:
         del self.lines[client]
         return is_saved
 
+    def hear_of(self, ended, now):
+        for sid, socket, rooms, ending in ended:
+            for name, *words in self.app.left(sid, sorted(rooms), ending):
+                if name != "emit":
+                    raise Refused("BadEffect")
+                self.hub.cast(socket.space, *words, [], now)
+
     # The events.
 
     def open(self, is_socket, now):
@@ -131,15 +157,18 @@ class Server:
         self.lines[client] = Line(now, is_socket)
         return client, open_text(client, is_socket)
 
+    @then_heard
     def post(self, client, body, now):
         self.line_of(client, "polling", "probing")
         return self.hear(client, lambda: read_payload(body), now, is_payload=True)
 
+    @then_heard
     def frame(self, client, text, now):
         self.line_of(client, "socket")
         packets = lambda: [read_packet(text)]
         return self.hear(client, too_long if len(text.encode()) > LONGEST_FRAME else packets, now)
 
+    @then_heard
     def bytes(self, client, part, now):
         self.line_of(client, "socket")
         return self.hear(client, too_long if len(part) > LONGEST_FRAME else lambda: [("b", part)], now)
@@ -162,6 +191,7 @@ class Server:
                 break
         return done
 
+    @then_heard
     def get(self, client, now):
         """Says whether the GET waits: a second one closes the client."""
         line = self.line_of(client, "polling", "probing")
@@ -205,10 +235,12 @@ class Server:
     def unprobe(self, client):
         self.line_of(client).change(UNPROBE)
 
+    @then_heard
     def lose(self, client, now):
         self.line_of(client)
         return self.park(client, now)
 
+    @then_heard
     def tick(self, client, now):
         line = self.line_of(client)
         for book in line.questions.values():

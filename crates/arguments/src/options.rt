@@ -19,6 +19,8 @@ pub struct Options {
     pub token_file: Option<String>,
     /// The token that clients need, if they need one. It stands in no output.
     pub token: Option<Text>,
+    /// Whether the rooms of a socket that has ended are told so.
+    pub tell_left: bool,
     /// Whether the server ends once standard input does.
     pub until_eof: bool,
     /// Whether the end of each client is told.
@@ -50,7 +52,7 @@ enum Takes {
 const MANY: u64 = 4_294_967_295;
 
 /// The options, in the order in which help tells them.
-static OPTIONS: [Entry; 24] = [
+static OPTIONS: [Entry; 25] = [
     Entry {
         name: "port",
         takes: Takes::Needed(1, 65_535),
@@ -162,6 +164,11 @@ static OPTIONS: [Entry; 24] = [
         help: "A path at which a GET is answered by the counts, for Prometheus",
     },
     Entry {
+        name: "tell-left",
+        takes: Takes::Nothing,
+        help: "Tells the rooms of a socket that has ended that it left",
+    },
+    Entry {
         name: "until-eof",
         takes: Takes::Nothing,
         help: "Ends once standard input does",
@@ -218,6 +225,7 @@ pub(crate) fn read_options(
         folder: text(alloc, matches, "page")?,
         token_file: text(alloc, matches, "token-file")?,
         token: None,
+        tell_left: matches.get_flag("tell-left"),
         until_eof: matches.get_flag("until-eof"),
         verbose: matches.get_flag("verbose"),
     };

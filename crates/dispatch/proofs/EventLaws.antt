@@ -1,4 +1,4 @@
--- What an event leaves: steps of an event of its client, which put something for the listed clients alone, a line for each open
+-- What the row of an event leaves: steps of an event of its client, which put something for the listed clients alone, a line for each open
 -- client, and each client handed what its takes say.
 use Rattle.std.proofs.Common.{◌≡◌, ℕ, ◌==◌, Bool, true, false, List, [], ◌∷◌, refl, sym, ◌∙◌, ap, subst, is_some, is_none, Option, None, Some, Ok, Err, IfOk, inl, inr}
 use Rattle.eio_wire.specs.declared.handshake.Numbers.{Numbers}
@@ -35,7 +35,7 @@ use Rattle.dispatch.specs.Answers.{Refused, KeepsWhileOpen, AdvancesLine, Closes
 use Rattle.dispatch.specs.Frames.{is_too_long}
 use Rattle.dispatch.specs.Handed.{Turn, Handed}
 use Rattle.dispatch.specs.Handed as handed
-use Rattle.dispatch.specs.Machine.{IsOf, listed, Opens, Begins, Ends, Takes, TakesFrames, Loses, opening, WorksOn, Posts, PostsFor, HearsFrame, Hears, HearsFor, Does}
+use Rattle.dispatch.specs.Machine.{IsOf, listed, Opens, Begins, Ends, Takes, TakesFrames, Loses, opening, WorksOn, Posts, PostsFor, HearsFrame, Hears, HearsFor, Row}
 use Rattle.dispatch.specs.Packets.{Stage, stage}
 use Rattle.dispatch.specs.Parking.{ParksOrCloses}
 use Rattle.dispatch.specs.Place.{Place, line_of, place, KeepsLines, HasLine, LosesLine, Agree}
@@ -128,8 +128,8 @@ module _ (c now : ℕ) (h g : History) (old new : List (ℕ × PlainLine)) (agre
   ends (Err e) line is none = absurd none
 
   loses : (answer : Answer) → Loses now c s answer t → Turned answer
-  loses (Ok (outcome.Lost true)) (made, lost) = parked _ made lost
-  loses (Ok (outcome.Lost false)) (refusal, made, lost) = closed _ made lost
+  loses (Ok (outcome.Lost true done)) (none, made, lost) = parked _ made lost
+  loses (Ok (outcome.Lost false done)) (none, refusal, made, lost) = closed _ made lost
   loses (Ok _) none = absurd none
   loses (Err e) (none, fails) = works (Err e) (unchanged none.1) (lines-kept none.1 none.2)
 
@@ -321,7 +321,7 @@ module _ (now : ℕ) (h g : History) (old new : List (ℕ × PlainLine)) (agree 
           agree-still c h g old new agree given.2.leads.follows has.1.1 (has-some c now h g old new agree has.0 has.1) (stays ∙ known c now h g old new agree line is)
 
   module _ (decides : Who → Arrived → List Effect → Type 0) (allows : (space payload : List ℕ) → PlainVerdict → Type 0) (timing : Timing) (numbers : Numbers) (left : ℕ → ℕ) where
-    pub applied : (event : Event) → Does decides allows now timing numbers event (place h old) ids answer (place g new) left → Applied event ids answer h g new
+    pub applied : (event : Event) → Row decides allows now timing numbers event (place h old) ids answer (place g new) left → Applied event ids answer h g new
     applied (event.Opened socket) (does, drawn) = opens-applied timing numbers socket does
     applied (event.Post c body) does = of-work _ c (λ d of. of) (λ d. refl) (λ d. refl) (posts-for c now h g old new agree decides allows ids left body answer does)
     applied (event.Frame c frame) does = of-work _ c (λ d of. of) (λ d. refl) (λ d. refl) (hears-for c now h g old new agree decides allows ids left frame answer does)

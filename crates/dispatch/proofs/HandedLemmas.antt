@@ -94,7 +94,7 @@ none-begun : (d c : ℕ) (h : History) (steps : List Step) → AreMade (is_work 
 none-begun d c h [] work = refl
 none-begun d c h (step ∷ steps) work = rw (opens-none d c (history h.base h.limits (steps ++ h.journal)) step.what work.0) (none-begun d c h steps work.1)
 
-work-begins-none : (d : ℕ) (h g : History) → Follows (is_work d) h g → (c : ℕ) → is_begun_in c g.journal ≡ is_begun_in c h.journal
+pub work-begins-none : (d : ℕ) (h g : History) → Follows (is_work d) h g → (c : ℕ) → is_begun_in c g.journal ≡ is_begun_in c h.journal
 work-begins-none d h g follows c = rw follows.journal (none-begun d c h follows.steps follows.own)
 
 -- nothing changed

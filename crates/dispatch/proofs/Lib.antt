@@ -2,6 +2,7 @@ mod ConnectLemmas
 pub mod EventLaws
 mod FrameLemmas
 mod HandedLemmas
+pub mod HearingLaws
 mod PacketLaws
 mod PacketLemmas
 mod RunLemmas

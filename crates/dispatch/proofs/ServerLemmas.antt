@@ -1,13 +1,20 @@
 -- What a core keeps from event to event.
 use Rattle.std.proofs.Common.{◌≡◌, ℕ, ◌+◌, ◌<◌, ◌≤◌, false, List, [], ◌∷◌, ◌++◌, length, take, get_or, map, arith, refl, sym, ◌∙◌, ap, subst, Result, Ok, Err}
-use Rattle.std.specs.List.{AllByRecursion}
+use Rattle.std.specs.Prelude.{◌≢◌, ◌==◌, ◌&&◌, ◌||◌, Bool, true, not, None, nat_lt, slice_index}
+use Rattle.std.specs.List.{All, AllByRecursion, list_any}
 use Rattle.std.proofs.lemmas.List.{take_more, take_all}
+use Rattle.std.proofs.lemmas.List.Elements.{All-nil, All-cons}
+use Rattle.eio_wire.specs.Payload.{IsWhole}
+use Rattle.terms.specs.Refusal.{first_refusal}
 use Rattle.eio_wire.specs.declared.handshake.Numbers.{Numbers}
 use Rattle.session_clock.specs.declared.timing.Timing.{Timing}
 use Rattle.connection.specs.Line.{PlainLine}
 use Rattle.journal.specs.declared.error.HubError.{HubError}
 use Rattle.journal.specs.declared.step.Step.{Step}
-use Rattle.journal.specs.Config.{empty_base}
+use Rattle.journal.specs.Config.{is_namespace, has_repeat, is_bad_config, config_refusal, empty_base}
+use Rattle.journal.specs.declared.error.HubError.TheVariants.{BadConfig}
+use Rattle.journal.specs.declared.ending.Ending.{Ending}
+use Rattle.journal.proofs.SocketsLemmas.{neither, is-not}
 use Rattle.journal.specs.Plain.{Limits, PlainBase, PlainBaseClient}
 use Rattle.journal.specs.Journal.{History}
 use Rattle.journal.specs.Entries.{own_entries, AllPass}
@@ -42,17 +49,55 @@ nobody base none d = rw none refl
 pub agree-fresh : (limits : Limits) (h : History) (lines : List (ℕ × PlainLine)) → h ≡ fresh limits → lines ≡ [] → Agree h lines
 agree-fresh limits h lines is none = rw (is, none) (nobody (empty_base limits.first_offset) refl)
 
-pub clean-fresh : (limits : Limits) (h : History) → h ≡ fresh limits → IsClean h
-clean-fresh limits h is = rw is (record { base_clients = tt; base_log = tt; steps = tt })
+-- no name of a namespace has a control character
+above : (b : ℕ) → (b == 44 || nat_lt b 32) ≡ false → b ≢ 30
+above b none is = absurd (cc (rw is at (neither (b == 44) (nat_lt b 32) none).1))
+
+all-above : (name : List ℕ) → list_any (λ b. b == 44 || nat_lt b 32) name ≡ false → IsWhole name
+all-above [] none = All-nil (λ (b : ℕ). b ≢ 30)
+all-above (b ∷ name) none =
+    let both = neither (b == 44 || nat_lt b 32) (list_any (λ b. b == 44 || nat_lt b 32) name) none in
+    All-cons (λ (b : ℕ). b ≢ 30) b name (above b both.0) (all-above name both.1)
+
+right-of : (a b : Bool) → (a && not b) ≡ true → b ≡ false
+right-of true false e = refl
+right-of true true e = absurd (cc e)
+right-of false b e = absurd (cc e)
+
+whole-names : (names : List (List ℕ)) → list_any (λ name. not (is_namespace name)) names ≡ false → AllByRecursion IsWhole names
+whole-names [] none = tt
+whole-names (name ∷ names) none =
+    let both = neither (not (is_namespace name)) (list_any (λ name. not (is_namespace name)) names) none in
+    (all-above name (right-of (slice_index name 0 == 47) _ (is-not (is_namespace name) both.0)), whole-names names both.1)
+
+not-bad : (b : Bool) → first_refusal ((b, BadConfig) ∷ []) ≡ None → b ≡ false
+not-bad false e = refl
+not-bad true e = absurd (cc e)
+
+last-of-ten : (a b c d e f g h i j : Bool) → (a || b || c || d || e || f || g || h || i || j) ≡ false → j ≡ false
+last-of-ten a b c d e f g h i j none = (neither (a || b || c || d || e || f || g || h || i) j none).1
+
+allowed-names : (limits : Limits) → config_refusal limits ≡ None → AllByRecursion IsWhole limits.spaces
+allowed-names limits allowed =
+    let fine = not-bad (is_bad_config limits) allowed in
+    whole-names limits.spaces
+    (last-of-ten (limits.clients == 0) (limits.capacity == 0) (limits.bytes == 0) (limits.log == 0) (limits.first_offset == 0) (nat_lt 65536 limits.capacity)
+    (length limits.spaces == 0) (nat_lt 65536 (length limits.spaces)) (has_repeat limits.spaces) (list_any (λ name. not (is_namespace name)) limits.spaces) fine)
+
+pub clean-fresh : (limits : Limits) (h : History) → config_refusal limits ≡ None → h ≡ fresh limits → IsClean h
+clean-fresh limits h allowed is = rw is (record { names = allowed-names limits allowed; entries = record { base_clients = tt; base_log = tt; steps = tt } })
 
 -- ---- an event
 
 -- the steps of an event bring in only entries without U+001E
 pub clean-after : (c : ℕ) (h g : History) → IsClean h → Follows (is_turn c) h g → IsClean g
 clean-after c h g clean follows = rw (follows.base, follows.limits, follows.journal) (record {
-  base_clients = clean.base_clients;
-  base_log = clean.base_log;
-  steps = all-append (λ (step : Step). AllPass is_clean (own_entries h.limits step.what)) follows.steps h.journal follows.clean clean.steps;
+  names = clean.names;
+  entries = record {
+    base_clients = clean.entries.base_clients;
+    base_log = clean.entries.base_log;
+    steps = all-append (λ (step : Step). AllPass is_clean (own_entries h.limits step.what)) follows.steps h.journal follows.clean clean.entries.steps;
+  };
 })
 
 -- the totals that the steps of an event leave
@@ -100,12 +145,15 @@ all-made P f each (x ∷ xs) = (each x, all-made P f each xs)
 
 clean-sealed : (h g : History) → IsSealed h g → IsClean h → IsClean g
 clean-sealed h g sealed clean =
-    let holds = what-waits is_clean h.base h.limits h.journal clean in
+    let holds = what-waits is_clean h.base h.limits h.journal clean.entries in
     record {
-      base_clients = subst (AllByRecursion (λ (b : PlainBaseClient). AllPass is_clean b.waiting)) (sym sealed.leads.clients_are)
-          (all-made (λ (b : PlainBaseClient). AllPass is_clean b.waiting) (base_client h.base h.limits h.journal) holds.waits (map client_of g.base.clients));
-      base_log = rw sealed.leads.log_is holds.logged;
-      steps = rw sealed.no_steps tt;
+      names = subst (λ (limits : Limits). AllByRecursion IsWhole limits.spaces) (sym sealed.same_limits) clean.names;
+      entries = record {
+        base_clients = subst (AllByRecursion (λ (b : PlainBaseClient). AllPass is_clean b.waiting)) (sym sealed.leads.clients_are)
+            (all-made (λ (b : PlainBaseClient). AllPass is_clean b.waiting) (base_client h.base h.limits h.journal) holds.waits (map client_of g.base.clients));
+        base_log = rw sealed.leads.log_is holds.logged;
+        steps = rw sealed.no_steps tt;
+      };
     }
 
 agree-sealed : (h g : History) (lines : List (ℕ × PlainLine)) → SaysTheSame h g → Agree h lines → Agree g lines
@@ -137,26 +185,26 @@ core-parts core old new same = ap (λ (n : ℕ). with_hub core (record { history
 
 -- ---- the machine
 
-module _ (decides : Who → Arrived → List Effect → Type 0) (allows : (space payload : List ℕ) → PlainVerdict → Type 0) (timing : Timing) (numbers : Numbers) where
+module _ (decides : Who → Arrived → List Effect → Type 0) (allows : (space payload : List ℕ) → PlainVerdict → Type 0) (leaves : Who → (rooms : List (List ℕ)) → Ending → List Effect → Type 0) (timing : Timing) (numbers : Numbers) where
   -- the row of this event
   pub does-as : (now : ℕ) (event named : Event) (s : Place) (ids : ℕ → ℕ) (answer : Answer) (t : Place) (left : ℕ → ℕ) → event ≡ named
-      → Does decides allows now timing numbers named s ids answer t left → Does decides allows now timing numbers event s ids answer t left
-  does-as now event named s ids answer t left is does = subst (λ (e : Event). Does decides allows now timing numbers e s ids answer t left) (sym is) does
+      → Does decides allows leaves now timing numbers named s ids answer t left → Does decides allows leaves now timing numbers event s ids answer t left
+  does-as now event named s ids answer t left is does = subst (λ (e : Event). Does decides allows leaves now timing numbers e s ids answer t left) (sym is) does
 
-  machine-none : (s : Place) (ids : ℕ → ℕ) → Machine decides allows timing numbers [] [] s ids s ids
+  machine-none : (s : Place) (ids : ℕ → ℕ) → Machine decides allows leaves timing numbers [] [] s ids s ids
   unfolding Machine
   machine-none s ids = (refl, refl)
 
   -- one event more
   machine-push : (turns : List (Event × ℕ)) (answers : List Answer) (turn : Event × ℕ) (answer : Answer) (s m t : Place) (ids mid last : ℕ → ℕ)
-      → Machine decides allows timing numbers turns answers s ids m mid → Does decides allows turn.1 timing numbers turn.0 m mid answer t last
-      → Machine decides allows timing numbers (turns ++ turn ∷ []) (answers ++ answer ∷ []) s ids t last
+      → Machine decides allows leaves timing numbers turns answers s ids m mid → Does decides allows leaves turn.1 timing numbers turn.0 m mid answer t last
+      → Machine decides allows leaves timing numbers (turns ++ turn ∷ []) (answers ++ answer ∷ []) s ids t last
   unfolding Machine
   machine-push [] [] turn answer s m t ids mid last run does = (
     t,
     last,
-    subst (λ (x : Place). Does decides allows turn.1 timing numbers turn.0 x ids answer t last) run.0
-        (subst (λ (x : ℕ → ℕ). Does decides allows turn.1 timing numbers turn.0 m x answer t last) run.1 does),
+    subst (λ (x : Place). Does decides allows leaves turn.1 timing numbers turn.0 x ids answer t last) run.0
+        (subst (λ (x : ℕ → ℕ). Does decides allows leaves turn.1 timing numbers turn.0 m x answer t last) run.1 does),
     (refl, refl),
   )
   machine-push (first ∷ turns) (said ∷ answers) turn answer s m t ids mid last run does =
@@ -165,23 +213,23 @@ module _ (decides : Who → Arrived → List Effect → Type 0) (allows : (space
   machine-push (first ∷ turns) [] turn answer s m t ids mid last run does = absurd run
 
   -- no event was done
-  pub machine-start : (answers : List Answer) (s : Place) (ids : ℕ → ℕ) → answers ≡ [] → Machine decides allows timing numbers [] answers s ids s ids
+  pub machine-start : (answers : List Answer) (s : Place) (ids : ℕ → ℕ) → answers ≡ [] → Machine decides allows leaves timing numbers [] answers s ids s ids
   machine-start answers s ids none = rw none (machine-none s ids)
 
   -- the event at an index is done, with the settings as they were
   pub machine-next : (all : List (Event × ℕ)) (i : ℕ) (turn : Event × ℕ) (answers more : List Answer) (answer : Answer) (told : Timing) (sent : Numbers) (s m t : Place) (ids mid last : ℕ → ℕ)
       → i < length all → turn ≡ get_or all i turn → more ≡ answers ++ answer ∷ [] → told ≡ timing → sent ≡ numbers
-      → Machine decides allows timing numbers (take i all) answers s ids m mid → Does decides allows turn.1 told sent turn.0 m mid answer t last
-      → Machine decides allows timing numbers (take (i + 1) all) more s ids t last
+      → Machine decides allows leaves timing numbers (take i all) answers s ids m mid → Does decides allows leaves turn.1 told sent turn.0 m mid answer t last
+      → Machine decides allows leaves timing numbers (take (i + 1) all) more s ids t last
   machine-next all i turn answers more answer told sent s m t ids mid last within is pushed tolds sents run does =
       let next : take (i + 1) all ≡ take i all ++ turn ∷ [] = take_more all i turn within ∙ ap (λ (x : Event × ℕ). take i all ++ x ∷ []) (sym is) in
-      let done = subst (λ (x : Timing). Does decides allows turn.1 x sent turn.0 m mid answer t last) tolds does in
-      let right = subst (λ (x : Numbers). Does decides allows turn.1 timing x turn.0 m mid answer t last) sents done in
-      subst (λ (turns : List (Event × ℕ)). Machine decides allows timing numbers turns more s ids t last) (sym next)
-      (subst (λ (said : List Answer). Machine decides allows timing numbers (take i all ++ turn ∷ []) said s ids t last) (sym pushed)
+      let done = subst (λ (x : Timing). Does decides allows leaves turn.1 x sent turn.0 m mid answer t last) tolds does in
+      let right = subst (λ (x : Numbers). Does decides allows leaves turn.1 timing x turn.0 m mid answer t last) sents done in
+      subst (λ (turns : List (Event × ℕ)). Machine decides allows leaves timing numbers turns more s ids t last) (sym next)
+      (subst (λ (said : List Answer). Machine decides allows leaves timing numbers (take i all ++ turn ∷ []) said s ids t last) (sym pushed)
       (machine-push (take i all) answers turn answer s m t ids mid last run right))
 
   -- all were done
   pub machine-whole : (all : List (Event × ℕ)) (i : ℕ) (answers : List Answer) (s t : Place) (ids last : ℕ → ℕ) → length all ≤ i
-      → Machine decides allows timing numbers (take i all) answers s ids t last → Machine decides allows timing numbers all answers s ids t last
-  machine-whole all i answers s t ids last past run = subst (λ (turns : List (Event × ℕ)). Machine decides allows timing numbers turns answers s ids t last) (take_all i all past) run
+      → Machine decides allows leaves timing numbers (take i all) answers s ids t last → Machine decides allows leaves timing numbers all answers s ids t last
+  machine-whole all i answers s t ids last past run = subst (λ (turns : List (Event × ℕ)). Machine decides allows leaves timing numbers turns answers s ids t last) (take_all i all past) run

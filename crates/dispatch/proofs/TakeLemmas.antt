@@ -79,7 +79,7 @@ some-pass (suc n) (e ∷ entries) all = (all.0, some-pass n entries all.1)
 pub whole-carried : (ping : Bool) (c most : ℕ) (h : History) → IsClean h → All HasWholeData (carried ping (handed h c most))
 whole-carried ping c most h clean =
     All-append HasWholeData (if ping then Ping [] ∷ [] else []) (flat_map packets_of (handed h c most)) (first ping)
-    (whole-entries (handed h c most) (some-pass most (waiting h.base h.limits h.journal c) ((what-waits is_clean h.base h.limits h.journal clean).waits c)))
+    (whole-entries (handed h c most) (some-pass most (waiting h.base h.limits h.journal c) ((what-waits is_clean h.base h.limits h.journal clean.entries).waits c)))
   where
     first : (ping : Bool) → All HasWholeData (if ping then Ping [] ∷ [] else [])
     first true = All-cons HasWholeData (Ping []) [] (All-nil (λ (b : ℕ). b ≢ 30)) (All-nil HasWholeData)

@@ -2,6 +2,7 @@ pub mod Answers
 pub mod Counting
 pub mod Frames
 pub mod Handed
+pub mod Hearing
 pub mod Machine
 pub mod Packets
 pub mod Parking

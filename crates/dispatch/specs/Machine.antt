@@ -31,7 +31,11 @@ use Rattle.dispatch.specs.Frames.{is_too_long, IsFrameOf, IsNoFrame, SendsFor}
 use Rattle.dispatch.specs.Packets.{Stage, stage, HandlesInTurn, BreaksAfter}
 use Rattle.effects.specs.Effects.{Scene}
 use Rattle.events.specs.Plain.{nothing_done}
+use Rattle.journal.specs.declared.ending.Ending.{Ending}
 use Rattle.journal.specs.Journal.{History}
+use Rattle.effects.specs.Departed.{ended_since}
+use Rattle.events.specs.Event.{client_of}
+use Rattle.dispatch.specs.Hearing.{HearsAfter}
 use Rattle.dispatch.specs.Place.{Place, HasLine, LosesLine}
 use Rattle.dispatch.specs.Takes.{IsOn, Polls, IsGetting, TakesFor}
 use Rattle.dispatch.specs.Upgrade.{Probes, Upgrades, LosesProbe}
@@ -57,6 +61,8 @@ IsOf event.Sweep ids c = Unit {0}
 -- the clients, other than the event's own, that got something: a list for each broadcast
 abbrev pub listed : Outcome → List (List ℕ)
 listed (outcome.Done done) = done.clients
+listed (outcome.Lost saved done) = done.clients
+listed (outcome.Ticked ping done) = done.clients
 listed _ = []
 
 -- ---- a client that is opened (Engine.IO protocol 4, "Handshake")
@@ -100,9 +106,10 @@ TakesFrames now c most line s (Err e) t = (e ≡ at_once e.fault) × HasLine c (
 
 -- the client's sessions are saved, or where they have no place it is closed
 abbrev pub Loses : ℕ → ℕ → Place → Answer → Place → Type 0
-Loses now c s (Ok (outcome.Lost true)) t = Makes s.history now (what.Parked c) t.history × LosesLine c s t
-Loses now c s (Ok (outcome.Lost false)) t =
-    IsRefused s.history now (what.Parked c) hub.SavedFull × Makes s.history now (what.Closed c) t.history × LosesLine c s t
+Loses now c s (Ok (outcome.Lost true done)) t = (done ≡ nothing_done) × Makes s.history now (what.Parked c) t.history × LosesLine c s t
+Loses now c s (Ok (outcome.Lost false done)) t =
+    (done ≡ nothing_done)
+    × IsRefused s.history now (what.Parked c) hub.SavedFull × Makes s.history now (what.Closed c) t.history × LosesLine c s t
 Loses now c s (Ok _) t = ⊥
 Loses now c s (Err e) t = ChangesNone e s t × FailsToPark s.history now c e.fault
 
@@ -163,27 +170,36 @@ module _ (decides : Who → Arrived → List Effect → Type 0) (allows : (space
   ]
 
   -- the row of each event
+  abbrev pub Row : Timing → Numbers → Event → Place → (ids : ℕ → ℕ) → Answer → Place → (ids' : ℕ → ℕ) → Type 0
+  Row timing numbers (event.Opened socket) s ids answer t ids' = Opens timing numbers now socket (ids 0) s answer t × (ids' ≡ (λ k. ids (k + 1)))
+  Row timing numbers (event.Post c body) s ids answer t ids' = PostsFor c body s ids answer t ids'
+  Row timing numbers (event.Frame c frame) s ids answer t ids' = HearsFor c frame s ids answer t ids'
+  Row timing numbers (event.PollBegin c) s ids answer t ids' = ForClient c (Begins now c) s answer t × (ids' ≡ ids)
+  Row timing numbers (event.PollEnd c) s ids answer t ids' = ForClient c (Ends c) s answer t × (ids' ≡ ids)
+  Row timing numbers (event.PollTake c most) s ids answer t ids' = ForClient c (Takes now c most) s answer t × (ids' ≡ ids)
+  Row timing numbers (event.FrameTake c most) s ids answer t ids' = ForClient c (TakesFrames now c most) s answer t × (ids' ≡ ids)
+  Row timing numbers (event.Probe c) s ids answer t ids' = ForClient c (Probes c) s answer t × (ids' ≡ ids)
+  Row timing numbers (event.Upgraded c) s ids answer t ids' = ForClient c (Upgrades c) s answer t × (ids' ≡ ids)
+  Row timing numbers (event.ProbeLost c) s ids answer t ids' = ForClient c (LosesProbe c) s answer t × (ids' ≡ ids)
+  Row timing numbers (event.TransportLost c) s ids answer t ids' = ForClient c (λ line. Loses now c) s answer t × (ids' ≡ ids)
+  Row timing numbers (event.Tick c) s ids answer t ids' = ForClient c (Ticks now c) s answer t × (ids' ≡ ids)
+  Row timing numbers event.Sweep s ids answer t ids' = Sweeps now s answer t × (ids' ≡ ids)
+
+-- ---- an event
+
+module _ (decides : Who → Arrived → List Effect → Type 0) (allows : (space payload : List ℕ) → PlainVerdict → Type 0) (leaves : Who → (rooms : List (List ℕ)) → Ending → List Effect → Type 0) (now : ℕ) where
+  -- the event is answered and leads somewhere as its row says, and then the app hears of the sockets that ended by that
   abbrev pub Does : Timing → Numbers → Event → Place → (ids : ℕ → ℕ) → Answer → Place → (ids' : ℕ → ℕ) → Type 0
-  Does timing numbers (event.Opened socket) s ids answer t ids' = Opens timing numbers now socket (ids 0) s answer t × (ids' ≡ (λ k. ids (k + 1)))
-  Does timing numbers (event.Post c body) s ids answer t ids' = PostsFor c body s ids answer t ids'
-  Does timing numbers (event.Frame c frame) s ids answer t ids' = HearsFor c frame s ids answer t ids'
-  Does timing numbers (event.PollBegin c) s ids answer t ids' = ForClient c (Begins now c) s answer t × (ids' ≡ ids)
-  Does timing numbers (event.PollEnd c) s ids answer t ids' = ForClient c (Ends c) s answer t × (ids' ≡ ids)
-  Does timing numbers (event.PollTake c most) s ids answer t ids' = ForClient c (Takes now c most) s answer t × (ids' ≡ ids)
-  Does timing numbers (event.FrameTake c most) s ids answer t ids' = ForClient c (TakesFrames now c most) s answer t × (ids' ≡ ids)
-  Does timing numbers (event.Probe c) s ids answer t ids' = ForClient c (Probes c) s answer t × (ids' ≡ ids)
-  Does timing numbers (event.Upgraded c) s ids answer t ids' = ForClient c (Upgrades c) s answer t × (ids' ≡ ids)
-  Does timing numbers (event.ProbeLost c) s ids answer t ids' = ForClient c (LosesProbe c) s answer t × (ids' ≡ ids)
-  Does timing numbers (event.TransportLost c) s ids answer t ids' = ForClient c (λ line. Loses now c) s answer t × (ids' ≡ ids)
-  Does timing numbers (event.Tick c) s ids answer t ids' = ForClient c (Ticks now c) s answer t × (ids' ≡ ids)
-  Does timing numbers event.Sweep s ids answer t ids' = Sweeps now s answer t × (ids' ≡ ids)
+  Does timing numbers event s ids answer t ids' =
+      (h : History) × (said : Answer) × Row decides allows now timing numbers event s ids said (record t { history = h }) ids'
+      × HearsAfter leaves now (client_of event) (ended_since s.history h) h said answer t.history
 
 -- ---- the machine
 
 -- each event in turn, at its moment, is answered as its row says
-unfoldable pub Machine : (decides : Who → Arrived → List Effect → Type 0) → (allows : (space payload : List ℕ) → PlainVerdict → Type 0) → Timing → Numbers
+unfoldable pub Machine : (decides : Who → Arrived → List Effect → Type 0) → (allows : (space payload : List ℕ) → PlainVerdict → Type 0) → (leaves : Who → (rooms : List (List ℕ)) → Ending → List Effect → Type 0) → Timing → Numbers
     → List (Event × ℕ) → List Answer → Place → (ids : ℕ → ℕ) → Place → (ids' : ℕ → ℕ) → Type 0
-Machine decides allows timing numbers [] [] s ids t ids' = (t ≡ s) × (ids' ≡ ids)
-Machine decides allows timing numbers (turn ∷ turns) (answer ∷ answers) s ids t ids' = (m : Place) × (left : ℕ → ℕ)
-    × Does decides allows turn.1 timing numbers turn.0 s ids answer m left × Machine decides allows timing numbers turns answers m left t ids'
-Machine decides allows timing numbers _ _ s ids t ids' = ⊥
+Machine decides allows leaves timing numbers [] [] s ids t ids' = (t ≡ s) × (ids' ≡ ids)
+Machine decides allows leaves timing numbers (turn ∷ turns) (answer ∷ answers) s ids t ids' = (m : Place) × (left : ℕ → ℕ)
+    × Does decides allows leaves turn.1 timing numbers turn.0 s ids answer m left × Machine decides allows leaves timing numbers turns answers m left t ids'
+Machine decides allows leaves timing numbers _ _ s ids t ids' = ⊥

@@ -1,9 +1,11 @@
 -- What a core holds: the hub's history, and a line for each client that is open.
 use Rattle.std.specs.Prelude.{◌≡◌, ℕ, ◌==◌, false, List, Option, None, Some, is_some}
 use Rattle.std.specs.Ordering.{nat_cmp}
+use Rattle.std.specs.List.{AllByRecursion}
 use Rattle.std.specs.Map.{lookup}
 use Rattle.std.specs.BTreeMap.{is_at}
 use Rattle.eio_wire.specs.declared.handshake.Numbers.{Numbers}
+use Rattle.eio_wire.specs.Payload.{IsWhole}
 use Rattle.session_clock.specs.declared.timing.Timing.{Timing}
 use Rattle.connection.specs.Line.{PlainLine}
 use Rattle.journal.specs.Journal.{History}
@@ -51,6 +53,8 @@ KeepsLines s t = (d : ℕ) → t.lines d ≡ s.lines d
 abbrev pub Agree : History → List (ℕ × PlainLine) → Type 0
 Agree h lines = (d : ℕ) → is_some (line_of lines d) ≡ is_open h.base h.journal d
 
--- U+001E, which separates the packets of a payload, stands in no entry of the base and in none that a step brought in
-abbrev pub IsClean : History → Type 0
-IsClean h = BringsOnly is_clean h.base h.limits h.journal
+-- U+001E, which separates the packets of a payload, stands in no name of a namespace, in no entry of the base and in none that
+-- a step brought in
+pub record IsClean (h : History) : Type 0 where
+  pub names : AllByRecursion IsWhole h.limits.spaces
+  pub entries : BringsOnly is_clean h.base h.limits h.journal

@@ -11,6 +11,7 @@ use Rattle.events.specs.declared.cause.Cause.TheVariants as cause
 use Rattle.effects.specs.Commands.{Makes, StopsAt, Drops}
 use Rattle.events.specs.declared.outcome.Outcome.TheVariants as outcome
 use Rattle.events.specs.Answer.{Answer, at_once}
+use Rattle.events.specs.Plain.{nothing_done}
 use Rattle.dispatch.specs.Answers.{ChangesNone, AdvancesLine}
 use Rattle.dispatch.specs.Parking.{ParksOrCloses, FailsToPark}
 use Rattle.dispatch.specs.Place.{Place, LosesLine, KeepsLines}
@@ -24,14 +25,14 @@ IsDue what now line = ForEachHistory line (λ o h. what ≡ due o (clock_calls h
 -- a silent client's sessions are saved, one that joined nothing is closed; where the hub doesn't do so the line stays, but
 -- the tick stands in its history, with the questions that ran out forgotten
 abbrev pub TicksOn : Due → ℕ → ℕ → PlainLine → Place → Answer → Place → Type 0
-TicksOn Nothing now c line s answer t = (answer ≡ Ok (outcome.Ticked false None)) × AdvancesLine c line (Ticked now Nothing ∷ []) s t
-TicksOn SendPing now c line s answer t = (answer ≡ Ok (outcome.Ticked true None)) × AdvancesLine c line (Ticked now SendPing ∷ []) s t
+TicksOn Nothing now c line s answer t = (answer ≡ Ok (outcome.Ticked false nothing_done)) × AdvancesLine c line (Ticked now Nothing ∷ []) s t
+TicksOn SendPing now c line s answer t = (answer ≡ Ok (outcome.Ticked true nothing_done)) × AdvancesLine c line (Ticked now SendPing ∷ []) s t
 TicksOn PingTimeout now c line s (Ok o) t =
-    (o ≡ outcome.Ticked false (Some cause.PingTimeout)) × ParksOrCloses s.history now c t.history × LosesLine c s t
+    (o ≡ outcome.Ticked false (record nothing_done { closed = Some cause.PingTimeout })) × ParksOrCloses s.history now c t.history × LosesLine c s t
 TicksOn PingTimeout now c line s (Err e) t =
     (e ≡ at_once e.fault) × FailsToPark s.history now c e.fault × AdvancesLine c line (Ticked now PingTimeout ∷ []) s t
 TicksOn ConnectTimeout now c line s (Ok o) t =
-    (o ≡ outcome.Ticked false (Some cause.ConnectTimeout)) × Makes s.history now (what.Closed c) t.history × LosesLine c s t
+    (o ≡ outcome.Ticked false (record nothing_done { closed = Some cause.ConnectTimeout })) × Makes s.history now (what.Closed c) t.history × LosesLine c s t
 TicksOn ConnectTimeout now c line s (Err e) t =
     (e ≡ at_once e.fault) × StopsAt s.history now (what.Closed c) e.fault × AdvancesLine c line (Ticked now ConnectTimeout ∷ []) s t
 

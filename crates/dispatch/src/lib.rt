@@ -5,6 +5,7 @@
 mod connect;
 mod frames;
 mod greeting;
+mod hearing;
 mod laws;
 mod lines;
 mod packets;

@@ -15,9 +15,10 @@ ghost use Rattle.events.specs.Answer.{at_once};
 ghost use Rattle.dispatch.specs.Answers.{fault_of_config};
 ghost use Rattle.dispatch.specs.Counting.{TurnsFor};
 ghost use Rattle.dispatch.specs.Handed.{Turn, turns_after, Handed};
-ghost use Rattle.dispatch.specs.Machine.{Does, Machine, IsOf, listed};
+ghost use Rattle.dispatch.specs.Machine.{Row, Does, Machine, IsOf, listed};
 
 use crate::greeting::Greeting;
+use crate::hearing::hear_after;
 use crate::lines::transport_of;
 use crate::{frames, turns, upgrade, upkeep};
 use connection::Line;
@@ -109,7 +110,8 @@ impl<C: Ledger, T: Ledger> Core<C, T> {
         }
     }
 
-    /// Does what an event does.
+    /// Does what an event does. Then the app hears of the sockets that it ended, and what the app
+    /// wants then is done, until a fault. An error of the event itself stays.
     pub fn apply<A: App, I: IdSource>(
         &mut self,
         alloc: Global,
@@ -119,7 +121,7 @@ impl<C: Ledger, T: Ledger> Core<C, T> {
         now: u64,
         ids: &mut I,
     ) -> Result<Outcome, CoreError>
-        ensures does { Does (A.decides app.now) (A.allows app.now) now
+        ensures does { Does (A.decides app.now) (A.allows app.now) (A.leaves app.now) now
             self.old.timing self.old.numbers event.now
             (place self.old.hub.history self.old.lines) (I.stream ids.old) result
             (place self.new.hub.history self.new.lines) (I.stream ids.new) }
@@ -154,8 +156,9 @@ impl<C: Ledger, T: Ledger> Core<C, T> {
         events: &[(Event, u64)],
         ids: &mut I,
     ) -> Result<Vec<Result<Outcome, CoreError>>, AllocError>
-        ensures does { IfOk result (λ answers. Machine (A.decides app.now) (A.allows app.now)
-            self.old.timing self.old.numbers events.now answers.items
+        ensures does { IfOk result (λ answers.
+            Machine (A.decides app.now) (A.allows app.now) (A.leaves app.now) self.old.timing
+            self.old.numbers events.now answers.items
             (place self.old.hub.history self.old.lines) (I.stream ids.old)
             (place self.new.hub.history self.new.lines) (I.stream ids.new)) }
         ensures handed { IfOk result (λ answers. (c : ℕ) (turns : List Turn)
@@ -260,7 +263,8 @@ impl<C: Ledger, T: Ledger> Core<C, T> {
     }
 }
 
-/// Does what an event does to the hub's state and to the clients' lines.
+/// Does what an event does to the hub's state and to the clients' lines. Then the app hears of the
+/// sockets that it ended.
 fn apply_to<A: App, I: IdSource>(
     call: Call,
     state: &mut State,
@@ -272,7 +276,33 @@ fn apply_to<A: App, I: IdSource>(
 ) -> Result<Outcome, CoreError>
     requires agree { Agree state.old lines.old.entries }
     requires clean { IsClean state.old }
-    ensures { Does (A.decides app.now) (A.allows app.now) call.moment
+    ensures { Does (A.decides app.now) (A.allows app.now) (A.leaves app.now) call.moment
+        greeting.now.timing greeting.now.numbers event.now
+        (place state.old lines.old.entries) (I.stream ids.old) result
+        (place state.new lines.new.entries) (I.stream ids.new) }
+{
+    let ended = state.departed().len();
+    let said = do_row(call, state, lines, greeting, app, event, ids);
+    match event.client() {
+        Some(client) => hear_after(call.of(client), state, app, ended, said),
+        None => said,
+    }
+}
+
+/// Does what an event does to the hub's state and to the clients' lines, before the app hears of
+/// the sockets that it ended.
+fn do_row<A: App, I: IdSource>(
+    call: Call,
+    state: &mut State,
+    lines: &mut BTreeMap<u128, Line>,
+    greeting: &Greeting,
+    app: &A,
+    event: &Event,
+    ids: &mut I,
+) -> Result<Outcome, CoreError>
+    requires agree { Agree state.old lines.old.entries }
+    requires clean { IsClean state.old }
+    ensures { Row (A.decides app.now) (A.allows app.now) call.moment
         greeting.now.timing greeting.now.numbers event.now
         (place state.old lines.old.entries) (I.stream ids.old) result
         (place state.new lines.new.entries) (I.stream ids.new) }

@@ -77,9 +77,7 @@ pub(crate) fn close_unread(
     match commands::close(visit, state) {
         Ok(()) => {
             forget(lines, visit.client);
-            let mut done = Done::nothing(visit.alloc);
-            done.closed = Some(cause);
-            Ok(Outcome::Done(done))
+            Ok(Outcome::Done(Done::closed(visit.alloc, cause)))
         }
         Err(fault) => Err(fault.at_once()),
     }
@@ -224,7 +222,8 @@ pub(crate) fn lose(
     match park_or_close(visit, state) {
         Ok(saved) => {
             forget(lines, visit.client);
-            Ok(Outcome::Lost { saved })
+            let done = Done::nothing(visit.alloc);
+            Ok(Outcome::Lost { saved, done })
         }
         Err(fault) => Err(fault.at_once()),
     }

@@ -3,6 +3,7 @@
 
 ghost use Rattle.std.specs.Prelude.{◌≡◌, ℕ, ◌==◌, false, List, None, Some};
 ghost use Rattle.connection.specs.Line.{PlainLine};
+ghost use Rattle.events.specs.Plain.{nothing_done};
 ghost use Rattle.dispatch.specs.Answers.{ForClient};
 ghost use Rattle.dispatch.specs.Place.{line_of, place, Agree};
 ghost use Rattle.dispatch.specs.Upkeep.{Ticks, Sweeps};
@@ -11,7 +12,7 @@ use crate::lines::forget;
 use crate::parking::park_or_close;
 use connection::Line;
 use effects::{Visit, commands};
-use events::{Cause, CoreError, CoreFault, Outcome};
+use events::{Cause, CoreError, CoreFault, Done, Outcome};
 use hub_state::State;
 use session_clock::Due;
 use std::collections::BTreeMap;
@@ -32,34 +33,34 @@ pub(crate) fn tick(
     match line.tick(visit.moment) {
         Due::Nothing => Ok(Outcome::Ticked {
             ping: false,
-            closed: None,
+            done: Done::nothing(visit.alloc),
         }),
         Due::SendPing => Ok(Outcome::Ticked {
             ping: true,
-            closed: None,
+            done: Done::nothing(visit.alloc),
         }),
         Due::PingTimeout => match park_or_close(visit, state) {
-            Ok(_) => Ok(give_up(lines, visit.client, Cause::PingTimeout)),
+            Ok(_) => Ok(give_up(visit, lines, Cause::PingTimeout)),
             Err(fault) => Err(fault.at_once()),
         },
         Due::ConnectTimeout => match commands::close(visit, state) {
-            Ok(()) => Ok(give_up(lines, visit.client, Cause::ConnectTimeout)),
+            Ok(()) => Ok(give_up(visit, lines, Cause::ConnectTimeout)),
             Err(fault) => Err(fault.at_once()),
         },
     }
 }
 
 /// Forgets the line of a client that timed out.
-fn give_up(lines: &mut BTreeMap<u128, Line>, client: u128, cause: Cause) -> Outcome
-    ensures answer { result ≡ Outcome.Ticked false (Some cause) }
-    ensures gone { line_of lines.new.entries client ≡ None }
-    ensures others { (d : ℕ) → client == d ≡ false
+fn give_up(visit: Visit, lines: &mut BTreeMap<u128, Line>, cause: Cause) -> Outcome
+    ensures answer { result ≡ Outcome.Ticked false (record nothing_done { closed = Some cause }) }
+    ensures gone { line_of lines.new.entries visit.client ≡ None }
+    ensures others { (d : ℕ) → visit.client == d ≡ false
         → line_of lines.new.entries d ≡ line_of lines.old.entries d }
 {
-    forget(lines, client);
+    forget(lines, visit.client);
     Outcome::Ticked {
         ping: false,
-        closed: Some(cause),
+        done: Done::closed(visit.alloc, cause),
     }
 }
 

@@ -21,7 +21,7 @@ use Rattle.events.specs.declared.cause.Cause.{Cause}
 use Rattle.events.specs.declared.cause.Cause.TheVariants.{OutboxFull}
 use Rattle.events.specs.declared.fault.CoreFault.{CoreFault}
 use Rattle.effects.specs.Commands.{Makes, StopsAt, DoesOr, IsSeated}
-use Rattle.effects.specs.Effects.{Scene, scene, cast_of, Emits, IsReply, Replies, FailsToReply, Closes, is_bad, is_wrong, told_to, goodbye, dismissed, all_joined, all_left, ChangesRooms, SaysGoodbye, Acts, ActsInTurn, Stops, Fails, FailsAt, StandsWith}
+use Rattle.effects.specs.Effects.{Scene, scene, IsReply, Replies, FailsToReply, Closes, is_bad, is_wrong, told_to, goodbye, dismissed, all_joined, all_left, ChangesRooms, SaysGoodbye, Acts, ActsInTurn, Stops, Fails, FailsAt, StandsWith}
 use Rattle.events.specs.Emission.{PlainEmission}
 use Rattle.events.specs.Plain.{PlainDone, one_more, told}
 use Rattle.effects.proofs.StepLemmas.{itself, open-still, open-no-more, seated-still, seated-among}
@@ -70,8 +70,8 @@ module _ (who : Who) (now : ℕ) where
   acts-stands : (s t : Scene) (effect : Effect) → s.done.closed ≡ None → IsSeated who s.history → Acts who now s effect t → StandsWith who t
   acts-stands s t (Join room) fresh seated acts = stands-rooms (what.Joined who.sid room) (λ l. refl) refl refl s t acts fresh seated
   acts-stands s t (Leave room) fresh seated acts = stands-rooms (what.Left who.sid room) (λ l. refl) refl refl s t acts fresh seated
-  acts-stands s t (Emit e) fresh seated (allowed, done, cast, is) =
-      stands-seated t (ap (λ (u : Scene). u.done.closed) is ∙ fresh) (seated-still s.history t.history now (what.Cast cast.b) cast.step who seated (λ l. refl) refl refl)
+  acts-stands s t (Emit e) fresh seated ((allowed, done, cast, told), is) =
+      stands-seated t (ap (λ (d : PlainDone). d.closed) told ∙ fresh) (seated-still s.history t.history now (what.Cast cast.b) cast.step who seated (λ l. refl) refl refl)
   acts-stands s t (Reply r) fresh seated (id, asked, (entry, is, inl (made, same))) =
       stands-made (told_to who.client entry) (λ l. refl) refl refl s t made (ap (λ (u : Scene). u.done.closed) same) fresh seated
   acts-stands s t (Reply r) fresh seated (id, asked, (entry, is, inr (refused, closed))) = stands-closed OutboxFull s t closed
@@ -179,18 +179,10 @@ pub reply-untold : (who : Who) (id : ℕ) (r : reply.Reply) (now : ℕ) (h g : H
     → (f : CoreFault) → f ≡ fault → (l : PlainLine) → FailsToReply who id r now (scene h l old) f (scene g l old)
 reply-untold who id r now h g entry is old fault stops f is-it l = (rw stops.1 refl, inr (entry, is, inl (subst (λ (f : CoreFault). StopsAt h now (told_to who.client entry) f) (sym is-it) stops.0)))
 
--- ---- a broadcast
+-- ---- sockets that end
 
 -- what was done of the event, where its receivers are pushed and it is counted
 pub told-is : (old new : Tally) (d : PlainDone) (asked : Option ℕ) (ended : Bool) (next : List (List ℕ)) (c : ℕ) (ids others : List ℕ) → ◌≡◌ {A = Tally} (record { done = d; asked = asked; ended = ended }) old
     → new ≡ record { done = one_more (record d { clients = next }); asked = asked; ended = ended } → next ≡ d.clients ++ others ∷ [] → others ≡ filter (λ d. not (d == c)) ids
     → new ≡ record old { done = told c ids (one_more old.done) }
 told-is old new d asked ended next c ids others view counted pushed kept = counted ∙ rw (← view, pushed, kept) refl
-
-pub emits : (who : Who) (e : PlainEmission) (now : ℕ) (h k : History) (cast : PlainCast) → cast ≡ cast_of who e → (done : PlainCastDone) → (refusal_of h cast ≡ None) × IsCast h k now cast done
-    → (old new : Tally) (d : PlainDone) (asked : Option ℕ) (ended : Bool) (next : List (List ℕ)) (others : List ℕ) → ◌≡◌ {A = Tally} (record { done = d; asked = asked; ended = ended }) old
-    → new ≡ record { done = one_more (record d { clients = next }); asked = asked; ended = ended } → next ≡ d.clients ++ others ∷ [] → others ≡ filter (λ d. not (d == who.client)) done.clients
-    → (l : PlainLine) → Emits who e now (scene h l old) (scene k l new)
-emits who e now h k cast is done does old new d asked ended next others view counted pushed kept l =
-    let there = subst (λ (cast : PlainCast). (refusal_of h cast ≡ None) × IsCast h k now cast done) is does in
-    (there.0, done, there.1, ap (λ (t : Tally). scene k l t) (told-is old new d asked ended next who.client done.clients others view counted pushed kept))

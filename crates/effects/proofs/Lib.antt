@@ -1,6 +1,7 @@
 pub mod ActLemmas
 mod AskLemmas
 pub mod CleanLemmas
+pub mod DepartedLemmas
 mod RefusalLemmas
 pub mod RunsLemmas
 pub mod StepLemmas

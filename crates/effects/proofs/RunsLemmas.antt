@@ -1,8 +1,9 @@
 -- A run that goes on.
-use Rattle.std.proofs.Common.{◌≡◌, ℕ, zero, suc, List, [], ◌∷◌, ◌++◌, length, take, refl, sym, ap, ◌∙◌, subst, Option, Some}
+use Rattle.std.proofs.Common.{◌≡◌, ℕ, zero, suc, ◌+◌, ◌-◌, ◌<◌, ◌≤◌, List, [], ◌∷◌, ◌++◌, length, take, drop, get_or, refl, sym, ap, ◌∙◌, subst, arith, Option, Some, Result, Ok, Err}
 use Rattle.std.specs.Prelude.{slice_get, unwrap_or}
 use Rattle.std.specs.List.{AllByRecursion}
-use Rattle.effects.specs.Runs.{Runs}
+use Rattle.std.proofs.lemmas.List.{length-drop, take_all}
+use Rattle.effects.specs.Runs.{Runs, RunsOrFails}
 
 -- one thing more
 pub runs-more : {S A : Type 0} (R : S → A → S → Type 0) (xs : List A) (x : A) (s m t : S) → Runs R xs s m → R m x t → Runs R (xs ++ x ∷ []) s t
@@ -36,6 +37,49 @@ at-next P (y ∷ done) left x all = at-next P done left x all.1
 
 pub all-next : {A : Type 0} (P : A → Type 0) (all done rest left : List A) (x : A) → all ≡ done ++ rest → rest ≡ x ∷ left → AllByRecursion P all → P x
 all-next P all done rest left x split now each = at-next P done left x (subst (AllByRecursion P) (split ∙ ap (λ l. done ++ l) now) each)
+
+-- one element more
+take-next : {A : Type 0} (n : ℕ) (xs : List A) (x : A) → slice_get xs n ≡ Some x → take (n + 1) xs ≡ take n xs ++ x ∷ []
+take-next n [] x is = absurd (cc is)
+take-next {A} zero (y ∷ ys) x is = ap (λ (o : Option A). unwrap_or o y ∷ []) is
+take-next {A} (suc n) (y ∷ ys) x is =
+    let more : suc n + 1 ≡ suc (n + 1) = omega arith in
+    ap (λ k. take k (y ∷ ys)) more ∙ ap (λ l. y ∷ l) (take-next n ys x is)
+
+get-from : {A : Type 0} (from i : ℕ) (xs : List A) → from ≤ i → slice_get (drop from xs) (i - from) ≡ slice_get xs i
+get-from zero i xs below = let same : i - 0 ≡ i = omega arith in ap (slice_get xs) same
+get-from (suc from) i [] below = refl
+get-from (suc from) (suc i) (x ∷ xs) below =
+    let less : suc i - suc from ≡ i - from = omega arith in
+    ap (slice_get (drop (suc from) (x ∷ xs))) less ∙ get-from from i xs (omega (arith, below))
+get-from (suc from) zero (x ∷ xs) below = absurd (omega (arith, below))
+
+pub get-some : {A : Type 0} (xs : List A) (i : ℕ) → i < length xs → (x : A) × (slice_get xs i ≡ Some x)
+get-some [] i below = absurd (omega (arith, below))
+get-some (x ∷ xs) zero below = (x, refl)
+get-some (x ∷ xs) (suc i) below = get-some xs i (omega (arith, below))
+
+pub get-read : {A : Type 0} (xs : List A) (i : ℕ) (x : A) → i < length xs → x ≡ get_or xs i x → slice_get xs i ≡ Some x
+get-read [] i x below is = absurd (omega (arith, below))
+get-read (y ∷ ys) zero x below is = ap Some (sym is)
+get-read (y ∷ ys) (suc i) x below is = get-read ys i x (omega (arith, below)) is
+
+-- a run over what stands from a place on, to one element more, to one that fails, or to its end
+pub runs-on : {S A : Type 0} (R : S → A → S → Type 0) (from i : ℕ) (xs : List A) (x : A) (s m t : S) → from ≤ i → slice_get xs i ≡ Some x → Runs R (take (i - from) (drop from xs)) s m → R m x t
+    → Runs R (take (i + 1 - from) (drop from xs)) s t
+runs-on {S} {A} R from i xs x s m t below is run step =
+    let more : i + 1 - from ≡ (i - from) + 1 = omega (arith, below) in
+    subst (λ (l : List A). Runs R l s t) (sym (ap (λ n. take n (drop from xs)) more ∙ take-next (i - from) (drop from xs) x (get-from from i xs below ∙ is)))
+    (runs-more R (take (i - from) (drop from xs)) x s m t run step)
+
+pub run-fails : {S A E : Type 0} (R : S → A → Result (Unit {0}) E → S → Type 0) (from i : ℕ) (xs : List A) (x : A) (s m t : S) (e : E) → from ≤ i → slice_get xs i ≡ Some x
+    → Runs (λ a x b. R a x (Ok tt) b) (take (i - from) (drop from xs)) s m → R m x (Err e) t → RunsOrFails R (drop from xs) s (Err e) t
+run-fails R from i xs x s m t e below is run fails = (i - from, m, run, x, get-from from i xs below ∙ is, fails)
+
+pub run-ends : {S A : Type 0} (R : S → A → S → Type 0) (from i : ℕ) (xs : List A) (s t : S) → length xs ≤ i → Runs R (take (i - from) (drop from xs)) s t → Runs R (drop from xs) s t
+run-ends {S} {A} R from i xs s t past run =
+    let long : length (drop from xs) ≤ i - from = omega (arith, length-drop from xs, past) in
+    subst (λ (l : List A). Runs R l s t) (take_all (i - from) (drop from xs) long) run
 
 -- ---- what holds of each
 

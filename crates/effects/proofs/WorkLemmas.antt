@@ -16,14 +16,23 @@ use Rattle.events.specs.declared.cause.Cause.TheVariants.{OutboxFull}
 use Rattle.events.specs.declared.fault.CoreFault.{CoreFault}
 use Rattle.events.specs.declared.fault.Stopped.{Stopped}
 use Rattle.events.specs.App.{IsCleanEffect, AllClean}
+use Rattle.events.specs.Emission.{PlainEmission}
+use Rattle.events.specs.Plain.{PlainDone}
 use Rattle.effects.specs.Commands.{Makes, IsSeated}
-use Rattle.effects.specs.Effects.{Scene, Closes, is_bad, is_wrong, is_unsendable, told_to, goodbye, dismissed, all_joined, all_left, cast_of, ChangesRooms, SaysGoodbye, Acts, ActsInTurn, Stops, StopsAfter, Fails, StandsWith}
+use Rattle.effects.specs.Effects.{Scene, Closes, is_bad, is_wrong, is_unsendable, told_to, goodbye, dismissed, all_joined, all_left, ChangesRooms, SaysGoodbye, Acts, ActsInTurn, Stops, StopsAfter, Fails, StandsWith}
 use Rattle.effects.specs.Following.{is_clean, is_work, is_turn, is_cast, WorksFor}
 use Rattle.effects.specs.Runs.{Runs}
+use Rattle.effects.specs.Saying.{Work, work, Says, cast_of}
 use Rattle.effects.proofs.ActLemmas.{seated-after, stands, stopped-open}
 use Rattle.effects.proofs.CleanLemmas.{clean-cast, clean-reply, clean-inquiry, clean-disconnect, clean-farewell}
 use Rattle.effects.proofs.RunsLemmas.{all-take, run-keeps}
 use Rattle.effects.proofs.StepLemmas.{itself, work-on, work-cast, work-dismissed}
+
+-- an event that is sent
+pub work-says : (c now : ℕ) (f : History) (space : List ℕ) (e : PlainEmission) (s t : Work) → IsWhole space → IsWhole e.payload → Says c space e now s t → WorksFor c f s.history s.done.clients → WorksFor c f t.history t.done.clients
+work-says c now f space e s t whole clean (allowed, done, cast, told) was =
+    subst (λ (d : PlainDone). WorksFor c f t.history d.clients) (sym told)
+    (work-cast c f now (cast_of space e) done s.history t.history cast (clean-cast s.history (cast_of space e) cast.b cast.asked allowed whole clean) s.done.clients was)
 
 module _ (who : Who) (now : ℕ) (f : History) where
   -- so far the event is one of this client's
@@ -55,8 +64,7 @@ module _ (who : Who) (now : ℕ) (f : History) where
   acts-work : (s t : Scene) (effect : Effect) → IsWhole who.space → IsCleanEffect effect → is_wrong s.asked effect ≡ false → IsSeated who s.history → Acts who now s effect t → Has s → Has t
   acts-work s t (Join room) whole clean fine seated acts was = work-rooms (what.Joined who.sid room) s t seated.own seated.own refl tt acts was
   acts-work s t (Leave room) whole clean fine seated acts was = work-rooms (what.Left who.sid room) s t seated.own seated.own refl tt acts was
-  acts-work s t (Emit e) whole clean fine seated (allowed, done, cast, is) was =
-      subst Has (sym is) (work-cast who.client f now (cast_of who e) done s.history t.history cast (clean-cast s.history (cast_of who e) cast.b cast.asked allowed whole clean) s.done.clients was)
+  acts-work s t (Emit e) whole clean fine seated (says, is) was = work-says who.client now f who.space e (work s.history s.done) (work t.history t.done) whole clean says was
   acts-work s t (Reply r) whole clean fine seated (id, asked, (entry, is, inl (made, same))) was =
       work-told entry s t _ (clean-reply who.space id r entry (neither (is_none s.asked) (is_unsendable r.payload r.attachments) fine).1 is whole clean) made refl refl same was
   acts-work s t (Reply r) whole clean fine seated (id, asked, (entry, is, inr (refused, closed))) was = work-closed OutboxFull s t closed was

@@ -12,9 +12,8 @@ use Rattle.sio_wire.specs.Disconnect.{disconnect_text}
 use Rattle.journal.specs.declared.error.HubError.TheVariants as hub
 use Rattle.journal.specs.declared.step.What.{What}
 use Rattle.journal.specs.declared.step.What.TheVariants as what
-use Rattle.journal.specs.Plain.{PlainCast, PlainCastDone, PlainDismissal}
+use Rattle.journal.specs.Plain.{PlainDismissal}
 use Rattle.journal.specs.Journal.{History}
-use Rattle.journal.specs.Casting.{refusal_of, IsCast, IsSpentBy}
 use Rattle.journal.specs.ManySockets.{joining, leaving, dismissal}
 use Rattle.ack_book.specs.declared.error.AckError.TheVariants as ack
 use Rattle.ack_book.specs.Book.{ask_refusal}
@@ -38,6 +37,7 @@ use Rattle.events.specs.declared.fault.Stopped.{Stopped}
 use Rattle.effects.specs.declared.tally.Tally.{Tally}
 use Rattle.events.specs.Plain.{PlainDone, one_more, noted, told}
 use Rattle.effects.specs.Runs.{Runs}
+use Rattle.effects.specs.Saying.{work, Says, CannotSay}
 
 -- where an event stands between two effects of a packet: the hub's history, the client's line, what was done of the event,
 -- under which id the packet still asks to be acknowledged, and whether its socket was disconnected
@@ -89,16 +89,9 @@ ChangesRooms what now s t =
     (Makes s.history now what t.history × (t ≡ record (counted s) { history = t.history }))
     ⊎ ((e : RoomError) × IsRefused s.history now what (hub.RoomRefused e) × (t ≡ record s { done = noted (Some e) (one_more s.done) }))
 
--- the broadcast that is asked for
-abbrev pub cast_of : Who → PlainEmission → PlainCast
-cast_of who e =
-    record { space = who.space; rooms = e.rooms; excepted = e.excepted; logged = e.logged; payload = e.payload; attachments = e.attachments }
-
+-- an event is sent
 abbrev pub Emits : Who → PlainEmission → ℕ → Scene → Scene → Type 0
-Emits who e now s t = (refusal_of s.history (cast_of who e) ≡ None)
-    × (done : PlainCastDone)
-    × IsCast s.history t.history now (cast_of who e) done
-    × (t ≡ record s { history = t.history; done = told who.client done.clients (one_more s.done) })
+Emits who e now s t = Says who.client who.space e now (work s.history s.done) (work t.history t.done) × (t ≡ record s { history = t.history; done = t.done })
 
 -- the client is told this
 abbrev pub told_to : ℕ → Entry → What
@@ -221,7 +214,7 @@ FailsAt what now s fault t = StopsAt s.history now what fault × (t ≡ s)
 
 -- the broadcast isn't sent
 abbrev pub FailsToEmit : Who → PlainEmission → Scene → CoreFault → Scene → Type 0
-FailsToEmit who e s fault t = ((fault ≡ Memory) ⊎ ((fault ≡ Spent) × IsSpentBy s.history (cast_of who e))) × (t ≡ s)
+FailsToEmit who e s fault t = CannotSay who.space e s.history fault × (t ≡ s)
 
 -- the event isn't acknowledged
 abbrev pub FailsToReply : Who → (id : ℕ) → reply.Reply → ℕ → Scene → CoreFault → Scene → Type 0

@@ -1,7 +1,13 @@
 -- A list of things, each of which leads from one state to the next.
-use Rattle.std.specs.Prelude.{◌≡◌, List, [], ◌∷◌}
+use Rattle.std.specs.Prelude.{◌≡◌, ℕ, List, [], ◌∷◌, take, slice_get, Some, Result, Ok, Err}
 
 -- they lead from the first state to the last, in order
 unfoldable pub Runs : {S A : Type 0} → (S → A → S → Type 0) → List A → S → S → Type 0
 Runs R [] s t = t ≡ s
 Runs {S} R (x ∷ xs) s t = (m : S) × R s x m × Runs R xs m t
+
+-- they lead there, or one of them fails, and those before it lead to where it does
+abbrev pub RunsOrFails : {S A E : Type 0} → (S → A → Result (Unit {0}) E → S → Type 0) → List A → S → Result (Unit {0}) E → S → Type 0
+RunsOrFails R xs s (Ok x) t = Runs (λ a x b. R a x (Ok tt) b) xs s t
+RunsOrFails {S} {A} R xs s (Err e) t =
+    (done : ℕ) × (at : S) × Runs (λ a x b. R a x (Ok tt) b) (take done xs) s at × (x : A) × (slice_get xs done ≡ Some x) × R at x (Err e) t

@@ -5,7 +5,7 @@ ghost use Rattle.std.specs.Prelude.{◌≡◌, ◌≤◌, false, not, ◌||◌, 
 ghost use Rattle.sio_wire.specs.Disconnect.{disconnect_text};
 ghost use Rattle.journal.specs.declared.step.What.{What};
 ghost use Rattle.effects.specs.Commands.{IsSeated};
-ghost use Rattle.effects.specs.Effects.{is_unsendable, is_wrong, cast_of, Closes, Emits, Replies, Disconnects, Acts, ActsInTurn, Fails, Stops, StopsAfter, StandsWith, FailsAt, IsOpenFor, FailsToEmit, FailsToReply, FailsToDisconnect};
+ghost use Rattle.effects.specs.Effects.{is_unsendable, is_wrong, Closes, Emits, Replies, Disconnects, Acts, ActsInTurn, Fails, Stops, StopsAfter, StandsWith, FailsAt, IsOpenFor, FailsToEmit, FailsToReply, FailsToDisconnect};
 ghost use Rattle.effects.specs.Runs.{Runs};
 ghost use Rattle.effects.specs.Scene.{seen, DoesOrFails, IsSameEvent};
 
@@ -13,24 +13,14 @@ use crate::ask::ask;
 use crate::commands;
 use crate::entry::reply_entry;
 use crate::rooms::{end_all, join, join_all, leave, leave_all};
+use crate::say::{is_unsendable, say};
 use crate::scene::Scene;
 use crate::tally::Tally;
 use crate::visit::Visit;
 use events::{Cause, CoreFault, Effect, Emission, Reply, Stopped, Who};
-use journal::Cast;
 use sio_wire::disconnect_text;
 use std::alloc::Global;
 use terms::{Attachments, Entry, Text};
-
-/// The most attachments of a packet.
-const MOST_ATTACHMENTS: usize = 32;
-
-/// Whether a payload with so many attachments can't be sent.
-fn is_unsendable(payload: &str, attachments: &Attachments) -> bool
-    ensures { result ≡ is_unsendable payload.now attachments.now }
-{
-    !payload.as_bytes().contains(&b']') || attachments.len() > MOST_ATTACHMENTS
-}
 
 /// Whether the effect can't be done by itself.
 fn is_wrong(asked: Option<u64>, effect: &Effect) -> bool
@@ -65,55 +55,16 @@ pub fn close_for(scene: &mut Scene, cause: Cause) -> Result<(), CoreFault>
     Ok(())
 }
 
-/// The broadcast that is asked for.
-fn cast_of(alloc: Global, who: &Who, emission: Emission) -> Result<Cast, CoreFault>
-    ensures ok { IfOk result (λ cast. cast ≡ cast_of who.now emission) }
-    ensures memory { IfErr result (λ f. f ≡ CoreFault.Memory) }
-{
-    let Emission {
-        rooms,
-        excepted,
-        logged,
-        payload,
-        attachments,
-    } = emission;
-    Ok(Cast {
-        space: who.space.clone()?,
-        rooms,
-        excepted,
-        logged,
-        payload,
-        attachments,
-    })
-}
-
-/// Keeps the clients but one.
-pub(crate) fn retain_others(ids: &mut Vec<u128>, client: u128)
-    ensures { ids.new.items ≡ filter (λ d. not (d == client)) ids.old.items }
-{
-    ids.retain(|id| *id != client);
-}
-
 /// Sends an event to the sockets of some rooms.
 fn emit(scene: &mut Scene, who: &Who, emission: Emission) -> Result<(), CoreFault>
+    requires own { who.now.client ≡ scene.old.visit.client }
     requires seated { IsSeated who.now scene.old.state.now }
     requires sendable { is_unsendable emission.payload emission.attachments ≡ false }
     ensures { DoesOrFails (Emits who.now emission) (λ _. FailsToEmit who.now emission)
         scene.old result scene.new }
 {
-    let Visit { alloc, moment, .. } = scene.visit;
-    let tally = &mut *scene.tally;
-    tally.done.clients.reserve()?;
-    let cast = cast_of(alloc, who, emission)?;
-    let cast_done = match scene.state.cast(alloc, cast, moment) {
-        Ok(cast_done) => cast_done,
-        Err(error) => return Err(CoreFault::of(error)),
-    };
-    let mut ids = cast_done.clients;
-    retain_others(&mut ids, who.client);
-    tally.done.clients.push(ids);
-    tally.count();
-    Ok(())
+    let done = &mut scene.tally.done;
+    say(scene.visit, scene.state, done, &who.space, emission)
 }
 
 /// Tells the client the acknowledgement of an event, or closes it where its outbox has no place.

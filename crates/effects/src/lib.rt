@@ -4,14 +4,17 @@
 mod act;
 mod ask;
 pub mod commands;
+mod departed;
 mod entry;
 mod laws;
 mod rooms;
+mod say;
 mod scene;
 mod tally;
 mod visit;
 
 pub use act::{act_all, close_for};
+pub use departed::hear_all;
 pub use laws::{effects_are_work, others_are_spared};
 pub use scene::Scene;
 pub use tally::Tally;

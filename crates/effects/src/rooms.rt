@@ -11,7 +11,7 @@ ghost use Rattle.effects.specs.Commands.{IsSeated, IsRoomChange};
 ghost use Rattle.effects.specs.Effects.{scene, all_joined, all_left, is_among, ChangesRooms, EndsAll, FailsAt, FailsToEndAll};
 ghost use Rattle.effects.specs.Scene.{DoesOrFails};
 
-use crate::act::retain_others;
+use crate::say::retain_others;
 use crate::scene::Scene;
 use crate::tally::Tally;
 use crate::visit::Visit;

@@ -21,6 +21,9 @@ use Rattle.journal.specs.Legal.{IsAllowed}
 use Rattle.journal.proofs.CountsLemmas.{or_none}
 use Rattle.journal.proofs.EpochsOutboxesLemmas.{reaches-same, placed-same, placements-cast, addressed-same}
 use Rattle.journal.proofs.EpochsSocketsLemmas.{any-socket-as}
+use Rattle.events.specs.declared.fault.CoreFault.{CoreFault}
+use Rattle.events.specs.Emission.{PlainEmission}
+use Rattle.effects.specs.Saying.{Work, work, cast_of, Says, CannotSay}
 use Rattle.epochs.specs.Epochs.{AreAlike}
 use Rattle.epochs.proofs.EpochSteps.{with-limits, Grown, grown-step, StaysSound}
 
@@ -141,3 +144,22 @@ module _ (keeps : StaysSound) where
           clients_are = λ d. was.clients_are d ∙ sym (reaches-alike h g alike b d);
         },
       )
+
+-- ---- an event that the app sends
+
+-- the work with another history
+abbrev pub turned : Work → History → Work
+turned s g = work g s.done
+
+-- what leads from the one work to the other leads so from the first with another history too
+abbrev pub SimWork : (Work → Work → Type 0) → Work → Work → History → Type 0
+SimWork R s t g = (m : History) × Grown s.history t.history g m × R (turned s g) (turned t m)
+
+pub says-alike : StaysSound → (c : ℕ) (space : List ℕ) (e : PlainEmission) (now : ℕ) (s t : Work) (g : History) → AreAlike s.history g → Says c space e now s t → SimWork (Says c space e now) s t g
+says-alike keeps c space e now s t g alike (unrefused, done, cast, is) =
+    let both = cast-alike keeps s.history g t.history now (cast_of space e) done alike unrefused cast in
+    (with_step g now (Cast cast.b), both.0, (refusal_of-alike s.history g alike (cast_of space e) ∙ unrefused, done, both.1, is))
+
+pub cannot-say : (space : List ℕ) (e : PlainEmission) (h g : History) → AreAlike h g → (fault : CoreFault) → CannotSay space e h fault → CannotSay space e g fault
+cannot-say space e h g alike fault (inl short) = inl short
+cannot-say space e h g alike fault (inr (spent, by)) = inr (spent, spent-by-alike h g alike (cast_of space e) by)

@@ -1,5 +1,5 @@
 -- The app's effects after two histories that say the same.
-use Rattle.std.proofs.Common.{◌≡◌, ℕ, true, false, List, [], ◌∷◌, refl, sym, ◌∙◌, ap, subst, take, Option, None, Some, inl, inr}
+use Rattle.std.proofs.Common.{◌≡◌, ℕ, true, false, List, [], ◌∷◌, refl, sym, ◌∙◌, ap, subst, take, Option, None, Some, Result, Ok, Err, inl, inr}
 use Rattle.std.specs.Prelude.{is_some, ◌==◌, ◌&&◌}
 use Rattle.terms.specs.declared.entry.Entry.{Entry}
 use Rattle.connection.specs.History.{Left}
@@ -25,12 +25,13 @@ use Rattle.events.specs.declared.fault.Stopped.{Stopped}
 use Rattle.events.specs.Emission.{PlainEmission}
 use Rattle.events.specs.Selection.{PlainSelection}
 use Rattle.effects.specs.Commands.{Makes, IsRefused, StopsAt, IsSeated}
-use Rattle.effects.specs.Effects.{Scene, Closes, ChangesRooms, cast_of, Emits, told_to, Replies, Asks, goodbye, SaysGoodbye, Disconnects, all_joined, all_left, dismissed, is_among, EndsAll, Acts, ActsInTurn, is_bad, FailsToTell, FailsAt, FailsToEmit, FailsToReply, FailsToDisconnect, FailsToEndAll, FailsToAsk, Fails, Stops, StopsAfter}
+use Rattle.effects.specs.Effects.{Scene, Closes, ChangesRooms, Emits, told_to, Replies, Asks, goodbye, SaysGoodbye, Disconnects, all_joined, all_left, dismissed, is_among, EndsAll, Acts, ActsInTurn, is_bad, FailsToTell, FailsAt, FailsToEmit, FailsToReply, FailsToDisconnect, FailsToEndAll, FailsToAsk, Fails, Stops, StopsAfter}
 use Rattle.events.specs.Plain.{one_more, told}
-use Rattle.effects.specs.Runs.{Runs}
+use Rattle.effects.specs.Runs.{Runs, RunsOrFails}
+use Rattle.effects.specs.Saying.{work}
 use Rattle.epochs.specs.Epochs.{AreAlike}
 use Rattle.epochs.proofs.EpochSteps.{refusal-alike, Grown, grown-none, grown-on, grown-step, StaysSound}
-use Rattle.epochs.proofs.EpochCasts.{refusal_of-alike, spent-by-alike, cast-alike}
+use Rattle.epochs.proofs.EpochCasts.{says-alike, cannot-say}
 use Rattle.epochs.proofs.EpochLists.{any-alike, joining-alike, leaving-alike, dismissal-alike, joining-right, leaving-right, dismissal-right}
 
 -- the scene with another history
@@ -76,10 +77,9 @@ module _ (keeps : StaysSound) (now : ℕ) where
   )
 
   emits-alike : (who : Who) (e : PlainEmission) (s t : Scene) (g : History) → AreAlike s.history g → Emits who e now s t → Sim (Emits who e now) s t g
-  emits-alike who e s t g alike (free, done, cast, is) =
-      let both = cast-alike keeps s.history g t.history now (cast_of who e) done alike free cast in
-      let m = with_step g now (what.Cast cast.b) in
-      (m, both.0, (refusal_of-alike s.history g alike (cast_of who e) ∙ free, done, both.1, ap (λ (u : Scene). moved u m) is))
+  emits-alike who e s t g alike (says, is) =
+      let (m, grown, also) = says-alike keeps who.client who.space e now (work s.history s.done) (work t.history t.done) g alike says in
+      (m, grown, (also, ap (λ (u : Scene). moved u m) is))
 
   replies-alike : (who : Who) (id : ℕ) (r : reply.Reply) (s t : Scene) (g : History) → AreAlike s.history g → Replies who id r now s t → Sim (Replies who id r now) s t g
   replies-alike who id r s t g alike (entry, reads, inl (makes, is)) =
@@ -181,9 +181,8 @@ module _ (keeps : StaysSound) (now : ℕ) where
       inr (refused-alike h g alike (told_to who.client entry) hub.OutboxFull refused, stops-alike h g alike (what.Closed who.client) fault stops)
 
   fails-to-emit : (who : Who) (e : PlainEmission) (s : Scene) (fault : CoreFault) (t : Scene) (g : History) → AreAlike s.history g → FailsToEmit who e s fault t → Ends (FailsToEmit who e) s fault t g
-  fails-to-emit who e s fault t g alike (inl short, is) = (g, grown-none s.history t.history g alike (ap (λ (u : Scene). u.history) is), (inl short, ap (λ (u : Scene). moved u g) is))
-  fails-to-emit who e s fault t g alike (inr (spent, by), is) =
-      (g, grown-none s.history t.history g alike (ap (λ (u : Scene). u.history) is), (inr (spent, spent-by-alike s.history g alike (cast_of who e) by), ap (λ (u : Scene). moved u g) is))
+  fails-to-emit who e s fault t g alike (cannot, is) =
+      (g, grown-none s.history t.history g alike (ap (λ (u : Scene). u.history) is), (cannot-say who.space e s.history g alike fault cannot, ap (λ (u : Scene). moved u g) is))
 
   fails-to-reply : (who : Who) (id : ℕ) (r : reply.Reply) (s : Scene) (fault : CoreFault) (t : Scene) (g : History) → AreAlike s.history g → FailsToReply who id r now s fault t → Ends (FailsToReply who id r now) s fault t g
   fails-to-reply who id r s fault t g alike (is, inl short) = (g, grown-none s.history t.history g alike (ap (λ (u : Scene). u.history) is), (ap (λ (u : Scene). moved u g) is, inl short))
@@ -240,6 +239,18 @@ runs-alike history_of put R each (x ∷ xs) s t g alike (u, does, run) =
     let (m, grown, also) = each s x u g alike does in
     let (n, further, rest) = runs-alike history_of put R each xs u t m grown.alike run in
     (n, grown-on (history_of s) (history_of u) (history_of t) g m n grown further, (put u m, also, rest))
+
+-- also one that may fail
+pub runs-or-fails-alike : {S A E : Type 0} (history_of : S → History) (put : S → History → S) (R : S → A → Result (Unit {0}) E → S → Type 0)
+    → ((s : S) (x : A) (r : Result (Unit {0}) E) (t : S) (g : History) → AreAlike (history_of s) g → R s x r t → (m : History) × Grown (history_of s) (history_of t) g m × R (put s g) x r (put t m))
+    → (xs : List A) (s : S) (r : Result (Unit {0}) E) (t : S) (g : History) → AreAlike (history_of s) g → RunsOrFails R xs s r t
+    → (m : History) × Grown (history_of s) (history_of t) g m × RunsOrFails R xs (put s g) r (put t m)
+runs-or-fails-alike history_of put R each xs s (Ok x) t g alike run =
+    runs-alike history_of put (λ a y b. R a y (Ok tt) b) (λ a y b k same does. each a y (Ok tt) b k same does) xs s t g alike run
+runs-or-fails-alike history_of put R each xs s (Err e) t g alike (done, at, run, x, there, fails) =
+    let (m, grown, also) = runs-alike history_of put (λ a y b. R a y (Ok tt) b) (λ a y b k same does. each a y (Ok tt) b k same does) (take done xs) s at g alike run in
+    let (n, further, ends) = each at x (Err e) t m grown.alike fails in
+    (n, grown-on (history_of s) (history_of at) (history_of t) g m n grown further, (done, put at m, also, x, there, ends))
 
 module _ (keeps : StaysSound) (now : ℕ) where
   pub effects-alike : (who : Who) (effects : List Effect) (s t : Scene) (g : History) → AreAlike s.history g → Runs (ActsInTurn who now) effects s t → Sim (Runs (ActsInTurn who now) effects) s t g

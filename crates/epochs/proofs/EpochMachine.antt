@@ -12,10 +12,12 @@ use Rattle.connection.specs.Line.{PlainLine}
 use Rattle.recovery.specs.PacketLog.{PlainLogged}
 use Rattle.recovery.specs.SavedTable.{PlainSaved}
 use Rattle.journal.specs.declared.answers.Swept.{Swept}
+use Rattle.journal.specs.declared.ending.Ending.{Ending}
 use Rattle.journal.specs.declared.error.HubError.TheVariants as hub
 use Rattle.journal.specs.declared.step.What.TheVariants as what
 use Rattle.journal.specs.Journal.{History, with_step}
 use Rattle.journal.specs.Membership.{is_open}
+use Rattle.hub_state.specs.Departing.{PlainDeparted}
 use Rattle.events.specs.declared.app.Arrived.{Arrived}
 use Rattle.events.specs.declared.app.Effect.{Effect}
 use Rattle.events.specs.declared.app.Who.{Who}
@@ -25,22 +27,26 @@ use Rattle.events.specs.declared.fault.CoreFault.{CoreFault}
 use Rattle.events.specs.declared.fault.CoreFault.TheVariants.{Memory, UnknownClient}
 use Rattle.events.specs.App.{PlainVerdict}
 use Rattle.effects.specs.Commands.{Drops}
+use Rattle.effects.specs.Departed.{ended_since}
 use Rattle.events.specs.declared.event.Event.{Event}
 use Rattle.events.specs.declared.event.Event.TheVariants as event
 use Rattle.events.specs.declared.event.WsFrame.{WsFrame}
 use Rattle.events.specs.declared.outcome.Outcome.TheVariants as outcome
 use Rattle.events.specs.Answer.{Answer}
+use Rattle.events.specs.Event.{client_of}
 use Rattle.dispatch.specs.Answers.{Refused, AdvancesLine, ClosesUnread, ForClient}
 use Rattle.epochs.specs.Epochs.{AreAlike}
 use Rattle.dispatch.specs.Frames.{is_too_long, SendsFor}
 use Rattle.dispatch.specs.Takes.{TakesFor}
-use Rattle.dispatch.specs.Machine.{Opens, Begins, Ends, Takes, TakesFrames, Loses, opening, WorksOn, Posts, PostsFor, HearsFrame, HearsOne, Hears, HearsFor, Does}
+use Rattle.dispatch.specs.Hearing.{HearsAfter}
+use Rattle.dispatch.specs.Machine.{Opens, Begins, Ends, Takes, TakesFrames, Loses, opening, WorksOn, Posts, PostsFor, HearsFrame, HearsOne, Hears, HearsFor, Row, Does}
 use Rattle.dispatch.specs.Packets.{stage}
 use Rattle.dispatch.specs.Place.{Place, HasLine}
 use Rattle.dispatch.specs.Upgrade.{Probes, ProbesOn, EndsProbe, EndsProbeOn}
 use Rattle.dispatch.specs.Upkeep.{Ticks, TicksOn, Sweeps}
-use Rattle.epochs.proofs.EpochSteps.{Grown, grown-none, StaysSound}
+use Rattle.epochs.proofs.EpochSteps.{Grown, grown-none, grown-on, ended-alike, StaysSound}
 use Rattle.epochs.proofs.EpochEffects.{make-alike, refused-alike, stops-alike}
+use Rattle.epochs.proofs.EpochHearing.{after-alike}
 use Rattle.epochs.proofs.EpochPackets.{parks-or-closes, fails-to-park, packets-alike, breaks-alike}
 use Rattle.epochs.proofs.EpochTakes.{SimBoth, takes-for, sends-for}
 
@@ -131,11 +137,11 @@ module _ (keeps : StaysSound) (now : ℕ) (s t : Place) (g : History) (alike : A
       let (m, grown, also) = has-line keeps now s t g alike (Err e) c (λ after h k. SendsFor c most now (Err e.fault) h k line after) (λ after does. sends-for keeps c most now s.history t.history g alike known line after (Err e.fault) does) has in (m, grown, (is, also))
 
   loses-alike : (c : ℕ) (answer : Answer) → Loses now c s answer t → SimPlace (λ a b. Loses now c a answer b) s t g
-  loses-alike c (Ok (outcome.Lost true)) (makes, lost) =
-      let both = make-alike keeps now s.history g t.history alike (what.Parked c) tt makes in (with_step g now (what.Parked c), both.0, (both.1, lost))
-  loses-alike c (Ok (outcome.Lost false)) (refusal, makes, lost) =
+  loses-alike c (Ok (outcome.Lost true done)) (nothing, makes, lost) =
+      let both = make-alike keeps now s.history g t.history alike (what.Parked c) tt makes in (with_step g now (what.Parked c), both.0, (nothing, both.1, lost))
+  loses-alike c (Ok (outcome.Lost false done)) (nothing, refusal, makes, lost) =
       let both = make-alike keeps now s.history g t.history alike (what.Closed c) tt makes in
-      (with_step g now (what.Closed c), both.0, (refused-alike keeps now s.history g alike (what.Parked c) hub.SavedFull refusal, both.1, lost))
+      (with_step g now (what.Closed c), both.0, (nothing, refused-alike keeps now s.history g alike (what.Parked c) hub.SavedFull refusal, both.1, lost))
   loses-alike c (Ok _) none = absurd none
   loses-alike c (Err e) ((is, same, lines), fails) = (g, grown-none s.history t.history g alike same, ((is, refl, lines), fails-to-park keeps now c s.history g alike e.fault fails))
 
@@ -238,29 +244,44 @@ module _ (keeps : StaysSound) (now : ℕ) (s t : Place) (g : History) (alike : A
         on None (refusal, drawn) = let (m, grown, also) = refused keeps now s t g alike answer _ refusal in (m, grown, (also, drawn))
         on (Some line) does = hears-alike c frame answer line does
 
-    -- ---- an event
+    -- ---- the row of an event
 
-    pub does-alike : OfOpen s → (timing : Timing) (numbers : Numbers) (happened : Event) (answer : Answer) → Does decides allows now timing numbers happened s ids answer t left
-        → SimPlace (λ a b. Does decides allows now timing numbers happened a ids answer b left) s t g
-    does-alike known timing numbers (event.Opened socket) answer (does, drawn) = let (m, grown, also) = opens-alike timing numbers socket (ids 0) answer does in (m, grown, (also, drawn))
-    does-alike known timing numbers (event.Post c body) answer does = posts-for c body answer does
-    does-alike known timing numbers (event.Frame c frame) answer does = hears-for c frame answer does
-    does-alike known timing numbers (event.PollBegin c) answer (does, drawn) =
+    row-alike : OfOpen s → (timing : Timing) (numbers : Numbers) (happened : Event) (answer : Answer) → Row decides allows now timing numbers happened s ids answer t left
+        → SimPlace (λ a b. Row decides allows now timing numbers happened a ids answer b left) s t g
+    row-alike known timing numbers (event.Opened socket) answer (does, drawn) = let (m, grown, also) = opens-alike timing numbers socket (ids 0) answer does in (m, grown, (also, drawn))
+    row-alike known timing numbers (event.Post c body) answer does = posts-for c body answer does
+    row-alike known timing numbers (event.Frame c frame) answer does = hears-for c frame answer does
+    row-alike known timing numbers (event.PollBegin c) answer (does, drawn) =
         let (m, grown, also) = for-client keeps now s t g alike answer c (Begins now c) (λ line is row. begins-alike c answer line row) does in (m, grown, (also, drawn))
-    does-alike known timing numbers (event.PollEnd c) answer (does, drawn) =
+    row-alike known timing numbers (event.PollEnd c) answer (does, drawn) =
         let (m, grown, also) = for-client keeps now s t g alike answer c (Ends c) (λ line is row. ends-alike c answer line row) does in (m, grown, (also, drawn))
-    does-alike known timing numbers (event.PollTake c most) answer (does, drawn) =
+    row-alike known timing numbers (event.PollTake c most) answer (does, drawn) =
         let (m, grown, also) = for-client keeps now s t g alike answer c (Takes now c most) (λ line is row. takes-alike c most answer line (known c line is) row) does in (m, grown, (also, drawn))
-    does-alike known timing numbers (event.FrameTake c most) answer (does, drawn) =
+    row-alike known timing numbers (event.FrameTake c most) answer (does, drawn) =
         let (m, grown, also) = for-client keeps now s t g alike answer c (TakesFrames now c most) (λ line is row. takes-frames c most answer line (known c line is) row) does in (m, grown, (also, drawn))
-    does-alike known timing numbers (event.Probe c) answer (does, drawn) =
+    row-alike known timing numbers (event.Probe c) answer (does, drawn) =
         let (m, grown, also) = for-client keeps now s t g alike answer c (Probes c) (λ line is row. probes-alike c answer line row) does in (m, grown, (also, drawn))
-    does-alike known timing numbers (event.Upgraded c) answer (does, drawn) =
+    row-alike known timing numbers (event.Upgraded c) answer (does, drawn) =
         let (m, grown, also) = for-client keeps now s t g alike answer c (EndsProbe Upgraded c) (λ line is row. ends-probe Upgraded c answer line row) does in (m, grown, (also, drawn))
-    does-alike known timing numbers (event.ProbeLost c) answer (does, drawn) =
+    row-alike known timing numbers (event.ProbeLost c) answer (does, drawn) =
         let (m, grown, also) = for-client keeps now s t g alike answer c (EndsProbe ProbeLost c) (λ line is row. ends-probe ProbeLost c answer line row) does in (m, grown, (also, drawn))
-    does-alike known timing numbers (event.TransportLost c) answer (does, drawn) =
+    row-alike known timing numbers (event.TransportLost c) answer (does, drawn) =
         let (m, grown, also) = for-client keeps now s t g alike answer c (λ line. Loses now c) (λ line is row. loses-alike c answer row) does in (m, grown, (also, drawn))
-    does-alike known timing numbers (event.Tick c) answer (does, drawn) =
+    row-alike known timing numbers (event.Tick c) answer (does, drawn) =
         let (m, grown, also) = for-client keeps now s t g alike answer c (Ticks now c) (λ line is row. ticks-alike c answer line row) does in (m, grown, (also, drawn))
-    does-alike known timing numbers event.Sweep answer (does, drawn) = let (m, grown, also) = sweeps-alike answer does in (m, grown, (also, drawn))
+    row-alike known timing numbers event.Sweep answer (does, drawn) = let (m, grown, also) = sweeps-alike answer does in (m, grown, (also, drawn))
+
+-- ---- an event
+
+module _ (keeps : StaysSound) (now : ℕ) (s t : Place) (g : History) (alike : AreAlike s.history g)
+    (decides : Who → Arrived → List Effect → Type 0) (allows : (space payload : List ℕ) → PlainVerdict → Type 0) (leaves : Who → (rooms : List (List ℕ)) → Ending → List Effect → Type 0) (ids left : ℕ → ℕ) where
+  pub does-alike : OfOpen s → (timing : Timing) (numbers : Numbers) (happened : Event) (answer : Answer) → Does decides allows leaves now timing numbers happened s ids answer t left
+      → SimPlace (λ a b. Does decides allows leaves now timing numbers happened a ids answer b left) s t g
+  does-alike known timing numbers happened answer (h, said, row, heard) =
+      let (m, grown, also) = row-alike keeps now s (put t h) g alike decides allows ids left known timing numbers happened said row in
+      let (n, further, hears) = after-alike keeps leaves now (ended_since s.history h) h t.history m grown.alike said answer (client_of happened) heard in
+      let same = ended-alike s.history h g m grown in (
+        n,
+        grown-on s.history h t.history g m n grown further,
+        (m, said, also, subst (λ (ended : List PlainDeparted). HearsAfter leaves now (client_of happened) ended m said answer n) (sym same) hears),
+      )

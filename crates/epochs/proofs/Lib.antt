@@ -1,6 +1,8 @@
 mod EpochAccounts
 mod EpochCasts
+mod EpochDeparted
 mod EpochEffects
+mod EpochHearing
 mod EpochLaws
 mod EpochLists
 mod EpochMachine

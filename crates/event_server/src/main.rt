@@ -6,7 +6,7 @@ use arguments::options::Options;
 use arguments::refused::tell_refused;
 use arguments::task::{Task, read_arguments};
 use guarded::Guarded;
-use relay::RelayApp;
+use relay::{Presence, RelayApp};
 use script::play_script;
 use serving::{end_with, listen, processors, serve, wait_for_end};
 use std::process::ExitCode;
@@ -16,20 +16,25 @@ use terms::Text;
 /// The program's name.
 const NAME: &str = "event_server";
 
-/// The demonstration app, behind this token if there is one.
-fn app(token: Option<Text>) -> Guarded<RelayApp> {
+/// The demonstration app, which tells of sockets that have ended or doesn't, behind this token if
+/// there is one.
+fn app(tells: bool, token: Option<Text>) -> Guarded<Presence<RelayApp>> {
     Guarded {
-        app: RelayApp,
+        app: Presence {
+            app: RelayApp,
+            tells,
+        },
         token,
     }
 }
 
 fn main(rt: HostRuntime) -> ExitCode {
     match read_arguments(&rt, processors(&rt)) {
-        Ok(Task::Script) => end_with(&rt, NAME, play_script(&rt, &app(None))),
+        Ok(Task::Script) => end_with(&rt, NAME, play_script(&rt, &app(false, None))),
         Ok(Task::Serve(options)) => {
             let Options {
                 settings,
+                tell_left,
                 until_eof,
                 verbose,
                 token,
@@ -44,7 +49,7 @@ fn main(rt: HostRuntime) -> ExitCode {
                             let _ = thread::spawn(&rt, move || wait_for_end(&rt, &shared));
                         }
                     }
-                    end_with(&rt, NAME, serve(&rt, server, &app(token)))
+                    end_with(&rt, NAME, serve(&rt, server, &app(tell_left, token)))
                 }
                 Err(fault) => end_with(&rt, NAME, Err(fault)),
             }

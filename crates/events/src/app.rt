@@ -1,6 +1,7 @@
 //! What the server asks of the app, and where the ids come from.
 
 ghost use Rattle.std.specs.Prelude.{◌≡◌, ◌+◌, ℕ, List, IfOk};
+ghost use Rattle.journal.specs.declared.ending.Ending.{Ending};
 ghost use Rattle.events.specs.declared.app.Arrived.{Arrived};
 ghost use Rattle.events.specs.declared.app.Effect.{Effect};
 ghost use Rattle.events.specs.declared.app.Who.{Who};
@@ -8,10 +9,11 @@ ghost use Rattle.events.specs.App.{PlainVerdict, plain_verdict, IsCleanVerdict, 
 
 use crate::emission::Emission;
 use crate::selection::Selection;
+use journal::Ending;
 use std::alloc::{AllocError, Global};
 use terms::{Attachments, Room, Sid, Text};
 
-/// The socket that an event came from.
+/// The socket that an event came from, or that has ended.
 #[derive(Debug, Drop)]
 pub struct Who {
     /// The session id of its Engine.IO connection.
@@ -115,6 +117,8 @@ pub trait App {
 
     ghost decides: { Self → Who → Arrived → List Effect → Type 0 };
 
+    ghost leaves: { Self → Who → (rooms : List (List ℕ)) → Ending → List Effect → Type 0 };
+
     /// Whether a client may connect to a namespace, with the payload that it sent.
     fn connects(&self, alloc: Global, space: &str, payload: &str) -> Result<Verdict, AllocError>
         ensures allowed { IfOk result (λ verdict.
@@ -133,6 +137,19 @@ pub trait App {
             decides self.now who.now arrived.now effects.items) }
         ensures clean { IfOk result (λ effects.
             IsCleanArrival arrived.now → AllClean effects.items) };
+
+    /// What is done where a socket has ended, which was in these rooms, its own among them. It can
+    /// do nothing any more, so of all effects only `Emit` may follow.
+    fn left(
+        &self,
+        alloc: Global,
+        who: &Who,
+        rooms: &[Room],
+        ending: Ending,
+    ) -> Result<Vec<Effect>, AllocError>
+        ensures left { IfOk result (λ effects.
+            leaves self.now who.now rooms.now ending effects.items) }
+        ensures clean { IfOk result (λ effects. AllClean effects.items) };
 }
 
 /// Where the ids come from: the numbers that it will give are known to it.

@@ -1,6 +1,6 @@
 //! What was done of an event.
 
-ghost use Rattle.std.specs.Prelude.{◌≡◌};
+ghost use Rattle.std.specs.Prelude.{◌≡◌, Some};
 ghost use Rattle.events.specs.Plain.{nothing_done};
 
 use crate::cause::Cause;
@@ -55,5 +55,14 @@ impl Done {
             closed: None,
             clients: Receivers::new(alloc),
         }
+    }
+
+    /// Nothing was done, and the client was closed.
+    pub fn closed(alloc: Global, cause: Cause) -> Done
+        ensures { result ≡ record nothing_done { closed = Some cause } }
+    {
+        let mut done = Done::nothing(alloc);
+        done.closed = Some(cause);
+        done
     }
 }

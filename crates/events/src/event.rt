@@ -1,5 +1,8 @@
 //! What happens to the server.
 
+ghost use Rattle.std.specs.Prelude.{◌≡◌};
+ghost use Rattle.events.specs.Event.{client_of};
+
 use terms::{Bytes, Text};
 
 /// Something that happens to the server: a request of a client, or the loss of it; and what the
@@ -32,6 +35,28 @@ pub enum Event {
     Tick { client: u128 },
     /// What the hub keeps no longer is dropped.
     Sweep,
+}
+
+impl Event {
+    /// The client that the event is of, or `None` where it opens one, or is of no client.
+    pub fn client(&self) -> Option<u128>
+        ensures { result ≡ client_of self.now }
+    {
+        match self {
+            Event::Opened { .. } | Event::Sweep => None,
+            Event::Post { client, .. }
+            | Event::Frame { client, .. }
+            | Event::PollBegin { client }
+            | Event::PollEnd { client }
+            | Event::PollTake { client, .. }
+            | Event::FrameTake { client, .. }
+            | Event::Probe { client }
+            | Event::Upgraded { client }
+            | Event::ProbeLost { client }
+            | Event::TransportLost { client }
+            | Event::Tick { client } => Some(*client),
+        }
+    }
 }
 
 /// A message of a WebSocket.

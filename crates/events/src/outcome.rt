@@ -2,7 +2,6 @@
 
 ghost use Rattle.std.specs.Prelude.{◌≡◌};
 
-use crate::cause::Cause;
 use crate::done::Done;
 use crate::event::WsFrame;
 use journal::Swept;
@@ -26,10 +25,11 @@ pub enum Outcome {
     Nothing,
     /// A probe runs, and this text answers it.
     Probed(Text),
-    /// The client is gone, and its sessions were saved or not.
-    Lost { saved: bool },
-    /// A ping is due now or not, and why the client was given up, where it was.
-    Ticked { ping: bool, closed: Option<Cause> },
+    /// The client is gone, and its sessions were saved or not. The app may have sent events then.
+    Lost { saved: bool, done: Done },
+    /// A ping is due now or not, and the client was given up where it was closed. The app may have
+    /// sent events then.
+    Ticked { ping: bool, done: Done },
     /// So much was dropped.
     Swept(Swept),
 }

@@ -4,9 +4,10 @@ ghost use Rattle.std.specs.Prelude.{◌≡◌, IfOk};
 ghost use Rattle.guarded.specs.Guarded.{has_token};
 
 use events::{App, Arrived, Effect, Verdict, Who};
+use journal::Ending;
 use serde_json::{Category, Value};
 use std::alloc::{AllocError, Global};
-use terms::Text;
+use terms::{Room, Text};
 
 /// What a client without the token is told.
 const NOT_ALLOWED: &str = "Not allowed";
@@ -28,6 +29,9 @@ impl<A: App> App for Guarded<A> {
 
     ghost decides = { λ guarded who arrived effects. A.decides guarded.app who arrived effects };
 
+    ghost leaves = { λ guarded who rooms ending effects.
+        A.leaves guarded.app who rooms ending effects };
+
     fn connects(&self, alloc: Global, space: &str, payload: &str) -> Result<Verdict, AllocError> {
         if let Some(token) = &self.token {
             if !has_token(alloc, token.as_str(), payload)? {
@@ -44,6 +48,16 @@ impl<A: App> App for Guarded<A> {
         arrived: &Arrived,
     ) -> Result<Vec<Effect>, AllocError> {
         self.app.decides(alloc, who, arrived)
+    }
+
+    fn left(
+        &self,
+        alloc: Global,
+        who: &Who,
+        rooms: &[Room],
+        ending: Ending,
+    ) -> Result<Vec<Effect>, AllocError> {
+        self.app.left(alloc, who, rooms, ending)
     }
 }
 

@@ -1,7 +1,9 @@
 -- What a worker does with its pass, its ids and its peers.
 use Rattle.std.specs.Prelude.{◌≡◌, ◌⊎◌, ℕ, ◌≤◌, Bool, true, false, Option, Some, None, option_map, Result, Ok, Err, IfOk, is_ok, List, [], ◌∷◌, ◌++◌, length, map, min, sum_by, if◌then◌else◌}
 use Rattle.std.specs.Iterator.{Drains}
+use Rattle.std.specs.Option.{option_or}
 use Rattle.std.specs.List.{FoldsTo}
+use Rattle.journal.specs.declared.ending.Ending.{Ending}
 use Rattle.events.specs.declared.app.Arrived.{Arrived}
 use Rattle.events.specs.declared.app.Effect.{Effect}
 use Rattle.events.specs.declared.app.Who.{Who}
@@ -13,6 +15,7 @@ use Rattle.events.specs.declared.event.Event.{Event}
 use Rattle.events.specs.declared.event.Event.TheVariants as event
 use Rattle.events.specs.declared.outcome.Outcome.TheVariants as outcome
 use Rattle.events.specs.Answer.{Answer}
+use Rattle.events.specs.Event.{client_of}
 use Rattle.dispatch.specs.Handed.{Turn, Handed}
 use Rattle.dispatch.specs.Machine.{Does, IsOf, listed}
 use Rattle.dispatch.specs.Place.{PlainCore, place}
@@ -28,12 +31,12 @@ pub record Desk : Type 0 where
 abbrev pub desk : PlainPass → (ids : ℕ → ℕ) → Desk
 desk pass ids = record { pass = pass; ids = ids }
 
-module _ (decides : Who → Arrived → List Effect → Type 0) (allows : (space payload : List ℕ) → PlainVerdict → Type 0) where
+module _ (decides : Who → Arrived → List Effect → Type 0) (allows : (space payload : List ℕ) → PlainVerdict → Type 0) (leaves : Who → (rooms : List (List ℕ)) → Ending → List Effect → Type 0) where
   -- the event was applied to a core at its moment, with the worker's ids, and counted in its pass. The core was sound, and
   -- is again; both times it had counted at least what the pass had, and by the turn its journal only grew, by the steps
   -- that the pass counts
   pub record Applied (event : Event) (now : ℕ) (before : PlainCore) (old : Desk) (got : Answer) (after : PlainCore) (new : Desk) : Type 0 where
-    pub does : Does decides allows now before.timing before.numbers event (place before.hub.history before.lines) old.ids got (place after.hub.history after.lines) new.ids
+    pub does : Does decides allows leaves now before.timing before.numbers event (place before.hub.history before.lines) old.ids got (place after.hub.history after.lines) new.ids
     pub settings : (after.timing ≡ before.timing) × (after.numbers ≡ before.numbers)
     pub handed : (c : ℕ) (turns : List Turn) → Handed c turns before.hub.history → Handed c ((event, got) ∷ turns) after.hub.history
     pub turns : (c : ℕ) → IsOf event old.ids c → TurnsFor c before.hub after.hub old.pass new.pass
@@ -45,22 +48,14 @@ module _ (decides : Who → Arrived → List Effect → Type 0) (allows : (space
 
 -- ---- a connection that is lost
 
--- the client that an event is of; for one that opens a client, the one that was opened; a sweep is of none
-abbrev pub client_of : Event → Answer → Option ℕ
-client_of (event.Opened socket) (Ok (outcome.Opened o)) = Some o.client
-client_of (event.Opened socket) got = None
-client_of (event.Post c body) got = Some c
-client_of (event.Frame c frame) got = Some c
-client_of (event.PollBegin c) got = Some c
-client_of (event.PollEnd c) got = Some c
-client_of (event.PollTake c most) got = Some c
-client_of (event.FrameTake c most) got = Some c
-client_of (event.Probe c) got = Some c
-client_of (event.Upgraded c) got = Some c
-client_of (event.ProbeLost c) got = Some c
-client_of (event.TransportLost c) got = Some c
-client_of (event.Tick c) got = Some c
-client_of event.Sweep got = None
+-- the client that was opened
+abbrev pub opened_in : Answer → Option ℕ
+opened_in (Ok (outcome.Opened o)) = Some o.client
+opened_in _ = None
+
+-- the client whom a fault loses that follows: the event's own, or the one that was opened
+abbrev pub lost_by : Event → Answer → Option ℕ
+lost_by happened got = option_or (client_of happened) (opened_in got)
 
 -- a turn at the core that a worker takes of its own: the core as it was lent, the answer, and the core as it was given back
 pub record Attempt : Type 0 where
@@ -68,11 +63,11 @@ pub record Attempt : Type 0 where
   pub got : Answer
   pub after : PlainCore
 
-module _ (decides : Who → Arrived → List Effect → Type 0) (allows : (space payload : List ℕ) → PlainVerdict → Type 0) where
+module _ (decides : Who → Arrived → List Effect → Type 0) (allows : (space payload : List ℕ) → PlainVerdict → Type 0) (leaves : Who → (rooms : List (List ℕ)) → Ending → List Effect → Type 0) where
   -- the core was told that the client's connection is lost, up to three times until it accepted that
   pub record TellsLost (client now : ℕ) (old new : Desk) : Type 0 where
     pub attempts : List Attempt
-    pub told : FoldsTo (λ (d : Desk) (a : Attempt) (e : Desk). Applied decides allows (event.TransportLost client) now a.before d a.got a.after e) old attempts new
+    pub told : FoldsTo (λ (d : Desk) (a : Attempt) (e : Desk). Applied decides allows leaves (event.TransportLost client) now a.before d a.got a.after e) old attempts new
     pub tries : AreTries (map (λ a. a.got) attempts)
 
   -- where there is no such client, nothing was done
@@ -100,19 +95,19 @@ pub record Round : Type 0 where
 -- the client of the last round, with its moment
 abbrev pub last_client : Option (ℕ × ℕ) → List Round → Option (ℕ × ℕ)
 last_client known [] = known
-last_client known (r ∷ rounds) = last_client (option_map (λ c. (c, r.now)) (client_of r.event r.got)) rounds
+last_client known (r ∷ rounds) = last_client (option_map (λ c. (c, r.now)) (lost_by r.event r.got)) rounds
 
 -- the answer of the last round wasn't heard
 abbrev pub IsUnheard : List Round → Type 0
 IsUnheard rounds = (before : List Round) × (last : Round) × (rounds ≡ before ++ last ∷ []) × (last.heard ≡ false)
 
 module _ {P : Type 0} (gives : P → Result (Option (Event × ℕ)) PeerFault → P → Type 0) (hears : P → Answer → Result (Unit {0}) PeerFault → P → Type 0)
-    (decides : Who → Arrived → List Effect → Type 0) (allows : (space payload : List ℕ) → PlainVerdict → Type 0) where
+    (decides : Who → Arrived → List Effect → Type 0) (allows : (space payload : List ℕ) → PlainVerdict → Type 0) (leaves : Who → (rooms : List (List ℕ)) → Ending → List Effect → Type 0) where
   -- the peer gave the event, it was applied to the core as it was lent, and the peer heard that very answer
   pub record Serves (old : P × Desk) (r : Round) (new : P × Desk) : Type 0 where
     pub asking : P
     pub gave : gives old.0 (Ok (Some (r.event, r.now))) asking
-    pub applied : Applied decides allows r.event r.now r.before old.1 r.got r.after new.1
+    pub applied : Applied decides allows leaves r.event r.now r.before old.1 r.got r.after new.1
     pub reply : Result (Unit {0}) PeerFault
     pub heard_is : r.heard ≡ is_ok reply
     pub told : hears asking r.got reply new.0
@@ -136,7 +131,7 @@ module _ {P : Type 0} (gives : P → Result (Option (Event × ℕ)) PeerFault �
     pub lost : Option (ℕ × ℕ)
     pub between : Desk
     pub talk : Talks turns old failed lost (new.0, between)
-    pub told : TellsWhere decides allows failed lost between new.1
+    pub told : TellsWhere decides allows leaves failed lost between new.1
 
 -- ---- one worker
 
@@ -151,12 +146,12 @@ abbrev pub failures : {P : Type 0} → List (Handled P) → ℕ
 failures handled = sum_by (λ h. (if h.failed then 1 else 0)) handled
 
 module _ {P S : Type 0} (next_gives : S → Option P → S → Type 0) (gives : P → Result (Option (Event × ℕ)) PeerFault → P → Type 0) (hears : P → Answer → Result (Unit {0}) PeerFault → P → Type 0)
-    (decides : Who → Arrived → List Effect → Type 0) (allows : (space payload : List ℕ) → PlainVerdict → Type 0) where
+    (decides : Who → Arrived → List Effect → Type 0) (allows : (space payload : List ℕ) → PlainVerdict → Type 0) (leaves : Who → (rooms : List (List ℕ)) → Ending → List Effect → Type 0) where
   -- the worker served all peers of its source, each with its desk as the one before left it, and counted them; the
   -- counts stay at the greatest usize
   pub record WorksOff (turns : ℕ) (source : S) (old : Desk) (peers faults : ℕ) (new : Desk) : Type 0 where
     pub handled : List (Handled P)
     pub given : Drains next_gives source (map (λ h. h.given) handled)
-    pub served : FoldsTo (λ (d : Desk) (h : Handled P) (e : Desk). ServesAll gives hears decides allows turns (h.given, d) h.failed (h.left, e)) old handled new
+    pub served : FoldsTo (λ (d : Desk) (h : Handled P) (e : Desk). ServesAll gives hears decides allows leaves turns (h.given, d) h.failed (h.left, e)) old handled new
     pub peers_is : peers ≡ min (length handled) 18446744073709551615
     pub faults_is : faults ≡ min (failures handled) 18446744073709551615

@@ -96,7 +96,8 @@ impl<C: Ledger, T: Ledger, A: App, P: Peer, I: IdSource> Promise<Finished<C, T>>
     ghost use Rattle.hub_gate.specs.Serving.{WorksAs};
 
     ghost kept_by = { λ s finished. WorksAs P.gives P.hears (A.decides s.app.value)
-        (A.allows s.app.value) s.turns (into_iter_items s.job.value.queue.peers)
+        (A.allows s.app.value)
+        (A.leaves s.app.value) s.turns (into_iter_items s.job.value.queue.peers)
         (I.stream s.job.value.ids) finished.counts };
 }
 
@@ -136,6 +137,7 @@ pub fn serve_peers<
     ensures counted { IfOk result (λ s. AreCounted pass.new s.core.value s.report.totals) }
     ensures works { IfOk result (λ s. (vec_len s.report.workers ≡ workers)
         × AreServed P.gives P.hears (A.decides pool.now.app.now) (A.allows pool.now.app.now)
+        (A.leaves pool.now.app.now)
         I.stream pool.now.turns workers peers.items ids.items s.report.workers.items) }
     ensures refused { MatchResult result (λ r. (0 < workers) × (workers ≤ 1024))
         (λ e. IsRefused workers pass.old pass.new e) }
@@ -233,7 +235,8 @@ fn run_all<
     I: IdSource + Send + Drop,
 >(pool: &Pool<R, C, T, A, G>, jobs: Vec<Job<C, T, P, I>>) -> Result<Vec<Finished<C, T>>, ServeError>
     ensures work { IfOk result (λ v. AllZip (λ job f. WorksAs P.gives P.hears
-        (A.decides pool.now.app.now) (A.allows pool.now.app.now) pool.now.turns
+        (A.decides pool.now.app.now) (A.allows pool.now.app.now)
+        (A.leaves pool.now.app.now) pool.now.turns
         (into_iter_items job.queue.peers) (I.stream job.ids) f.counts) jobs.items v.items) }
     ensures len { IfOk result (λ v. vec_len v ≡ vec_len jobs) }
     ensures error { IfErr result IsFromStarting }
@@ -244,6 +247,7 @@ fn run_all<
         |scope| -> Result<Vec<Finished<C, T>>, ServeError>
             ensures work { IfOk result (λ v. AllZip (λ job f. WorksAs P.gives P.hears
                 (A.decides pool.entry.now.app.now) (A.allows pool.entry.now.app.now)
+                (A.leaves pool.entry.now.app.now)
                 pool.entry.now.turns (into_iter_items job.queue.peers) (I.stream job.ids)
                 f.counts) jobs.items v.items) }
             ensures len { IfOk result (λ v. vec_len v ≡ vec_len jobs) }
@@ -322,6 +326,7 @@ fn work<R: Wait, C: Ledger, T: Ledger, A: App, P: Peer + Drop, G: Turnstile, I: 
     job: Job<C, T, P, I>,
 ) -> Finished<C, T>
     ensures { WorksAs P.gives P.hears (A.decides pool.now.app.now) (A.allows pool.now.app.now)
+        (A.leaves pool.now.app.now)
         pool.now.turns (into_iter_items job.queue.peers) (I.stream job.ids) result.counts }
 {
     let Job {

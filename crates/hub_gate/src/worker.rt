@@ -1,7 +1,7 @@
 //! One worker: it serves its peers one after another, and holds the lock for `Core::apply` alone.
 
 ghost use Rattle.std.specs.Prelude.{◌≡◌, ◌+◌, option_map};
-ghost use Rattle.hub_gate.specs.Turns.{Applied, ServesAll, Talks, TellsLost, WorksOff, client_of, desk};
+ghost use Rattle.hub_gate.specs.Turns.{Applied, ServesAll, Talks, TellsLost, WorksOff, desk, lost_by};
 
 use crate::locked::{Turn, apply_counted};
 use crate::peer::{PeerSource, Turnstile};
@@ -26,27 +26,16 @@ pub struct WorkerCounts {
 }
 
 /// Whom a fault that follows the event loses, with the event's moment: the client that the event is
-/// of; for one that opens a client, the one that was opened. A sweep is of none.
+/// of, or the one that was opened. A sweep is of none.
 fn lost_after(event: &Event, got: &Result<Outcome, CoreError>, now: u64) -> Option<(u128, u64)>
-    ensures { result ≡ option_map (λ c. (c, now)) (client_of event.now got.now) }
+    ensures { result ≡ option_map (λ c. (c, now)) (lost_by event.now got.now) }
 {
-    match event {
-        Event::Opened { .. } => match got {
-            Ok(Outcome::Opened(opening)) => Some((opening.client, now)),
-            _ => None,
-        },
-        Event::Post { client, .. }
-        | Event::Frame { client, .. }
-        | Event::PollBegin { client }
-        | Event::PollEnd { client }
-        | Event::PollTake { client, .. }
-        | Event::FrameTake { client, .. }
-        | Event::Probe { client }
-        | Event::Upgraded { client }
-        | Event::ProbeLost { client }
-        | Event::TransportLost { client }
-        | Event::Tick { client } => Some((*client, now)),
-        Event::Sweep => None,
+    if let Some(client) = event.client() {
+        return Some((client, now));
+    }
+    match got {
+        Ok(Outcome::Opened(opening)) => Some((opening.client, now)),
+        _ => None,
     }
 }
 
@@ -59,7 +48,8 @@ impl<R: Wait, C: Ledger, T: Ledger, A: App, G: Turnstile> Pool<'_, R, C, T, A, G
         now: u64,
         ids: &mut I,
     ) -> Turn<C, T>
-        ensures { Applied (A.decides self.now.app.now) (A.allows self.now.app.now) event.now now
+        ensures { Applied (A.decides self.now.app.now) (A.allows self.now.app.now)
+            (A.leaves self.now.app.now) event.now now
             result.before.value (desk pass.old (I.stream ids.old)) result.got
             result.after.value (desk pass.new (I.stream ids.new)) }
     {
@@ -73,7 +63,8 @@ impl<R: Wait, C: Ledger, T: Ledger, A: App, G: Turnstile> Pool<'_, R, C, T, A, G
 
     /// Tells the core that a client is lost, up to three times until it accepts that.
     fn tell_lost<I: IdSource>(&self, pass: &mut Pass<C, T>, client: u128, now: u64, ids: &mut I)
-        ensures { TellsLost (A.decides self.now.app.now) (A.allows self.now.app.now) client now
+        ensures { TellsLost (A.decides self.now.app.now) (A.allows self.now.app.now)
+            (A.leaves self.now.app.now) client now
             (desk pass.old (I.stream ids.old)) (desk pass.new (I.stream ids.new)) }
     {
         let mut loss = Loss::new(client);
@@ -97,6 +88,7 @@ impl<R: Wait, C: Ledger, T: Ledger, A: App, G: Turnstile> Pool<'_, R, C, T, A, G
         ids: &mut I,
     ) -> (bool, Option<(u128, u64)>)
         ensures { Talks P.gives P.hears (A.decides self.now.app.now) (A.allows self.now.app.now)
+            (A.leaves self.now.app.now)
             self.now.turns (peer.old, desk pass.old (I.stream ids.old)) result.0 result.1
             (peer.new, desk pass.new (I.stream ids.new)) }
     {
@@ -131,6 +123,7 @@ impl<R: Wait, C: Ledger, T: Ledger, A: App, G: Turnstile> Pool<'_, R, C, T, A, G
         ids: &mut I,
     ) -> bool
         ensures { ServesAll P.gives P.hears (A.decides self.now.app.now) (A.allows self.now.app.now)
+            (A.leaves self.now.app.now)
             self.now.turns (peer.old, desk pass.old (I.stream ids.old)) result
             (peer.new, desk pass.new (I.stream ids.new)) }
     {
@@ -170,7 +163,8 @@ pub fn run_worker<
     ensures taken { result.1.taken + pass.taken ≡ result.0.taken }
     ensures parts { result.0.parts ≡ pass.parts }
     ensures work { WorksOff S.next_gives P.gives P.hears (A.decides pool.now.app.now)
-        (A.allows pool.now.app.now) pool.now.turns peers.old (desk pass (I.stream ids.old))
+        (A.allows pool.now.app.now)
+        (A.leaves pool.now.app.now) pool.now.turns peers.old (desk pass (I.stream ids.old))
         result.1.peers result.1.faults (desk result.0 (I.stream ids.new)) }
 {
     let mut pass = pass;

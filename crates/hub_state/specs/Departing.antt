@@ -11,8 +11,8 @@ use Rattle.journal.specs.Plain.{PlainBase}
 use Rattle.journal.specs.Membership.{rooms, sockets_of, socket_with, sid_of}
 use Rattle.journal.specs.Sessions.{rooms_rising}
 use Rattle.journal.specs.Casting.{in_space}
-use Rattle.hub_state.specs.declared.departed.Ending.{Ending}
-use Rattle.hub_state.specs.declared.departed.Ending.TheVariants as ending
+use Rattle.journal.specs.declared.ending.Ending.{Ending}
+use Rattle.journal.specs.declared.ending.Ending.TheVariants as ending
 
 -- a socket, the rooms that it was in, and how it ended
 pub record PlainDeparted : Type 0 where

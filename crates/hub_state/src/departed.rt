@@ -1,21 +1,8 @@
 //! Sockets that ended.
 
-use journal::Socket;
+use journal::{Ending, Socket};
 use std::marker::Model;
 use terms::Room;
-
-/// How a socket ended.
-#[derive(Clone, Copy, Debug, PartialEq, Eq)]
-pub enum Ending {
-    /// Its client was lost, and its session is saved.
-    Saved,
-    /// Its client was closed.
-    Closed,
-    /// It was ended by itself.
-    Alone,
-    /// It was ended with others of its namespace.
-    Together,
-}
 
 /// A socket that ended. In a contract it is plain data.
 #[derive(Drop)]

@@ -4,5 +4,5 @@
 mod departed;
 mod state;
 
-pub use departed::{Departed, Ending};
+pub use departed::Departed;
 pub use state::State;

@@ -45,7 +45,7 @@ sizes_text s =
     ++ row (codes "socketio_sockets") (codes "gauge") (codes "Sockets that are connected to a namespace.") s.sockets
     ++ row (codes "socketio_rooms") (codes "gauge")
     (codes "Rooms that have a socket, each socket's own one among them.") s.rooms
-    ++ row (codes "socketio_sessions_saved") (codes "gauge") (codes "Sessions that may come back.") s.saved
+    ++ row (codes "socketio_sessions_saved") (codes "gauge") (codes "Saved sessions, outdated ones among them.") s.saved
     ++ row (codes "socketio_log_entries") (codes "gauge") (codes "Broadcasts that are logged.") s.logged
 
 -- by loop

@@ -111,7 +111,7 @@ fn sizes_text(alloc: Global, sizes: &Sizes) -> Result<String, AllocError>
         &mut text,
         "socketio_sessions_saved",
         "gauge",
-        "Sessions that may come back.",
+        "Saved sessions, outdated ones among them.",
         sizes.saved,
     )?;
     push_row(

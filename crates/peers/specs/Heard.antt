@@ -54,7 +54,7 @@ after_take c idle got = cond (is_gone got) (over c) (stage.Ticks c idle)
 
 -- nothing is due, and the client was not given up
 abbrev pub is_quiet : Answer → Bool
-is_quiet (Ok (outcome.Ticked ping closed)) = not ping && is_none closed
+is_quiet (Ok (outcome.Ticked ping done)) = not ping && is_none done.closed
 is_quiet _ = true
 
 -- until a client has come over, a refusal ends the peer, after a probe that runs was lost

@@ -91,7 +91,7 @@ fn is_quiet(got: &Result<Outcome, CoreError>) -> bool
     ensures { result ≡ heard.is_quiet got.now }
 {
     match got {
-        Ok(Outcome::Ticked { ping, closed }) => !*ping && closed.is_none(),
+        Ok(Outcome::Ticked { ping, done }) => !*ping && done.closed.is_none(),
         _ => true,
     }
 }

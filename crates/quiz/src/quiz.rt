@@ -5,9 +5,10 @@ ghost use Rattle.quiz.specs.Quiz as table;
 ghost use Rattle.quiz.specs.Quiz.{begins_with, is_text, decided};
 
 use events::{App, Arrived, Effect, Emission, Inquiry, Reply, Verdict, Who};
+use journal::Ending;
 use sio_wire::{SioError, names};
 use std::alloc::{AllocError, Global};
-use terms::{Attachments, Text};
+use terms::{Attachments, Room, Text};
 
 const QUESTION: &str = r#"["question","How much is six times seven?"]"#;
 
@@ -25,6 +26,8 @@ impl App for Quiz {
 
     ghost decides = { λ app who arrived effects. effects ≡ decided arrived };
 
+    ghost leaves = { λ app who rooms ending effects. effects ≡ [] };
+
     fn connects(&self, alloc: Global, _space: &str, _payload: &str) -> Result<Verdict, AllocError> {
         Ok(Verdict::Accept(Vec::new(alloc)))
     }
@@ -36,6 +39,16 @@ impl App for Quiz {
         arrived: &Arrived,
     ) -> Result<Vec<Effect>, AllocError> {
         decide(alloc, arrived)
+    }
+
+    fn left(
+        &self,
+        alloc: Global,
+        _who: &Who,
+        _rooms: &[Room],
+        _ending: Ending,
+    ) -> Result<Vec<Effect>, AllocError> {
+        Ok(Vec::new(alloc))
     }
 }
 

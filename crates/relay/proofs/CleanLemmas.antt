@@ -13,7 +13,7 @@ use Rattle.relay.specs.declared.word.Word.{Word}
 use Rattle.relay.specs.declared.word.Word.TheVariants.{Join, Leave, Say, Two, But, Quiet, All, Ask, Bye, Pull, Push, Kick, Other}
 use Rattle.relay.specs.Relay.{effects_of, effect_for, to_two, to_one_but, pull, push, listed, farewell, reply, texts_of, word_in, room_in}
 
-all_append : {A : Type 0} (P : A → Type 0) (xs ys : List A) → AllByRecursion P xs → AllByRecursion P ys → AllByRecursion P (xs ++ ys)
+pub all_append : {A : Type 0} (P : A → Type 0) (xs ys : List A) → AllByRecursion P xs → AllByRecursion P ys → AllByRecursion P (xs ++ ys)
 all_append P [] ys front back = back
 all_append P (x ∷ xs) ys front back = (front.0, all_append P xs ys front.1 back)
 

@@ -1,1 +1,2 @@
 mod CleanLemmas
+mod PresenceLemmas

@@ -1,9 +1,12 @@
-//! The demonstration app, and the ids of a server that counts them.
+//! The demonstration app, one that tells the rooms of a socket that it has ended, and the ids of a
+//! server that counts them.
 #![tactic(auto)]
 
 mod counter;
+mod presence;
 mod relay_app;
 mod word;
 
 pub use counter::Counter;
+pub use presence::Presence;
 pub use relay_app::RelayApp;

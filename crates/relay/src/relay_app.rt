@@ -8,6 +8,7 @@ ghost use Rattle.relay.specs.Relay.{texts_of};
 
 use crate::word::{Word, room_in, word_in};
 use events::{App, Arrived, Effect, Emission, Inquiry, Message, Reply, Selection, Verdict, Who};
+use journal::Ending;
 use sio_wire::{SioError, names};
 use std::alloc::{AllocError, Global};
 use terms::{Attachments, Room, Text};
@@ -29,6 +30,8 @@ impl App for RelayApp {
 
     ghost decides = { λ app who arrived effects. effects ≡ decided who arrived };
 
+    ghost leaves = { λ app who rooms ending effects. effects ≡ [] };
+
     fn connects(&self, alloc: Global, _space: &str, payload: &str) -> Result<Verdict, AllocError> {
         if payload == NO_TOKEN {
             return Ok(Verdict::Refuse(Text::copy_of(alloc, NOT_ALLOWED)?));
@@ -46,6 +49,16 @@ impl App for RelayApp {
             Arrived::Event(message) => decide(alloc, Room::own(who.sid), message),
             Arrived::Answer(_) => Ok(Vec::new(alloc)),
         }
+    }
+
+    fn left(
+        &self,
+        alloc: Global,
+        _who: &Who,
+        _rooms: &[Room],
+        _ending: Ending,
+    ) -> Result<Vec<Effect>, AllocError> {
+        Ok(Vec::new(alloc))
     }
 }
 

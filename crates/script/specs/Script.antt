@@ -5,6 +5,7 @@ use Rattle.std.specs.Borrow.{Bor}
 use Rattle.std.specs.declared.sync.ledger.Ledger.{Ghosts}
 use Rattle.std.specs.Io.KnownBytes.{Appends, Consumes}
 use Rattle.journal.specs.Config.{config_refusal}
+use Rattle.journal.specs.declared.ending.Ending.{Ending}
 use Rattle.events.specs.declared.app.Arrived.{Arrived}
 use Rattle.events.specs.declared.app.Effect.{Effect}
 use Rattle.events.specs.declared.app.Who.{Who}
@@ -75,11 +76,11 @@ Gives before (Some bytes) after = Consumes before after bytes.now
 
 -- ---- the lines
 
--- of the app: which effects it decides on, and which verdicts it allows
-module _ (decides : Who → Arrived → List Effect → Type 0) (allows : (space payload : List ℕ) → PlainVerdict → Type 0) where
+-- of the app: which effects it decides on, which verdicts it allows, and what it wants where sockets have ended
+module _ (decides : Who → Arrived → List Effect → Type 0) (allows : (space payload : List ℕ) → PlainVerdict → Type 0) (leaves : Who → (rooms : List (List ℕ)) → Ending → List Effect → Type 0) where
   -- the line is played where there is a server
   abbrev pub PlaysOn : ScriptLine → Stage → (said : Option (List ℕ)) → Stage → Type 0
-  PlaysOn line (Playing server) said t = (after : Server) × Plays decides allows line server said after × (t ≡ Playing after)
+  PlaysOn line (Playing server) said t = (after : Server) × Plays decides allows leaves line server said after × (t ≡ Playing after)
   PlaysOn line stage said t = (said ≡ None) × (t ≡ stage)
 
   -- where there is none that is the answer

@@ -54,6 +54,7 @@ impl<C: Ledger, T: Ledger> Play<C, T> {
         ensures nothing { line.entry ≡ ScriptLine.Nothing → result ≡ Ok None }
         ensures bad { line.entry ≡ ScriptLine.Bad → result ≡ Ok (Some Answer.BadLine) }
         ensures plays { IfOk result (λ answer. Plays (A.decides app.now) (A.allows app.now)
+            (A.leaves app.now)
             line.entry (server_of self.old) (option_map answer_text answer) (server_of self.new)) }
         ensures err { IsOkUnless result Memory }
     {
@@ -76,6 +77,7 @@ impl<C: Ledger, T: Ledger> Play<C, T> {
     ) -> Result<Answer<'a>, RunError>
         ensures bad { line.entry ≡ ScriptLine.Bad → result ≡ Ok Answer.BadLine }
         ensures replies { IfOk result (λ answer. Replies (A.decides app.now) (A.allows app.now)
+            (A.leaves app.now)
             line.entry (server_of self.old) (answer_text answer) (server_of self.new)) }
         ensures err { IsOkUnless result Memory }
     {
@@ -101,7 +103,7 @@ impl<C: Ledger, T: Ledger> Play<C, T> {
         ensures bad { IsOfNone line.entry (get_by_text self.old.clients)
             → result ≡ Ok Answer.BadLine }
         ensures replies { IfOk result (λ answer.
-            RepliesForClient (A.decides app.now) (A.allows app.now) line.entry
+            RepliesForClient (A.decides app.now) (A.allows app.now) (A.leaves app.now) line.entry
             (server_of self.old) (answer_text answer) (server_of self.new)) }
         ensures err { IsOkUnless result Memory }
     {
@@ -125,6 +127,7 @@ impl<C: Ledger, T: Ledger> Play<C, T> {
         event: &Event,
     ) -> Result<Result<Outcome, CoreError>, RunError>
         ensures happens { IfOk result (λ answer. Happens (A.decides app.now) (A.allows app.now)
+            (A.leaves app.now)
             (server_of self.old) event.now answer (server_of self.new)) }
         ensures err { IsOkUnless result Memory }
     {
@@ -144,7 +147,7 @@ impl<C: Ledger, T: Ledger> Play<C, T> {
         event: &Event,
     ) -> Result<Answer<'a>, RunError>
         ensures asks { IfOk result (λ answer.
-            Asks (A.decides app.now) (A.allows app.now) name.entry.now event.now
+            Asks (A.decides app.now) (A.allows app.now) (A.leaves app.now) name.entry.now event.now
             (server_of self.old) (answer_text answer) (server_of self.new)) }
         ensures err { IsOkUnless result Memory }
     {
@@ -161,6 +164,7 @@ impl<C: Ledger, T: Ledger> Play<C, T> {
         socket: bool,
     ) -> Result<Answer<'a>, RunError>
         ensures opens { IfOk result (λ answer. Opens (A.decides app.now) (A.allows app.now)
+            (A.leaves app.now)
             name.entry.now socket (server_of self.old) (answer_text answer) (server_of self.new)) }
         ensures err { IsOkUnless result Memory }
     {
@@ -249,9 +253,13 @@ fn answer_to<'a>(
         }
         Ok(Outcome::Nothing) => Ok(Answer::Taken(name, None)),
         Ok(Outcome::Probed(text)) => Ok(Answer::Probed(name, text)),
-        Ok(Outcome::Lost { saved: true }) => Ok(Answer::Ok),
-        Ok(Outcome::Lost { saved: false }) => Ok(Answer::NotSaved),
-        Ok(Outcome::Ticked { ping, closed }) => Ok(Answer::Ticked { name, ping, closed }),
+        Ok(Outcome::Lost { saved: true, .. }) => Ok(Answer::Ok),
+        Ok(Outcome::Lost { saved: false, .. }) => Ok(Answer::NotSaved),
+        Ok(Outcome::Ticked { ping, done }) => Ok(Answer::Ticked {
+            name,
+            ping,
+            closed: done.closed,
+        }),
         Ok(Outcome::Swept(swept)) => Ok(Answer::Swept(swept)),
         Err(error) => Ok(Answer::Refused(error.fault)),
     }

@@ -54,6 +54,7 @@ pub fn run_script<A: App, R: Read, W: Write>(
 ) -> Result<(), RunError>
     ensures end { OnOk result (IsAtEnd (R.remaining reader.new)) }
     ensures answered { OnOk result (IsAnswered (A.decides app.now) (A.allows app.now)
+        (A.leaves app.now)
         (R.remaining reader.old) (W.contents writer.old) (W.contents writer.new)) }
 {
     let (commands, taken) = (Blank::new(PARTS), Blank::new(PARTS));
@@ -78,6 +79,7 @@ fn serve<C: Ledger, T: Ledger, A: App, R: Read, W: Write>(
     requires taken { (taken.name ≡ T.name) × (taken.parts ≡ T.parts) × (taken.parts ≡ 65536) }
     ensures end { OnOk result (IsAtEnd (R.remaining reader.new)) }
     ensures answered { OnOk result (IsAnswered (A.decides app.now) (A.allows app.now)
+        (A.leaves app.now)
         (R.remaining reader.old) (W.contents writer.old) (W.contents writer.new)) }
 {
     let mut run: Run<C, T> = Run::Setting(Setup::usual(), Ledgers::new(commands, taken));
@@ -94,7 +96,7 @@ fn answer_all<C: Ledger, T: Ledger, A: App, R: Read, W: Write>(
 ) -> Result<(), RunError>
     ensures end { OnOk result (IsAtEnd (R.remaining reader.new)) }
     ensures answered { OnOk result (stage_of run.old ≡ Setting USUAL
-        → IsAnswered (A.decides app.now) (A.allows app.now)
+        → IsAnswered (A.decides app.now) (A.allows app.now) (A.leaves app.now)
         (R.remaining reader.old) (W.contents writer.old) (W.contents writer.new)) }
 {
     let mut line = Vec::new(alloc);
@@ -153,7 +155,7 @@ fn answer_lines<C: Ledger, T: Ledger, A: App, W: Write>(
 ) -> Result<(), RunError>
     ensures unended { OnOk result (IsUnended line.old.items → IsUnended line.new.items) }
     ensures answered { OnOk result (IsUnended line.old.items
-        → WritesOn (A.decides app.now) (A.allows app.now) (W.contents writer.old)
+        → WritesOn (A.decides app.now) (A.allows app.now) (A.leaves app.now) (W.contents writer.old)
         (W.contents writer.new) (stage_of run.old) line.old.items bytes.now
         line.new.items (stage_of run.new)) }
     ensures err { IfErr result (λ fault. fault ≢ Reading) }
@@ -175,7 +177,7 @@ fn answer_byte<C: Ledger, T: Ledger, A: App, W: Write>(
 ) -> Result<(), RunError>
     ensures unended { OnOk result (IsUnended line.old.items → IsUnended line.new.items) }
     ensures answered { OnOk result (IsUnended line.old.items
-        → WritesOn (A.decides app.now) (A.allows app.now) (W.contents writer.old)
+        → WritesOn (A.decides app.now) (A.allows app.now) (A.leaves app.now) (W.contents writer.old)
         (W.contents writer.new) (stage_of run.old) line.old.items (byte ∷ [])
         line.new.items (stage_of run.new)) }
     ensures err { IfErr result (λ fault. fault ≢ Reading) }
@@ -197,6 +199,7 @@ fn answer_line<C: Ledger, T: Ledger, A: App, W: Write>(
 ) -> Result<(), RunError>
     ensures emptied { OnOk result (line.new.items ≡ []) }
     ensures answered { OnOk result (WritesLine (A.decides app.now) (A.allows app.now)
+        (A.leaves app.now)
         (W.contents writer.old) (W.contents writer.new) line.old.items
         (stage_of run.old) (stage_of run.new)) }
     ensures err { IfErr result (λ fault. fault ≢ Reading) }
@@ -242,6 +245,7 @@ impl<C: Ledger, T: Ledger> Run<C, T> {
     ) -> Result<Option<Answer<'a>>, RunError>
         ensures nothing { line.entry ≡ ScriptLine.Nothing → result ≡ Ok None }
         ensures answers { IfOk result (λ answer. Answers (A.decides app.now) (A.allows app.now)
+            (A.leaves app.now)
             line.entry (stage_of self.old) (option_map answer_text answer) (stage_of self.new)) }
         ensures err { IsOkUnless result Memory }
     {
@@ -316,6 +320,7 @@ impl<C: Ledger, T: Ledger> Run<C, T> {
         line: ScriptLine<'a>,
     ) -> Result<Option<Answer<'a>>, RunError>
         ensures plays { IfOk result (λ answer. PlaysOn (A.decides app.now) (A.allows app.now)
+            (A.leaves app.now)
             line.entry (stage_of self.old) (option_map answer_text answer) (stage_of self.new)) }
         ensures err { IsOkUnless result Memory }
     {

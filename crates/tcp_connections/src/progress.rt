@@ -90,7 +90,7 @@ fn took_all(got: &Result<Outcome, CoreError>) -> bool {
 /// Whether nothing was due.
 fn is_quiet(got: &Result<Outcome, CoreError>) -> bool {
     match got {
-        Ok(Outcome::Ticked { ping, closed }) => !*ping && closed.is_none(),
+        Ok(Outcome::Ticked { ping, done }) => !*ping && done.closed.is_none(),
         _ => false,
     }
 }

@@ -51,7 +51,7 @@ impl<R: Wait + Clock + Copy + Drop, L: Log> EventLoop<'_, R, L> {
     pub(crate) fn hear_nothing(&mut self, key: usize) {
         let nothing = Outcome::Ticked {
             ping: false,
-            closed: None,
+            done: Done::nothing(self.base.alloc),
         };
         self.hear(key, &Ok(nothing));
     }
@@ -78,11 +78,16 @@ impl<R: Wait + Clock + Copy + Drop, L: Log> EventLoop<'_, R, L> {
             Outcome::Opened(_) => self.note_opened(client, key),
             Outcome::Begun => self.connections.settle(client, key),
             Outcome::Probed(_) => self.connections.roster.wake(client),
-            Outcome::Lost { .. } => self.note_end(client, None),
-            Outcome::Ticked {
-                closed: Some(cause),
-                ..
-            } => self.note_end(client, Some(*cause)),
+            Outcome::Lost { done, .. } => {
+                self.tell_others(done);
+                self.note_end(client, None);
+            }
+            Outcome::Ticked { done, .. } => {
+                self.tell_others(done);
+                if done.closed.is_some() {
+                    self.note_end(client, done.closed);
+                }
+            }
             _ => {}
         }
     }
@@ -95,14 +100,19 @@ impl<R: Wait + Clock + Copy + Drop, L: Log> EventLoop<'_, R, L> {
         }
     }
 
-    /// An event of a client was worked on: those for whom something was put are woken.
-    fn note_done(&mut self, client: u128, key: usize, done: &Done) {
+    /// Those for whom something was put are woken.
+    fn tell_others(&mut self, done: &Done) {
         self.connections.roster.tell_lists(
             self.base.number,
             self.base.rules.loops,
             done.clients.lists(),
             &mut self.notes,
         );
+    }
+
+    /// An event of a client was worked on.
+    fn note_done(&mut self, client: u128, key: usize, done: &Done) {
+        self.tell_others(done);
         if self.current.comes_over {
             self.connections.settle(client, key);
             self.base.note_upgraded(client);

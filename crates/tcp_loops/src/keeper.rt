@@ -1,7 +1,7 @@
 //! The keeper: a peer that brings what the passing of time brings, for all clients.
 
 use crate::base::Base;
-use events::{CoreError, Event, Outcome, Peer, PeerFault};
+use events::{CoreError, CoreFault, Done, Event, Outcome, Peer, PeerFault};
 use loop_rules::{Notes, loop_of};
 use metrics::CoreCounts;
 use std::alloc::Global;
@@ -130,6 +130,25 @@ impl<'a, R: Wait + Clock + Copy, L: Log, K: KeptCore> Keeper<'a, R, L, K> {
             None => mem::replace(&mut self.sweeps, false).then_some(Event::Sweep),
         }
     }
+
+    /// Notes whom the answer to a tick concerns.
+    fn note_tick(&mut self, ping: bool, done: &Done) {
+        if ping || done.closed.is_some() {
+            self.note(self.client);
+        }
+        if done.closed.is_some() {
+            self.base.note_end(self.client, done.closed);
+        }
+        for client in done.clients.lists().iter().flatten() {
+            self.note(*client);
+        }
+    }
+
+    /// Something was put for a client, or is due to it.
+    fn note(&mut self, client: u128) {
+        let owner = loop_of(client, self.base.rules.loops);
+        self.notes.note(owner, client);
+    }
 }
 
 impl<R: Wait + Clock + Copy, L: Log, K: KeptCore> Peer for Keeper<'_, R, L, K> {
@@ -150,14 +169,11 @@ impl<R: Wait + Clock + Copy, L: Log, K: KeptCore> Peer for Keeper<'_, R, L, K> {
     }
 
     fn answer(&mut self, got: &Result<Outcome, CoreError>) -> Result<(), PeerFault> {
-        if let Ok(Outcome::Ticked { ping, closed }) = got {
-            if *ping || closed.is_some() {
-                let owner = loop_of(self.client, self.base.rules.loops);
-                self.notes.note(owner, self.client);
-            }
-            if closed.is_some() {
-                self.base.note_end(self.client, *closed);
-            }
+        match got {
+            Ok(Outcome::Ticked { ping, done }) => self.note_tick(*ping, done),
+            // What was put before the fault isn't told, nor whether the client was given up.
+            Err(error) if error.fault != CoreFault::UnknownClient => self.notes.everyone = true,
+            _ => {}
         }
         Ok(())
     }

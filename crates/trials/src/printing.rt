@@ -85,7 +85,8 @@ fn write_room(room: &Room, text: &mut String) -> Result<(), AllocError> {
     }
 }
 
-/// Sockets that ended: of each its client, the place of its namespace, its ids, how it ended, and the rooms that it was in.
+/// Sockets that ended: of each its client, the place of its namespace, its ids, how it ended, and the
+/// rooms that it was in.
 fn write_departed(departed: &[Departed], text: &mut String) -> Result<(), AllocError> {
     for gone in departed {
         let (socket, ending) = (gone.socket, gone.ending);

@@ -1,10 +1,11 @@
-//! The demonstration app, which of some events and CONNECTs wants what can't be done.
+//! The demonstration app, which of some events, CONNECTs and ends wants what can't be done.
 
 ghost use Rattle.std.specs.Prelude.{IfOk, IfSome};
 ghost use Rattle.events.specs.App.{AllClean, IsCleanEffect};
 
 use events::{App, Arrived, Effect, Emission, Inquiry, Reply, Selection, Verdict, Who};
-use relay::RelayApp;
+use journal::Ending;
+use relay::{Presence, RelayApp};
 use std::alloc::{AllocError, Global};
 use terms::{Attachments, Room, Sid, Text};
 
@@ -80,7 +81,12 @@ fn effects_of(alloc: Global, own: Room, wish: &str) -> Result<Option<Vec<Effect>
     }
 }
 
-/// The demonstration app, but for some events and some CONNECTs.
+/// Whether a socket was in a room of this name.
+fn was_in(rooms: &[Room], name: &[u8]) -> bool {
+    rooms.iter().any(|room| room.bytes() == name)
+}
+
+/// The demonstration app, but for some events, some CONNECTs and some ends.
 #[derive(Clone, Copy)]
 pub struct WildApp;
 
@@ -88,6 +94,8 @@ impl App for WildApp {
     ghost allows = { λ app space payload verdict. Unit {0} };
 
     ghost decides = { λ app who arrived effects. Unit {0} };
+
+    ghost leaves = { λ app who rooms ending effects. Unit {0} };
 
     fn connects(&self, alloc: Global, space: &str, payload: &str) -> Result<Verdict, AllocError> {
         match effects_of(alloc, Room::own(Sid::new(7)), payload)? {
@@ -112,5 +120,22 @@ impl App for WildApp {
             return Ok(effects);
         }
         RelayApp.decides(alloc, who, arrived)
+    }
+
+    fn left(
+        &self,
+        alloc: Global,
+        who: &Who,
+        rooms: &[Room],
+        ending: Ending,
+    ) -> Result<Vec<Effect>, AllocError> {
+        if was_in(rooms, b"oops") {
+            return Ok(vec![in alloc; Effect::Disconnect]?);
+        }
+        let app = Presence {
+            app: RelayApp,
+            tells: was_in(rooms, b"wake"),
+        };
+        app.left(alloc, who, rooms, ending)
     }
 }

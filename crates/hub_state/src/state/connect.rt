@@ -279,7 +279,7 @@ impl State {
     }
 
     /// The namespace at a place, or the empty text where there is none.
-    pub(crate) fn name_at(&self, place: usize) -> &str
+    pub fn name_at(&self, place: usize) -> &str
         ensures { result.now ≡ get_or self.now.limits.spaces place [] }
     {
         match self.spaces().get(place) {

@@ -1,16 +1,17 @@
 //! Sockets that end are noted (Socket.IO server documentation, "Server API": the events
 //! `disconnecting` and `disconnect`).
 
-ghost use Rattle.std.specs.Prelude.{◌≡◌, ◌++◌, map, IfOk, IfErr, OnOk, OnErr};
-ghost use Rattle.journal.specs.Membership.{rooms, sockets_of};
+ghost use Rattle.std.specs.Prelude.{◌≡◌, ◌++◌, map, true, IfOk, IfErr, OnOk, OnErr};
+ghost use Rattle.std.specs.List.{AllByRecursion};
+ghost use Rattle.journal.specs.Membership.{is_space, rooms, sockets_of};
 ghost use Rattle.journal.specs.Sessions.{rooms_rising};
-ghost use Rattle.hub_state.specs.Departing.{departing, departed_by, departed};
+ghost use Rattle.hub_state.specs.Departing.{PlainDeparted, departing, departed_by, departed};
 
-use crate::departed::{Departed, Ending};
+use crate::departed::Departed;
 use crate::state::State;
 use crate::state::aim::sockets_in;
 use hub_parts::Sockets;
-use journal::{HubError, Socket, What};
+use journal::{Ending, HubError, Socket, What};
 use room_maps::Rooms;
 use std::alloc::Global;
 use terms::{Room, Sid};
@@ -75,9 +76,12 @@ pub(crate) fn note(departed: &mut Vec<Departed>, ended: Vec<Departed>) -> Result
 }
 
 impl State {
-    /// The sockets that ended since the base, in the order in which they did.
+    /// The sockets that ended since the base, in the order in which they did. It grows until a
+    /// seal.
     pub fn departed(&self) -> &[Departed]
-        ensures { result.now ≡ departed self.now.base self.now.journal }
+        ensures all { result.now ≡ departed self.now.base self.now.journal }
+        ensures in_spaces { let h = self.now in AllByRecursion
+            (λ (gone : PlainDeparted). is_space h.limits gone.socket.space ≡ true) result.now }
     {
         self.departed.as_slice()
     }

@@ -73,10 +73,11 @@ pub fn write_answer(
         Ok(Outcome::Frames(frames)) => write_frames(text, frames.as_slice()),
         Ok(Outcome::Nothing) => text.push_str("nothing"),
         Ok(Outcome::Probed(answer)) => write!(text, "probed {}", answer.as_str()),
-        Ok(Outcome::Lost { saved }) => write!(text, "lost saved:{saved}"),
-        Ok(Outcome::Ticked { ping, closed }) => write!(
+        Ok(Outcome::Lost { saved, .. }) => write!(text, "lost saved:{saved}"),
+        Ok(Outcome::Ticked { ping, done }) => write!(
             text,
-            "ticked ping:{ping} closed:{closed:?}"
+            "ticked ping:{ping} closed:{:?}",
+            done.closed
         ),
         Ok(Outcome::Swept(swept)) => write!(text, "swept log:{} saved:{}", swept.log, swept.saved),
         Err(e) => write!(text, "refused:{:?} {} {}", e.fault, e.packets, e.effects),

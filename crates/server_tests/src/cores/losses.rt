@@ -7,7 +7,7 @@ fn answer(refusals: u64, tries: u64) -> Result<Outcome, CoreError> {
     if tries < refusals {
         Err(CoreFault::Memory.at_once())
     } else {
-        Ok(Outcome::Lost { saved: true })
+        Ok(Outcome::Nothing)
     }
 }
 

@@ -45,20 +45,20 @@ static ROWS: [(&str, &str); 33] = [
     ),
     (
         "serve --port 3000 --origin * --origin null --origin https://[::1]:80 --token-file f --metrics /m",
-        "127.0.0.1 3000 2 None Config { clients: 10000, capacity: 64, bytes: 8388608, log: 1024, saved: 4096, keep: 120000, first_offset: 1, spaces: [Text { text: \"/\" }, Text { text: \"/admin\" }] } Timing { ping_interval: 25000, ping_timeout: 20000, connect_timeout: 45000 } 1000000 16 15 None [\"*\", \"null\", \"https://[::1]:80\"] None Some(\"f\") Some(\"/m\") false false",
+        "127.0.0.1 3000 2 None Config { clients: 10000, capacity: 64, bytes: 8388608, log: 1024, saved: 4096, keep: 120000, first_offset: 1, spaces: [Text { text: \"/\" }, Text { text: \"/admin\" }] } Timing { ping_interval: 25000, ping_timeout: 20000, connect_timeout: 45000 } 1000000 16 15 None [\"*\", \"null\", \"https://[::1]:80\"] None Some(\"f\") Some(\"/m\") false false false",
     ),
     ("serve --help", "DisplayHelp"),
     (
-        "serve --port 3000 --host ::1 --workers 3 --connections 5 --clients 6 --capacity 7 --bytes 8 --log 9 --saved 10 --keep 11 --together 14 --poll-entries 12 --ping-interval 15 --ping-timeout 16 --connect-timeout 17 --max-payload 18 --report 13 --space /a --space /b --origin http://a --origin http://b --page folder --until-eof --verbose",
-        "::1 3000 3 Some(5) Config { clients: 6, capacity: 7, bytes: 8, log: 9, saved: 10, keep: 11, first_offset: 1, spaces: [Text { text: \"/\" }, Text { text: \"/a\" }, Text { text: \"/b\" }] } Timing { ping_interval: 15, ping_timeout: 16, connect_timeout: 17 } 18 14 12 Some(13) [\"http://a\", \"http://b\"] Some(\"folder\") None None true true",
+        "serve --port 3000 --host ::1 --workers 3 --connections 5 --clients 6 --capacity 7 --bytes 8 --log 9 --saved 10 --keep 11 --together 14 --poll-entries 12 --ping-interval 15 --ping-timeout 16 --connect-timeout 17 --max-payload 18 --report 13 --space /a --space /b --origin http://a --origin http://b --page folder --tell-left --until-eof --verbose",
+        "::1 3000 3 Some(5) Config { clients: 6, capacity: 7, bytes: 8, log: 9, saved: 10, keep: 11, first_offset: 1, spaces: [Text { text: \"/\" }, Text { text: \"/a\" }, Text { text: \"/b\" }] } Timing { ping_interval: 15, ping_timeout: 16, connect_timeout: 17 } 18 14 12 Some(13) [\"http://a\", \"http://b\"] Some(\"folder\") None None true true true",
     ),
     (
         "serve --port 3000",
-        "127.0.0.1 3000 2 None Config { clients: 10000, capacity: 64, bytes: 8388608, log: 1024, saved: 4096, keep: 120000, first_offset: 1, spaces: [Text { text: \"/\" }, Text { text: \"/admin\" }] } Timing { ping_interval: 25000, ping_timeout: 20000, connect_timeout: 45000 } 1000000 16 15 None [] None None None false false",
+        "127.0.0.1 3000 2 None Config { clients: 10000, capacity: 64, bytes: 8388608, log: 1024, saved: 4096, keep: 120000, first_offset: 1, spaces: [Text { text: \"/\" }, Text { text: \"/admin\" }] } Timing { ping_interval: 25000, ping_timeout: 20000, connect_timeout: 45000 } 1000000 16 15 None [] None None None false false false",
     ),
     (
         "serve --port 80",
-        "127.0.0.1 80 2 None Config { clients: 10000, capacity: 64, bytes: 8388608, log: 1024, saved: 4096, keep: 120000, first_offset: 1, spaces: [Text { text: \"/\" }, Text { text: \"/admin\" }] } Timing { ping_interval: 25000, ping_timeout: 20000, connect_timeout: 45000 } 1000000 16 15 None [] None None None false false",
+        "127.0.0.1 80 2 None Config { clients: 10000, capacity: 64, bytes: 8388608, log: 1024, saved: 4096, keep: 120000, first_offset: 1, spaces: [Text { text: \"/\" }, Text { text: \"/admin\" }] } Timing { ping_interval: 25000, ping_timeout: 20000, connect_timeout: 45000 } 1000000 16 15 None [] None None None false false false",
     ),
 ];
 
@@ -82,7 +82,8 @@ fn written(alloc: Global, options: &Options) -> Result<String, AllocError> {
     let (settings, folder) = (told(alloc, &options.settings)?, &options.folder);
     let (until_eof, verbose) = (options.until_eof, options.verbose);
     let (token, metrics) = (&options.token_file, &options.settings.metrics);
-    format!(in alloc; "{settings} {folder:?} {token:?} {metrics:?} {until_eof} {verbose}")
+    let tells = options.tell_left;
+    format!(in alloc; "{settings} {folder:?} {token:?} {metrics:?} {tells} {until_eof} {verbose}")
 }
 
 /// Whether a command line asks for this.

@@ -1,4 +1,6 @@
-use Rattle.std.proofs.Common.{rules, ◌≡◌, Some, refl}
+use Rattle.std.proofs.Common.{rules, ◌≡◌, false, Some, Ok, ap, refl}
+use Rattle.events.specs.declared.outcome.Outcome.TheVariants as outcome
+use Rattle.events.specs.Plain.{PlainDone}
 use Rattle.session_clock.specs.declared.timing.Due.TheVariants as due
 use Rattle.dispatch.specs.Place.{line_of, place, KeepsOthers}
 use Rattle.dispatch.proofs.UpkeepLemmas.{parked-or-closed, ticks, ticked}
@@ -13,7 +15,7 @@ returns-in-Nothing c =
     let has : line_of new c.args.visit.client ≡ Some c.tick.new.self = search rules in
     let others : KeepsOthers c.args.visit.client (place h old) (place h new) = search rules in
     ticks c.args.visit.moment c.args.visit.client c.in-Some.line.now h old _ (place h new) c.tick.result due.Nothing known c.in-Nothing.is c.tick.ensures.due
-    (refl, ticked c.args.visit.moment c.args.visit.client c.in-Some.line.now c.tick.new.self h h old new c.tick.result due.Nothing refl has others c.in-Nothing.is c.tick.ensures.advances)
+    (ap (λ (d : PlainDone). Ok (outcome.Ticked false d)) c.nothing.ensures, ticked c.args.visit.moment c.args.visit.client c.in-Some.line.now c.tick.new.self h h old new c.tick.result due.Nothing refl has others c.in-Nothing.is c.tick.ensures.advances)
 
 pub returns-in-Ok : goal.returns-in-Ok
 returns-in-Ok c =

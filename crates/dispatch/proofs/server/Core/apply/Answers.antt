@@ -1,7 +1,8 @@
 use Rattle.std.proofs.Common.{◌≡◌, ap, sym, ◌∙◌}
 use Rattle.hub.specs.Pass.{PlainHub}
 use Rattle.dispatch.specs.Place.{PlainCore}
-use Rattle.dispatch.proofs.EventLaws.{Applied, applied}
+use Rattle.dispatch.proofs.EventLaws.{Applied}
+use Rattle.dispatch.proofs.HearingLaws.{left-by}
 use Rattle.dispatch.proofs.ServerLemmas.{clean-after, of-some, grown, turned}
 use Rattle.dispatch.proofs.server.Core.apply.Given.{Over}
 use Rattle.dispatch.proofs.server.Core.apply.Goals as goal
@@ -10,23 +11,26 @@ use Rattle.dispatch.proofs.server.Core.apply.Goals as goal
 left : (g : Over) (c : goal.After-catch_up g)
     → Applied c.args.event.now (g.I.IdSource.stream c.args.ids.now) c.apply_to-answer.result c.hub.inside.state c.apply_to-answer.new.state c.apply_to-answer.new.lines.entries
 left g c =
-    applied c.args.now c.hub.inside.state c.apply_to-answer.new.state c.self.inside.lines.entries c.apply_to-answer.new.lines.entries (rw (← c.hub.view_is) at c.self.invariant.0)
-    (g.I.IdSource.stream c.args.ids.now) c.apply_to-answer.result (g.A.App.decides c.args.app.now) (g.A.App.allows c.args.app.now) c.self.inside.greeting.timing c.self.inside.greeting.numbers
-    (g.I.IdSource.stream c.apply_to-answer.new.ids) c.args.event.now c.apply_to-answer.ensures
+    left-by (g.A.App.decides c.args.app.now) (g.A.App.allows c.args.app.now) (g.A.App.leaves c.args.app.now) c.args.now c.hub.inside.state c.apply_to-answer.new.state
+    c.self.inside.lines.entries c.apply_to-answer.new.lines.entries (rw (← c.hub.view_is) at c.self.invariant.0) (g.I.IdSource.stream c.args.ids.now) (g.I.IdSource.stream c.apply_to-answer.new.ids)
+    c.apply_to-answer.result c.self.inside.greeting.timing c.self.inside.greeting.numbers c.args.event.now (rw (← c.hub.view_is) at c.self.invariant.1).names c.apply_to-answer.ensures
 
 pub catch_up-requires-clause-grown : goal.catch_up-requires-clause-grown
 catch_up-requires-clause-grown g c =
     let some = of-some c.args.event.now (g.I.IdSource.stream c.args.ids.now) in
     let left =
-    applied c.args.now c.hub.inside.state c.apply_to-answer.new.state c.self.inside.lines.entries c.apply_to-answer.new.lines.entries (rw (← c.hub.view_is) at c.self.invariant.0)
-    (g.I.IdSource.stream c.args.ids.now) c.apply_to-answer.result (g.A.App.decides c.args.app.now) (g.A.App.allows c.args.app.now) c.self.inside.greeting.timing c.self.inside.greeting.numbers
-    (g.I.IdSource.stream c.apply_to-answer.new.ids) c.args.event.now c.apply_to-answer.ensures in
+    left-by (g.A.App.decides c.args.app.now) (g.A.App.allows c.args.app.now) (g.A.App.leaves c.args.app.now) c.args.now c.hub.inside.state c.apply_to-answer.new.state
+    c.self.inside.lines.entries c.apply_to-answer.new.lines.entries (rw (← c.hub.view_is) at c.self.invariant.0) (g.I.IdSource.stream c.args.ids.now) (g.I.IdSource.stream c.apply_to-answer.new.ids)
+    c.apply_to-answer.result c.self.inside.greeting.timing c.self.inside.greeting.numbers c.args.event.now (rw (← c.hub.view_is) at c.self.invariant.1).names c.apply_to-answer.ensures in
     grown some.0 c.hub.inside.state c.apply_to-answer.new.state (left.turns some.0 some.1) c.hub.inside.books.commands c.hub.inside.books.taken c.hub.invariant.0 c.hub.invariant.1
 
 pub invariant_of-self : goal.invariant_of-self
 invariant_of-self g c =
     let some = of-some c.args.event.now (g.I.IdSource.stream c.args.ids.now) in
     ((left g c).agrees, clean-after some.0 c.hub.inside.state c.apply_to-answer.new.state (rw (← c.hub.view_is) at c.self.invariant.1) ((left g c).turns some.0 some.1))
+
+pub returns-clause-does : goal.returns-clause-does
+returns-clause-does g c = rw (← c.self.view_is) (rw (← c.hub.view_is) c.apply_to-answer.ensures)
 
 pub returns-clause-handed : goal.returns-clause-handed
 returns-clause-handed g c =

@@ -1,5 +1,5 @@
 use Rattle.std.proofs.Common.{refl}
-use Rattle.dispatch.proofs.server.apply_to.Goals as goal
+use Rattle.dispatch.proofs.server.do_row.Goals as goal
 
 pub returns-in-PollEnd : goal.returns-in-PollEnd
 returns-in-PollEnd g c = rw c.in-PollEnd.is (c.end.ensures c.args.state.now, refl)

@@ -1,0 +1,59 @@
+-- What the app does of the sockets that an event ended (Socket.IO server documentation, "Server API": the events
+-- `disconnecting` and `disconnect`).
+use Rattle.std.specs.Prelude.{◌≡◌, ℕ, List, Option, None, Some, Result, Ok, Err}
+use Rattle.journal.specs.declared.ending.Ending.{Ending}
+use Rattle.journal.specs.Journal.{History}
+use Rattle.hub_state.specs.Departing.{PlainDeparted}
+use Rattle.events.specs.declared.app.Effect.{Effect}
+use Rattle.events.specs.declared.app.Who.{Who}
+use Rattle.events.specs.declared.fault.CoreError.{CoreError}
+use Rattle.events.specs.declared.fault.CoreFault.{CoreFault}
+use Rattle.events.specs.declared.outcome.Outcome.{Outcome}
+use Rattle.events.specs.declared.outcome.Outcome.TheVariants.{Done, Lost, Ticked}
+use Rattle.events.specs.Answer.{Answer}
+use Rattle.events.specs.Plain.{PlainDone, nothing_done}
+use Rattle.effects.specs.Departed.{HearsOfAll}
+use Rattle.effects.specs.Saying.{work}
+
+-- what was done of the event, where its outcome says so: no other event ends a socket
+abbrev pub done_of : Outcome → Option PlainDone
+done_of (Done done) = Some done
+done_of (Lost saved done) = Some done
+done_of (Ticked ping done) = Some done
+done_of _ = None
+
+-- the outcome, with this done
+abbrev pub with_done : Outcome → PlainDone → Outcome
+with_done (Done before) done = Done done
+with_done (Lost saved before) done = Lost saved done
+with_done (Ticked ping before) done = Ticked ping done
+with_done o done = o
+
+-- what was done where the event ended with an error
+abbrev pub done_until : CoreError → PlainDone
+done_until e = record nothing_done { packets = e.packets; effects = e.effects }
+
+-- the answer tells what was done at the end, after all that the app wanted or until a fault; an error of the event stays
+abbrev pub answer_after : Answer → Result (Unit {0}) CoreFault → PlainDone → Answer
+answer_after (Ok o) (Ok x) done = Ok (with_done o done)
+answer_after (Ok o) (Err fault) done = Err (record { fault = fault; packets = done.packets; effects = done.effects })
+answer_after (Err e) r done = Err (record e { effects = done.effects })
+
+-- what was done before the app hears
+abbrev pub done_before : Answer → Option PlainDone
+done_before (Ok o) = done_of o
+done_before (Err e) = Some (done_until e)
+
+module _ (leaves : Who → (rooms : List (List ℕ)) → Ending → List Effect → Type 0) (c now : ℕ) (ended : List PlainDeparted) (h : History) (said answer : Answer) (g : History) where
+  -- the app hears of the sockets that an event of the client ended
+  abbrev pub Hears : PlainDone → Type 0
+  Hears before = (r : Result (Unit {0}) CoreFault) × (after : PlainDone)
+      × HearsOfAll leaves c now ended (work h before) r (work g after) × (answer ≡ answer_after said r after)
+
+-- the app hears of the sockets that ended, where the event is of a client and may end some
+abbrev pub HearsAfter : (leaves : Who → (rooms : List (List ℕ)) → Ending → List Effect → Type 0) → ℕ → Option ℕ → List PlainDeparted → History → (said answer : Answer) → History → Type 0
+HearsAfter leaves now None ended h said answer g = (answer ≡ said) × (g ≡ h)
+HearsAfter leaves now (Some c) ended h said answer g = elim (done_before said) [
+  | None ↦ (answer ≡ said) × (g ≡ h)
+  | Some before ↦ Hears leaves c now ended h said answer g before
+]

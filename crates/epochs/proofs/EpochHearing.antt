@@ -1,0 +1,100 @@
+-- What the app does of sockets that ended, after two histories that say the same.
+use Rattle.std.proofs.Common.{◌≡◌, ◌⊎◌, ℕ, Bool, true, false, List, refl, sym, ap, subst, Option, None, Some, Result, Ok, Err, inl, inr}
+use Rattle.journal.specs.declared.ending.Ending.{Ending}
+use Rattle.journal.specs.Plain.{Limits}
+use Rattle.journal.specs.Journal.{History}
+use Rattle.hub_state.specs.Departing.{PlainDeparted}
+use Rattle.events.specs.declared.app.Effect.{Effect}
+use Rattle.events.specs.declared.app.Effect.TheVariants.{Emit}
+use Rattle.events.specs.declared.app.Who.{Who}
+use Rattle.events.specs.declared.fault.CoreFault.{CoreFault}
+use Rattle.events.specs.declared.fault.CoreFault.TheVariants.{Memory, BadEffect}
+use Rattle.events.specs.Answer.{Answer}
+use Rattle.events.specs.App.{AllClean}
+use Rattle.events.specs.Emission.{PlainEmission}
+use Rattle.events.specs.Plain.{PlainDone}
+use Rattle.effects.specs.Departed.{name_of, who_of, Sends, HearsOf, HearsOfAll}
+use Rattle.effects.specs.Effects.{is_unsendable}
+use Rattle.effects.specs.Runs.{RunsOrFails}
+use Rattle.effects.specs.Saying.{Work, work, SaysOrFails}
+use Rattle.epochs.specs.Epochs.{AreAlike}
+use Rattle.dispatch.specs.Hearing.{done_before, Hears, HearsAfter}
+use Rattle.epochs.proofs.EpochSteps.{Grown, grown-none, StaysSound}
+use Rattle.epochs.proofs.EpochCasts.{turned, SimWork, says-alike, cannot-say}
+use Rattle.epochs.proofs.EpochEffects.{runs-or-fails-alike}
+use Rattle.epochs.proofs.EpochTakes.{SimBoth}
+
+-- ---- what it sends then
+
+same-work : (s t : Work) (g : History) → AreAlike s.history g → t ≡ s → Grown s.history t.history g g
+same-work s t g alike is = grown-none s.history t.history g alike (ap (λ (u : Work). u.history) is)
+
+module _ (keeps : StaysSound) (c now : ℕ) where
+  says-or-fails : (space : List ℕ) (e : PlainEmission) (s : Work) (r : Result (Unit {0}) CoreFault) (t : Work) (g : History) → AreAlike s.history g → SaysOrFails c space e now s r t → SimWork (λ a b. SaysOrFails c space e now a r b) s t g
+  says-or-fails space e s (Ok x) t g alike says = says-alike keeps c space e now s t g alike says
+  says-or-fails space e s (Err fault) t g alike (cannot, is) = (g, same-work s t g alike is, (cannot-say space e s.history g alike fault cannot, ap (λ (u : Work). turned u g) is))
+
+  -- the row of an event, by whether it can be sent
+  abbrev SendsIf : Bool → (space : List ℕ) → PlainEmission → Result (Unit {0}) CoreFault → Work → Work → Type 0
+  SendsIf bad space e r a b = elim bad as (λ (bad : Bool). Type 0) [ true ↦ (r ≡ Err BadEffect) × (b ≡ a) | false ↦ SaysOrFails c space e now a r b ]
+
+  emit-alike : (space : List ℕ) (e : PlainEmission) (s : Work) (r : Result (Unit {0}) CoreFault) (t : Work) (g : History) → AreAlike s.history g → Sends c now space s (Emit e) r t → SimWork (λ a b. Sends c now space a (Emit e) r b) s t g
+  emit-alike space e s r t g alike does = on (is_unsendable e.payload e.attachments) does
+    where
+      on : (bad : Bool) → SendsIf bad space e r s t → (m : History) × Grown s.history t.history g m × SendsIf bad space e r (turned s g) (turned t m)
+      on true (is, same) = (g, same-work s t g alike same, (is, ap (λ (u : Work). turned u g) same))
+      on false does = says-or-fails space e s r t g alike does
+
+  sends-alike : (space : List ℕ) (s : Work) (effect : Effect) (r : Result (Unit {0}) CoreFault) (t : Work) (g : History) → AreAlike s.history g → Sends c now space s effect r t → SimWork (λ a b. Sends c now space a effect r b) s t g
+  sends-alike space s (Emit e) r t g alike does = emit-alike space e s r t g alike does
+  sends-alike space s _ r t g alike (is, same) = (g, same-work s t g alike same, (is, ap (λ (u : Work). turned u g) same))
+
+  -- ---- what it hears
+
+  module _ (leaves : Who → (rooms : List (List ℕ)) → Ending → List Effect → Type 0) where
+    -- the row of a socket that ended, by the limits, which name its namespace
+    abbrev HearsBy : Limits → PlainDeparted → Result (Unit {0}) CoreFault → Work → Work → Type 0
+    HearsBy limits gone r a b =
+        ((r ≡ Err Memory) × (b ≡ a))
+        ⊎ ((effects : List Effect) × leaves (who_of limits gone.socket) gone.rooms gone.ending effects × AllClean effects × RunsOrFails (Sends c now (name_of limits gone.socket)) effects a r b)
+
+    hears-of : (s : Work) (gone : PlainDeparted) (r : Result (Unit {0}) CoreFault) (t : Work) (g : History) → AreAlike s.history g → HearsOf leaves c now s gone r t → SimWork (λ a b. HearsOf leaves c now a gone r b) s t g
+    hears-of s gone r t g alike does =
+        subst (λ (l : Limits). (m : History) × Grown s.history t.history g m × HearsBy l gone r (turned s g) (turned t m)) (sym alike.same.same_limits) (on does)
+      where
+        on : HearsBy s.history.limits gone r s t → (m : History) × Grown s.history t.history g m × HearsBy s.history.limits gone r (turned s g) (turned t m)
+        on (inl (is, same)) = (g, same-work s t g alike same, inl (is, ap (λ (u : Work). turned u g) same))
+        on (inr (effects, wants, clean, run)) =
+            let space = name_of s.history.limits gone.socket in
+            let (m, grown, also) = runs-or-fails-alike (λ (u : Work). u.history) turned (Sends c now space) (sends-alike space) effects s r t g alike run in
+            (m, grown, inr (effects, wants, clean, also))
+
+    pub hears-of-all : (ended : List PlainDeparted) (s : Work) (r : Result (Unit {0}) CoreFault) (t : Work) (g : History) → AreAlike s.history g → HearsOfAll leaves c now ended s r t → SimWork (λ a b. HearsOfAll leaves c now ended a r b) s t g
+    hears-of-all ended s r t g alike run = runs-or-fails-alike (λ (u : Work). u.history) turned (HearsOf leaves c now) hears-of ended s r t g alike run
+
+-- ---- after an event
+
+module _ (keeps : StaysSound) (leaves : Who → (rooms : List (List ℕ)) → Ending → List Effect → Type 0) (now : ℕ) (ended : List PlainDeparted) (h k g : History) (alike : AreAlike h g) (said answer : Answer) where
+  -- the app hears of none
+  abbrev HearsNone : History → History → Type 0
+  HearsNone a b = (answer ≡ said) × (b ≡ a)
+
+  none-alike : HearsNone h k → SimBoth HearsNone h k g
+  none-alike (is, same) = (g, grown-none h k g alike same, (is, refl))
+
+  heard-alike : (c : ℕ) (before : PlainDone) → Hears leaves c now ended h said answer k before → SimBoth (λ a b. Hears leaves c now ended a said answer b before) h k g
+  heard-alike c before (r, after, run, is) =
+      let (m, grown, also) = hears-of-all keeps c now leaves ended (work h before) r (work k after) g alike run in
+      (m, grown, (r, after, also, is))
+
+  -- by what was done before
+  abbrev HearsFrom : ℕ → Option PlainDone → History → History → Type 0
+  HearsFrom c o a b = elim o as (λ (o : Option PlainDone). Type 0) [ None ↦ HearsNone a b | Some before ↦ Hears leaves c now ended a said answer b before ]
+
+  pub after-alike : (o : Option ℕ) → HearsAfter leaves now o ended h said answer k → SimBoth (λ a b. HearsAfter leaves now o ended a said answer b) h k g
+  after-alike None none = none-alike none
+  after-alike (Some c) heard = on (done_before said) heard
+    where
+      on : (o : Option PlainDone) → HearsFrom c o h k → (m : History) × Grown h k g m × HearsFrom c o g m
+      on None none = none-alike none
+      on (Some before) hears = heard-alike c before hears

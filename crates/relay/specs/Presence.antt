@@ -1,0 +1,49 @@
+-- What the rooms of a socket that has ended are told.
+use Rattle.std.specs.Prelude.{◌≡◌, ℕ, Bool, true, not, if◌then◌else◌, List, [], ◌∷◌, ◌++◌, filter, codes}
+use Rattle.terms.specs.Ids.{id_digits}
+use Rattle.terms.specs.Room.{own_room, same_room}
+use Rattle.journal.specs.declared.ending.Ending.{Ending}
+use Rattle.journal.specs.declared.ending.Ending.TheVariants.{Saved, Closed, Alone, Together}
+use Rattle.events.specs.declared.app.Effect.{Effect}
+use Rattle.events.specs.declared.app.Effect.TheVariants.{Emit}
+
+-- how a socket ended, in a word
+abbrev pub name_of : Ending → List ℕ
+name_of Saved = codes "saved"
+name_of Closed = codes "closed"
+name_of Alone = codes "alone"
+name_of Together = codes "together"
+
+-- the event: the socket's id, as its client was told it, and how it ended
+abbrev pub payload : (sid : ℕ) → Ending → List ℕ
+payload sid ending = codes "[\"left\",\"" ++ id_digits sid ++ codes "\",\"" ++ name_of ending ++ codes "\"]"
+
+-- the rooms but this one
+abbrev pub others : (own : List ℕ) → List (List ℕ) → List (List ℕ)
+others own rooms = filter (λ room. not (same_room room own)) rooms
+
+-- the event for these rooms, but not for the socket itself, should it come back; it is logged, so others who come back get it,
+-- too. Where there are none there is no event
+abbrev pub event_for : List (List ℕ) → (sid : ℕ) → Ending → List Effect
+event_for [] sid ending = []
+event_for (room ∷ rooms) sid ending =
+    Emit (record {
+      rooms = room ∷ rooms;
+      excepted = own_room sid ∷ [];
+      logged = true;
+      payload = payload sid ending;
+      attachments = [];
+    })
+    ∷ []
+
+-- what the rooms of a socket besides its own are told
+abbrev pub told_of : (sid : ℕ) → List (List ℕ) → Ending → List Effect
+told_of sid rooms ending = event_for (others (own_room sid) rooms) sid ending
+
+-- they are told it, or nobody is told anything
+abbrev pub told : (tells : Bool) → (sid : ℕ) → List (List ℕ) → Ending → List Effect
+told tells sid rooms ending = if tells then told_of sid rooms ending else []
+
+-- effects that an app may want, and then what is told
+abbrev pub Leaves : (wants : List Effect → Type 0) → (told : List Effect) → List Effect → Type 0
+Leaves wants told effects = (inner : List Effect) × wants inner × (effects ≡ inner ++ told)

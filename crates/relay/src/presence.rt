@@ -1,0 +1,113 @@
+//! An app that tells the rooms of a socket that has ended.
+
+ghost use Rattle.std.specs.Prelude.{◌≡◌, ◌++◌, IfOk, OnOk};
+ghost use Rattle.relay.specs.Presence as table;
+
+use events::{App, Arrived, Effect, Emission, Verdict, Who};
+use journal::Ending;
+use std::alloc::{AllocError, Global};
+use terms::{Attachments, Room, Sid, Text, ascii_text, id_text};
+
+/// An app, and whether the rooms of a socket that has ended are told so.
+#[derive(Debug, Drop)]
+pub struct Presence<A> {
+    pub app: A,
+    /// Whether they are told: the rooms besides the socket's own, after all that the app wants.
+    pub tells: bool,
+}
+
+impl<A: App> App for Presence<A> {
+    ghost use Rattle.relay.specs.Presence.{Leaves, told};
+
+    ghost allows = { λ presence space payload verdict.
+        A.allows presence.app space payload verdict };
+
+    ghost decides = { λ presence who arrived effects. A.decides presence.app who arrived effects };
+
+    ghost leaves = { λ presence who rooms ending effects.
+        Leaves (A.leaves presence.app who rooms ending)
+        (told presence.tells who.sid rooms ending) effects };
+
+    fn connects(&self, alloc: Global, space: &str, payload: &str) -> Result<Verdict, AllocError> {
+        self.app.connects(alloc, space, payload)
+    }
+
+    fn decides(
+        &self,
+        alloc: Global,
+        who: &Who,
+        arrived: &Arrived,
+    ) -> Result<Vec<Effect>, AllocError> {
+        self.app.decides(alloc, who, arrived)
+    }
+
+    fn left(
+        &self,
+        alloc: Global,
+        who: &Who,
+        rooms: &[Room],
+        ending: Ending,
+    ) -> Result<Vec<Effect>, AllocError> {
+        let mut effects = self.app.left(alloc, who, rooms, ending)?;
+        if self.tells {
+            tell(alloc, &mut effects, who.sid, rooms, ending)?;
+        }
+        Ok(effects)
+    }
+}
+
+/// Adds the event for the rooms besides the socket's own, where there are some.
+fn tell(
+    alloc: Global,
+    effects: &mut Vec<Effect>,
+    sid: Sid,
+    rooms: &[Room],
+    ending: Ending,
+) -> Result<(), AllocError>
+    ensures { OnOk result
+        (effects.new.items ≡ effects.old.items ++ table.told_of sid rooms.now ending) }
+{
+    let own = Room::own(sid);
+    let rooms = others(alloc, rooms, own)?;
+    if !rooms.is_empty() {
+        effects.push(Effect::Emit(Emission {
+            rooms,
+            // A session that comes back doesn't hear that it had left.
+            excepted: Vec::from_slice(alloc, &[own])?,
+            logged: true,
+            payload: payload(alloc, sid, ending)?,
+            attachments: Attachments::new(alloc),
+        }))?;
+    }
+    Ok(())
+}
+
+/// The rooms but this one.
+fn others(alloc: Global, rooms: &[Room], own: Room) -> Result<Vec<Room>, AllocError>
+    ensures { IfOk result (λ others. others.items ≡ table.others own rooms.now) }
+{
+    let mut others = Vec::from_slice(alloc, rooms)?;
+    others.retain(|room| *room != own);
+    Ok(others)
+}
+
+/// The event that the socket has left, and how it ended.
+fn payload(alloc: Global, sid: Sid, ending: Ending) -> Result<Text, AllocError>
+    ensures { IfOk result (λ text. text ≡ table.payload sid ending) }
+{
+    let id = id_text(sid.number());
+    let (id, name) = (ascii_text(&id), name_of(ending));
+    Ok(Text::from_string(format!(in alloc; "[\"left\",\"{id}\",\"{name}\"]")?))
+}
+
+/// How a socket ended, in a word.
+fn name_of(ending: Ending) -> &'static str
+    ensures { result.now ≡ table.name_of ending }
+{
+    match ending {
+        Ending::Saved => "saved",
+        Ending::Closed => "closed",
+        Ending::Alone => "alone",
+        Ending::Together => "together",
+    }
+}
