@@ -6,6 +6,8 @@
 import asyncio
 import sys
 
+from socketio.packet import DISCONNECT, Packet
+
 from python_client import main
 
 
@@ -19,7 +21,8 @@ async def two_in(room, name):
 
 async def leaves_namespace(room):
     stays, leaves, sid = await two_in(room, 'lobby')
-    await leaves.sio.disconnect()
+    # Its own `disconnect` may close the WebSocket before the packet is sent.
+    await leaves.sio._send_packet(Packet(DISCONNECT, namespace='/'))
     await stays.expect('left', sid, 'alone')
 
 
