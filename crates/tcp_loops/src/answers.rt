@@ -1,7 +1,7 @@
 //! What a loop does with the answers to its connections' events.
 
 use crate::event_loop::EventLoop;
-use events::{Cause, CoreError, Done, Outcome, Telling};
+use events::{Cause, CoreError, CoreFault, Done, Outcome, Telling};
 use loop_rules::{Pause, Verdict};
 use metrics::Reason;
 use peers::is_noop;
@@ -67,7 +67,7 @@ impl<R: Wait + Clock + Copy + Drop, L: Log> EventLoop<'_, R, L> {
         }
         match got {
             Ok(outcome) => self.note_outcome(client, key, outcome),
-            Err(error) => self.note_error(client, error),
+            Err(error) => self.note_error(client, key, error),
         }
     }
 
@@ -93,9 +93,16 @@ impl<R: Wait + Clock + Copy + Drop, L: Log> EventLoop<'_, R, L> {
     }
 
     /// A client's event failed. Where it put something first, those for whom it did are not known.
-    fn note_error(&mut self, client: u128, error: &CoreError) {
-        if error.packets > 0 || error.effects > 0 {
+    /// It may have ended the client, which the client's other connection finds out when it takes.
+    fn note_error(&mut self, client: u128, key: usize, error: &CoreError) {
+        if error.fault == CoreFault::UnknownClient {
+            self.base.note_end(client, None);
+        }
+        let has_done = error.packets > 0 || error.effects > 0;
+        if has_done || !self.connections.roster.takers.is_taker(client, key) {
             self.connections.roster.wake(client);
+        }
+        if has_done {
             self.notes.everyone = true;
         }
     }
