@@ -23,6 +23,12 @@ async def leaves_namespace(room):
     stays, leaves, sid = await two_in(room, 'lobby')
     # Its own `disconnect` may close the WebSocket before the packet is sent.
     await leaves.sio._send_packet(Packet(DISCONNECT, namespace='/'))
+    await stays.expect('left', sid, 'left')
+
+
+async def says_bye(room):
+    stays, leaves, sid = await two_in(room, 'porch')
+    await leaves.sio.emit('bye')
     await stays.expect('left', sid, 'alone')
 
 
@@ -48,6 +54,7 @@ async def is_elsewhere(room):
 
 CHECKS = {
     'who leaves the namespace': leaves_namespace,
+    'who is disconnected by the server': says_bye,
     'who closes the connection': loses_connection,
     'who is kicked': is_kicked,
     "other rooms aren't told": is_elsewhere,

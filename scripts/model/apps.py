@@ -1,6 +1,10 @@
 """What apps want of a CONNECT, of an event, and where a socket has ended."""
 from wire import id_text, is_text
 
+# How a socket ended, as its rooms are told.
+WORDS = {"Saved": "saved", "Closed": "closed", "Alone(Client)": "left", "Alone(Server)": "alone",
+         "Together": "together"}
+
 
 class Relay:
     """The demonstration app (docs/SCRIPTS.md)."""
@@ -53,7 +57,7 @@ class Wild(Relay):
     def left(self, sid, rooms, ending):
         """A room's name says what is wanted where a socket of it has ended."""
         others = [room for room in rooms if room != id_text(sid)]
-        told = [("emit", others, [id_text(sid)], True, f'["left","{id_text(sid)}","{ending.lower()}"]')]
+        told = [("emit", others, [id_text(sid)], True, f'["left","{id_text(sid)}","{WORDS[ending]}"]')]
         return [("bye",)] if "oops" in rooms else told if "wake" in rooms else []
 
     @staticmethod

@@ -253,10 +253,10 @@ class Hub:
         self.drop_client(client, "Saved")
         self.step("parked", now)
 
-    def end(self, sid, now):
+    def end(self, sid, now, side="Server"):
         if sid not in self.sockets:
             raise Refused("UnknownSocket")
-        self.unseat(sid, "Alone")
+        self.unseat(sid, f"Alone({side})")
         self.step("ended", now)
 
     def close(self, client, now):

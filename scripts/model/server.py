@@ -283,7 +283,7 @@ class Server:
         if sid is None:
             raise Closed("NotJoined")
         if header.kind == "1":
-            self.hub.end(sid, now)
+            self.hub.end(sid, now, "Client")
             del line.questions[sid]
         elif header.kind in "25":
             effects = self.app.decides(sid, header)

@@ -1,6 +1,6 @@
 //! Questions that wait for an acknowledgement (Socket.IO protocol 5, "Acknowledgement").
 
-ghost use Rattle.std.specs.Prelude.{◌≡◌, nat_le, length, count_by, List, [], ◌∷◌, None, Some, IfOk, IfErr, IfSome, OnOk, OnErr};
+ghost use Rattle.std.specs.Prelude.{◌≡◌, nat_le, length, count_by, [], ◌∷◌, None, Some, IfOk, IfErr, IfSome, OnOk, OnErr};
 ghost use Rattle.ack_book.specs.Questions.{Asked, Answered, Expired, next_id, open_questions, question_at};
 ghost use Rattle.ack_book.specs.Book.{LeadsTo, ForEachHistory, HasHistory, IsUnanswered, ask_refusal, answer_of};
 

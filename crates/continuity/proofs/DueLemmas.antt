@@ -81,7 +81,7 @@ module _ (base : PlainBase) (limits : Limits) (p : ℕ) where
   due-by-given before (Told m) o e = e
   due-by-given before (Took c m n) o e = e
   due-by-given before (Parked c) o e = e
-  due-by-given before (Ended t) o e = e
+  due-by-given before (Ended t by) o e = e
   due-by-given before (AllEnded d) o e = e
   due-by-given before (Closed c) o e = e
   due-by-given before Swept o e = e
@@ -260,7 +260,7 @@ module _ (base : PlainBase) (limits : Limits) (p : ℕ) where
   past-after o k at before (Told m) allowed legal legal' keeps had rest = quiet-past o k at (Told m) before refl refl refl refl keeps had rest
   past-after o k at before (Took c m n) allowed legal legal' keeps had rest = quiet-past o k at (Took c m n) before refl refl refl refl keeps had rest
   past-after o k at before (Parked c) allowed legal legal' keeps had rest = quiet-past o k at (Parked c) before refl refl refl refl keeps had rest
-  past-after o k at before (Ended t) allowed legal legal' keeps had rest = quiet-past o k at (Ended t) before refl refl refl refl keeps had rest
+  past-after o k at before (Ended t by) allowed legal legal' keeps had rest = quiet-past o k at (Ended t by) before refl refl refl refl keeps had rest
   past-after o k at before (AllEnded d) allowed legal legal' keeps had rest = quiet-past o k at (AllEnded d) before refl refl refl refl keeps had rest
   past-after o k at before (Closed c) allowed legal legal' keeps had rest = quiet-past o k at (Closed c) before refl refl refl refl keeps had rest
   past-after o k at before Swept allowed legal legal' keeps had rest = quiet-past o k at Swept before refl refl refl refl keeps had rest
@@ -317,7 +317,7 @@ module _ (base : PlainBase) (limits : Limits) (p : ℕ) where
   all-after o k at before (Told m) allowed legal low other keeps rest = quiet-all o k at (Told m) before refl refl refl refl keeps rest
   all-after o k at before (Took c m n) allowed legal low other keeps rest = quiet-all o k at (Took c m n) before refl refl refl refl keeps rest
   all-after o k at before (Parked c) allowed legal low other keeps rest = quiet-all o k at (Parked c) before refl refl refl refl keeps rest
-  all-after o k at before (Ended t) allowed legal low other keeps rest = quiet-all o k at (Ended t) before refl refl refl refl keeps rest
+  all-after o k at before (Ended t by) allowed legal low other keeps rest = quiet-all o k at (Ended t by) before refl refl refl refl keeps rest
   all-after o k at before (AllEnded d) allowed legal low other keeps rest = quiet-all o k at (AllEnded d) before refl refl refl refl keeps rest
   all-after o k at before (Closed c) allowed legal low other keeps rest = quiet-all o k at (Closed c) before refl refl refl refl keeps rest
   all-after o k at before Swept allowed legal low other keeps rest = quiet-all o k at Swept before refl refl refl refl keeps rest

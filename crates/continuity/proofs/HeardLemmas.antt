@@ -314,7 +314,7 @@ module _ (base : PlainBase) (limits : Limits) (p : ℕ) where
   hears-after at before legal (Told m) allowed true_to was = quiet (record { at = at; what = Told m }) before legal refl refl refl refl (was refl)
   hears-after at before legal (Took c m n) allowed true_to was = quiet (record { at = at; what = Took c m n }) before legal refl refl refl refl (was refl)
   hears-after at before legal (Parked c) allowed true_to was = quiet (record { at = at; what = Parked c }) before legal refl refl refl refl (was refl)
-  hears-after at before legal (Ended t) allowed true_to was = quiet (record { at = at; what = Ended t }) before legal refl refl refl refl (was refl)
+  hears-after at before legal (Ended t by) allowed true_to was = quiet (record { at = at; what = Ended t by }) before legal refl refl refl refl (was refl)
   hears-after at before legal (AllEnded d) allowed true_to was = quiet (record { at = at; what = AllEnded d }) before legal refl refl refl refl (was refl)
   hears-after at before legal (Closed c) allowed true_to was = quiet (record { at = at; what = Closed c }) before legal refl refl refl refl (was refl)
   hears-after at before legal Swept allowed true_to was = quiet (record { at = at; what = Swept }) before legal refl refl refl refl (was refl)

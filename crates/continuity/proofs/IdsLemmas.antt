@@ -270,7 +270,7 @@ module _ (base : PlainBase) (limits : Limits) (id : Socket → ℕ) (of : PlainS
   once-after at before (Cast b) allowed was x = let h = was x in let f = fewer (record { at = at; what = Cast b }) before x refl (omega arith) in omega (arith, f, h)
   once-after at before (Told m) allowed was x = let h = was x in let f = fewer (record { at = at; what = Told m }) before x refl (omega arith) in omega (arith, f, h)
   once-after at before (Took c m n) allowed was x = let h = was x in let f = fewer (record { at = at; what = Took c m n }) before x refl (omega arith) in omega (arith, f, h)
-  once-after at before (Ended s) allowed was x = let h = was x in let f = fewer (record { at = at; what = Ended s }) before x refl (omega arith) in omega (arith, f, h)
+  once-after at before (Ended s by) allowed was x = let h = was x in let f = fewer (record { at = at; what = Ended s by }) before x refl (omega arith) in omega (arith, f, h)
   once-after at before (AllEnded d) allowed was x = let h = was x in let f = fewer (record { at = at; what = AllEnded d }) before x refl (omega arith) in omega (arith, f, h)
   once-after at before (Closed c) allowed was x = let h = was x in let f = fewer (record { at = at; what = Closed c }) before x refl (omega arith) in omega (arith, f, h)
   once-after at before Swept allowed was x =

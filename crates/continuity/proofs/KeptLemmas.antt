@@ -218,7 +218,7 @@ module _ (base : PlainBase) (limits : Limits) (p : ℕ) where
   found-before at before s (Cast b) few unlost e = e
   found-before at before s (Told m) few unlost e = e
   found-before at before s (Took c m n) few unlost e = e
-  found-before at before s (Ended t) few unlost e = e
+  found-before at before s (Ended t by) few unlost e = e
   found-before at before s (AllEnded d) few unlost e = e
   found-before at before s (Closed c) few unlost e = e
 
@@ -241,7 +241,7 @@ module _ (base : PlainBase) (limits : Limits) (p : ℕ) where
   lost-was-here before (Cast b) e = cc
   lost-was-here before (Told m) e = cc
   lost-was-here before (Took c m n) e = cc
-  lost-was-here before (Ended t) e = cc
+  lost-was-here before (Ended t by) e = cc
   lost-was-here before (AllEnded d) e = cc
   lost-was-here before (Closed c) e = cc
   lost-was-here before Swept e = cc
@@ -336,7 +336,7 @@ module _ (base : PlainBase) (limits : Limits) (p : ℕ) where
   loss-keeps at before s (Cast b) legal l found = cc
   loss-keeps at before s (Told m) legal l found = cc
   loss-keeps at before s (Took c m n) legal l found = cc
-  loss-keeps at before s (Ended t) legal l found = cc
+  loss-keeps at before s (Ended t by) legal l found = cc
   loss-keeps at before s (AllEnded d) legal l found = cc
   loss-keeps at before s (Closed c) legal l found = cc
   loss-keeps at before s Swept legal l found = cc
@@ -426,7 +426,7 @@ module _ (base : PlainBase) (limits : Limits) (p : ℕ) where
   socket-before at before (Told m) l legal allowed other found = stays-before (record { at = at; what = Told m }) before l legal refl found
   socket-before at before (Took c m n) l legal allowed other found = stays-before (record { at = at; what = Took c m n }) before l legal refl found
   socket-before at before (Parked c) l legal allowed other found = stays-before (record { at = at; what = Parked c }) before l legal refl found
-  socket-before at before (Ended t) l legal allowed other found = stays-before (record { at = at; what = Ended t }) before l legal refl found
+  socket-before at before (Ended t by) l legal allowed other found = stays-before (record { at = at; what = Ended t by }) before l legal refl found
   socket-before at before (AllEnded d) l legal allowed other found = stays-before (record { at = at; what = AllEnded d }) before l legal refl found
   socket-before at before (Closed c) l legal allowed other found = stays-before (record { at = at; what = Closed c }) before l legal refl found
   socket-before at before Swept l legal allowed other found = stays-before (record { at = at; what = Swept }) before l legal refl found

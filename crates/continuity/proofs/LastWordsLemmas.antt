@@ -82,7 +82,7 @@ module _ (base : PlainBase) where
   open-word (Cast b) c a = silent a
   open-word (Told m) c a = silent a
   open-word (Took d m n) c a = silent a
-  open-word (Ended t) c a = silent a
+  open-word (Ended t by) c a = silent a
   open-word (AllEnded d) c a = silent a
   open-word Swept c a = silent a
 
@@ -189,8 +189,8 @@ module _ (base : PlainBase) (limits : Limits) (s : ℕ) where
   unfolding sockets_of
   socket-after at before (Attached k) legal legal' = come (record { at = at; what = Attached k }) before k legal (sockets-after base limits (record { at = at; what = Attached k }) before ∙ ap (λ l. l ++ k ∷ []) (filter-true (sockets base before)))
   socket-after at before (Recovered r) legal legal' = come (record { at = at; what = Recovered r }) before r.socket legal (sockets-after base limits (record { at = at; what = Recovered r }) before ∙ ap (λ l. l ++ r.socket ∷ []) (filter-true (sockets base before)))
-  socket-after at before (Ended t) legal legal' =
-      ap (find (has_id sid_of s)) (left-after (record { at = at; what = Ended t }) before refl) ∙ goes-by (λ x. x == t) (sockets base before) (t == s) (nat_eq_equiv.symm s t)
+  socket-after at before (Ended t by) legal legal' =
+      ap (find (has_id sid_of s)) (left-after (record { at = at; what = Ended t by }) before refl) ∙ goes-by (λ x. x == t) (sockets base before) (t == s) (nat_eq_equiv.symm s t)
   socket-after at before (AllEnded d) legal legal' =
       ap (find (has_id sid_of s)) (left-after (record { at = at; what = AllEnded d }) before refl) ∙ goes-by (λ x. list_any (λ t. x == t) d.ended) (sockets base before) (list_any (λ t. s == t) d.ended) refl
   socket-after at before (Parked c) legal legal' =

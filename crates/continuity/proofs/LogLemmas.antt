@@ -10,7 +10,7 @@ use Rattle.std.proofs.lemmas.List.{map-append, reverse-append}
 use Rattle.std.proofs.lemmas.List.Folds.{list_any-append}
 use Rattle.recovery.specs.Expiry.{is_outdated}
 use Rattle.recovery.specs.PacketLog as packets
-use Rattle.recovery.specs.PacketLog.{PlainLogged, LogCall, offset_at, number_of, stands, later_than, IsRun, newest, is_fresh, pushed, latest, survives, kept, Rises, RisesTo}
+use Rattle.recovery.specs.PacketLog.{PlainLogged, LogCall, number_of, stands, later_than, IsRun, is_fresh, pushed, latest, survives, kept, Rises, RisesTo}
 use Rattle.recovery.proofs.PacketLogLemmas.{run_dropped, rises_later, swept_front}
 use Rattle.journal.specs.declared.step.Step.{Step}
 use Rattle.journal.specs.declared.step.What.{What}
@@ -225,7 +225,7 @@ module _ (base : PlainBase) (limits : Limits) where
   orderly-after at before later was (Told m) allowed = quiet (record { at = at; what = Told m }) before later refl refl refl was
   orderly-after at before later was (Took c m n) allowed = quiet (record { at = at; what = Took c m n }) before later refl refl refl was
   orderly-after at before later was (Parked c) allowed = quiet (record { at = at; what = Parked c }) before later refl refl refl was
-  orderly-after at before later was (Ended s) allowed = quiet (record { at = at; what = Ended s }) before later refl refl refl was
+  orderly-after at before later was (Ended s by) allowed = quiet (record { at = at; what = Ended s by }) before later refl refl refl was
   orderly-after at before later was (AllEnded d) allowed = quiet (record { at = at; what = AllEnded d }) before later refl refl refl was
   orderly-after at before later was (Closed c) allowed = quiet (record { at = at; what = Closed c }) before later refl refl refl was
 

@@ -132,7 +132,7 @@ module _ (base : PlainBase) (limits : Limits) (p : ℕ) where
   said-after at later before (Cast b) legal = refl
   said-after at later before (Told m) legal = refl
   said-after at later before (Took c m n) legal = refl
-  said-after at later before (Ended t) legal = refl
+  said-after at later before (Ended t by) legal = refl
   said-after at later before (AllEnded d) legal = refl
   said-after at later before (Closed c) legal = refl
 

@@ -12,6 +12,7 @@ use Rattle.journal.specs.declared.step.What.{What}
 use Rattle.journal.specs.declared.step.What.TheVariants.{Opened, Attached, Recovered, Joined, Left, AllJoined, AllLeft, Cast, Told, Took, Parked, Ended, AllEnded, Closed, Swept}
 use Rattle.journal.specs.Plain.{PlainBase, Limits}
 use Rattle.journal.specs.Membership.{connects, ends, sockets, sid_of, has_id, socket_with, sockets_of, rooms, rooms_after, without_sockets}
+use Rattle.journal.specs.declared.ending.Side.{Side}
 use Rattle.journal.specs.Legal.{IsLegal, IsSound}
 use Rattle.journal.proofs.SessionsLemmas.{is_some-find}
 use Rattle.journal.proofs.MembershipLemmas.{sockets-quiet}
@@ -94,12 +95,12 @@ module _ (base : PlainBase) (limits : Limits) where
       ∙ ap (λ b. if b then false else is_socket (rooms base before) s) gone
       ∙ was s (any-kept (has_id sid_of s) (λ k. not (ends step.what k)) ks stay)
 
-  one-goes : (at t : ℕ) (before : List Step) → Seated before → Seated (record { at = at; what = Ended t } ∷ before)
+  one-goes : (at t : ℕ) (by : Side) (before : List Step) → Seated before → Seated (record { at = at; what = Ended t by } ∷ before)
   unfolding rooms
-  one-goes at t before was s here =
+  one-goes at t by before was s here =
       let ks = sockets base before in
       let stay : list_any (has_id sid_of s) (filter (λ (k : Socket). not (k.sid == t)) ks) ≡ true
-      = sym (ap (list_any (has_id sid_of s)) (sockets-after (record { at = at; what = Ended t }) before ∙ append-nil (filter (λ (k : Socket). not (k.sid == t)) ks))) ∙ here in
+      = sym (ap (list_any (has_id sid_of s)) (sockets-after (record { at = at; what = Ended t by }) before ∙ append-nil (filter (λ (k : Socket). not (k.sid == t)) ks))) ∙ here in
       is_socket-without_socket (rooms base before) t s ∙ on (t == s) refl stay
     where
       on : (b : Bool) → (t == s) ≡ b → list_any (has_id sid_of s) (filter (λ (k : Socket). not (k.sid == t)) (sockets base before)) ≡ true → (not b && is_socket (rooms base before) s) ≡ true
@@ -125,7 +126,7 @@ module _ (base : PlainBase) (limits : Limits) where
   seated-after at before legal was (Told m) = stays (record { at = at; what = Told m }) before refl (λ k. refl) (λ s. refl) was
   seated-after at before legal was (Took c m n) = stays (record { at = at; what = Took c m n }) before refl (λ k. refl) (λ s. refl) was
   seated-after at before legal was (Parked c) = go (record { at = at; what = Parked c }) before legal refl refl was
-  seated-after at before legal was (Ended t) = one-goes at t before was
+  seated-after at before legal was (Ended t by) = one-goes at t by before was
   seated-after at before legal was (AllEnded d) = go (record { at = at; what = AllEnded d }) before legal refl refl was
   seated-after at before legal was (Closed c) = go (record { at = at; what = Closed c }) before legal refl refl was
   seated-after at before legal was Swept = stays (record { at = at; what = Swept }) before refl (λ k. refl) (λ s. refl) was

@@ -267,7 +267,7 @@ module _ (base : PlainBase) (limits : Limits) where
   puts-fit at before c (AllLeft m) allowed was = no-puts before c (AllLeft m) refl was
   puts-fit at before c (Took d m n) allowed was = no-puts before c (Took d m n) refl was
   puts-fit at before c (Parked d) allowed was = no-puts before c (Parked d) refl was
-  puts-fit at before c (Ended t) allowed was = no-puts before c (Ended t) refl was
+  puts-fit at before c (Ended t by) allowed was = no-puts before c (Ended t by) refl was
   puts-fit at before c (Closed d) allowed was = no-puts before c (Closed d) refl was
   puts-fit at before c Swept allowed was = no-puts before c Swept refl was
 
@@ -300,7 +300,7 @@ module _ (base : PlainBase) (limits : Limits) where
   few-opens at before (Told m) allowed was = (let fewer = length-filter (λ c. not (closes (Told m) c)) (open_clients base before) in omega (arith, was, fewer))
   few-opens at before (Took d m n) allowed was = (let fewer = length-filter (λ c. not (closes (Took d m n) c)) (open_clients base before) in omega (arith, was, fewer))
   few-opens at before (Parked d) allowed was = (let fewer = length-filter (λ c. not (closes (Parked d) c)) (open_clients base before) in omega (arith, was, fewer))
-  few-opens at before (Ended t) allowed was = (let fewer = length-filter (λ c. not (closes (Ended t) c)) (open_clients base before) in omega (arith, was, fewer))
+  few-opens at before (Ended t by) allowed was = (let fewer = length-filter (λ c. not (closes (Ended t by) c)) (open_clients base before) in omega (arith, was, fewer))
   few-opens at before (AllEnded d) allowed was = (let fewer = length-filter (λ c. not (closes (AllEnded d) c)) (open_clients base before) in omega (arith, was, fewer))
   few-opens at before (Closed d) allowed was = (let fewer = length-filter (λ c. not (closes (Closed d) c)) (open_clients base before) in omega (arith, was, fewer))
   few-opens at before Swept allowed was = (let fewer = length-filter (λ c. not (closes Swept c)) (open_clients base before) in omega (arith, was, fewer))
@@ -331,7 +331,7 @@ module _ (base : PlainBase) (limits : Limits) where
   saved-after at before (Cast b) allowed was = was
   saved-after at before (Told m) allowed was = was
   saved-after at before (Took d m n) allowed was = was
-  saved-after at before (Ended t) allowed was = was
+  saved-after at before (Ended t by) allowed was = was
   saved-after at before (AllEnded d) allowed was = was
   saved-after at before (Closed d) allowed was = was
 

@@ -40,7 +40,7 @@ has_socket base before c s = list_any (has_id sid_of s) (sockets_of base before 
 abbrev pub socket_word : PlainBase → List Step → ℕ → What → Option (Option Socket)
 socket_word base before s (Attached k) = if k.sid == s then Some (Some k) else None
 socket_word base before s (Recovered r) = if r.socket.sid == s then Some (Some r.socket) else None
-socket_word base before s (Ended t) = if t == s then Some None else None
+socket_word base before s (Ended t by) = if t == s then Some None else None
 socket_word base before s (AllEnded d) = if list_any (λ t. s == t) d.ended then Some None else None
 socket_word base before s (Parked c) = if has_socket base before c s then Some None else None
 socket_word base before s (Closed c) = if has_socket base before c s then Some None else None

@@ -18,7 +18,7 @@ use Rattle.journal.specs.Membership.{is_open, is_space, place_of, socket_of, sid
 use Rattle.events.specs.declared.app.Effect.{Effect}
 use Rattle.events.specs.declared.app.Who.{Who}
 use Rattle.events.specs.declared.cause.Cause.TheVariants as cause
-use Rattle.events.specs.App.{PlainVerdict}
+use Rattle.events.specs.App.{Policy}
 use Rattle.effects.specs.Commands.{Makes, IsRefused, IsSeated, seat}
 use Rattle.effects.specs.Effects.{Scene, told_to, ActsInTurn, StopsAfter}
 use Rattle.effects.specs.Following.{is_clean}
@@ -129,15 +129,15 @@ none-mapped : {A B : Type 0} (f : A → B) (o : Option A) → option_map f o ≡
 none-mapped f None none = refl
 none-mapped f (Some x) none = absurd (cc none)
 
-module _ (allows : (space payload : List ℕ) → PlainVerdict → Type 0) (c : ℕ) (space payload : List ℕ) (now : ℕ) (s : Stage) (result : Upshot) (t : Stage) where
+module _ (policy : Policy) (c : ℕ) (space payload : List ℕ) (now : ℕ) (s : Stage) (result : Upshot) (t : Stage) where
   -- a CONNECT to a namespace that isn't there
   pub asks-nowhere : is_space s.scene.history.limits (place_of s.scene.history.limits space) ≡ false → DrawsNone (Refuses c now space (codes "Invalid namespace")) s result t
-      → AsksToConnect allows c space payload now s result t
+      → AsksToConnect policy c space payload now s result t
   asks-nowhere none refuses = rw (none, AsksToConnect) refuses
 
   -- one to a namespace that the client hasn't joined
   pub asks-free : is_space s.scene.history.limits (place_of s.scene.history.limits space) ≡ true
       → option_map sid_of (socket_of s.scene.history.base s.scene.history.journal c (place_of s.scene.history.limits space)) ≡ None
-      → MayComeBack allows c space payload now s result t → AsksToConnect allows c space payload now s result t
+      → MayComeBack policy c space payload now s result t → AsksToConnect policy c space payload now s result t
   asks-free there free comes =
       rw (there, none-mapped sid_of (socket_of s.scene.history.base s.scene.history.journal c (place_of s.scene.history.limits space)) free, AsksToConnect) comes

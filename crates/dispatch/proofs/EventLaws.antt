@@ -14,14 +14,11 @@ use Rattle.journal.specs.declared.step.What.{What}
 use Rattle.journal.specs.declared.step.What.TheVariants as what
 use Rattle.journal.specs.Journal.{History}
 use Rattle.journal.specs.Membership.{is_open, closes, opens}
-use Rattle.events.specs.declared.app.Arrived.{Arrived}
-use Rattle.events.specs.declared.app.Effect.{Effect}
-use Rattle.events.specs.declared.app.Who.{Who}
 use Rattle.events.specs.declared.cause.Cause.{Cause}
 use Rattle.events.specs.declared.cause.Cause.TheVariants as cause
 use Rattle.events.specs.declared.fault.CoreFault.{CoreFault}
 use Rattle.events.specs.declared.fault.CoreFault.TheVariants.{UnknownClient, AlreadyProbing, AlreadyUpgraded, NotProbing}
-use Rattle.events.specs.App.{PlainVerdict}
+use Rattle.events.specs.App.{Policy}
 use Rattle.effects.specs.Commands.{Makes}
 use Rattle.effects.specs.Following.{is_turn, is_work, Follows, Spares, WorksFor}
 use Rattle.events.specs.Plain.{PlainDone}
@@ -167,7 +164,7 @@ module _ (c now : ℕ) (h g : History) (old new : List (ℕ × PlainLine)) (agre
 
   -- ---- packets
 
-  module _ (decides : Who → Arrived → List Effect → Type 0) (allows : (space payload : List ℕ) → PlainVerdict → Type 0) (ids left : ℕ → ℕ) where
+  module _ (policy : Policy) (ids left : ℕ → ℕ) where
     start : (line : PlainLine) → line_of old c ≡ Some line → After c now h (Ok tt) (opening h line)
     start line is = record { stays = known line is; has = works-none c h [] }
 
@@ -179,9 +176,9 @@ module _ (c now : ℕ) (h g : History) (old new : List (ℕ × PlainLine)) (agre
         on (Some why) (none, others) closed = agree-gone c h g old new agree (turns-of c h g work) others none closed
         on None has open_still = agree-still c h g old new agree (turns-of c h g work) has.1 (has-some _ has) open_still
 
-    works-on : (packets : List Packet) (answer : Answer) (line : PlainLine) → line_of old c ≡ Some line → WorksOn decides allows now c packets line s ids answer t left → Turned answer
+    works-on : (packets : List Packet) (answer : Answer) (line : PlainLine) → line_of old c ≡ Some line → WorksOn policy now c packets line s ids answer t left → Turned answer
     works-on packets (Ok (outcome.Done done)) line is (m, run, said, there, keeps, drawn) =
-        let after = all-after c now h decides allows packets (stage (opening h line) ids) m run (start line is) in
+        let after = all-after c now h policy packets (stage (opening h line) ids) m run (start line is) in
         let work = subst (λ (k : History). WorksFor c h k m.scene.done.clients) (sym there) after.has in
         record {
           work = work.follows;
@@ -190,7 +187,7 @@ module _ (c now : ℕ) (h g : History) (old new : List (ℕ × PlainLine)) (agre
         }
     works-on packets (Ok _) line is none = absurd none
     works-on packets (Err e) line is (m, breaks, there, has, drawn) =
-        let after = broken-after c now h decides allows packets (stage (opening h line) ids) e m breaks (start line is) in
+        let after = broken-after c now h policy packets (stage (opening h line) ids) e m breaks (start line is) in
         let work = subst (λ (k : History). WorksFor c h k m.scene.done.clients) (sym there) after.1 in
         record {
           work = work.follows;
@@ -198,38 +195,38 @@ module _ (c now : ℕ) (h g : History) (old new : List (ℕ × PlainLine)) (agre
           agrees = agree-still c h g old new agree (turns-of c h g work.follows) has.1 (has-some _ has) (ap (λ (k : History). is_open k.base k.journal c) there ∙ after.0);
         }
 
-    posts : (body : List ℕ) (answer : Answer) (line : PlainLine) → line_of old c ≡ Some line → Posts decides allows now c body line s ids answer t left → Turned answer
+    posts : (body : List ℕ) (answer : Answer) (line : PlainLine) → line_of old c ≡ Some line → Posts policy now c body line s ids answer t left → Turned answer
     posts body answer line is (inl (on, refusal, drawn)) = refused _ answer refusal
     posts body answer line is (inr (polls, inl (refusal, drawn))) = refused _ answer refusal
     posts body answer line is (inr (polls, inr (inl (packets, payload, does)))) = works-on packets answer line is does
     posts body answer line is (inr (polls, inr (inr (fault, faulty, closes, drawn)))) = closes-unread _ answer closes
 
-    pub posts-for : (body : List ℕ) (answer : Answer) → PostsFor decides allows now c body s ids answer t left → Turned answer
+    pub posts-for : (body : List ℕ) (answer : Answer) → PostsFor policy now c body s ids answer t left → Turned answer
     posts-for body answer does = on (line_of old c) refl does
       where
         on : (o : Option PlainLine) → line_of old c ≡ o
-            → elim o as (λ (o : Option PlainLine). Type 0) [ None ↦ Refused UnknownClient s answer t × (left ≡ ids) | Some line ↦ Posts decides allows now c body line s ids answer t left ] → Turned answer
+            → elim o as (λ (o : Option PlainLine). Type 0) [ None ↦ Refused UnknownClient s answer t × (left ≡ ids) | Some line ↦ Posts policy now c body line s ids answer t left ] → Turned answer
         on None none (refusal, drawn) = refused _ answer refusal
         on (Some line) is does = posts body answer line is does
 
-    hears-frame : (frame : WsFrame) (answer : Answer) (line : PlainLine) → line_of old c ≡ Some line → HearsFrame decides allows now c frame line s ids answer t left → Turned answer
+    hears-frame : (frame : WsFrame) (answer : Answer) (line : PlainLine) → line_of old c ≡ Some line → HearsFrame policy now c frame line s ids answer t left → Turned answer
     hears-frame frame answer line is (inl (refusal, drawn)) = refused _ answer refusal
     hears-frame frame answer line is (inr (inl (packet, framed, does))) = works-on (packet ∷ []) answer line is does
     hears-frame frame answer line is (inr (inr (fault, faulty, closes, drawn))) = closes-unread _ answer closes
 
-    hears : (frame : WsFrame) (answer : Answer) (line : PlainLine) → line_of old c ≡ Some line → Hears decides allows now c frame line s ids answer t left → Turned answer
+    hears : (frame : WsFrame) (answer : Answer) (line : PlainLine) → line_of old c ≡ Some line → Hears policy now c frame line s ids answer t left → Turned answer
     hears frame answer line is (inl (polls, refusal, drawn)) = refused _ answer refusal
     hears frame answer line is (inr (on, does)) = by (is_too_long frame) does
       where
-        by : (b : Bool) → elim b as (λ (b : Bool). Type 0) [ true ↦ ClosesUnread now c cause.TooLong s answer t × (left ≡ ids) | false ↦ HearsFrame decides allows now c frame line s ids answer t left ] → Turned answer
+        by : (b : Bool) → elim b as (λ (b : Bool). Type 0) [ true ↦ ClosesUnread now c cause.TooLong s answer t × (left ≡ ids) | false ↦ HearsFrame policy now c frame line s ids answer t left ] → Turned answer
         by true (closes, drawn) = closes-unread cause.TooLong answer closes
         by false does = hears-frame frame answer line is does
 
-    pub hears-for : (frame : WsFrame) (answer : Answer) → HearsFor decides allows now c frame s ids answer t left → Turned answer
+    pub hears-for : (frame : WsFrame) (answer : Answer) → HearsFor policy now c frame s ids answer t left → Turned answer
     hears-for frame answer does = on (line_of old c) refl does
       where
         on : (o : Option PlainLine) → line_of old c ≡ o
-            → elim o as (λ (o : Option PlainLine). Type 0) [ None ↦ Refused UnknownClient s answer t × (left ≡ ids) | Some line ↦ Hears decides allows now c frame line s ids answer t left ] → Turned answer
+            → elim o as (λ (o : Option PlainLine). Type 0) [ None ↦ Refused UnknownClient s answer t × (left ≡ ids) | Some line ↦ Hears policy now c frame line s ids answer t left ] → Turned answer
         on None none (refusal, drawn) = refused _ answer refusal
         on (Some line) is does = hears frame answer line is does
 
@@ -320,11 +317,11 @@ module _ (now : ℕ) (h g : History) (old new : List (ℕ × PlainLine)) (agree 
           let has = each line does in
           agree-still c h g old new agree given.2.leads.follows has.1.1 (has-some c now h g old new agree has.0 has.1) (stays ∙ known c now h g old new agree line is)
 
-  module _ (decides : Who → Arrived → List Effect → Type 0) (allows : (space payload : List ℕ) → PlainVerdict → Type 0) (timing : Timing) (numbers : Numbers) (left : ℕ → ℕ) where
-    pub applied : (event : Event) → Row decides allows now timing numbers event (place h old) ids answer (place g new) left → Applied event ids answer h g new
+  module _ (policy : Policy) (timing : Timing) (numbers : Numbers) (left : ℕ → ℕ) where
+    pub applied : (event : Event) → Row policy now timing numbers event (place h old) ids answer (place g new) left → Applied event ids answer h g new
     applied (event.Opened socket) (does, drawn) = opens-applied timing numbers socket does
-    applied (event.Post c body) does = of-work _ c (λ d of. of) (λ d. refl) (λ d. refl) (posts-for c now h g old new agree decides allows ids left body answer does)
-    applied (event.Frame c frame) does = of-work _ c (λ d of. of) (λ d. refl) (λ d. refl) (hears-for c now h g old new agree decides allows ids left frame answer does)
+    applied (event.Post c body) does = of-work _ c (λ d of. of) (λ d. refl) (λ d. refl) (posts-for c now h g old new agree policy ids left body answer does)
+    applied (event.Frame c frame) does = of-work _ c (λ d of. of) (λ d. refl) (λ d. refl) (hears-for c now h g old new agree policy ids left frame answer does)
     applied (event.PollBegin c) (does, drawn) = of-work _ c (λ d of. of) (λ d. refl) (λ d. refl) (for-client c now h g old new agree (Begins now c) answer (begins c now h g old new agree answer) does)
     applied (event.PollEnd c) (does, drawn) = of-work _ c (λ d of. of) (λ d. refl) (λ d. refl) (for-client c now h g old new agree (Ends c) answer (ends c now h g old new agree answer) does)
     applied (event.PollTake c most) (does, drawn) =

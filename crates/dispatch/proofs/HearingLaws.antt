@@ -1,5 +1,5 @@
 -- What an event leaves, after the app has heard of the sockets that it ended.
-use Rattle.std.proofs.Common.{◌≡◌, ℕ, ◌==◌, Bool, true, false, List, [], ◌∷◌, refl, ◌++◌, sym, ◌∙◌, ap, subst, Option, None, Some, Result, Ok, Err, IfOk}
+use Rattle.std.proofs.Common.{◌≡◌, ℕ, Bool, true, false, List, ◌∷◌, refl, ◌++◌, sym, ◌∙◌, ap, subst, Option, None, Some, Result, Ok, Err, IfOk}
 use Rattle.std.specs.Prelude.{unwrap_or}
 use Rattle.std.specs.List.{AllByRecursion}
 use Rattle.eio_wire.specs.declared.handshake.Numbers.{Numbers}
@@ -7,28 +7,24 @@ use Rattle.eio_wire.specs.Payload.{IsWhole}
 use Rattle.session_clock.specs.declared.timing.Timing.{Timing}
 use Rattle.connection.specs.Line.{PlainLine}
 use Rattle.terms.specs.declared.entry.Entry.{Entry}
-use Rattle.journal.specs.declared.ending.Ending.{Ending}
 use Rattle.journal.specs.Plain.{Limits}
 use Rattle.journal.specs.Journal.{History}
 use Rattle.journal.specs.Membership.{is_open}
 use Rattle.hub_state.specs.Departing.{PlainDeparted}
-use Rattle.events.specs.declared.app.Arrived.{Arrived}
-use Rattle.events.specs.declared.app.Effect.{Effect}
-use Rattle.events.specs.declared.app.Who.{Who}
 use Rattle.events.specs.declared.event.Event.{Event}
 use Rattle.events.specs.declared.event.Event.TheVariants as event
 use Rattle.events.specs.declared.fault.CoreFault.{CoreFault}
 use Rattle.events.specs.declared.outcome.Outcome.{Outcome}
 use Rattle.events.specs.declared.outcome.Outcome.TheVariants as outcome
 use Rattle.events.specs.Answer.{Answer}
-use Rattle.events.specs.App.{PlainVerdict}
+use Rattle.events.specs.App.{Policy}
 use Rattle.events.specs.Event.{client_of}
 use Rattle.events.specs.Plain.{PlainDone, nothing_done}
 use Rattle.effects.specs.Departed.{ended_since, HearsOfAll}
 use Rattle.effects.specs.Following.{is_turn, is_work, Follows, Spares}
 use Rattle.effects.specs.Saying.{work}
 use Rattle.effects.proofs.DepartedLemmas.{Onward, heard-open, heard-onward, heard-spares}
-use Rattle.dispatch.specs.Handed.{Turn, opens, takes, HandsOut, HandedOut, AreHanded, Handed}
+use Rattle.dispatch.specs.Handed.{Turn, opens, takes, HandsOut, HandedOut, Handed}
 use Rattle.dispatch.specs.Hearing.{done_of, with_done, done_before, answer_after, Hears, HearsAfter}
 use Rattle.dispatch.specs.Machine.{IsOf, listed, Does}
 use Rattle.dispatch.specs.Place.{place, Agree}
@@ -107,37 +103,37 @@ out-same d event said answer turns entries first then hands out = rw (then, Hand
 
 -- ---- what the app hears
 
-module _ (leaves : Who → (rooms : List (List ℕ)) → Ending → List Effect → Type 0) (now : ℕ) (ended : List PlainDeparted) (m g : History) (said answer : Answer) where
+module _ (policy : Policy) (now : ℕ) (ended : List PlainDeparted) (m g : History) (said answer : Answer) where
   abbrev HeardBy : ℕ → Option PlainDone → Type 0
-  HeardBy c o = elim o [ None ↦ (answer ≡ said) × (g ≡ m) | Some before ↦ Hears leaves c now ended m said answer g before ]
+  HeardBy c o = elim o [ None ↦ (answer ≡ said) × (g ≡ m) | Some before ↦ Hears policy c now ended m said answer g before ]
 
   -- nobody is opened or closed by it
-  pub after-open : (o : Option ℕ) → HearsAfter leaves now o ended m said answer g → (d : ℕ) → is_open g.base g.journal d ≡ is_open m.base m.journal d
+  pub after-open : (o : Option ℕ) → HearsAfter policy now o ended m said answer g → (d : ℕ) → is_open g.base g.journal d ≡ is_open m.base m.journal d
   after-open None (is, same) d = ap (λ (h : History). is_open h.base h.journal d) same
   after-open (Some c) heard d = by (done_before said) heard
     where
       by : (o : Option PlainDone) → HeardBy c o → is_open g.base g.journal d ≡ is_open m.base m.journal d
       by None (is, same) = ap (λ (h : History). is_open h.base h.journal d) same
-      by (Some before) (r, after, run, is) = heard-open leaves c now m ended (work m before) (work g after) r (λ d. refl) run d
+      by (Some before) (r, after, run, is) = heard-open policy c now m ended (work m before) (work g after) r (λ d. refl) run d
 
   module _ (event : Event) (ids : ℕ → ℕ) (h : History) (new : List (ℕ × PlainLine)) (names : AllByRecursion IsWhole m.limits.spaces) (row : Applied event ids said h m new) where
     left-same : answer ≡ said → g ≡ m → Applied event ids answer h g new
     left-same is same = rw (is, same) row
 
     module _ (c : ℕ) (its : client_of event ≡ Some c) (before : PlainDone) (found : done_before said ≡ Some before) (r : Result (Unit {0}) CoreFault) (after : PlainDone)
-        (run : HearsOfAll leaves c now ended (work m before) r (work g after)) (is : answer ≡ answer_after said r after) where
-      onward : Onward leaves c now h m (work g after)
-      onward = heard-onward leaves c now h m ended (work m before) (work g after) r (record { work = follows-none (is_work c) m; turn = row.turns c (its-own event c its ids); names = names }) run
+        (run : HearsOfAll policy c now ended (work m before) r (work g after)) (is : answer ≡ answer_after said r after) where
+      onward : Onward policy c now h m (work g after)
+      onward = heard-onward policy c now h m ended (work m before) (work g after) r (record { work = follows-none (is_work c) m; turn = row.turns c (its-own event c its ids); names = names }) run
 
       left-spares : IfOk answer (λ o. (d : ℕ) → IsOf event ids d → Spares d h g (listed o))
       left-spares = subst (λ (a : Answer). IfOk a (λ o. (d : ℕ) → IsOf event ids d → Spares d h g (listed o))) (sym is) (on said r found row.spares run)
         where
           on : (said : Answer) (r : Result (Unit {0}) CoreFault) → done_before said ≡ Some before → IfOk said (λ o. (d : ℕ) → IsOf event ids d → Spares d h m (listed o))
-              → HearsOfAll leaves c now ended (work m before) r (work g after) → IfOk (answer_after said r after) (λ o. (d : ℕ) → IsOf event ids d → Spares d h g (listed o))
+              → HearsOfAll policy c now ended (work m before) r (work g after) → IfOk (answer_after said r after) (λ o. (d : ℕ) → IsOf event ids d → Spares d h g (listed o))
           on (Ok o) (Ok x) found spares run = λ d own.
               let lists = listed-done o before after found in
               let first = subst (λ (lists : List (List ℕ)). Spares c h m lists) lists.0 (spares c (its-own event c its ids)) in
-              let spared = heard-spares leaves c now h ended (work m before) (work g after) (Ok tt) first run in
+              let spared = heard-spares policy c now h ended (work m before) (work g after) (Ok tt) first run in
               subst (λ (e : ℕ). Spares e h g (listed (with_done o after))) (sym (own-client event c its ids d own)) (subst (λ (lists : List (List ℕ)). Spares c h g lists) (sym lists.1) spared)
           on (Ok o) (Err f) found spares run = tt
           on (Err e) r found spares run = tt
@@ -158,11 +154,11 @@ module _ (leaves : Who → (rooms : List (List ℕ)) → Ending → List Effect 
       left-done = record {
         turns = λ d own. subst (λ (e : ℕ). Follows (is_turn e) h g) (sym (own-client event c its ids d own)) onward.turn;
         spares = left-spares;
-        agrees = λ d. row.agrees d ∙ sym (heard-open leaves c now m ended (work m before) (work g after) r (λ d. refl) run d);
+        agrees = λ d. row.agrees d ∙ sym (heard-open policy c now m ended (work m before) (work g after) r (λ d. refl) run d);
         hands = left-hands;
       }
 
-    left-heard : (o : Option ℕ) → client_of event ≡ o → HearsAfter leaves now o ended m said answer g → Applied event ids answer h g new
+    left-heard : (o : Option ℕ) → client_of event ≡ o → HearsAfter policy now o ended m said answer g → Applied event ids answer h g new
     left-heard None its (is, same) = left-same is same
     left-heard (Some c) its heard = by (done_before said) refl heard
       where
@@ -172,20 +168,20 @@ module _ (leaves : Who → (rooms : List (List ℕ)) → Ending → List Effect 
 
 -- ---- the whole event
 
-module _ (decides : Who → Arrived → List Effect → Type 0) (allows : (space payload : List ℕ) → PlainVerdict → Type 0) (leaves : Who → (rooms : List (List ℕ)) → Ending → List Effect → Type 0) (now : ℕ)
+module _ (policy : Policy) (now : ℕ)
     (h g : History) (old new : List (ℕ × PlainLine)) (agree : Agree h old) (ids left : ℕ → ℕ) (answer : Answer) (timing : Timing) (numbers : Numbers) (event : Event) where
   abbrev DoesSo : Type 0
-  DoesSo = Does decides allows leaves now timing numbers event (place h old) ids answer (place g new) left
+  DoesSo = Does policy now timing numbers event (place h old) ids answer (place g new) left
 
   -- a line stands for each open client
   pub agrees-still : DoesSo → Agree g new
   agrees-still (m, said, row, heard) = λ d.
-      (applied now h m old new agree ids said decides allows timing numbers left event row).agrees d
-      ∙ sym (after-open leaves now (ended_since h m) m g said answer (client_of event) heard d)
+      (applied now h m old new agree ids said policy timing numbers left event row).agrees d
+      ∙ sym (after-open policy now (ended_since h m) m g said answer (client_of event) heard d)
 
   pub left-by : AllByRecursion IsWhole h.limits.spaces → DoesSo → Applied event ids answer h g new
   left-by names (m, said, row, heard) =
-      let does = applied now h m old new agree ids said decides allows timing numbers left event row in
+      let does = applied now h m old new agree ids said policy timing numbers left event row in
       let some = of-some event ids in
       let kept : AllByRecursion IsWhole m.limits.spaces = subst (λ (limits : Limits). AllByRecursion IsWhole limits.spaces) (sym (does.turns some.0 some.1).limits) names in
-      left-heard leaves now (ended_since h m) m g said answer event ids h new kept does (client_of event) refl heard
+      left-heard policy now (ended_since h m) m g said answer event ids h new kept does (client_of event) refl heard

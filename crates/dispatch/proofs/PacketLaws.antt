@@ -14,6 +14,7 @@ use Rattle.sio_wire.specs.Frames.{Frame, text, binary, exceeds}
 use Rattle.connection.specs.Line.{PlainLine}
 use Rattle.journal.specs.declared.socket.Socket.{Socket}
 use Rattle.journal.specs.declared.step.What.{What}
+use Rattle.journal.specs.declared.ending.Side.TheVariants as side
 use Rattle.journal.specs.declared.step.What.TheVariants as what
 use Rattle.journal.specs.Journal.{History}
 use Rattle.journal.specs.Membership.{is_open, is_space, place_of, socket_of, closes, opens}
@@ -27,7 +28,7 @@ use Rattle.events.specs.declared.fault.CoreError.{CoreError}
 use Rattle.events.specs.declared.fault.CoreFault.{CoreFault}
 use Rattle.events.specs.declared.fault.CoreFault.TheVariants.{Memory}
 use Rattle.events.specs.declared.fault.Stopped.{Stopped}
-use Rattle.events.specs.App.{PlainVerdict, IsCleanArrival, AllClean}
+use Rattle.events.specs.App.{Policy, IsCleanArrival, AllClean}
 use Rattle.effects.specs.Commands.{Makes, IsSeated, seat, return_of}
 use Rattle.effects.specs.Effects.{Scene, told_to, Closes}
 use Rattle.effects.specs.Following.{is_clean, is_work, is_turn, is_cast, WorksFor}
@@ -133,21 +134,21 @@ module _ (c now : ℕ) (f : History) where
       record { stays = both.0; has = both.1 }
 
   leaves-after : (space : List ℕ) (sid : ℕ) (s : Scene) (result : Upshot) (t : Scene) → IsSeated (his space sid) s.history → Leaves (his space sid) now s result t → Before s → After result t
-  leaves-after space sid s (Ok done) t seated (makes, advances, is) was = open-after (what.Ended sid) s t _ makes refl seated.own seated.own refl tt is refl refl refl was
+  leaves-after space sid s (Ok done) t seated (makes, advances, is) was = open-after (what.Ended sid side.Client) s t _ makes refl seated.own seated.own refl tt is refl refl refl was
   leaves-after space sid s (Err e) t seated (fails, stops) was = stops-after e.fault s e t stops was
 
-  module _ (decides : Who → Arrived → List Effect → Type 0) (space : List ℕ) (sid : ℕ) (named : IsWhole space) where
-    decides-after : (what : Arrived) (s : Scene) (result : Upshot) (t : Scene) → IsCleanArrival what → IsSeated (his space sid) s.history → Decides decides (his space sid) what now s result t → Before s → After result t
+  module _ (policy : Policy) (space : List ℕ) (sid : ℕ) (named : IsWhole space) where
+    decides-after : (what : Arrived) (s : Scene) (result : Upshot) (t : Scene) → IsCleanArrival what → IsSeated (his space sid) s.history → Decides policy (his space sid) what now s result t → Before s → After result t
     decides-after what s result t clean seated (inl short) was = short-after s result t short was
     decides-after what s result t clean seated (inr (effects, decided, each, does)) was = does-all-after space sid 0 effects s result t named (each clean) seated was.fresh was.has does
 
     hears-after : (id : Option ℕ) (payload : List ℕ) (attachments : List (List ℕ)) (s : Scene) (result : Upshot) (t : Scene) → IsWhole payload → IsSeated (his space sid) s.history
-        → HearsEvent decides (his space sid) id payload attachments now s result t → Before s → After result t
+        → HearsEvent policy (his space sid) id payload attachments now s result t → Before s → After result t
     hears-after id payload attachments s result t whole seated hears was =
         decides-after _ (record s { asked = id }) result t whole seated hears (same-before s (record s { asked = id }) refl refl refl refl was)
 
     ack-after : (id : Option ℕ) (payload : List ℕ) (attachments : List (List ℕ)) (s : Scene) (result : Upshot) (t : Scene) → IsWhole payload → IsSeated (his space sid) s.history
-        → TakesAck decides (his space sid) id payload attachments now s result t → Before s → After result t
+        → TakesAck policy (his space sid) id payload attachments now s result t → Before s → After result t
     ack-after None payload attachments s result t whole seated (is, same) was =
         done-after result t is (subst Before (sym same) (same-before s (record s { done = record s.done { ignored = true } }) refl refl refl refl was))
     ack-after (Some id) payload attachments s result t whole seated (inl (none, is, advances, same)) was =
@@ -156,7 +157,7 @@ module _ (c now : ℕ) (f : History) where
         decides-after _ (record s { line = line }) result t whole seated does (same-before s (record s { line = line }) refl refl refl refl was)
 
     serves-after : (k : Kind) (id : Option ℕ) (payload : List ℕ) (attachments : List (List ℕ)) (s : Scene) (result : Upshot) (t : Scene) → IsWhole payload → IsSeated (his space sid) s.history
-        → Serves decides k (his space sid) id payload attachments now s result t → Before s → After result t
+        → Serves policy k (his space sid) id payload attachments now s result t → Before s → After result t
     serves-after kind.Disconnect id payload attachments s result t whole seated does was = leaves-after space sid s result t seated does was
     serves-after kind.Event id payload attachments s result t whole seated does was = hears-after id payload attachments s result t whole seated does was
     serves-after kind.BinaryEvent id payload attachments s result t whole seated does was = hears-after id payload attachments s result t whole seated does was
@@ -165,16 +166,16 @@ module _ (c now : ℕ) (f : History) where
     serves-after kind.Connect id payload attachments s result t whole seated (is, same) was = done-after result t is (subst Before (sym same) was)
     serves-after kind.ConnectError id payload attachments s result t whole seated (is, same) was = done-after result t is (subst Before (sym same) was)
 
-  joined-after : (decides : Who → Arrived → List Effect → Type 0) (p : SioPacket) (s : Scene) (result : Upshot) (t : Scene) → IsWhole p.header.space → IsWhole p.header.payload
-      → ServesJoined decides c p now s result t → Before s → After result t
-  joined-after decides p s result t named whole does was = on (socket_of s.history.base s.history.journal c (place_of s.history.limits p.header.space)) does
+  joined-after : (policy : Policy) (p : SioPacket) (s : Scene) (result : Upshot) (t : Scene) → IsWhole p.header.space → IsWhole p.header.payload
+      → ServesJoined policy c p now s result t → Before s → After result t
+  joined-after policy p s result t named whole does was = on (socket_of s.history.base s.history.journal c (place_of s.history.limits p.header.space)) does
     where
       on : (o : Option Socket) → elim o as (λ (o : Option Socket). Type 0) [
         | None ↦ ClosesFor c now cause.NotJoined s result t
-        | Some k ↦ IsSeated (his p.header.space k.sid) s.history × Serves decides p.header.kind (his p.header.space k.sid) p.header.id p.header.payload p.attachments now s result t
+        | Some k ↦ IsSeated (his p.header.space k.sid) s.history × Serves policy p.header.kind (his p.header.space k.sid) p.header.id p.header.payload p.attachments now s result t
       ] → After result t
       on None closes = closes-after cause.NotJoined s result t closes was
-      on (Some k) (seated, serves) = serves-after decides p.header.space k.sid named p.header.kind p.header.id p.header.payload p.attachments s result t whole seated serves was
+      on (Some k) (seated, serves) = serves-after policy p.header.space k.sid named p.header.kind p.header.id p.header.payload p.attachments s result t whole seated serves was
 
   -- ---- a CONNECT
 
@@ -196,13 +197,13 @@ module _ (c now : ℕ) (f : History) where
     connects-as sid pid effects s result t there clean (inr (inl (refused, closes))) was = closes-after cause.OutboxFull s result t closes was
     connects-as sid pid effects s result t there clean (inr (inr (e, is, fails, stops))) was = subst (λ (r : Upshot). After r t) (sym is) (stops-after e.fault s e t stops was)
 
-    module _ (allows : (space payload : List ℕ) → PlainVerdict → Type 0) (payload : List ℕ) (whole : IsWhole payload) (s : Stage) (result : Upshot) (t : Stage) (there : is_space s.scene.history.limits (place_of s.scene.history.limits space) ≡ true) (was : Before s.scene) where
-      asks-after : AsksApp allows c space payload now s result t → After result t.scene
+    module _ (policy : Policy) (payload : List ℕ) (whole : IsWhole payload) (s : Stage) (result : Upshot) (t : Stage) (there : is_space s.scene.history.limits (place_of s.scene.history.limits space) ≡ true) (was : Before s.scene) where
+      asks-after : AsksApp policy c space payload now s result t → After result t.scene
       asks-after (inl (short, drawn)) = short-after s.scene result t.scene short was
       asks-after (inr (inl (effects, allowed, clean, (drawn, does)))) = connects-as (s.ids 0) (s.ids 1) effects s.scene result t.scene there (clean whole) does was
       asks-after (inr (inr (message, allowed, (refuses, drawn)))) = refuses-after space message named s.scene result t.scene refuses was
 
-      returns-after : (pid offset : ℕ) → ComesBack allows c space payload pid offset now s result t → After result t.scene
+      returns-after : (pid offset : ℕ) → ComesBack policy c space payload pid offset now s result t → After result t.scene
       returns-after pid offset (inl ((is, makes, advances, same), drawn)) =
           let r = return_of c space pid offset s.scene.history in
           subst (λ (q : Upshot). After q t.scene) (sym is)
@@ -210,28 +211,28 @@ module _ (c now : ℕ) (f : History) where
       returns-after pid offset (inr (inl (cannot, asks))) = asks-after asks
       returns-after pid offset (inr (inr (e, is, fails, stops, drawn))) = subst (λ (q : Upshot). After q t.scene) (sym is) (stops-after e.fault s.scene e t.scene stops was)
 
-      comes-after : MayComeBack allows c space payload now s result t → After result t.scene
+      comes-after : MayComeBack policy c space payload now s result t → After result t.scene
       comes-after (inl (short, drawn)) = short-after s.scene result t.scene short was
       comes-after (inr (inl (none, asks))) = asks-after asks
       comes-after (inr (inr (who, names, comes))) = returns-after who.0 who.1 comes
 
-    connect-after : (allows : (space payload : List ℕ) → PlainVerdict → Type 0) (payload : List ℕ) → IsWhole payload → (s : Stage) (result : Upshot) (t : Stage)
-        → AsksToConnect allows c space payload now s result t → Before s.scene → After result t.scene
-    connect-after allows payload whole s result t does was = on (is_space h.limits (place_of h.limits space)) refl does
+    connect-after : (policy : Policy) (payload : List ℕ) → IsWhole payload → (s : Stage) (result : Upshot) (t : Stage)
+        → AsksToConnect policy c space payload now s result t → Before s.scene → After result t.scene
+    connect-after policy payload whole s result t does was = on (is_space h.limits (place_of h.limits space)) refl does
       where
         h : History
         h = s.scene.history
 
         free : (o : Option Socket) → is_space h.limits (place_of h.limits space) ≡ true
-            → elim o as (λ (o : Option Socket). Type 0) [ Some k ↦ DrawsNone (ClosesFor c now cause.AlreadyConnected) s result t | None ↦ MayComeBack allows c space payload now s result t ] → After result t.scene
+            → elim o as (λ (o : Option Socket). Type 0) [ Some k ↦ DrawsNone (ClosesFor c now cause.AlreadyConnected) s result t | None ↦ MayComeBack policy c space payload now s result t ] → After result t.scene
         free (Some k) there (closes, drawn) = closes-after cause.AlreadyConnected s.scene result t.scene closes was
-        free None there comes = comes-after allows payload whole s result t there was comes
+        free None there comes = comes-after policy payload whole s result t there was comes
 
         on : (b : Bool) → is_space h.limits (place_of h.limits space) ≡ b → elim b as (λ (b : Bool). Type 0) [
           | false ↦ DrawsNone (Refuses c now space (codes "Invalid namespace")) s result t
           | true ↦ elim (socket_of h.base h.journal c (place_of h.limits space)) [
             | Some k ↦ DrawsNone (ClosesFor c now cause.AlreadyConnected) s result t
-            | None ↦ MayComeBack allows c space payload now s result t
+            | None ↦ MayComeBack policy c space payload now s result t
           ]
         ] → After result t.scene
         on false there (refuses, drawn) = refuses-after space (codes "Invalid namespace") named s.scene result t.scene refuses was
@@ -239,29 +240,29 @@ module _ (c now : ℕ) (f : History) where
 
   -- ---- a packet
 
-  module _ (decides : Who → Arrived → List Effect → Type 0) (allows : (space payload : List ℕ) → PlainVerdict → Type 0) where
-    works-after : (p : SioPacket) (s : Stage) (result : Upshot) (t : Stage) → IsWhole p.header.space × IsWhole p.header.payload → Works decides allows c p now s result t → Before s.scene → After result t.scene
+  module _ (policy : Policy) where
+    works-after : (p : SioPacket) (s : Stage) (result : Upshot) (t : Stage) → IsWhole p.header.space × IsWhole p.header.payload → Works policy c p now s result t → Before s.scene → After result t.scene
     works-after p s result t whole does was = on p.header.kind does
       where
         on : (k : Kind) → elim k as (λ (k : Kind). Type 0) [
-          | kind.Connect ↦ AsksToConnect allows c p.header.space p.header.payload now s result t
-          | _ ↦ DrawsNone (ServesJoined decides c p now) s result t
+          | kind.Connect ↦ AsksToConnect policy c p.header.space p.header.payload now s result t
+          | _ ↦ DrawsNone (ServesJoined policy c p now) s result t
         ] → After result t.scene
-        on kind.Connect does = connect-after p.header.space whole.0 allows p.header.payload whole.1 s result t does was
-        on kind.Disconnect (does, drawn) = joined-after decides p s.scene result t.scene whole.0 whole.1 does was
-        on kind.Event (does, drawn) = joined-after decides p s.scene result t.scene whole.0 whole.1 does was
-        on kind.Ack (does, drawn) = joined-after decides p s.scene result t.scene whole.0 whole.1 does was
-        on kind.ConnectError (does, drawn) = joined-after decides p s.scene result t.scene whole.0 whole.1 does was
-        on kind.BinaryEvent (does, drawn) = joined-after decides p s.scene result t.scene whole.0 whole.1 does was
-        on kind.BinaryAck (does, drawn) = joined-after decides p s.scene result t.scene whole.0 whole.1 does was
+        on kind.Connect does = connect-after p.header.space whole.0 policy p.header.payload whole.1 s result t does was
+        on kind.Disconnect (does, drawn) = joined-after policy p s.scene result t.scene whole.0 whole.1 does was
+        on kind.Event (does, drawn) = joined-after policy p s.scene result t.scene whole.0 whole.1 does was
+        on kind.Ack (does, drawn) = joined-after policy p s.scene result t.scene whole.0 whole.1 does was
+        on kind.ConnectError (does, drawn) = joined-after policy p s.scene result t.scene whole.0 whole.1 does was
+        on kind.BinaryEvent (does, drawn) = joined-after policy p s.scene result t.scene whole.0 whole.1 does was
+        on kind.BinaryAck (does, drawn) = joined-after policy p s.scene result t.scene whole.0 whole.1 does was
 
-    goes-after : (given : Result (Option SioPacket) SioError) (s : Stage) (result : Upshot) (t : Stage) → GoesOn decides allows c given now s result t → Before s.scene → After result t.scene
+    goes-after : (given : Result (Option SioPacket) SioError) (s : Stage) (result : Upshot) (t : Stage) → GoesOn policy c given now s result t → Before s.scene → After result t.scene
     goes-after (Ok None) s result t (is, same) was = done-after result t.scene is (subst (λ (u : Stage). Before u.scene) (sym same) was)
     goes-after (Ok (Some p)) s result t (whole, works) was = works-after p s result t whole works was
     goes-after (Err sio.Memory) s result t (short, drawn) was = short-after s.scene result t.scene short was
     goes-after (Err e) s result t does was = closing e does
       where
-        closing : (e : SioError) → GoesOn decides allows c (Err e) now s result t → After result t.scene
+        closing : (e : SioError) → GoesOn policy c (Err e) now s result t → After result t.scene
         closing sio.Memory (short, drawn) = short-after s.scene result t.scene short was
         closing sio.BadKind (closes, drawn) = closes-after _ s.scene result t.scene closes was
         closing sio.BadCount (closes, drawn) = closes-after _ s.scene result t.scene closes was
@@ -274,27 +275,27 @@ module _ (c now : ℕ) (f : History) where
         closing sio.TextAwaitingBinary (closes, drawn) = closes-after _ s.scene result t.scene closes was
         closing sio.BinaryUnawaited (closes, drawn) = closes-after _ s.scene result t.scene closes was
 
-    lined : (s : Stage) (line : PlainLine) → Before s.scene → Before (with_line decides allows s line).scene
+    lined : (s : Stage) (line : PlainLine) → Before s.scene → Before (with_line policy s line).scene
     lined s line was = same-before s.scene (record s.scene { line = line }) refl refl refl refl was
 
-    takes-after : (frame : Frame) (s : Stage) (result : Upshot) (t : Stage) → TakesFrame decides allows c frame now s result t → Before s.scene → After result t.scene
-    takes-after frame s result t (given, line, accepts, advances, does) was = goes-after (Ok given) (with_line decides allows s line) result t does (lined s line was)
+    takes-after : (frame : Frame) (s : Stage) (result : Upshot) (t : Stage) → TakesFrame policy c frame now s result t → Before s.scene → After result t.scene
+    takes-after frame s result t (given, line, accepts, advances, does) was = goes-after (Ok given) (with_line policy s line) result t does (lined s line was)
 
-    text-after : (content : List ℕ) (s : Stage) (result : Upshot) (t : Stage) → TakesText decides allows c content now s result t → Before s.scene → After result t.scene
+    text-after : (content : List ℕ) (s : Stage) (result : Upshot) (t : Stage) → TakesText policy c content now s result t → Before s.scene → After result t.scene
     text-after content s result t (inl (short, drawn)) was = short-after s.scene result t.scene short was
     text-after content s result t (inr (inl takes)) was = takes-after (text content) s result t takes was
     text-after content s result t (inr (inr (error, refuses, does))) was = goes-after (Err error) _ result t does (lined s (record s.scene.line { assembler = Failed error }) was)
 
-    binary-after : (content : List ℕ) (s : Stage) (result : Upshot) (t : Stage) → TakesBinary decides allows c content now s result t → Before s.scene → After result t.scene
+    binary-after : (content : List ℕ) (s : Stage) (result : Upshot) (t : Stage) → TakesBinary policy c content now s result t → Before s.scene → After result t.scene
     binary-after content s result t does was = on (exceeds s.scene.line.assembler s.scene.history.limits.bytes (length content)) does
       where
-        on : (b : Bool) → elim b as (λ (b : Bool). Type 0) [ true ↦ DrawsNone (ClosesFor c now cause.TooLong) s result t | false ↦ ReadsBinary decides allows c content now s result t ] → After result t.scene
+        on : (b : Bool) → elim b as (λ (b : Bool). Type 0) [ true ↦ DrawsNone (ClosesFor c now cause.TooLong) s result t | false ↦ ReadsBinary policy c content now s result t ] → After result t.scene
         on true (closes, drawn) = closes-after cause.TooLong s.scene result t.scene closes was
         on false (inl (short, drawn)) = short-after s.scene result t.scene short was
         on false (inr (inl takes)) = takes-after (binary content) s result t takes was
         on false (inr (inr (error, refuses, does))) = goes-after (Err error) _ result t does (lined s (record s.scene.line { assembler = Failed error }) was)
 
-    handles-after : (packet : Packet) (s : Stage) (result : Upshot) (t : Stage) → Handles decides allows c packet now s result t → Before s.scene → After result t.scene
+    handles-after : (packet : Packet) (s : Stage) (result : Upshot) (t : Stage) → Handles policy c packet now s result t → Before s.scene → After result t.scene
     handles-after (eio.Close content) s result t (does, drawn) was = parks-after s.scene result t.scene does was
     handles-after (eio.Ping content) s result t (does, drawn) was = closes-after cause.PingFromClient s.scene result t.scene does was
     handles-after (eio.Pong content) s result t (is, advances, same) was = done-after result t.scene is (subst (λ (u : Stage). Before u.scene) (sym same) (lined s t.scene.line was))
@@ -305,27 +306,27 @@ module _ (c now : ℕ) (f : History) where
     handles-after (eio.Noop content) s result t (is, same) was = done-after result t.scene is (subst (λ (u : Stage). Before u.scene) (sym same) was)
 
     -- a packet in its turn: before it the client is open unless it was closed
-    pub turn-after : (packet : Packet) (s : Stage) (result : Upshot) (t : Stage) → HandlesOrBreaks decides allows c packet now s result t → After (Ok tt) s.scene → After result t.scene
+    pub turn-after : (packet : Packet) (s : Stage) (result : Upshot) (t : Stage) → HandlesOrBreaks policy c packet now s result t → After (Ok tt) s.scene → After result t.scene
     turn-after packet s result t does was = on s.scene.done.closed refl does
       where
         on : (o : Option Cause) → s.scene.done.closed ≡ o → elim o as (λ (o : Option Cause). Type 0) [
           | Some why ↦ (result ≡ Ok tt) × (t ≡ s)
-          | None ↦ Handles decides allows c packet now (begun decides allows s) result t
+          | None ↦ Handles policy c packet now (begun policy s) result t
         ] → After result t.scene
         on (Some why) closed (is, same) = subst (λ (r : Upshot). After r t.scene) (sym is) (subst (λ (u : Stage). After (Ok tt) u.scene) (sym same) was)
         on None fresh handles =
-            handles-after packet (begun decides allows s) result t handles (record { is = was.stays ∙ ap (λ (o : Option Cause). is_none o) fresh; fresh = fresh; on = refl; has = was.has })
+            handles-after packet (begun policy s) result t handles (record { is = was.stays ∙ ap (λ (o : Option Cause). is_none o) fresh; fresh = fresh; on = refl; has = was.has })
 
     -- the packets of a payload
-    pub all-after : (packets : List Packet) (s t : Stage) → Runs (HandlesInTurn decides allows c now) packets s t → After (Ok tt) s.scene → After (Ok tt) t.scene
+    pub all-after : (packets : List Packet) (s t : Stage) → Runs (HandlesInTurn policy c now) packets s t → After (Ok tt) s.scene → After (Ok tt) t.scene
     all-after packets s t run was =
-        run-keeps (HandlesInTurn decides allows c now) (λ (p : Packet). Unit {0}) (λ (u : Stage). After (Ok tt) u.scene) (λ a b packet one was does. turn-after packet a (Ok tt) b does was) packets s t (each packets) was run
+        run-keeps (HandlesInTurn policy c now) (λ (p : Packet). Unit {0}) (λ (u : Stage). After (Ok tt) u.scene) (λ a b packet one was does. turn-after packet a (Ok tt) b does was) packets s t (each packets) was run
       where
         each : (packets : List Packet) → AllByRecursion (λ (p : Packet). Unit {0}) packets
         each [] = tt
         each (p ∷ packets) = (tt, each packets)
 
     -- until one ends the event
-    pub broken-after : (packets : List Packet) (s : Stage) (e : CoreError) (t : Stage) → BreaksAfter decides allows c now packets s e t → After (Ok tt) s.scene → Open t.scene × Has t.scene
+    pub broken-after : (packets : List Packet) (s : Stage) (e : CoreError) (t : Stage) → BreaksAfter policy c now packets s e t → After (Ok tt) s.scene → Open t.scene × Has t.scene
     broken-after packets s e t (at, run, packet, there, breaks) was =
         let after = turn-after packet at (Err (record { fault = e.fault; effects = e.effects })) t breaks (all-after (take e.packets packets) s at run was) in (after.stays, after.has)

@@ -19,10 +19,8 @@ use Rattle.connection.specs.Line.{PlainLine, ForEachHistory, Advances, book_in}
 use Rattle.journal.specs.declared.socket.Socket.{Socket}
 use Rattle.journal.specs.Journal.{History}
 use Rattle.journal.specs.Membership.{place_of, is_open, is_space, sid_of, has_id, socket_with, sockets, sockets_of, socket_of}
-use Rattle.events.specs.declared.app.Arrived.{Arrived}
-use Rattle.events.specs.declared.app.Effect.{Effect}
 use Rattle.events.specs.declared.app.Who.{Who}
-use Rattle.events.specs.App.{PlainVerdict}
+use Rattle.events.specs.App.{Policy}
 use Rattle.effects.specs.Commands.{IsSeated}
 use Rattle.events.specs.declared.cause.Cause.TheVariants as cause
 use Rattle.effects.specs.Effects.{Scene}
@@ -126,28 +124,28 @@ seated-at h who in_spaces is_open known = on (socket_of h.base h.journal who.cli
     on (Some k) found e = seated-found h who k in_spaces is_open found cc
 
 -- a packet of a socket that is connected
-pub joined : (decides : Who → Arrived → List Effect → Type 0) (c : ℕ) (p : SioPacket) (now : ℕ) (s : Scene) (result : Upshot) (t : Scene) (sid : ℕ)
+pub joined : (policy : Policy) (c : ℕ) (p : SioPacket) (now : ℕ) (s : Scene) (result : Upshot) (t : Scene) (sid : ℕ)
     → Some sid ≡ option_map sid_of (socket_of s.history.base s.history.journal c (place_of s.history.limits p.header.space))
     → IsSeated (record { client = c; space = p.header.space; sid = sid }) s.history
-    → Serves decides p.header.kind (record { client = c; space = p.header.space; sid = sid }) p.header.id p.header.payload p.attachments now s result t
-    → ServesJoined decides c p now s result t
-joined decides c p now s result t sid known seated serves = on (socket_of s.history.base s.history.journal c (place_of s.history.limits p.header.space)) known
+    → Serves policy p.header.kind (record { client = c; space = p.header.space; sid = sid }) p.header.id p.header.payload p.attachments now s result t
+    → ServesJoined policy c p now s result t
+joined policy c p now s result t sid known seated serves = on (socket_of s.history.base s.history.journal c (place_of s.history.limits p.header.space)) known
   where
     on : (o : Option Socket) → Some sid ≡ option_map sid_of o → elim o as (λ (o : Option Socket). Type 0) [
       | None ↦ ClosesFor c now cause.NotJoined s result t
       | Some k ↦ IsSeated (record { client = c; space = p.header.space; sid = k.sid }) s.history
-          × Serves decides p.header.kind (record { client = c; space = p.header.space; sid = k.sid }) p.header.id p.header.payload p.attachments now s result t
+          × Serves policy p.header.kind (record { client = c; space = p.header.space; sid = k.sid }) p.header.id p.header.payload p.attachments now s result t
     ]
     on None none = absurd (cc none)
     on (Some k) is = let same : sid ≡ k.sid = cc in (rw same at seated, rw same at serves)
 
 -- ---- frames
 
-module _ (decides : Who → Arrived → List Effect → Type 0) (allows : (space payload : List ℕ) → PlainVerdict → Type 0) where
-  pub works-joined : (c : ℕ) (p : SioPacket) (now : ℕ) (s : Stage) (result : Upshot) (t : Stage) → p.header.kind ≢ kind.Connect → DrawsNone (ServesJoined decides c p now) s result t → Works decides allows c p now s result t
+module _ (policy : Policy) where
+  pub works-joined : (c : ℕ) (p : SioPacket) (now : ℕ) (s : Stage) (result : Upshot) (t : Stage) → p.header.kind ≢ kind.Connect → DrawsNone (ServesJoined policy c p now) s result t → Works policy c p now s result t
   works-joined c p now s result t other serves = on p.header.kind other
     where
-      on : (k : Kind) → k ≢ kind.Connect → elim k as (λ (k : Kind). Type 0) [ kind.Connect ↦ AsksToConnect allows c p.header.space p.header.payload now s result t | _ ↦ DrawsNone (ServesJoined decides c p now) s result t ]
+      on : (k : Kind) → k ≢ kind.Connect → elim k as (λ (k : Kind). Type 0) [ kind.Connect ↦ AsksToConnect policy c p.header.space p.header.payload now s result t | _ ↦ DrawsNone (ServesJoined policy c p now) s result t ]
       on kind.Connect other = absurd (other refl)
       on _ other = serves
 
@@ -156,20 +154,20 @@ module _ (decides : Who → Arrived → List Effect → Type 0) (allows : (space
 
   -- a frame for which there was no memory
   short-of : (c now : ℕ) (s : Stage) (line : PlainLine) (e : SioError) (result : Upshot) (t : Stage) → e ≡ sio.Memory → line ≡ s.scene.line
-      → GoesOn decides allows c (Err e) now (with_line decides allows s line) result t → GoesOn decides allows c (Err sio.Memory) now s result t
+      → GoesOn policy c (Err e) now (with_line policy s line) result t → GoesOn policy c (Err sio.Memory) now s result t
   short-of c now s line e result t is same on =
-      subst (λ (l : PlainLine). GoesOn decides allows c (Err sio.Memory) now (with_line decides allows s l) result t) same
-      (subst (λ (e : SioError). GoesOn decides allows c (Err e) now (with_line decides allows s line) result t) is on)
+      subst (λ (l : PlainLine). GoesOn policy c (Err sio.Memory) now (with_line policy s l) result t) same
+      (subst (λ (e : SioError). GoesOn policy c (Err e) now (with_line policy s line) result t) is on)
 
   refused-as : (c now : ℕ) (s : Stage) (line : PlainLine) (e : SioError) (result : Upshot) (t : Stage) → line ≡ record s.scene.line { assembler = Failed e }
-      → GoesOn decides allows c (Err e) now (with_line decides allows s line) result t → RefusesFrame decides allows c e now s result t
-  refused-as c now s line e result t is on = subst (λ (l : PlainLine). GoesOn decides allows c (Err e) now (with_line decides allows s l) result t) is on
+      → GoesOn policy c (Err e) now (with_line policy s line) result t → RefusesFrame policy c e now s result t
+  refused-as c now s line e result t is on = subst (λ (l : PlainLine). GoesOn policy c (Err e) now (with_line policy s l) result t) is on
 
   pub takes-text : (c : ℕ) (content : List ℕ) (now : ℕ) (s : Stage) (line : PlainLine) (given : Result (Option SioPacket) SioError) (result : Upshot) (t : Stage)
       → IfOk given (λ g. Accepts s.scene.line.assembler (text content) g line.assembler)
       → OnOk given (Advances s.scene.line (Framed (text content) ∷ []) line)
       → Fault s line (RefusesText s.scene.line.assembler content) given
-      → GoesOn decides allows c given now (with_line decides allows s line) result t → TakesText decides allows c content now s result t
+      → GoesOn policy c given now (with_line policy s line) result t → TakesText policy c content now s result t
   takes-text c content now s line (Ok given) result t accepts advances fault on = inr (inl (given, line, accepts, advances, on))
   takes-text c content now s line (Err e) result t accepts advances (inl (is, same)) on = inl (short-of c now s line e result t is same on)
   takes-text c content now s line (Err e) result t accepts advances (inr (refuses, is)) on = inr (inr (e, refuses, refused-as c now s line e result t is on))
@@ -178,7 +176,7 @@ module _ (decides : Who → Arrived → List Effect → Type 0) (allows : (space
       → IfOk given (λ g. Accepts s.scene.line.assembler (binary content) g line.assembler)
       → OnOk given (Advances s.scene.line (Framed (binary content) ∷ []) line)
       → Fault s line (λ e. binary_refusal s.scene.line.assembler ≡ Some e) given
-      → GoesOn decides allows c given now (with_line decides allows s line) result t → ReadsBinary decides allows c content now s result t
+      → GoesOn policy c given now (with_line policy s line) result t → ReadsBinary policy c content now s result t
   reads-binary c content now s line (Ok given) result t accepts advances fault on = inr (inl (given, line, accepts, advances, on))
   reads-binary c content now s line (Err e) result t accepts advances (inl (is, same)) on = inl (short-of c now s line e result t is same on)
   reads-binary c content now s line (Err e) result t accepts advances (inr (refuses, is)) on = inr (inr (e, refuses, refused-as c now s line e result t is on))

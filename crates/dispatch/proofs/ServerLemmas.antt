@@ -1,7 +1,7 @@
 -- What a core keeps from event to event.
 use Rattle.std.proofs.Common.{◌≡◌, ℕ, ◌+◌, ◌<◌, ◌≤◌, false, List, [], ◌∷◌, ◌++◌, length, take, get_or, map, arith, refl, sym, ◌∙◌, ap, subst, Result, Ok, Err}
 use Rattle.std.specs.Prelude.{◌≢◌, ◌==◌, ◌&&◌, ◌||◌, Bool, true, not, None, nat_lt, slice_index}
-use Rattle.std.specs.List.{All, AllByRecursion, list_any}
+use Rattle.std.specs.List.{AllByRecursion, list_any}
 use Rattle.std.proofs.lemmas.List.{take_more, take_all}
 use Rattle.std.proofs.lemmas.List.Elements.{All-nil, All-cons}
 use Rattle.eio_wire.specs.Payload.{IsWhole}
@@ -13,7 +13,6 @@ use Rattle.journal.specs.declared.error.HubError.{HubError}
 use Rattle.journal.specs.declared.step.Step.{Step}
 use Rattle.journal.specs.Config.{is_namespace, has_repeat, is_bad_config, config_refusal, empty_base}
 use Rattle.journal.specs.declared.error.HubError.TheVariants.{BadConfig}
-use Rattle.journal.specs.declared.ending.Ending.{Ending}
 use Rattle.journal.proofs.SocketsLemmas.{neither, is-not}
 use Rattle.journal.specs.Plain.{Limits, PlainBase, PlainBaseClient}
 use Rattle.journal.specs.Journal.{History}
@@ -25,10 +24,7 @@ use Rattle.journal.proofs.SealListsLemmas.{all-append}
 use Rattle.journal.specs.Totals.{commands, handed_out}
 use Rattle.hub.specs.Pass.{PlainHub, PlainBooks, PlainPass}
 use Rattle.hub.proofs.CountingLemmas.{commands-grow, handed_out-grows}
-use Rattle.events.specs.declared.app.Arrived.{Arrived}
-use Rattle.events.specs.declared.app.Effect.{Effect}
-use Rattle.events.specs.declared.app.Who.{Who}
-use Rattle.events.specs.App.{PlainVerdict}
+use Rattle.events.specs.App.{Policy}
 use Rattle.effects.specs.Following.{is_clean, is_turn, Follows}
 use Rattle.events.specs.declared.event.Event.{Event}
 use Rattle.events.specs.declared.event.Event.TheVariants as event
@@ -185,26 +181,26 @@ core-parts core old new same = ap (λ (n : ℕ). with_hub core (record { history
 
 -- ---- the machine
 
-module _ (decides : Who → Arrived → List Effect → Type 0) (allows : (space payload : List ℕ) → PlainVerdict → Type 0) (leaves : Who → (rooms : List (List ℕ)) → Ending → List Effect → Type 0) (timing : Timing) (numbers : Numbers) where
+module _ (policy : Policy) (timing : Timing) (numbers : Numbers) where
   -- the row of this event
   pub does-as : (now : ℕ) (event named : Event) (s : Place) (ids : ℕ → ℕ) (answer : Answer) (t : Place) (left : ℕ → ℕ) → event ≡ named
-      → Does decides allows leaves now timing numbers named s ids answer t left → Does decides allows leaves now timing numbers event s ids answer t left
-  does-as now event named s ids answer t left is does = subst (λ (e : Event). Does decides allows leaves now timing numbers e s ids answer t left) (sym is) does
+      → Does policy now timing numbers named s ids answer t left → Does policy now timing numbers event s ids answer t left
+  does-as now event named s ids answer t left is does = subst (λ (e : Event). Does policy now timing numbers e s ids answer t left) (sym is) does
 
-  machine-none : (s : Place) (ids : ℕ → ℕ) → Machine decides allows leaves timing numbers [] [] s ids s ids
+  machine-none : (s : Place) (ids : ℕ → ℕ) → Machine policy timing numbers [] [] s ids s ids
   unfolding Machine
   machine-none s ids = (refl, refl)
 
   -- one event more
   machine-push : (turns : List (Event × ℕ)) (answers : List Answer) (turn : Event × ℕ) (answer : Answer) (s m t : Place) (ids mid last : ℕ → ℕ)
-      → Machine decides allows leaves timing numbers turns answers s ids m mid → Does decides allows leaves turn.1 timing numbers turn.0 m mid answer t last
-      → Machine decides allows leaves timing numbers (turns ++ turn ∷ []) (answers ++ answer ∷ []) s ids t last
+      → Machine policy timing numbers turns answers s ids m mid → Does policy turn.1 timing numbers turn.0 m mid answer t last
+      → Machine policy timing numbers (turns ++ turn ∷ []) (answers ++ answer ∷ []) s ids t last
   unfolding Machine
   machine-push [] [] turn answer s m t ids mid last run does = (
     t,
     last,
-    subst (λ (x : Place). Does decides allows leaves turn.1 timing numbers turn.0 x ids answer t last) run.0
-        (subst (λ (x : ℕ → ℕ). Does decides allows leaves turn.1 timing numbers turn.0 m x answer t last) run.1 does),
+    subst (λ (x : Place). Does policy turn.1 timing numbers turn.0 x ids answer t last) run.0
+        (subst (λ (x : ℕ → ℕ). Does policy turn.1 timing numbers turn.0 m x answer t last) run.1 does),
     (refl, refl),
   )
   machine-push (first ∷ turns) (said ∷ answers) turn answer s m t ids mid last run does =
@@ -213,23 +209,23 @@ module _ (decides : Who → Arrived → List Effect → Type 0) (allows : (space
   machine-push (first ∷ turns) [] turn answer s m t ids mid last run does = absurd run
 
   -- no event was done
-  pub machine-start : (answers : List Answer) (s : Place) (ids : ℕ → ℕ) → answers ≡ [] → Machine decides allows leaves timing numbers [] answers s ids s ids
+  pub machine-start : (answers : List Answer) (s : Place) (ids : ℕ → ℕ) → answers ≡ [] → Machine policy timing numbers [] answers s ids s ids
   machine-start answers s ids none = rw none (machine-none s ids)
 
   -- the event at an index is done, with the settings as they were
   pub machine-next : (all : List (Event × ℕ)) (i : ℕ) (turn : Event × ℕ) (answers more : List Answer) (answer : Answer) (told : Timing) (sent : Numbers) (s m t : Place) (ids mid last : ℕ → ℕ)
       → i < length all → turn ≡ get_or all i turn → more ≡ answers ++ answer ∷ [] → told ≡ timing → sent ≡ numbers
-      → Machine decides allows leaves timing numbers (take i all) answers s ids m mid → Does decides allows leaves turn.1 told sent turn.0 m mid answer t last
-      → Machine decides allows leaves timing numbers (take (i + 1) all) more s ids t last
+      → Machine policy timing numbers (take i all) answers s ids m mid → Does policy turn.1 told sent turn.0 m mid answer t last
+      → Machine policy timing numbers (take (i + 1) all) more s ids t last
   machine-next all i turn answers more answer told sent s m t ids mid last within is pushed tolds sents run does =
       let next : take (i + 1) all ≡ take i all ++ turn ∷ [] = take_more all i turn within ∙ ap (λ (x : Event × ℕ). take i all ++ x ∷ []) (sym is) in
-      let done = subst (λ (x : Timing). Does decides allows leaves turn.1 x sent turn.0 m mid answer t last) tolds does in
-      let right = subst (λ (x : Numbers). Does decides allows leaves turn.1 timing x turn.0 m mid answer t last) sents done in
-      subst (λ (turns : List (Event × ℕ)). Machine decides allows leaves timing numbers turns more s ids t last) (sym next)
-      (subst (λ (said : List Answer). Machine decides allows leaves timing numbers (take i all ++ turn ∷ []) said s ids t last) (sym pushed)
+      let done = subst (λ (x : Timing). Does policy turn.1 x sent turn.0 m mid answer t last) tolds does in
+      let right = subst (λ (x : Numbers). Does policy turn.1 timing x turn.0 m mid answer t last) sents done in
+      subst (λ (turns : List (Event × ℕ)). Machine policy timing numbers turns more s ids t last) (sym next)
+      (subst (λ (said : List Answer). Machine policy timing numbers (take i all ++ turn ∷ []) said s ids t last) (sym pushed)
       (machine-push (take i all) answers turn answer s m t ids mid last run right))
 
   -- all were done
   pub machine-whole : (all : List (Event × ℕ)) (i : ℕ) (answers : List Answer) (s t : Place) (ids last : ℕ → ℕ) → length all ≤ i
-      → Machine decides allows leaves timing numbers (take i all) answers s ids t last → Machine decides allows leaves timing numbers all answers s ids t last
-  machine-whole all i answers s t ids last past run = subst (λ (turns : List (Event × ℕ)). Machine decides allows leaves timing numbers turns answers s ids t last) (take_all i all past) run
+      → Machine policy timing numbers (take i all) answers s ids t last → Machine policy timing numbers all answers s ids t last
+  machine-whole all i answers s t ids last past run = subst (λ (turns : List (Event × ℕ)). Machine policy timing numbers turns answers s ids t last) (take_all i all past) run

@@ -13,12 +13,9 @@ use Rattle.journal.specs.Journal.{History, history, with_step}
 use Rattle.journal.specs.Membership.{opens, closes, is_open}
 use Rattle.journal.proofs.EpochsSocketsLemmas.{is_open-step}
 use Rattle.journal.specs.Entries.{AllPass, own_entries}
-use Rattle.events.specs.declared.app.Arrived.{Arrived}
-use Rattle.events.specs.declared.app.Effect.{Effect}
-use Rattle.events.specs.declared.app.Who.{Who}
 use Rattle.events.specs.declared.fault.CoreError.{CoreError}
 use Rattle.events.specs.declared.fault.CoreFault.TheVariants.{IdTaken}
-use Rattle.events.specs.App.{PlainVerdict}
+use Rattle.events.specs.App.{Policy}
 use Rattle.effects.specs.Commands.{StopsAt}
 use Rattle.effects.specs.Following.{is_clean, is_cast, is_turn, is_work, AreMade, Follows, Spares, WorksFor}
 use Rattle.effects.proofs.StepLemmas.{follows-on, spares-on}
@@ -57,7 +54,7 @@ work-turn c h (AllLeft m) work = work
 work-turn c h (Cast b) work = work
 work-turn c h (Told m) work = work
 work-turn c h (Parked d) work = work
-work-turn c h (Ended s) work = work
+work-turn c h (Ended s by) work = work
 work-turn c h (AllEnded d) work = work
 work-turn c h (Closed d) work = work
 work-turn c h Swept work = work
@@ -143,9 +140,9 @@ pub not-again : (h : History) (now c : ℕ) → is_open h.base h.journal c ≡ t
 not-again h now c is = inr (hub.IdTaken, rw is refl, tt, refl)
 
 -- an event that ends with an error between two of its packets
-pub ends-with : (decides : Who → Arrived → List Effect → Type 0) (allows : (space payload : List ℕ) → PlainVerdict → Type 0) (now c : ℕ) (packets : List Packet) (line : PlainLine)
+pub ends-with : (policy : Policy) (now c : ℕ) (packets : List Packet) (line : PlainLine)
     (s t : Place) (ids left : ℕ → ℕ) (e : CoreError) (m : Stage)
-    → BreaksAfter decides allows c now packets (stage (opening s.history line) ids) e m
+    → BreaksAfter policy c now packets (stage (opening s.history line) ids) e m
     → t.history ≡ m.scene.history → t.lines c ≡ Some m.scene.line → KeepsOthers c s t → left ≡ m.ids
-    → WorksOn decides allows now c packets line s ids (Err e) t left
-ends-with decides allows now c packets line s t ids left e m breaks history has others drawn = (m, breaks, history, (rw has refl, others), drawn)
+    → WorksOn policy now c packets line s ids (Err e) t left
+ends-with policy now c packets line s t ids left e m breaks history has others drawn = (m, breaks, history, (rw has refl, others), drawn)

@@ -1,17 +1,15 @@
 -- What the app does of the sockets that an event ended (Socket.IO server documentation, "Server API": the events
 -- `disconnecting` and `disconnect`).
 use Rattle.std.specs.Prelude.{◌≡◌, ℕ, List, Option, None, Some, Result, Ok, Err}
-use Rattle.journal.specs.declared.ending.Ending.{Ending}
 use Rattle.journal.specs.Journal.{History}
 use Rattle.hub_state.specs.Departing.{PlainDeparted}
-use Rattle.events.specs.declared.app.Effect.{Effect}
-use Rattle.events.specs.declared.app.Who.{Who}
 use Rattle.events.specs.declared.fault.CoreError.{CoreError}
 use Rattle.events.specs.declared.fault.CoreFault.{CoreFault}
 use Rattle.events.specs.declared.outcome.Outcome.{Outcome}
 use Rattle.events.specs.declared.outcome.Outcome.TheVariants.{Done, Lost, Ticked}
 use Rattle.events.specs.Answer.{Answer}
 use Rattle.events.specs.Plain.{PlainDone, nothing_done}
+use Rattle.events.specs.App.{Policy}
 use Rattle.effects.specs.Departed.{HearsOfAll}
 use Rattle.effects.specs.Saying.{work}
 
@@ -44,16 +42,16 @@ abbrev pub done_before : Answer → Option PlainDone
 done_before (Ok o) = done_of o
 done_before (Err e) = Some (done_until e)
 
-module _ (leaves : Who → (rooms : List (List ℕ)) → Ending → List Effect → Type 0) (c now : ℕ) (ended : List PlainDeparted) (h : History) (said answer : Answer) (g : History) where
+module _ (policy : Policy) (c now : ℕ) (ended : List PlainDeparted) (h : History) (said answer : Answer) (g : History) where
   -- the app hears of the sockets that an event of the client ended
   abbrev pub Hears : PlainDone → Type 0
   Hears before = (r : Result (Unit {0}) CoreFault) × (after : PlainDone)
-      × HearsOfAll leaves c now ended (work h before) r (work g after) × (answer ≡ answer_after said r after)
+      × HearsOfAll policy c now ended (work h before) r (work g after) × (answer ≡ answer_after said r after)
 
 -- the app hears of the sockets that ended, where the event is of a client and may end some
-abbrev pub HearsAfter : (leaves : Who → (rooms : List (List ℕ)) → Ending → List Effect → Type 0) → ℕ → Option ℕ → List PlainDeparted → History → (said answer : Answer) → History → Type 0
-HearsAfter leaves now None ended h said answer g = (answer ≡ said) × (g ≡ h)
-HearsAfter leaves now (Some c) ended h said answer g = elim (done_before said) [
+abbrev pub HearsAfter : Policy → ℕ → Option ℕ → List PlainDeparted → History → (said answer : Answer) → History → Type 0
+HearsAfter policy now None ended h said answer g = (answer ≡ said) × (g ≡ h)
+HearsAfter policy now (Some c) ended h said answer g = elim (done_before said) [
   | None ↦ (answer ≡ said) × (g ≡ h)
-  | Some before ↦ Hears leaves c now ended h said answer g before
+  | Some before ↦ Hears policy c now ended h said answer g before
 ]

@@ -11,12 +11,9 @@ use Rattle.connection.specs.History.{GetBegan, GetEnded}
 use Rattle.connection.specs.Line.{PlainLine, LeadsTo}
 use Rattle.journal.specs.declared.error.HubError.TheVariants as hub
 use Rattle.journal.specs.declared.step.What.TheVariants as what
-use Rattle.events.specs.declared.app.Arrived.{Arrived}
-use Rattle.events.specs.declared.app.Effect.{Effect}
-use Rattle.events.specs.declared.app.Who.{Who}
 use Rattle.events.specs.declared.cause.Cause.TheVariants as cause
 use Rattle.events.specs.declared.fault.CoreFault.TheVariants.{Memory, UnknownClient, WrongTransport}
-use Rattle.events.specs.App.{PlainVerdict}
+use Rattle.events.specs.App.{Policy}
 use Rattle.events.specs.Cause.{cause_of_wire}
 use Rattle.effects.specs.Commands.{Makes, IsRefused, StopsAt}
 use Rattle.effects.specs.Runs.{Runs}
@@ -31,7 +28,6 @@ use Rattle.dispatch.specs.Frames.{is_too_long, IsFrameOf, IsNoFrame, SendsFor}
 use Rattle.dispatch.specs.Packets.{Stage, stage, HandlesInTurn, BreaksAfter}
 use Rattle.effects.specs.Effects.{Scene}
 use Rattle.events.specs.Plain.{nothing_done}
-use Rattle.journal.specs.declared.ending.Ending.{Ending}
 use Rattle.journal.specs.Journal.{History}
 use Rattle.effects.specs.Departed.{ended_since}
 use Rattle.events.specs.Event.{client_of}
@@ -119,15 +115,15 @@ Loses now c s (Err e) t = ChangesNone e s t × FailsToPark s.history now c e.fau
 abbrev pub opening : History → PlainLine → Scene
 opening history line = record { history = history; line = line; done = nothing_done; asked = None; ended = false }
 
-module _ (decides : Who → Arrived → List Effect → Type 0) (allows : (space payload : List ℕ) → PlainVerdict → Type 0) (now : ℕ) where
+module _ (policy : Policy) (now : ℕ) where
   -- the packets of a payload in order, until one closes the client or the event ends
   abbrev pub WorksOn : ℕ → List Packet → PlainLine → Place → (ids : ℕ → ℕ) → Answer → Place → (ids' : ℕ → ℕ) → Type 0
   WorksOn c packets line s ids (Ok (outcome.Done done)) t ids' = (m : Stage)
-      × Runs (HandlesInTurn decides allows c now) packets (stage (opening s.history line) ids) m
+      × Runs (HandlesInTurn policy c now) packets (stage (opening s.history line) ids) m
       × (done ≡ m.scene.done) × (t.history ≡ m.scene.history) × KeepsWhileOpen c m.scene.done m.scene.line s t × (ids' ≡ m.ids)
   WorksOn c packets line s ids (Ok _) t ids' = ⊥
   WorksOn c packets line s ids (Err e) t ids' = (m : Stage)
-      × BreaksAfter decides allows c now packets (stage (opening s.history line) ids) e m
+      × BreaksAfter policy c now packets (stage (opening s.history line) ids) e m
       × (t.history ≡ m.scene.history) × HasLine c (λ after. after ≡ m.scene.line) s t × (ids' ≡ m.ids)
 
   -- the whole payload is read first; a fault closes the client
@@ -187,19 +183,19 @@ module _ (decides : Who → Arrived → List Effect → Type 0) (allows : (space
 
 -- ---- an event
 
-module _ (decides : Who → Arrived → List Effect → Type 0) (allows : (space payload : List ℕ) → PlainVerdict → Type 0) (leaves : Who → (rooms : List (List ℕ)) → Ending → List Effect → Type 0) (now : ℕ) where
+module _ (policy : Policy) (now : ℕ) where
   -- the event is answered and leads somewhere as its row says, and then the app hears of the sockets that ended by that
   abbrev pub Does : Timing → Numbers → Event → Place → (ids : ℕ → ℕ) → Answer → Place → (ids' : ℕ → ℕ) → Type 0
   Does timing numbers event s ids answer t ids' =
-      (h : History) × (said : Answer) × Row decides allows now timing numbers event s ids said (record t { history = h }) ids'
-      × HearsAfter leaves now (client_of event) (ended_since s.history h) h said answer t.history
+      (h : History) × (said : Answer) × Row policy now timing numbers event s ids said (record t { history = h }) ids'
+      × HearsAfter policy now (client_of event) (ended_since s.history h) h said answer t.history
 
 -- ---- the machine
 
 -- each event in turn, at its moment, is answered as its row says
-unfoldable pub Machine : (decides : Who → Arrived → List Effect → Type 0) → (allows : (space payload : List ℕ) → PlainVerdict → Type 0) → (leaves : Who → (rooms : List (List ℕ)) → Ending → List Effect → Type 0) → Timing → Numbers
+unfoldable pub Machine : Policy → Timing → Numbers
     → List (Event × ℕ) → List Answer → Place → (ids : ℕ → ℕ) → Place → (ids' : ℕ → ℕ) → Type 0
-Machine decides allows leaves timing numbers [] [] s ids t ids' = (t ≡ s) × (ids' ≡ ids)
-Machine decides allows leaves timing numbers (turn ∷ turns) (answer ∷ answers) s ids t ids' = (m : Place) × (left : ℕ → ℕ)
-    × Does decides allows leaves turn.1 timing numbers turn.0 s ids answer m left × Machine decides allows leaves timing numbers turns answers m left t ids'
-Machine decides allows leaves timing numbers _ _ s ids t ids' = ⊥
+Machine policy timing numbers [] [] s ids t ids' = (t ≡ s) × (ids' ≡ ids)
+Machine policy timing numbers (turn ∷ turns) (answer ∷ answers) s ids t ids' = (m : Place) × (left : ℕ → ℕ)
+    × Does policy turn.1 timing numbers turn.0 s ids answer m left × Machine policy timing numbers turns answers m left t ids'
+Machine policy timing numbers _ _ s ids t ids' = ⊥

@@ -23,6 +23,7 @@ use Rattle.connection.specs.History.{Framed, Ponged, Entered, Left, Answered, bo
 use Rattle.connection.specs.Line.{PlainLine, ForEachHistory, Advances, IsWholeIfGiven}
 use Rattle.journal.specs.declared.error.HubError.TheVariants as hub
 use Rattle.journal.specs.declared.step.What.{What}
+use Rattle.journal.specs.declared.ending.Side.TheVariants as side
 use Rattle.journal.specs.declared.step.What.TheVariants as what
 use Rattle.journal.specs.Membership.{place_of, is_space, is_open, socket_of}
 use Rattle.events.specs.declared.app.Arrived.{Arrived}
@@ -33,7 +34,7 @@ use Rattle.events.specs.declared.cause.Cause.{Cause}
 use Rattle.events.specs.declared.cause.Cause.TheVariants as cause
 use Rattle.events.specs.declared.fault.CoreFault.{CoreFault}
 use Rattle.events.specs.declared.fault.CoreFault.TheVariants.{Memory}
-use Rattle.events.specs.App.{PlainVerdict, Accepted, Refused, IsCleanArrival, AllClean}
+use Rattle.events.specs.App.{Policy, Accepted, Refused, IsCleanArrival, AllClean}
 use Rattle.events.specs.Cause.{cause_of_sio}
 use Rattle.effects.specs.Commands.{Makes, IsRefused, StopsAt, CannotReturn, IsSeated, seat, return_of}
 use Rattle.effects.specs.Effects.{Scene, told_to, counted, Closes, ActsInTurn, StopsAfter}
@@ -121,15 +122,15 @@ DoesAll who now before effects s (Err e) t = StopsAfter who now before effects s
 
 -- the socket leaves its namespace (Socket.IO protocol 5, "Disconnection from a namespace")
 abbrev pub Leaves : Who → ℕ → Scene → Upshot → Scene → Type 0
-Leaves who now s (Ok done) t = Makes s.history now (what.Ended who.sid) t.history × Advances s.line (Left who.sid ∷ []) t.line
+Leaves who now s (Ok done) t = Makes s.history now (what.Ended who.sid side.Client) t.history × Advances s.line (Left who.sid ∷ []) t.line
     × (t ≡ record s { history = t.history; line = t.line })
-Leaves who now s (Err e) t = StopsAt s.history now (what.Ended who.sid) e.fault × StopsFor e.fault s e t
+Leaves who now s (Err e) t = StopsAt s.history now (what.Ended who.sid side.Client) e.fault × StopsFor e.fault s e t
 
-module _ (decides : Who → Arrived → List Effect → Type 0) where
+module _ (policy : Policy) where
   -- the app decides what is done where something arrived; U+001E comes into no effect where none arrived
   abbrev pub Decides : Who → Arrived → ℕ → Scene → Upshot → Scene → Type 0
   Decides who arrived now s result t = IsShort s result t
-      ⊎ ((effects : List Effect) × decides who arrived effects × (IsCleanArrival arrived → AllClean effects) × DoesAll who now 0 effects s result t)
+      ⊎ ((effects : List Effect) × policy.decides who arrived effects × (IsCleanArrival arrived → AllClean effects) × DoesAll who now 0 effects s result t)
 
   -- the answer to a question that isn't open is ignored; else the question is forgotten, and the app decides
   abbrev pub TakesAnswer : Who → (id : ℕ) → (payload : List ℕ) → (attachments : List (List ℕ)) → ℕ → Scene → Upshot → Scene → Type 0
@@ -204,12 +205,12 @@ Returning c space pid offset now s (Ok true) t = let r = return_of c space pid o
 Returning c space pid offset now s (Ok false) t = CannotReturn s.history now (what.Recovered (return_of c space pid offset s.history)) × (t ≡ s)
 Returning c space pid offset now s (Err e) t = StopsAt s.history now (what.Recovered (return_of c space pid offset s.history)) e.fault × StopsFor e.fault s e t
 
-module _ (allows : (space payload : List ℕ) → PlainVerdict → Type 0) where
+module _ (policy : Policy) where
   -- the app says whether the socket is connected; U+001E comes into no effect where none stands in the payload
   abbrev pub AsksApp : ℕ → (space payload : List ℕ) → ℕ → Stage → Upshot → Stage → Type 0
   AsksApp c space payload now s result t = DrawsNone IsShort s result t
-      ⊎ ((effects : List Effect) × allows space payload (Accepted effects) × (IsWhole payload → AllClean effects) × Connects c space effects now s result t)
-      ⊎ ((message : List ℕ) × allows space payload (Refused message) × DrawsNone (Refuses c now space message) s result t)
+      ⊎ ((effects : List Effect) × policy.allows space payload (Accepted effects) × (IsWhole payload → AllClean effects) × Connects c space effects now s result t)
+      ⊎ ((message : List ℕ) × policy.allows space payload (Refused message) × DrawsNone (Refuses c now space message) s result t)
 
   -- the session that the payload names comes back; where it can't come back, the app is asked
   abbrev pub ComesBack : ℕ → (space payload : List ℕ) → (pid offset : ℕ) → ℕ → Stage → Upshot → Stage → Type 0
@@ -234,14 +235,14 @@ module _ (allows : (space payload : List ℕ) → PlainVerdict → Type 0) where
         ]
       ]
 
-module _ (decides : Who → Arrived → List Effect → Type 0) (allows : (space payload : List ℕ) → PlainVerdict → Type 0) where
+module _ (policy : Policy) where
   -- ---- a packet
 
   -- a packet that came whole
   abbrev pub Works : ℕ → SioPacket → ℕ → Stage → Upshot → Stage → Type 0
   Works c p now s result t = elim p.header.kind [
-    | kind.Connect ↦ AsksToConnect allows c p.header.space p.header.payload now s result t
-    | _ ↦ DrawsNone (ServesJoined decides c p now) s result t
+    | kind.Connect ↦ AsksToConnect policy c p.header.space p.header.payload now s result t
+    | _ ↦ DrawsNone (ServesJoined policy c p now) s result t
   ]
 
   -- what comes of what the assembler answered; U+001E stands neither in the packet's namespace nor in its payload

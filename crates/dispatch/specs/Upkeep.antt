@@ -1,6 +1,6 @@
 -- What the passing of time brings: a client's heartbeat and its end (Engine.IO protocol 4, "Heartbeat"; Socket.IO server
 -- documentation, "connectTimeout"), and the sweep of what is kept no longer (the same, "Connection state recovery").
-use Rattle.std.specs.Prelude.{◌≡◌, ℕ, true, false, [], ◌∷◌, None, Some, Ok, Err}
+use Rattle.std.specs.Prelude.{◌≡◌, ℕ, true, false, [], ◌∷◌, Some, Ok, Err}
 use Rattle.session_clock.specs.declared.timing.Due.{Due}
 use Rattle.session_clock.specs.declared.timing.Due.TheVariants.{Nothing, SendPing, PingTimeout, ConnectTimeout}
 use Rattle.session_clock.specs.Heartbeat.{due}

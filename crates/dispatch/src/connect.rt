@@ -61,7 +61,7 @@ fn ask_app<A: App, I: IdSource>(
     requires open_client { IsOpenFor scene.old.visit.client (seen scene.old) }
     requires fresh { IsFresh (seen scene.old) }
     requires free { IsFreeIn asked.0 scene.old.visit.client (seen scene.old) }
-    ensures { Draws (AsksApp (A.allows app.now) scene.old.visit.client asked.0 asked.1)
+    ensures { Draws (AsksApp (A.policy app.now) scene.old.visit.client asked.0 asked.1)
         scene.old (I.stream ids.old) result scene.new (I.stream ids.new) }
 {
     let (space, payload) = asked;
@@ -135,7 +135,7 @@ fn return_or_ask<A: App, I: IdSource>(
     requires fresh { IsFresh (seen scene.old) }
     requires free { IsFreeIn asked.0 scene.old.visit.client (seen scene.old) }
     ensures { let client = scene.old.visit.client in Draws
-        (ComesBack (A.allows app.now) client asked.0 asked.1 named.0 named.1)
+        (ComesBack (A.policy app.now) client asked.0 asked.1 named.0 named.1)
         scene.old (I.stream ids.old) result scene.new (I.stream ids.new) }
 {
     match come_back(scene, asked.0.as_str(), named) {
@@ -155,7 +155,7 @@ fn connect_free<A: App, I: IdSource>(
     requires open_client { IsOpenFor scene.old.visit.client (seen scene.old) }
     requires fresh { IsFresh (seen scene.old) }
     requires free { IsFreeIn asked.0 scene.old.visit.client (seen scene.old) }
-    ensures { Draws (MayComeBack (A.allows app.now) scene.old.visit.client asked.0 asked.1)
+    ensures { Draws (MayComeBack (A.policy app.now) scene.old.visit.client asked.0 asked.1)
         scene.old (I.stream ids.old) result scene.new (I.stream ids.new) }
 {
     match named_in(scene.visit.alloc, asked.1.as_str())? {
@@ -174,7 +174,7 @@ pub(crate) fn connect<A: App, I: IdSource>(
     requires open_client { IsOpenFor scene.old.visit.client (seen scene.old) }
     requires fresh { IsFresh (seen scene.old) }
     ensures { let client = scene.old.visit.client in Draws
-        (AsksToConnect (A.allows app.now) client header.space header.payload)
+        (AsksToConnect (A.policy app.now) client header.space header.payload)
         scene.old (I.stream ids.old) result scene.new (I.stream ids.new) }
 {
     let Header { space, payload, .. } = header;

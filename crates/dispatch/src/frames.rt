@@ -60,7 +60,7 @@ pub(crate) fn hear<A: App, I: IdSource>(
     frame: &WsFrame,
 ) -> Result<Outcome, CoreError>
     requires { Agree state.old lines.old.entries }
-    ensures { HearsFor (A.decides app.now) (A.allows app.now) visit.moment visit.client frame.now
+    ensures { HearsFor (A.policy app.now) visit.moment visit.client frame.now
         (place state.old lines.old.entries) (I.stream ids.old) result
         (place state.new lines.new.entries) (I.stream ids.new) }
 {

@@ -3,14 +3,14 @@
 #![tactic(auto)]
 
 mod connect;
+mod departures;
 mod frames;
-mod greeting;
-mod hearing;
+mod handshake;
+mod joined;
 mod laws;
 mod lines;
+mod losing;
 mod packets;
-mod parking;
-mod serve;
 mod server;
 mod takes;
 mod turns;

@@ -10,8 +10,8 @@ ghost use Rattle.effects.specs.Scene.{seen, IsSameEvent, Plays};
 ghost use Rattle.dispatch.specs.Packets.{stage, Draws, IsFresh, ClosesFor, ParksFor, Works, GoesOn, TakesBinary, Handles, HandlesOrBreaks, HandlesInTurn, BreaksAfter};
 
 use crate::connect::connect;
-use crate::parking::park_or_close;
-use crate::serve::serve_joined;
+use crate::joined::serve_joined;
+use crate::losing::park_or_close;
 use effects::Scene;
 use eio_wire::Packet;
 use events::{App, Cause, CoreError, CoreFault, IdSource, Stopped};
@@ -46,7 +46,7 @@ fn work<A: App, I: IdSource>(
 ) -> Result<(), Stopped>
     requires open_client { IsOpenFor scene.old.visit.client (seen scene.old) }
     requires fresh { IsFresh (seen scene.old) }
-    ensures { Draws (Works (A.decides app.now) (A.allows app.now) scene.old.visit.client packet)
+    ensures { Draws (Works (A.policy app.now) scene.old.visit.client packet)
         scene.old (I.stream ids.old) result scene.new (I.stream ids.new) }
 {
     if packet.header.kind == Kind::Connect {
@@ -65,7 +65,7 @@ fn go_on<A: App, I: IdSource>(
     requires open_client { IsOpenFor scene.old.visit.client (seen scene.old) }
     requires fresh { IsFresh (seen scene.old) }
     requires whole { IfOk given IsWholeIfGiven }
-    ensures { Draws (GoesOn (A.decides app.now) (A.allows app.now) scene.old.visit.client given)
+    ensures { Draws (GoesOn (A.policy app.now) scene.old.visit.client given)
         scene.old (I.stream ids.old) result scene.new (I.stream ids.new) }
 {
     match given {
@@ -86,7 +86,7 @@ fn take_binary<A: App, I: IdSource>(
 ) -> Result<(), Stopped>
     requires open_client { IsOpenFor scene.old.visit.client (seen scene.old) }
     requires fresh { IsFresh (seen scene.old) }
-    ensures { Draws (TakesBinary (A.decides app.now) (A.allows app.now) scene.old.visit.client bytes.now)
+    ensures { Draws (TakesBinary (A.policy app.now) scene.old.visit.client bytes.now)
         scene.old (I.stream ids.old) result scene.new (I.stream ids.new) }
 {
     if scene.line.exceeds(bytes, scene.state.most_bytes()) {
@@ -105,7 +105,7 @@ fn handle<A: App, I: IdSource>(
 ) -> Result<(), Stopped>
     requires open_client { IsOpenFor scene.old.visit.client (seen scene.old) }
     requires fresh { IsFresh (seen scene.old) }
-    ensures { Draws (Handles (A.decides app.now) (A.allows app.now) scene.old.visit.client packet.now)
+    ensures { Draws (Handles (A.policy app.now) scene.old.visit.client packet.now)
         scene.old (I.stream ids.old) result scene.new (I.stream ids.new) }
 {
     match packet {
@@ -134,7 +134,7 @@ fn handle_in_turn<A: App, I: IdSource>(
     requires { let s = seen scene.old in
         is_open s.history.base s.history.journal scene.old.visit.client ≡ is_none s.done.closed }
     ensures { let client = scene.old.visit.client in Draws
-        (HandlesOrBreaks (A.decides app.now) (A.allows app.now) client packet.now)
+        (HandlesOrBreaks (A.policy app.now) client packet.now)
         scene.old (I.stream ids.old) result scene.new (I.stream ids.new) }
 {
     if scene.tally.is_closed() {
@@ -156,10 +156,10 @@ pub(crate) fn handle_each<A: App, I: IdSource>(
     requires fresh { scene.old.tally.now.done.closed ≡ None }
     ensures same { IsSameEvent scene.old scene.new }
     ensures ok { let visit = scene.old.visit in OnOk result (Runs
-        (HandlesInTurn (A.decides app.now) (A.allows app.now) visit.client visit.moment) packets.now
+        (HandlesInTurn (A.policy app.now) visit.client visit.moment) packets.now
         (stage (seen scene.old) (I.stream ids.old)) (stage (seen scene.new) (I.stream ids.new))) }
     ensures err { let visit = scene.old.visit in IfErr result (λ e. BreaksAfter
-        (A.decides app.now) (A.allows app.now) visit.client visit.moment packets.now
+        (A.policy app.now) visit.client visit.moment packets.now
         (stage (seen scene.old) (I.stream ids.old)) e (stage (seen scene.new) (I.stream ids.new))) }
 {
     let mut count = 0;

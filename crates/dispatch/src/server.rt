@@ -17,10 +17,10 @@ ghost use Rattle.dispatch.specs.Counting.{TurnsFor};
 ghost use Rattle.dispatch.specs.Handed.{Turn, turns_after, Handed};
 ghost use Rattle.dispatch.specs.Machine.{Row, Does, Machine, IsOf, listed};
 
-use crate::greeting::Greeting;
-use crate::hearing::hear_after;
+use crate::departures::hear_after;
+use crate::handshake::Handshake;
 use crate::lines::transport_of;
-use crate::{frames, turns, upgrade, upkeep};
+use crate::{frames, losing, turns, upgrade, upkeep};
 use connection::Line;
 use effects::Call;
 use eio_wire::Numbers;
@@ -40,7 +40,7 @@ use std::sync::ledger::{Blank, Ledger};
 pub struct Core<C: Ledger, T: Ledger> {
     hub: Hub<C, T>,
     lines: BTreeMap<u128, Line>,
-    greeting: Greeting,
+    handshake: Handshake,
 }
 
 /// Written out, so that a crate above takes the drop of all that lies in it by this one call.
@@ -49,7 +49,7 @@ impl<C: Ledger, T: Ledger> Drop for Core<C, T> {
         let Self {
             hub: _,
             lines: _,
-            greeting: _,
+            handshake: _,
         } = self;
     }
 }
@@ -62,8 +62,8 @@ impl<C: Ledger, T: Ledger> Model for Core<C, T> {
     ghost view = { λ c. record {
       hub = c.hub;
       lines = c.lines.entries;
-      timing = c.greeting.timing;
-      numbers = c.greeting.numbers;
+      timing = c.handshake.timing;
+      numbers = c.handshake.numbers;
     } };
 
     ghost invariant = { λ c. Agree c.hub.history c.lines.entries × IsClean c.hub.history };
@@ -101,7 +101,7 @@ impl<C: Ledger, T: Ledger> Core<C, T> {
                 Core {
                     hub,
                     lines: BTreeMap::new(alloc),
-                    greeting: Greeting { timing, numbers },
+                    handshake: Handshake { timing, numbers },
                 },
                 pass,
             )),
@@ -121,7 +121,7 @@ impl<C: Ledger, T: Ledger> Core<C, T> {
         now: u64,
         ids: &mut I,
     ) -> Result<Outcome, CoreError>
-        ensures does { Does (A.decides app.now) (A.allows app.now) (A.leaves app.now) now
+        ensures does { Does (A.policy app.now) now
             self.old.timing self.old.numbers event.now
             (place self.old.hub.history self.old.lines) (I.stream ids.old) result
             (place self.new.hub.history self.new.lines) (I.stream ids.new) }
@@ -139,9 +139,9 @@ impl<C: Ledger, T: Ledger> Core<C, T> {
         let Core {
             hub,
             lines,
-            greeting,
+            handshake,
         } = self;
-        let answer = apply_to(call, &mut hub.state, lines, greeting, app, event, ids);
+        let answer = apply_to(call, &mut hub.state, lines, handshake, app, event, ids);
         hub.books.catch_up(pass, &before, &hub.state);
         answer
     }
@@ -157,7 +157,7 @@ impl<C: Ledger, T: Ledger> Core<C, T> {
         ids: &mut I,
     ) -> Result<Vec<Result<Outcome, CoreError>>, AllocError>
         ensures does { IfOk result (λ answers.
-            Machine (A.decides app.now) (A.allows app.now) (A.leaves app.now) self.old.timing
+            Machine (A.policy app.now) self.old.timing
             self.old.numbers events.now answers.items
             (place self.old.hub.history self.old.lines) (I.stream ids.old)
             (place self.new.hub.history self.new.lines) (I.stream ids.new)) }
@@ -269,20 +269,20 @@ fn apply_to<A: App, I: IdSource>(
     call: Call,
     state: &mut State,
     lines: &mut BTreeMap<u128, Line>,
-    greeting: &Greeting,
+    handshake: &Handshake,
     app: &A,
     event: &Event,
     ids: &mut I,
 ) -> Result<Outcome, CoreError>
     requires agree { Agree state.old lines.old.entries }
     requires clean { IsClean state.old }
-    ensures { Does (A.decides app.now) (A.allows app.now) (A.leaves app.now) call.moment
-        greeting.now.timing greeting.now.numbers event.now
+    ensures { Does (A.policy app.now) call.moment
+        handshake.now.timing handshake.now.numbers event.now
         (place state.old lines.old.entries) (I.stream ids.old) result
         (place state.new lines.new.entries) (I.stream ids.new) }
 {
     let ended = state.departed().len();
-    let said = do_row(call, state, lines, greeting, app, event, ids);
+    let said = do_row(call, state, lines, handshake, app, event, ids);
     match event.client() {
         Some(client) => hear_after(call.of(client), state, app, ended, said),
         None => said,
@@ -295,22 +295,22 @@ fn do_row<A: App, I: IdSource>(
     call: Call,
     state: &mut State,
     lines: &mut BTreeMap<u128, Line>,
-    greeting: &Greeting,
+    handshake: &Handshake,
     app: &A,
     event: &Event,
     ids: &mut I,
 ) -> Result<Outcome, CoreError>
     requires agree { Agree state.old lines.old.entries }
     requires clean { IsClean state.old }
-    ensures { Row (A.decides app.now) (A.allows app.now) call.moment
-        greeting.now.timing greeting.now.numbers event.now
+    ensures { Row (A.policy app.now) call.moment
+        handshake.now.timing handshake.now.numbers event.now
         (place state.old lines.old.entries) (I.stream ids.old) result
         (place state.new lines.new.entries) (I.stream ids.new) }
 {
     match event {
         Event::Opened { socket } => {
             let visit = call.of(ids.draw());
-            turns::open(visit, state, lines, greeting, *socket)
+            turns::open(visit, state, lines, handshake, *socket)
         }
         Event::Post { client, body } => {
             turns::post(call.of(*client), state, lines, app, ids, body.as_str())
@@ -325,7 +325,7 @@ fn do_row<A: App, I: IdSource>(
         Event::Probe { client } => upgrade::probe(call.alloc, lines, *client),
         Event::Upgraded { client } => upgrade::upgrade(call.alloc, lines, *client),
         Event::ProbeLost { client } => upgrade::probe_lost(call.alloc, lines, *client),
-        Event::TransportLost { client } => turns::lose(call.of(*client), state, lines),
+        Event::TransportLost { client } => losing::lose(call.of(*client), state, lines),
         Event::Tick { client } => upkeep::tick(call.of(*client), state, lines),
         Event::Sweep => upkeep::sweep(call.of(0), state),
     }

@@ -6,12 +6,11 @@ ghost use Rattle.journal.specs.Membership.{is_open};
 ghost use Rattle.connection.specs.Line.{PlainLine};
 ghost use Rattle.dispatch.specs.Place.{line_of, place, Agree, IsClean};
 ghost use Rattle.dispatch.specs.Answers.{ClosesUnread, ForClient};
-ghost use Rattle.dispatch.specs.Machine.{Opens, Begins, Ends, Takes, Loses, WorksOn, PostsFor};
+ghost use Rattle.dispatch.specs.Machine.{Opens, Begins, Ends, Takes, WorksOn, PostsFor};
 
-use crate::greeting::Greeting;
+use crate::handshake::Handshake;
 use crate::lines::{forget, put, transport_of};
 use crate::packets::handle_each;
-use crate::parking::park_or_close;
 use crate::takes;
 use connection::Line;
 use effects::{Scene, Tally, Visit, commands};
@@ -29,11 +28,11 @@ pub(crate) fn open(
     visit: Visit,
     state: &mut State,
     lines: &mut BTreeMap<u128, Line>,
-    greeting: &Greeting,
+    handshake: &Handshake,
     socket: bool,
 ) -> Result<Outcome, CoreError>
     requires { Agree state.old lines.old.entries }
-    ensures { Opens greeting.now.timing greeting.now.numbers visit.moment socket visit.client
+    ensures { Opens handshake.now.timing handshake.now.numbers visit.moment socket visit.client
         (place state.old lines.old.entries) result (place state.new lines.new.entries) }
 {
     let Visit {
@@ -44,10 +43,10 @@ pub(crate) fn open(
     if let Some(_) = lines.get(&client) {
         return Err(CoreFault::IdTaken.at_once());
     }
-    let Ok(text) = open_text(alloc, client, !socket, &greeting.numbers) else {
+    let Ok(text) = open_text(alloc, client, !socket, &handshake.numbers) else {
         return Err(CoreFault::Memory.at_once());
     };
-    let line = Line::open(alloc, moment, greeting.timing, socket);
+    let line = Line::open(alloc, moment, handshake.timing, socket);
     if let Err(fault) = put(lines, client, line) {
         return Err(fault.at_once());
     }
@@ -93,7 +92,7 @@ pub(crate) fn post<A: App, I: IdSource>(
     body: &str,
 ) -> Result<Outcome, CoreError>
     requires { Agree state.old lines.old.entries }
-    ensures { PostsFor (A.decides app.now) (A.allows app.now) visit.moment visit.client body.now
+    ensures { PostsFor (A.policy app.now) visit.moment visit.client body.now
         (place state.old lines.old.entries) (I.stream ids.old) result
         (place state.new lines.new.entries) (I.stream ids.new) }
 {
@@ -121,7 +120,7 @@ pub(crate) fn work_on<A: App, I: IdSource>(
     requires agree { Agree state.old lines.old.entries }
     requires known { is_some (line_of lines.old.entries visit.client) ≡ true }
     ensures { (line : PlainLine) → line_of lines.old.entries visit.client ≡ Some line
-        → WorksOn (A.decides app.now) (A.allows app.now) visit.moment visit.client packets.now line
+        → WorksOn (A.policy app.now) visit.moment visit.client packets.now line
         (place state.old lines.old.entries) (I.stream ids.old) result
         (place state.new lines.new.entries) (I.stream ids.new) }
 {
@@ -201,30 +200,6 @@ pub(crate) fn take(
     };
     match takes::poll_take(visit, state, line, most) {
         Ok(outcome) => Ok(outcome),
-        Err(fault) => Err(fault.at_once()),
-    }
-}
-
-/// The client's connection was lost: its sessions are saved, or where they have no place it is
-/// closed.
-pub(crate) fn lose(
-    visit: Visit,
-    state: &mut State,
-    lines: &mut BTreeMap<u128, Line>,
-) -> Result<Outcome, CoreError>
-    requires { Agree state.old lines.old.entries }
-    ensures { ForClient visit.client (λ line. Loses visit.moment visit.client)
-        (place state.old lines.old.entries) result (place state.new lines.new.entries) }
-{
-    let Some(_) = lines.get(&visit.client) else {
-        return Err(CoreFault::UnknownClient.at_once());
-    };
-    match park_or_close(visit, state) {
-        Ok(saved) => {
-            forget(lines, visit.client);
-            let done = Done::nothing(visit.alloc);
-            Ok(Outcome::Lost { saved, done })
-        }
         Err(fault) => Err(fault.at_once()),
     }
 }

@@ -9,7 +9,7 @@ ghost use Rattle.dispatch.specs.Place.{line_of, place, Agree};
 ghost use Rattle.dispatch.specs.Upkeep.{Ticks, Sweeps};
 
 use crate::lines::forget;
-use crate::parking::park_or_close;
+use crate::losing::park_or_close;
 use connection::Line;
 use effects::{Visit, commands};
 use events::{Cause, CoreError, CoreFault, Done, Outcome};

@@ -6,9 +6,8 @@ use Rattle.terms.specs.declared.entry.Entry.{Entry}
 use Rattle.journal.specs.declared.socket.Socket.{Socket}
 use Rattle.journal.specs.declared.error.HubError.TheVariants as hub
 use Rattle.journal.specs.declared.step.What.{What}
+use Rattle.journal.specs.declared.ending.Side.TheVariants as side
 use Rattle.journal.specs.declared.step.What.TheVariants as what
-use Rattle.journal.specs.Plain.{PlainCast, PlainCastDone}
-use Rattle.journal.specs.Casting.{refusal_of, IsCast}
 use Rattle.journal.specs.Journal.{History}
 use Rattle.journal.specs.Membership.{is_open, ends, connects, closes}
 use Rattle.journal.proofs.SocketsLemmas.{neither}
@@ -22,7 +21,6 @@ use Rattle.events.specs.declared.cause.Cause.TheVariants.{OutboxFull}
 use Rattle.events.specs.declared.fault.CoreFault.{CoreFault}
 use Rattle.effects.specs.Commands.{Makes, StopsAt, DoesOr, IsSeated}
 use Rattle.effects.specs.Effects.{Scene, scene, IsReply, Replies, FailsToReply, Closes, is_bad, is_wrong, told_to, goodbye, dismissed, all_joined, all_left, ChangesRooms, SaysGoodbye, Acts, ActsInTurn, Stops, Fails, FailsAt, StandsWith}
-use Rattle.events.specs.Emission.{PlainEmission}
 use Rattle.events.specs.Plain.{PlainDone, one_more, told}
 use Rattle.effects.proofs.StepLemmas.{itself, open-still, open-no-more, seated-still, seated-among}
 
@@ -80,7 +78,7 @@ module _ (who : Who) (now : ℕ) where
   acts-stands s t (EmitAsk q) fresh seated (id, next, entry, is, inr (refused, vain, closed)) = stands-closed OutboxFull (record s { line = t.line }) t closed
   acts-stands s t Disconnect fresh seated (between, says, made, advances, same) =
       let there = seated-after s.history between says seated in
-      stands-ended (record s { history = between }) t (what.Ended who.sid) made refl (ap (λ (u : Scene). u.done.closed) same) fresh there.open_client
+      stands-ended (record s { history = between }) t (what.Ended who.sid side.Server) made refl (ap (λ (u : Scene). u.done.closed) same) fresh there.open_client
       (λ on. absurd (cc (on, ap (λ (u : Scene). u.ended) same)))
   acts-stands s t (AllJoin m room) fresh seated acts = stands-rooms (all_joined who m room s.history) (λ l. refl) refl refl s t acts fresh seated
   acts-stands s t (AllLeave m room) fresh seated acts = stands-rooms (all_left who m room s.history) (λ l. refl) refl refl s t acts fresh seated
@@ -111,7 +109,7 @@ module _ (who : Who) (now : ℕ) where
   fails-stands s t Disconnect fault fresh on was (inl (short, same)) = subst (StandsWith who) (sym same) was
   fails-stands s t Disconnect fault fresh on was (inr (inl fails)) = stops-at (goodbye who) s t fault was fails
   fails-stands s t Disconnect fault fresh on was (inr (inr (between, says, fails))) =
-      stops-at (what.Ended who.sid) (record s { history = between }) t fault (stands-seated (record s { history = between }) fresh (seated-after s.history between says (was.seated fresh on))) fails
+      stops-at (what.Ended who.sid side.Server) (record s { history = between }) t fault (stands-seated (record s { history = between }) fresh (seated-after s.history between says (was.seated fresh on))) fails
   fails-stands s t (AllJoin m room) fault fresh on was fails = stops-at (all_joined who m room s.history) s t fault was fails
   fails-stands s t (AllLeave m room) fault fresh on was fails = stops-at (all_left who m room s.history) s t fault was fails
   fails-stands s t (AllEnd m) fault fresh on was (inl (short, same)) = subst (StandsWith who) (sym same) was

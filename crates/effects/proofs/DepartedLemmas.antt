@@ -1,13 +1,12 @@
 -- What the app's events where sockets have ended leave as it was.
-use Rattle.std.proofs.Common.{◌≡◌, ◌≢◌, ℕ, zero, suc, ◌<◌, ◌&&◌, ◌||◌, Bool, true, false, cond, List, [], ◌∷◌, length, get_or, refl, sym, ◌∙◌, ap, subst, take, append-nil, arith, nat_lt, Option, None, Some, Result, Ok, Err, inl, inr}
+use Rattle.std.proofs.Common.{◌≡◌, ◌≢◌, ℕ, zero, suc, ◌<◌, ◌&&◌, ◌||◌, Bool, true, false, cond, List, [], ◌∷◌, length, get_or, refl, sym, ◌∙◌, ap, subst, take, append-nil, arith, nat_lt, None, Some, Result, Ok, Err, inl, inr}
 use Rattle.std.specs.Prelude.{bytes_eq, unwrap_or}
-use Rattle.std.specs.List.{All, AllByRecursion, position_or_len}
+use Rattle.std.specs.List.{AllByRecursion, position_or_len}
 use Rattle.std.proofs.lemmas.Bool.Decides.{nat_tests}
 use Rattle.std.proofs.lemmas.Slice.Eq.{bytes_eq-Decides}
 use Rattle.std.proofs.lemmas.List.Elements.{All-nil}
 use Rattle.std.proofs.lemmas.List.Sums.{fails_before_first}
 use Rattle.eio_wire.specs.Payload.{IsWhole}
-use Rattle.journal.specs.declared.ending.Ending.{Ending}
 use Rattle.journal.specs.declared.socket.Socket.{Socket}
 use Rattle.journal.specs.declared.step.Step.{Step}
 use Rattle.journal.specs.declared.step.What.TheVariants as what
@@ -17,17 +16,16 @@ use Rattle.journal.specs.Membership.{is_open, is_space, place_of}
 use Rattle.journal.proofs.EpochsSocketsLemmas.{is_open-step}
 use Rattle.hub_state.specs.Departing.{PlainDeparted, departed}
 use Rattle.events.specs.declared.app.Effect.{Effect}
-use Rattle.events.specs.declared.app.Effect.TheVariants.{Join, Leave, Emit, EmitAsk, Reply, Disconnect, AllJoin, AllLeave, AllEnd}
-use Rattle.events.specs.declared.app.Who.{Who}
+use Rattle.events.specs.declared.app.Effect.TheVariants.{Emit}
 use Rattle.events.specs.declared.fault.CoreFault.{CoreFault}
 use Rattle.events.specs.declared.fault.CoreFault.TheVariants.{BadEffect}
-use Rattle.events.specs.App.{IsCleanEffect}
+use Rattle.events.specs.App.{Policy, IsCleanEffect}
 use Rattle.events.specs.Emission.{PlainEmission}
 use Rattle.events.specs.Plain.{PlainDone}
 use Rattle.effects.specs.Departed.{name_of, Sends, HearsOf, HearsOfAll}
 use Rattle.effects.specs.Effects.{is_unsendable}
 use Rattle.effects.specs.Following.{is_work, is_turn, Follows, Spares}
-use Rattle.effects.specs.Runs.{Runs, RunsOrFails}
+use Rattle.effects.specs.Runs.{RunsOrFails}
 use Rattle.effects.specs.Saying.{Work, cast_of, Says, SaysOrFails}
 use Rattle.effects.proofs.CleanLemmas.{clean-cast}
 use Rattle.effects.proofs.RunsLemmas.{all-at, all-take, run-keeps}
@@ -41,7 +39,7 @@ or-fails-keeps R P K keeps xs s t (Err e) all was (done, at, run, x, is, fails) 
     keeps at t x (Err e) (all-at P xs done x is all)
     (run-keeps (λ a x b. R a x (Ok tt) b) P K (λ a b x p k step. keeps a b x (Ok tt) p k step) (take done xs) s at (all-take P done xs all) was run) fails
 
-module _ (leaves : Who → (rooms : List (List ℕ)) → Ending → List Effect → Type 0) (c now : ℕ) where
+module _ (policy : Policy) (c now : ℕ) where
   -- what an event that is sent in a namespace with such a name keeps
   module _ (W : List ℕ → Type 0) (K : Work → Type 0) (named : (s : Work) → K s → (k : Socket) → W (name_of s.history.limits k))
       (says : (space : List ℕ) (e : PlainEmission) (s t : Work) → W space → IsWhole e.payload → Says c space e now s t → K s → K t) where
@@ -60,7 +58,7 @@ module _ (leaves : Who → (rooms : List (List ℕ)) → Ending → List Effect 
     sends-keeps space whole s t (Emit e) r clean was does = emit-keeps space e s t r whole clean was does
     sends-keeps space whole s t _ r clean was refused = subst K (sym refused.1) was
 
-    pub hears-keeps : (s t : Work) (gone : PlainDeparted) (r : Result (Unit {0}) CoreFault) → Unit {0} → K s → HearsOf leaves c now s gone r t → K t
+    pub hears-keeps : (s t : Work) (gone : PlainDeparted) (r : Result (Unit {0}) CoreFault) → Unit {0} → K s → HearsOf policy c now s gone r t → K t
     hears-keeps s t gone r any was (inl short) = subst K (sym short.1) was
     hears-keeps s t gone r any was (inr (effects, wants, clean, run)) =
         or-fails-keeps (Sends c now (name_of s.history.limits gone.socket)) IsCleanEffect K
@@ -70,8 +68,8 @@ module _ (leaves : Who → (rooms : List (List ℕ)) → Ending → List Effect 
     any-gone [] = tt
     any-gone (gone ∷ ended) = (tt, any-gone ended)
 
-    pub heard-keeps : (ended : List PlainDeparted) (s t : Work) (r : Result (Unit {0}) CoreFault) → K s → HearsOfAll leaves c now ended s r t → K t
-    heard-keeps ended s t r was run = or-fails-keeps (HearsOf leaves c now) (λ gone. Unit {0}) K hears-keeps ended s t r (any-gone ended) was run
+    pub heard-keeps : (ended : List PlainDeparted) (s t : Work) (r : Result (Unit {0}) CoreFault) → K s → HearsOfAll policy c now ended s r t → K t
+    heard-keeps ended s t r was run = or-fails-keeps (HearsOf policy c now) (λ gone. Unit {0}) K hears-keeps ended s t r (any-gone ended) was run
 
   -- ---- who is open
 
@@ -88,7 +86,7 @@ module _ (leaves : Who → (rooms : List (List ℕ)) → Ending → List Effect 
       let step : Step = record { at = moment_at h now; what = what.Cast cast.b } in
       rw cast.step (is_open-step h.base step h.journal d ∙ as-before (is_open h.base h.journal d)) ∙ was d
 
-  pub heard-open : (m : History) (ended : List PlainDeparted) (s t : Work) (r : Result (Unit {0}) CoreFault) → OpenAs m s → HearsOfAll leaves c now ended s r t → OpenAs m t
+  pub heard-open : (m : History) (ended : List PlainDeparted) (s t : Work) (r : Result (Unit {0}) CoreFault) → OpenAs m s → HearsOfAll policy c now ended s r t → OpenAs m t
   heard-open m = heard-keeps (λ space. Unit {0}) (OpenAs m) (λ s k socket. tt) (λ space e s t any clean does was. says-open m space e s t does was)
 
   -- ---- which steps
@@ -112,7 +110,7 @@ module _ (leaves : Who → (rooms : List (List ℕ)) → Ending → List Effect 
         names = subst (λ (h : History). AllByRecursion IsWhole h.limits.spaces) (sym cast.step) was.names;
       }
 
-  pub heard-onward : (f m : History) (ended : List PlainDeparted) (s t : Work) (r : Result (Unit {0}) CoreFault) → Onward f m s → HearsOfAll leaves c now ended s r t → Onward f m t
+  pub heard-onward : (f m : History) (ended : List PlainDeparted) (s t : Work) (r : Result (Unit {0}) CoreFault) → Onward f m s → HearsOfAll policy c now ended s r t → Onward f m t
   heard-onward f m = heard-keeps IsWhole (Onward f m) (λ s k socket. whole-at s.history.limits.spaces socket.space k.names) (says-onward f m)
 
   -- ---- for whom something is put
@@ -122,7 +120,7 @@ module _ (leaves : Who → (rooms : List (List ℕ)) → Ending → List Effect 
       subst (λ (d : PlainDone). Spares c f t.history d.clients) (sym told)
       (spares-others c f t.history done.clients s.done.clients (spares-cast c now (cast_of space e) done s.history t.history cast f s.done.clients was))
 
-  pub heard-spares : (f : History) (ended : List PlainDeparted) (s t : Work) (r : Result (Unit {0}) CoreFault) → Spares c f s.history s.done.clients → HearsOfAll leaves c now ended s r t → Spares c f t.history t.done.clients
+  pub heard-spares : (f : History) (ended : List PlainDeparted) (s t : Work) (r : Result (Unit {0}) CoreFault) → Spares c f s.history s.done.clients → HearsOfAll policy c now ended s r t → Spares c f t.history t.done.clients
   heard-spares f = heard-keeps (λ space. Unit {0}) (λ s. Spares c f s.history s.done.clients) (λ s k socket. tt) (λ space e s t any clean does was. says-spares f space e s t does was)
 
   -- ---- what an event that is sent leaves
@@ -135,7 +133,7 @@ module _ (leaves : Who → (rooms : List (List ℕ)) → Ending → List Effect 
   says-limits : (limits : Limits) (space : List ℕ) (e : PlainEmission) (s t : Work) → Says c space e now s t → s.history.limits ≡ limits → t.history.limits ≡ limits
   says-limits limits space e s t (allowed, done, cast, told) was = ap (λ (h : History). h.limits) cast.step ∙ was
 
-  pub heard-departed : (D : List PlainDeparted) (s t : Work) (gone : PlainDeparted) (r : Result (Unit {0}) CoreFault) → departed s.history.base s.history.journal ≡ D → HearsOf leaves c now s gone r t
+  pub heard-departed : (D : List PlainDeparted) (s t : Work) (gone : PlainDeparted) (r : Result (Unit {0}) CoreFault) → departed s.history.base s.history.journal ≡ D → HearsOf policy c now s gone r t
       → departed t.history.base t.history.journal ≡ D
   heard-departed D s t gone r was heard =
       hears-keeps (λ space. Unit {0}) (λ s. departed s.history.base s.history.journal ≡ D) (λ s k socket. tt) (λ space e s t any clean does was. says-departed D space e s t does was) s t gone r tt was heard

@@ -3,6 +3,7 @@ use Rattle.std.proofs.Common.{◌≡◌, ℕ, true, false, not, List, refl, sym,
 use Rattle.eio_wire.specs.Payload.{IsWhole}
 use Rattle.terms.specs.declared.entry.Entry.{Entry}
 use Rattle.journal.specs.declared.step.What.{What}
+use Rattle.journal.specs.declared.ending.Side.TheVariants as side
 use Rattle.journal.specs.declared.step.What.TheVariants as what
 use Rattle.journal.specs.Journal.{History}
 use Rattle.journal.specs.Membership.{is_open}
@@ -73,7 +74,7 @@ module _ (who : Who) (now : ℕ) (f : History) where
   acts-work s t (EmitAsk q) whole clean fine seated (id, next, entry, is, inr (refused, vain, closed)) was = work-closed OutboxFull (record s { line = t.line }) t closed was
   acts-work s t Disconnect whole clean fine seated (between, says, made, advances, same) was =
       let there = seated-after who now s.history between says seated in
-      work-made (what.Ended who.sid) (record s { history = between }) t made there.own there.own refl tt _ refl refl same (work-goodbye s.history between s.done.clients whole says was)
+      work-made (what.Ended who.sid side.Server) (record s { history = between }) t made there.own there.own refl tt _ refl refl same (work-goodbye s.history between s.done.clients whole says was)
   acts-work s t (AllJoin m room) whole clean fine seated acts was = work-rooms (all_joined who m room s.history) s t refl refl refl tt acts was
   acts-work s t (AllLeave m room) whole clean fine seated acts was = work-rooms (all_left who m room s.history) s t refl refl refl tt acts was
   acts-work s t (AllEnd m) whole clean fine seated (made, same, line) was =

@@ -1,7 +1,6 @@
 -- What the app does where sockets have ended (Socket.IO server documentation, "Server API": the events `disconnecting` and
 -- `disconnect`).
-use Rattle.std.specs.Prelude.{◌≡◌, ◌⊎◌, ℕ, true, false, List, [], get_or, drop, length, Result, Ok, Err}
-use Rattle.journal.specs.declared.ending.Ending.{Ending}
+use Rattle.std.specs.Prelude.{◌≡◌, ◌⊎◌, ℕ, true, false, List, [], get_or, drop, length, Result, Err}
 use Rattle.journal.specs.declared.socket.Socket.{Socket}
 use Rattle.journal.specs.Plain.{Limits}
 use Rattle.journal.specs.Journal.{History}
@@ -11,7 +10,7 @@ use Rattle.events.specs.declared.app.Effect.TheVariants.{Emit}
 use Rattle.events.specs.declared.app.Who.{Who}
 use Rattle.events.specs.declared.fault.CoreFault.{CoreFault}
 use Rattle.events.specs.declared.fault.CoreFault.TheVariants.{Memory, BadEffect}
-use Rattle.events.specs.App.{AllClean}
+use Rattle.events.specs.App.{Policy, AllClean}
 use Rattle.effects.specs.Effects.{is_unsendable}
 use Rattle.effects.specs.Runs.{RunsOrFails}
 use Rattle.effects.specs.Saying.{Work, SaysOrFails}
@@ -36,12 +35,12 @@ Sends c now space s (Emit e) r t = elim (is_unsendable e.payload e.attachments) 
 ]
 Sends c now space s _ r t = (r ≡ Err BadEffect) × (t ≡ s)
 
-module _ (leaves : Who → (rooms : List (List ℕ)) → Ending → List Effect → Type 0) (c now : ℕ) where
+module _ (policy : Policy) (c now : ℕ) where
   -- the app hears of a socket that has ended, and what it wants then is done until something is refused; or it has no memory
   abbrev pub HearsOf : Work → PlainDeparted → Result (Unit {0}) CoreFault → Work → Type 0
   HearsOf s gone r t =
       ((r ≡ Err Memory) × (t ≡ s))
-      ⊎ ((effects : List Effect) × leaves (who_of s.history.limits gone.socket) gone.rooms gone.ending effects × AllClean effects
+      ⊎ ((effects : List Effect) × policy.leaves (who_of s.history.limits gone.socket) gone.rooms gone.ending effects × AllClean effects
       × RunsOrFails (Sends c now (name_of s.history.limits gone.socket)) effects s r t)
 
   -- it hears of each of them in turn

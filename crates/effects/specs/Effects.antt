@@ -11,6 +11,7 @@ use Rattle.sio_wire.specs.Offset.{is_bracket}
 use Rattle.sio_wire.specs.Disconnect.{disconnect_text}
 use Rattle.journal.specs.declared.error.HubError.TheVariants as hub
 use Rattle.journal.specs.declared.step.What.{What}
+use Rattle.journal.specs.declared.ending.Side.TheVariants as side
 use Rattle.journal.specs.declared.step.What.TheVariants as what
 use Rattle.journal.specs.Plain.{PlainDismissal}
 use Rattle.journal.specs.Journal.{History}
@@ -157,7 +158,7 @@ abbrev pub SaysGoodbye : Who → ℕ → History → History → Type 0
 SaysGoodbye who now h g = Makes h now (goodbye who) g ⊎ (IsRefused h now (goodbye who) hub.OutboxFull × (g ≡ h))
 
 abbrev pub Disconnects : Who → ℕ → Scene → Scene → Type 0
-Disconnects who now s t = (between : History) × SaysGoodbye who now s.history between × Makes between now (what.Ended who.sid) t.history
+Disconnects who now s t = (between : History) × SaysGoodbye who now s.history between × Makes between now (what.Ended who.sid side.Server) t.history
     × Advances s.line (Left who.sid ∷ []) t.line × (t ≡ record (counted s) { history = t.history; line = t.line; ended = true })
 
 -- ---- effects on all sockets of the namespace that match
@@ -224,7 +225,7 @@ FailsToReply who id r now s fault t = (t ≡ s)
 -- the socket isn't disconnected; its client may have been told already
 abbrev pub FailsToDisconnect : Who → ℕ → Scene → CoreFault → Scene → Type 0
 FailsToDisconnect who now s fault t = ((fault ≡ Memory) × (t ≡ s)) ⊎ FailsAt (goodbye who) now s fault t
-    ⊎ ((between : History) × SaysGoodbye who now s.history between × FailsAt (what.Ended who.sid) now (record s { history = between }) fault t)
+    ⊎ ((between : History) × SaysGoodbye who now s.history between × FailsAt (what.Ended who.sid side.Server) now (record s { history = between }) fault t)
 
 -- the sockets don't end
 abbrev pub FailsToEndAll : Who → PlainSelection → ℕ → Scene → CoreFault → Scene → Type 0

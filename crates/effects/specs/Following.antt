@@ -24,7 +24,7 @@ is_own c h (Left s room) = is_of h c s
 is_own c h (Told m) = m.client == c
 is_own c h (Took d most n) = d == c
 is_own c h (Parked d) = d == c
-is_own c h (Ended s) = is_of h c s
+is_own c h (Ended s by) = is_of h c s
 is_own c h (Closed d) = d == c
 is_own c h _ = false
 

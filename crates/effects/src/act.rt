@@ -1,7 +1,7 @@
 //! What the app's effects do (Socket.IO protocol 5, "Sending and receiving data" and "Disconnection
 //! from a namespace"; Socket.IO server documentation, "Rooms").
 
-ghost use Rattle.std.specs.Prelude.{◌≡◌, ◌≤◌, false, not, ◌||◌, [], filter, ◌==◌, IfOk, IfErr, OnOk};
+ghost use Rattle.std.specs.Prelude.{◌≡◌, ◌≤◌, false, ◌||◌, [], IfOk, IfErr, OnOk};
 ghost use Rattle.sio_wire.specs.Disconnect.{disconnect_text};
 ghost use Rattle.journal.specs.declared.step.What.{What};
 ghost use Rattle.effects.specs.Commands.{IsSeated};
@@ -18,6 +18,7 @@ use crate::scene::Scene;
 use crate::tally::Tally;
 use crate::visit::Visit;
 use events::{Cause, CoreFault, Effect, Emission, Reply, Stopped, Who};
+use journal::Side;
 use sio_wire::disconnect_text;
 use std::alloc::Global;
 use terms::{Attachments, Entry, Text};
@@ -108,7 +109,7 @@ fn disconnect(scene: &mut Scene, who: &Who) -> Result<(), CoreFault>
 {
     let entry = goodbye(scene.visit.alloc, who.space.as_str())?;
     commands::tell(scene.visit, scene.state, entry)?;
-    commands::end(scene.visit, scene.state, who.sid)?;
+    commands::end(scene.visit, scene.state, who.sid, Side::Server)?;
     scene.line.leave(who.sid);
     scene.tally.count();
     scene.tally.ended = true;

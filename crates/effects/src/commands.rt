@@ -13,7 +13,7 @@ ghost use Rattle.effects.specs.Effects.{told_to};
 use crate::visit::Visit;
 use events::{CoreFault, Who};
 use hub_state::State;
-use journal::{HubError, Swept};
+use journal::{HubError, Side, Swept};
 use recovery::Pid;
 use terms::{Entry, Sid};
 
@@ -95,12 +95,12 @@ pub fn tell(visit: Visit, state: &mut State, entry: Entry) -> Result<bool, CoreF
     }
 }
 
-/// Ends a connected socket.
-pub fn end(visit: Visit, state: &mut State, sid: Sid) -> Result<(), CoreFault>
+/// Ends a connected socket, by the client's will or the server's.
+pub fn end(visit: Visit, state: &mut State, sid: Sid, by: Side) -> Result<(), CoreFault>
     requires { is_connected sid_of state.old.base state.old.journal sid ≡ true }
-    ensures { DoesOrStops state.old visit.moment (What.Ended sid) result state.new }
+    ensures { DoesOrStops state.old visit.moment (What.Ended sid by) result state.new }
 {
-    match state.end(visit.alloc, sid, visit.moment) {
+    match state.end(visit.alloc, sid, by, visit.moment) {
         Ok(()) => Ok(()),
         Err(error) => Err(CoreFault::of(error)),
     }

@@ -4,7 +4,7 @@
 mod act;
 mod ask;
 pub mod commands;
-mod departed;
+mod departures;
 mod entry;
 mod laws;
 mod rooms;
@@ -14,7 +14,7 @@ mod tally;
 mod visit;
 
 pub use act::{act_all, close_for};
-pub use departed::hear_all;
+pub use departures::hear_all;
 pub use laws::{effects_are_work, others_are_spared};
 pub use scene::Scene;
 pub use tally::Tally;

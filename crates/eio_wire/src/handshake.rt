@@ -2,8 +2,6 @@
 //! "Handshake").
 
 ghost use Rattle.std.specs.Prelude.{◌≡◌, IfOk, IfErr, string_bytes};
-ghost use Rattle.std.specs.Str.{IsAscii};
-ghost use Rattle.terms.specs.Ids.{id_digits};
 ghost use Rattle.eio_wire.specs.Handshake.{open_packet_text, open_packet_with, upgrades_of};
 
 use crate::error::WireError;

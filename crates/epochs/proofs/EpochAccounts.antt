@@ -3,16 +3,12 @@ use Rattle.std.proofs.Common.{◌≡◌, ℕ, true, List, [], ◌∷◌, ◌++�
 use Rattle.eio_wire.specs.declared.handshake.Numbers.{Numbers}
 use Rattle.session_clock.specs.declared.timing.Timing.{Timing}
 use Rattle.connection.specs.Line.{PlainLine}
-use Rattle.journal.specs.declared.ending.Ending.{Ending}
 use Rattle.journal.specs.declared.step.Step.{Step}
 use Rattle.journal.specs.Journal.{History, history}
 use Rattle.journal.specs.Membership.{is_open}
 use Rattle.journal.specs.Seal.{PlainEpoch, SealsAs, IsLegalAndSound}
 use Rattle.journal.proofs.EpochsLemmas.{says-same-onward}
-use Rattle.events.specs.declared.app.Arrived.{Arrived}
-use Rattle.events.specs.declared.app.Effect.{Effect}
-use Rattle.events.specs.declared.app.Who.{Who}
-use Rattle.events.specs.App.{PlainVerdict}
+use Rattle.events.specs.App.{Policy}
 use Rattle.events.specs.declared.event.Event.{Event}
 use Rattle.events.specs.Answer.{Answer}
 use Rattle.epochs.specs.Epochs.{AreAlike, with_steps, in_one}
@@ -58,52 +54,52 @@ sealed-alike sealed g h epoch alike seals fine =
 
 -- ---- an event
 
-module _ (keeps : StaysSound) (decides : Who → Arrived → List Effect → Type 0) (allows : (space payload : List ℕ) → PlainVerdict → Type 0) (leaves : Who → (rooms : List (List ℕ)) → Ending → List Effect → Type 0) (now : ℕ) (timing : Timing) (numbers : Numbers) (event : Event) (answer : Answer)
+module _ (keeps : StaysSound) (policy : Policy) (now : ℕ) (timing : Timing) (numbers : Numbers) (event : Event) (answer : Answer)
     (sealed : List History) (old new : List (ℕ × PlainLine)) (ids left : ℕ → ℕ) where
   abbrev DoesAt : History → History → Type 0
-  DoesAt h k = Does decides allows leaves now timing numbers event (place h old) ids answer (place k new) left
+  DoesAt h k = Does policy now timing numbers event (place h old) ids answer (place k new) left
 
   has-open : (h : History) → Agree h old → (c : ℕ) (line : PlainLine) → line_of old c ≡ Some line → is_open h.base h.journal c ≡ true
   has-open h agree c line is = sym (agree c) ∙ ap (λ (o : Option PlainLine). is_some o) is
 
   pub does-in-one : (h k : History) → AreAlike h (in_one sealed h) → Agree h old → DoesAt h k → DoesAt (in_one sealed h) (in_one sealed k) × AreAlike k (in_one sealed k) × Agree k new
   does-in-one h k alike agree does =
-      let (m, grown, also) = does-alike keeps now (place h old) (place k new) (in_one sealed h) alike decides allows leaves ids left (has-open h agree) timing numbers event answer does in
+      let (m, grown, also) = does-alike keeps now (place h old) (place k new) (in_one sealed h) alike policy ids left (has-open h agree) timing numbers event answer does in
       let is : m ≡ in_one sealed k = grown.other ∙ sym (one-with sealed grown.steps h) ∙ ap (in_one sealed) (sym grown.one) in
-      (subst (DoesAt (in_one sealed h)) is also, subst (AreAlike k) is grown.alike, agrees-still decides allows leaves now h k old new agree ids left answer timing numbers event does)
+      (subst (DoesAt (in_one sealed h)) is also, subst (AreAlike k) is grown.alike, agrees-still policy now h k old new agree ids left answer timing numbers event does)
 
   pub does-in-present : (h m : History) → AreAlike h (in_one sealed h) → Agree h old → DoesAt (in_one sealed h) m → (k : History) × (m ≡ in_one sealed k) × DoesAt h k
   does-in-present h m alike agree does =
       let whole = in_one sealed h in
-      let (k, grown, also) = does-alike keeps now (place whole old) (place m new) h (alike-turned h whole alike) decides allows leaves ids left
+      let (k, grown, also) = does-alike keeps now (place whole old) (place m new) h (alike-turned h whole alike) policy ids left
       (λ c line is. alike.same.same_open c ∙ has-open h agree c line is) timing numbers event answer does in
       (k, grown.one ∙ sym (one-with sealed grown.steps h) ∙ ap (in_one sealed) (sym grown.other), also)
 
 -- ---- all events
 
 -- one event more
-machine-more : (decides : Who → Arrived → List Effect → Type 0) (allows : (space payload : List ℕ) → PlainVerdict → Type 0) (leaves : Who → (rooms : List (List ℕ)) → Ending → List Effect → Type 0) (timing : Timing) (numbers : Numbers) (now : ℕ) (event : Event) (answer : Answer)
+machine-more : (policy : Policy) (timing : Timing) (numbers : Numbers) (now : ℕ) (event : Event) (answer : Answer)
     (events : List (Event × ℕ)) (answers : List Answer) (s m t : Place) (ids left rest : ℕ → ℕ)
-    → Machine decides allows leaves timing numbers events answers s ids m left → Does decides allows leaves now timing numbers event m left answer t rest
-    → Machine decides allows leaves timing numbers (events ++ (event, now) ∷ []) (answers ++ answer ∷ []) s ids t rest
+    → Machine policy timing numbers events answers s ids m left → Does policy now timing numbers event m left answer t rest
+    → Machine policy timing numbers (events ++ (event, now) ∷ []) (answers ++ answer ∷ []) s ids t rest
 unfolding Machine
-machine-more decides allows leaves timing numbers now event answer [] [] s m t ids left rest (there, drawn) does = (
+machine-more policy timing numbers now event answer [] [] s m t ids left rest (there, drawn) does = (
   t,
   rest,
-  subst (λ (q : Place). Does decides allows leaves now timing numbers event q ids answer t rest) there
-      (subst (λ (drawn : ℕ → ℕ). Does decides allows leaves now timing numbers event m drawn answer t rest) drawn does),
+  subst (λ (q : Place). Does policy now timing numbers event q ids answer t rest) there
+      (subst (λ (drawn : ℕ → ℕ). Does policy now timing numbers event m drawn answer t rest) drawn does),
   (refl, refl),
 )
-machine-more decides allows leaves timing numbers now event answer [] (a ∷ answers) s m t ids left rest none does = absurd none
-machine-more decides allows leaves timing numbers now event answer (e ∷ events) [] s m t ids left rest none does = absurd none
-machine-more decides allows leaves timing numbers now event answer (e ∷ events) (a ∷ answers) s m t ids left rest (p, drawn, first, run) does =
-    (p, drawn, first, machine-more decides allows leaves timing numbers now event answer events answers p m t drawn left rest run does)
+machine-more policy timing numbers now event answer [] (a ∷ answers) s m t ids left rest none does = absurd none
+machine-more policy timing numbers now event answer (e ∷ events) [] s m t ids left rest none does = absurd none
+machine-more policy timing numbers now event answer (e ∷ events) (a ∷ answers) s m t ids left rest (p, drawn, first, run) does =
+    (p, drawn, first, machine-more policy timing numbers now event answer events answers p m t drawn left rest run does)
 
-pub account-more : (keeps : StaysSound) (decides : Who → Arrived → List Effect → Type 0) (allows : (space payload : List ℕ) → PlainVerdict → Type 0) (leaves : Who → (rooms : List (List ℕ)) → Ending → List Effect → Type 0) (timing : Timing) (numbers : Numbers) (now : ℕ) (event : Event) (answer : Answer)
+pub account-more : (keeps : StaysSound) (policy : Policy) (timing : Timing) (numbers : Numbers) (now : ℕ) (event : Event) (answer : Answer)
     (events : List (Event × ℕ)) (answers : List Answer) (s : Place) (sealed : List History) (h k : History) (old new : List (ℕ × PlainLine)) (ids left rest : ℕ → ℕ)
     → AreAlike h (in_one sealed h) → Agree h old
-    → Machine decides allows leaves timing numbers events answers s ids (place (in_one sealed h) old) left → Does decides allows leaves now timing numbers event (place h old) left answer (place k new) rest
-    → Machine decides allows leaves timing numbers (events ++ (event, now) ∷ []) (answers ++ answer ∷ []) s ids (place (in_one sealed k) new) rest
-account-more keeps decides allows leaves timing numbers now event answer events answers s sealed h k old new ids left rest alike agree run does =
-    machine-more decides allows leaves timing numbers now event answer events answers s (place (in_one sealed h) old) (place (in_one sealed k) new) ids left rest run
-    (does-in-one keeps decides allows leaves now timing numbers event answer sealed old new left rest h k alike agree does).0
+    → Machine policy timing numbers events answers s ids (place (in_one sealed h) old) left → Does policy now timing numbers event (place h old) left answer (place k new) rest
+    → Machine policy timing numbers (events ++ (event, now) ∷ []) (answers ++ answer ∷ []) s ids (place (in_one sealed k) new) rest
+account-more keeps policy timing numbers now event answer events answers s sealed h k old new ids left rest alike agree run does =
+    machine-more policy timing numbers now event answer events answers s (place (in_one sealed h) old) (place (in_one sealed k) new) ids left rest run
+    (does-in-one keeps policy now timing numbers event answer sealed old new left rest h k alike agree does).0

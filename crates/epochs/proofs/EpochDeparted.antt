@@ -42,7 +42,7 @@ since-steps h k steps is =
 
 -- a step ends the same sockets in both
 pub departed-alike : (h g : History) → AreAlike h g → (w : What) → departed_by g.base g.journal w ≡ departed_by h.base h.journal w
-departed-alike h g alike (Ended s) = λ i. map (departing ending.Alone (alike.same.same_rooms i)) (found (alike.same.same_by_sid s i))
+departed-alike h g alike (Ended s by) = λ i. map (departing (ending.Alone by) (alike.same.same_rooms i)) (found (alike.same.same_by_sid s i))
 departed-alike h g alike (AllEnded d) = λ i. map (departing ending.Together (alike.same.same_rooms i)) (flat_map (λ s. in_space d.space (alike.same.same_by_sid s i)) d.ended)
 departed-alike h g alike (Parked c) = λ i. map (departing ending.Saved (alike.same.same_rooms i)) (alike.same.same_sockets c i)
 departed-alike h g alike (Closed c) = λ i. map (departing ending.Closed (alike.same.same_rooms i)) (alike.same.same_sockets c i)

@@ -8,6 +8,7 @@ use Rattle.journal.specs.declared.error.HubError.{HubError}
 use Rattle.journal.specs.declared.error.HubError.TheVariants as hub
 use Rattle.journal.specs.declared.socket.Socket.{Socket}
 use Rattle.journal.specs.declared.step.What.{What}
+use Rattle.journal.specs.declared.ending.Side.TheVariants as side
 use Rattle.journal.specs.declared.step.What.TheVariants as what
 use Rattle.journal.specs.Plain.{Limits, PlainDismissal}
 use Rattle.journal.specs.Journal.{History, moment_at, with_step}
@@ -106,8 +107,8 @@ module _ (keeps : StaysSound) (now : ℕ) where
   disconnects-alike : (who : Who) (s t : Scene) (g : History) → AreAlike s.history g → Disconnects who now s t → Sim (Disconnects who now) s t g
   disconnects-alike who s t g alike (between, says, makes, advances, is) =
       let (m, grown, said) = goodbye-alike who s.history g between alike says in
-      let both = make-alike between m t.history grown.alike (what.Ended who.sid) tt makes in
-      let n = with_step m now (what.Ended who.sid) in
+      let both = make-alike between m t.history grown.alike (what.Ended who.sid side.Server) tt makes in
+      let n = with_step m now (what.Ended who.sid side.Server) in
       (n, grown-on s.history between t.history g m n grown both.0, (m, said, both.1, advances, ap (λ (u : Scene). moved u n) is))
 
   -- ---- of many sockets
@@ -195,7 +196,7 @@ module _ (keeps : StaysSound) (now : ℕ) where
   fails-to-disconnect who s fault t g alike (inr (inr (between, says, (stops, is)))) =
       let (m, grown, said) = goodbye-alike who s.history g between alike says in
       let there = grown-none between t.history m grown.alike (ap (λ (u : Scene). u.history) is) in
-      (m, grown-on s.history between t.history g m m grown there, inr (inr (m, said, (stops-alike between m grown.alike (what.Ended who.sid) fault stops, ap (λ (u : Scene). moved u m) is))))
+      (m, grown-on s.history between t.history g m m grown there, inr (inr (m, said, (stops-alike between m grown.alike (what.Ended who.sid side.Server) fault stops, ap (λ (u : Scene). moved u m) is))))
 
   fails-to-end-all : (who : Who) (p : PlainSelection) (s : Scene) (fault : CoreFault) (t : Scene) (g : History) → AreAlike s.history g → FailsToEndAll who p now s fault t → Ends (FailsToEndAll who p now) s fault t g
   fails-to-end-all who p s fault t g alike (inl (short, is)) = (g, grown-none s.history t.history g alike (ap (λ (u : Scene). u.history) is), inl (short, ap (λ (u : Scene). moved u g) is))

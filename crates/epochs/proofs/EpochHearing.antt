@@ -1,16 +1,14 @@
 -- What the app does of sockets that ended, after two histories that say the same.
 use Rattle.std.proofs.Common.{◌≡◌, ◌⊎◌, ℕ, Bool, true, false, List, refl, sym, ap, subst, Option, None, Some, Result, Ok, Err, inl, inr}
-use Rattle.journal.specs.declared.ending.Ending.{Ending}
 use Rattle.journal.specs.Plain.{Limits}
 use Rattle.journal.specs.Journal.{History}
 use Rattle.hub_state.specs.Departing.{PlainDeparted}
 use Rattle.events.specs.declared.app.Effect.{Effect}
 use Rattle.events.specs.declared.app.Effect.TheVariants.{Emit}
-use Rattle.events.specs.declared.app.Who.{Who}
 use Rattle.events.specs.declared.fault.CoreFault.{CoreFault}
 use Rattle.events.specs.declared.fault.CoreFault.TheVariants.{Memory, BadEffect}
 use Rattle.events.specs.Answer.{Answer}
-use Rattle.events.specs.App.{AllClean}
+use Rattle.events.specs.App.{Policy, AllClean}
 use Rattle.events.specs.Emission.{PlainEmission}
 use Rattle.events.specs.Plain.{PlainDone}
 use Rattle.effects.specs.Departed.{name_of, who_of, Sends, HearsOf, HearsOfAll}
@@ -51,14 +49,14 @@ module _ (keeps : StaysSound) (c now : ℕ) where
 
   -- ---- what it hears
 
-  module _ (leaves : Who → (rooms : List (List ℕ)) → Ending → List Effect → Type 0) where
+  module _ (policy : Policy) where
     -- the row of a socket that ended, by the limits, which name its namespace
     abbrev HearsBy : Limits → PlainDeparted → Result (Unit {0}) CoreFault → Work → Work → Type 0
     HearsBy limits gone r a b =
         ((r ≡ Err Memory) × (b ≡ a))
-        ⊎ ((effects : List Effect) × leaves (who_of limits gone.socket) gone.rooms gone.ending effects × AllClean effects × RunsOrFails (Sends c now (name_of limits gone.socket)) effects a r b)
+        ⊎ ((effects : List Effect) × policy.leaves (who_of limits gone.socket) gone.rooms gone.ending effects × AllClean effects × RunsOrFails (Sends c now (name_of limits gone.socket)) effects a r b)
 
-    hears-of : (s : Work) (gone : PlainDeparted) (r : Result (Unit {0}) CoreFault) (t : Work) (g : History) → AreAlike s.history g → HearsOf leaves c now s gone r t → SimWork (λ a b. HearsOf leaves c now a gone r b) s t g
+    hears-of : (s : Work) (gone : PlainDeparted) (r : Result (Unit {0}) CoreFault) (t : Work) (g : History) → AreAlike s.history g → HearsOf policy c now s gone r t → SimWork (λ a b. HearsOf policy c now a gone r b) s t g
     hears-of s gone r t g alike does =
         subst (λ (l : Limits). (m : History) × Grown s.history t.history g m × HearsBy l gone r (turned s g) (turned t m)) (sym alike.same.same_limits) (on does)
       where
@@ -69,12 +67,12 @@ module _ (keeps : StaysSound) (c now : ℕ) where
             let (m, grown, also) = runs-or-fails-alike (λ (u : Work). u.history) turned (Sends c now space) (sends-alike space) effects s r t g alike run in
             (m, grown, inr (effects, wants, clean, also))
 
-    pub hears-of-all : (ended : List PlainDeparted) (s : Work) (r : Result (Unit {0}) CoreFault) (t : Work) (g : History) → AreAlike s.history g → HearsOfAll leaves c now ended s r t → SimWork (λ a b. HearsOfAll leaves c now ended a r b) s t g
-    hears-of-all ended s r t g alike run = runs-or-fails-alike (λ (u : Work). u.history) turned (HearsOf leaves c now) hears-of ended s r t g alike run
+    pub hears-of-all : (ended : List PlainDeparted) (s : Work) (r : Result (Unit {0}) CoreFault) (t : Work) (g : History) → AreAlike s.history g → HearsOfAll policy c now ended s r t → SimWork (λ a b. HearsOfAll policy c now ended a r b) s t g
+    hears-of-all ended s r t g alike run = runs-or-fails-alike (λ (u : Work). u.history) turned (HearsOf policy c now) hears-of ended s r t g alike run
 
 -- ---- after an event
 
-module _ (keeps : StaysSound) (leaves : Who → (rooms : List (List ℕ)) → Ending → List Effect → Type 0) (now : ℕ) (ended : List PlainDeparted) (h k g : History) (alike : AreAlike h g) (said answer : Answer) where
+module _ (keeps : StaysSound) (policy : Policy) (now : ℕ) (ended : List PlainDeparted) (h k g : History) (alike : AreAlike h g) (said answer : Answer) where
   -- the app hears of none
   abbrev HearsNone : History → History → Type 0
   HearsNone a b = (answer ≡ said) × (b ≡ a)
@@ -82,16 +80,16 @@ module _ (keeps : StaysSound) (leaves : Who → (rooms : List (List ℕ)) → En
   none-alike : HearsNone h k → SimBoth HearsNone h k g
   none-alike (is, same) = (g, grown-none h k g alike same, (is, refl))
 
-  heard-alike : (c : ℕ) (before : PlainDone) → Hears leaves c now ended h said answer k before → SimBoth (λ a b. Hears leaves c now ended a said answer b before) h k g
+  heard-alike : (c : ℕ) (before : PlainDone) → Hears policy c now ended h said answer k before → SimBoth (λ a b. Hears policy c now ended a said answer b before) h k g
   heard-alike c before (r, after, run, is) =
-      let (m, grown, also) = hears-of-all keeps c now leaves ended (work h before) r (work k after) g alike run in
+      let (m, grown, also) = hears-of-all keeps c now policy ended (work h before) r (work k after) g alike run in
       (m, grown, (r, after, also, is))
 
   -- by what was done before
   abbrev HearsFrom : ℕ → Option PlainDone → History → History → Type 0
-  HearsFrom c o a b = elim o as (λ (o : Option PlainDone). Type 0) [ None ↦ HearsNone a b | Some before ↦ Hears leaves c now ended a said answer b before ]
+  HearsFrom c o a b = elim o as (λ (o : Option PlainDone). Type 0) [ None ↦ HearsNone a b | Some before ↦ Hears policy c now ended a said answer b before ]
 
-  pub after-alike : (o : Option ℕ) → HearsAfter leaves now o ended h said answer k → SimBoth (λ a b. HearsAfter leaves now o ended a said answer b) h k g
+  pub after-alike : (o : Option ℕ) → HearsAfter policy now o ended h said answer k → SimBoth (λ a b. HearsAfter policy now o ended a said answer b) h k g
   after-alike None none = none-alike none
   after-alike (Some c) heard = on (done_before said) heard
     where

@@ -12,20 +12,16 @@ use Rattle.connection.specs.Line.{PlainLine}
 use Rattle.recovery.specs.PacketLog.{PlainLogged}
 use Rattle.recovery.specs.SavedTable.{PlainSaved}
 use Rattle.journal.specs.declared.answers.Swept.{Swept}
-use Rattle.journal.specs.declared.ending.Ending.{Ending}
 use Rattle.journal.specs.declared.error.HubError.TheVariants as hub
 use Rattle.journal.specs.declared.step.What.TheVariants as what
 use Rattle.journal.specs.Journal.{History, with_step}
 use Rattle.journal.specs.Membership.{is_open}
 use Rattle.hub_state.specs.Departing.{PlainDeparted}
-use Rattle.events.specs.declared.app.Arrived.{Arrived}
-use Rattle.events.specs.declared.app.Effect.{Effect}
-use Rattle.events.specs.declared.app.Who.{Who}
 use Rattle.events.specs.declared.cause.Cause.{Cause}
 use Rattle.events.specs.declared.cause.Cause.TheVariants as cause
 use Rattle.events.specs.declared.fault.CoreFault.{CoreFault}
 use Rattle.events.specs.declared.fault.CoreFault.TheVariants.{Memory, UnknownClient}
-use Rattle.events.specs.App.{PlainVerdict}
+use Rattle.events.specs.App.{Policy}
 use Rattle.effects.specs.Commands.{Drops}
 use Rattle.effects.specs.Departed.{ended_since}
 use Rattle.events.specs.declared.event.Event.{Event}
@@ -190,17 +186,17 @@ module _ (keeps : StaysSound) (now : ℕ) (s t : Place) (g : History) (alike : A
 
   -- ---- packets
 
-  module _ (decides : Who → Arrived → List Effect → Type 0) (allows : (space payload : List ℕ) → PlainVerdict → Type 0) (ids left : ℕ → ℕ) where
-    works-on : (c : ℕ) (packets : List Packet) (answer : Answer) (line : PlainLine) → WorksOn decides allows now c packets line s ids answer t left → SimPlace (λ a b. WorksOn decides allows now c packets line a ids answer b left) s t g
+  module _ (policy : Policy) (ids left : ℕ → ℕ) where
+    works-on : (c : ℕ) (packets : List Packet) (answer : Answer) (line : PlainLine) → WorksOn policy now c packets line s ids answer t left → SimPlace (λ a b. WorksOn policy now c packets line a ids answer b left) s t g
     works-on c packets (Ok (outcome.Done done)) line (m, run, said, there, keeps', drawn) =
-        let (k, grown, also) = packets-alike keeps now decides allows c packets (stage (opening s.history line) ids) m g alike run in
+        let (k, grown, also) = packets-alike keeps now policy c packets (stage (opening s.history line) ids) m g alike run in
         (k, subst (λ (h : History). Grown s.history h g k) (sym there) grown, (_, also, said, refl, keeps', drawn))
     works-on c packets (Ok _) line none = absurd none
     works-on c packets (Err e) line (m, breaks, there, has, drawn) =
-        let (k, grown, also) = breaks-alike keeps now decides allows c packets (stage (opening s.history line) ids) e m g alike breaks in
+        let (k, grown, also) = breaks-alike keeps now policy c packets (stage (opening s.history line) ids) e m g alike breaks in
         (k, subst (λ (h : History). Grown s.history h g k) (sym there) grown, (_, also, refl, has, drawn))
 
-    posts-alike : (c : ℕ) (body : List ℕ) (answer : Answer) (line : PlainLine) → Posts decides allows now c body line s ids answer t left → SimPlace (λ a b. Posts decides allows now c body line a ids answer b left) s t g
+    posts-alike : (c : ℕ) (body : List ℕ) (answer : Answer) (line : PlainLine) → Posts policy now c body line s ids answer t left → SimPlace (λ a b. Posts policy now c body line a ids answer b left) s t g
     posts-alike c body answer line (inl (on, refusal, drawn)) = let (m, grown, also) = refused keeps now s t g alike answer _ refusal in (m, grown, inl (on, also, drawn))
     posts-alike c body answer line (inr (polls, inl (refusal, drawn))) = let (m, grown, also) = refused keeps now s t g alike answer _ refusal in (m, grown, inr (polls, inl (also, drawn)))
     posts-alike c body answer line (inr (polls, inr (inl (packets, payload, does)))) =
@@ -208,46 +204,46 @@ module _ (keeps : StaysSound) (now : ℕ) (s t : Place) (g : History) (alike : A
     posts-alike c body answer line (inr (polls, inr (inr (fault, faulty, closes, drawn)))) =
         let (m, grown, also) = closes-unread c _ answer closes in (m, grown, inr (polls, inr (inr (fault, faulty, also, drawn))))
 
-    posts-for : (c : ℕ) (body : List ℕ) (answer : Answer) → PostsFor decides allows now c body s ids answer t left → SimPlace (λ a b. PostsFor decides allows now c body a ids answer b left) s t g
+    posts-for : (c : ℕ) (body : List ℕ) (answer : Answer) → PostsFor policy now c body s ids answer t left → SimPlace (λ a b. PostsFor policy now c body a ids answer b left) s t g
     posts-for c body answer does = on (s.lines c) does
       where
-        on : (o : Option PlainLine) → elim o as (λ (o : Option PlainLine). Type 0) [ None ↦ Refused UnknownClient s answer t × (left ≡ ids) | Some line ↦ Posts decides allows now c body line s ids answer t left ]
+        on : (o : Option PlainLine) → elim o as (λ (o : Option PlainLine). Type 0) [ None ↦ Refused UnknownClient s answer t × (left ≡ ids) | Some line ↦ Posts policy now c body line s ids answer t left ]
             → (m : History) × Grown s.history t.history g m
-            × elim o as (λ (o : Option PlainLine). Type 0) [ None ↦ Refused UnknownClient (put s g) answer (put t m) × (left ≡ ids) | Some line ↦ Posts decides allows now c body line (put s g) ids answer (put t m) left ]
+            × elim o as (λ (o : Option PlainLine). Type 0) [ None ↦ Refused UnknownClient (put s g) answer (put t m) × (left ≡ ids) | Some line ↦ Posts policy now c body line (put s g) ids answer (put t m) left ]
         on None (refusal, drawn) = let (m, grown, also) = refused keeps now s t g alike answer _ refusal in (m, grown, (also, drawn))
         on (Some line) does = posts-alike c body answer line does
 
-    hears-frame : (c : ℕ) (frame : WsFrame) (answer : Answer) (line : PlainLine) → HearsFrame decides allows now c frame line s ids answer t left → SimPlace (λ a b. HearsFrame decides allows now c frame line a ids answer b left) s t g
+    hears-frame : (c : ℕ) (frame : WsFrame) (answer : Answer) (line : PlainLine) → HearsFrame policy now c frame line s ids answer t left → SimPlace (λ a b. HearsFrame policy now c frame line a ids answer b left) s t g
     hears-frame c frame answer line (inl (refusal, drawn)) = let (m, grown, also) = refused keeps now s t g alike answer _ refusal in (m, grown, inl (also, drawn))
     hears-frame c frame answer line (inr (inl (packet, framed, does))) = let (m, grown, also) = works-on c (packet ∷ []) answer line does in (m, grown, inr (inl (packet, framed, also)))
     hears-frame c frame answer line (inr (inr (fault, faulty, closes, drawn))) = let (m, grown, also) = closes-unread c _ answer closes in (m, grown, inr (inr (fault, faulty, also, drawn)))
 
-    hears-one : (c : ℕ) (frame : WsFrame) (answer : Answer) (line : PlainLine) → HearsOne decides allows now c frame line s ids answer t left → SimPlace (λ a b. HearsOne decides allows now c frame line a ids answer b left) s t g
+    hears-one : (c : ℕ) (frame : WsFrame) (answer : Answer) (line : PlainLine) → HearsOne policy now c frame line s ids answer t left → SimPlace (λ a b. HearsOne policy now c frame line a ids answer b left) s t g
     hears-one c frame answer line does = by (is_too_long frame) does
       where
-        by : (b : Bool) → elim b as (λ (b : Bool). Type 0) [ true ↦ ClosesUnread now c cause.TooLong s answer t × (left ≡ ids) | false ↦ HearsFrame decides allows now c frame line s ids answer t left ]
+        by : (b : Bool) → elim b as (λ (b : Bool). Type 0) [ true ↦ ClosesUnread now c cause.TooLong s answer t × (left ≡ ids) | false ↦ HearsFrame policy now c frame line s ids answer t left ]
             → (m : History) × Grown s.history t.history g m
-            × elim b as (λ (b : Bool). Type 0) [ true ↦ ClosesUnread now c cause.TooLong (put s g) answer (put t m) × (left ≡ ids) | false ↦ HearsFrame decides allows now c frame line (put s g) ids answer (put t m) left ]
+            × elim b as (λ (b : Bool). Type 0) [ true ↦ ClosesUnread now c cause.TooLong (put s g) answer (put t m) × (left ≡ ids) | false ↦ HearsFrame policy now c frame line (put s g) ids answer (put t m) left ]
         by true (closes, drawn) = let (m, grown, also) = closes-unread c cause.TooLong answer closes in (m, grown, (also, drawn))
         by false does = hears-frame c frame answer line does
 
-    hears-alike : (c : ℕ) (frame : WsFrame) (answer : Answer) (line : PlainLine) → Hears decides allows now c frame line s ids answer t left → SimPlace (λ a b. Hears decides allows now c frame line a ids answer b left) s t g
+    hears-alike : (c : ℕ) (frame : WsFrame) (answer : Answer) (line : PlainLine) → Hears policy now c frame line s ids answer t left → SimPlace (λ a b. Hears policy now c frame line a ids answer b left) s t g
     hears-alike c frame answer line (inl (polls, refusal, drawn)) = let (m, grown, also) = refused keeps now s t g alike answer _ refusal in (m, grown, inl (polls, also, drawn))
     hears-alike c frame answer line (inr (on, does)) = let (m, grown, also) = hears-one c frame answer line does in (m, grown, inr (on, also))
 
-    hears-for : (c : ℕ) (frame : WsFrame) (answer : Answer) → HearsFor decides allows now c frame s ids answer t left → SimPlace (λ a b. HearsFor decides allows now c frame a ids answer b left) s t g
+    hears-for : (c : ℕ) (frame : WsFrame) (answer : Answer) → HearsFor policy now c frame s ids answer t left → SimPlace (λ a b. HearsFor policy now c frame a ids answer b left) s t g
     hears-for c frame answer does = on (s.lines c) does
       where
-        on : (o : Option PlainLine) → elim o as (λ (o : Option PlainLine). Type 0) [ None ↦ Refused UnknownClient s answer t × (left ≡ ids) | Some line ↦ Hears decides allows now c frame line s ids answer t left ]
+        on : (o : Option PlainLine) → elim o as (λ (o : Option PlainLine). Type 0) [ None ↦ Refused UnknownClient s answer t × (left ≡ ids) | Some line ↦ Hears policy now c frame line s ids answer t left ]
             → (m : History) × Grown s.history t.history g m
-            × elim o as (λ (o : Option PlainLine). Type 0) [ None ↦ Refused UnknownClient (put s g) answer (put t m) × (left ≡ ids) | Some line ↦ Hears decides allows now c frame line (put s g) ids answer (put t m) left ]
+            × elim o as (λ (o : Option PlainLine). Type 0) [ None ↦ Refused UnknownClient (put s g) answer (put t m) × (left ≡ ids) | Some line ↦ Hears policy now c frame line (put s g) ids answer (put t m) left ]
         on None (refusal, drawn) = let (m, grown, also) = refused keeps now s t g alike answer _ refusal in (m, grown, (also, drawn))
         on (Some line) does = hears-alike c frame answer line does
 
     -- ---- the row of an event
 
-    row-alike : OfOpen s → (timing : Timing) (numbers : Numbers) (happened : Event) (answer : Answer) → Row decides allows now timing numbers happened s ids answer t left
-        → SimPlace (λ a b. Row decides allows now timing numbers happened a ids answer b left) s t g
+    row-alike : OfOpen s → (timing : Timing) (numbers : Numbers) (happened : Event) (answer : Answer) → Row policy now timing numbers happened s ids answer t left
+        → SimPlace (λ a b. Row policy now timing numbers happened a ids answer b left) s t g
     row-alike known timing numbers (event.Opened socket) answer (does, drawn) = let (m, grown, also) = opens-alike timing numbers socket (ids 0) answer does in (m, grown, (also, drawn))
     row-alike known timing numbers (event.Post c body) answer does = posts-for c body answer does
     row-alike known timing numbers (event.Frame c frame) answer does = hears-for c frame answer does
@@ -274,14 +270,14 @@ module _ (keeps : StaysSound) (now : ℕ) (s t : Place) (g : History) (alike : A
 -- ---- an event
 
 module _ (keeps : StaysSound) (now : ℕ) (s t : Place) (g : History) (alike : AreAlike s.history g)
-    (decides : Who → Arrived → List Effect → Type 0) (allows : (space payload : List ℕ) → PlainVerdict → Type 0) (leaves : Who → (rooms : List (List ℕ)) → Ending → List Effect → Type 0) (ids left : ℕ → ℕ) where
-  pub does-alike : OfOpen s → (timing : Timing) (numbers : Numbers) (happened : Event) (answer : Answer) → Does decides allows leaves now timing numbers happened s ids answer t left
-      → SimPlace (λ a b. Does decides allows leaves now timing numbers happened a ids answer b left) s t g
+    (policy : Policy) (ids left : ℕ → ℕ) where
+  pub does-alike : OfOpen s → (timing : Timing) (numbers : Numbers) (happened : Event) (answer : Answer) → Does policy now timing numbers happened s ids answer t left
+      → SimPlace (λ a b. Does policy now timing numbers happened a ids answer b left) s t g
   does-alike known timing numbers happened answer (h, said, row, heard) =
-      let (m, grown, also) = row-alike keeps now s (put t h) g alike decides allows ids left known timing numbers happened said row in
-      let (n, further, hears) = after-alike keeps leaves now (ended_since s.history h) h t.history m grown.alike said answer (client_of happened) heard in
+      let (m, grown, also) = row-alike keeps now s (put t h) g alike policy ids left known timing numbers happened said row in
+      let (n, further, hears) = after-alike keeps policy now (ended_since s.history h) h t.history m grown.alike said answer (client_of happened) heard in
       let same = ended-alike s.history h g m grown in (
         n,
         grown-on s.history h t.history g m n grown further,
-        (m, said, also, subst (λ (ended : List PlainDeparted). HearsAfter leaves now (client_of happened) ended m said answer n) (sym same) hears),
+        (m, said, also, subst (λ (ended : List PlainDeparted). HearsAfter policy now (client_of happened) ended m said answer n) (sym same) hears),
       )

@@ -14,6 +14,7 @@ use Rattle.connection.specs.Line.{Advances}
 use Rattle.journal.specs.declared.error.HubError.TheVariants as hub
 use Rattle.journal.specs.declared.socket.Socket.{Socket}
 use Rattle.journal.specs.declared.step.What.{What}
+use Rattle.journal.specs.declared.ending.Side.TheVariants as side
 use Rattle.journal.specs.declared.step.What.TheVariants as what
 use Rattle.journal.specs.Plain.{Limits, PlainRecovery}
 use Rattle.journal.specs.Journal.{History, moment_at, with_step}
@@ -35,7 +36,7 @@ use Rattle.events.specs.declared.fault.CoreError.{CoreError}
 use Rattle.events.specs.declared.fault.CoreFault.{CoreFault}
 use Rattle.events.specs.declared.fault.CoreFault.TheVariants.{Memory}
 use Rattle.events.specs.declared.fault.Stopped.{Stopped}
-use Rattle.events.specs.App.{PlainVerdict}
+use Rattle.events.specs.App.{Policy}
 use Rattle.effects.specs.Commands.{Makes, IsRefused, StopsAt, CannotReturn, IsSeated, seat, return_of}
 use Rattle.effects.specs.Effects.{Scene, told_to, counted}
 use Rattle.effects.specs.Runs.{Runs}
@@ -147,20 +148,20 @@ module _ (keeps : StaysSound) (now : ℕ) where
 
   leaves-alike : (who : Who) (s : Scene) (result : Upshot) (t : Scene) (g : History) → AreAlike s.history g → Leaves who now s result t → SimFor (Leaves who now) s result t g
   leaves-alike who s (Ok done) t g alike (makes, advances, is) =
-      let both = make-alike keeps now s.history g t.history alike (what.Ended who.sid) tt makes in
-      let m = with_step g now (what.Ended who.sid) in
+      let both = make-alike keeps now s.history g t.history alike (what.Ended who.sid side.Client) tt makes in
+      let m = with_step g now (what.Ended who.sid side.Client) in
       (m, both.0, (both.1, advances, ap (λ (u : Scene). moved u m) is))
   leaves-alike who s (Err e) t g alike (fails, (is, same)) =
-      (g, same-scene s t g alike same, (stops-alike keeps now s.history g alike (what.Ended who.sid) e.fault fails, (is, ap (λ (u : Scene). moved u g) same)))
+      (g, same-scene s t g alike same, (stops-alike keeps now s.history g alike (what.Ended who.sid side.Client) e.fault fails, (is, ap (λ (u : Scene). moved u g) same)))
 
-  module _ (decides : Who → Arrived → List Effect → Type 0) where
-    decides-alike : (who : Who) (arrived : Arrived) (s : Scene) (result : Upshot) (t : Scene) (g : History) → AreAlike s.history g → Decides decides who arrived now s result t → SimFor (Decides decides who arrived now) s result t g
+  module _ (policy : Policy) where
+    decides-alike : (who : Who) (arrived : Arrived) (s : Scene) (result : Upshot) (t : Scene) (g : History) → AreAlike s.history g → Decides policy who arrived now s result t → SimFor (Decides policy who arrived now) s result t g
     decides-alike who arrived s result t g alike (inl short) = let (m, grown, also) = short-alike s result t g alike short in (m, grown, inl also)
     decides-alike who arrived s result t g alike (inr (effects, decided, clean, does)) =
         let (m, grown, also) = does-all who 0 effects s result t g alike does in (m, grown, inr (effects, decided, clean, also))
 
     ack-alike : (who : Who) (id : Option ℕ) (payload : List ℕ) (attachments : List (List ℕ)) (s : Scene) (result : Upshot) (t : Scene) (g : History) → AreAlike s.history g
-        → TakesAck decides who id payload attachments now s result t → SimFor (TakesAck decides who id payload attachments now) s result t g
+        → TakesAck policy who id payload attachments now s result t → SimFor (TakesAck policy who id payload attachments now) s result t g
     ack-alike who None payload attachments s result t g alike (is, same) =
         (g, grown-none s.history t.history g alike (ap (λ (u : Scene). u.history) same), (is, ap (λ (u : Scene). moved u g) same))
     ack-alike who (Some id) payload attachments s result t g alike (inl (none, is, advances, same)) =
@@ -169,7 +170,7 @@ module _ (keeps : StaysSound) (now : ℕ) where
         let (m, grown, also) = decides-alike who _ (record s { line = line }) result t g alike does in (m, grown, inr (question, line, asked, advances, also))
 
     serves-alike : (k : Kind) (who : Who) (id : Option ℕ) (payload : List ℕ) (attachments : List (List ℕ)) (s : Scene) (result : Upshot) (t : Scene) (g : History) → AreAlike s.history g
-        → Serves decides k who id payload attachments now s result t → SimFor (Serves decides k who id payload attachments now) s result t g
+        → Serves policy k who id payload attachments now s result t → SimFor (Serves policy k who id payload attachments now) s result t g
     serves-alike kind.Disconnect who id payload attachments s result t g alike does = leaves-alike who s result t g alike does
     serves-alike kind.Event who id payload attachments s result t g alike does = decides-alike who _ (record s { asked = id }) result t g alike does
     serves-alike kind.BinaryEvent who id payload attachments s result t g alike does = decides-alike who _ (record s { asked = id }) result t g alike does
@@ -183,10 +184,10 @@ module _ (keeps : StaysSound) (now : ℕ) where
     ServesAt c p result o a b = elim o as (λ (o : Option Socket). Type 0) [
       | None ↦ ClosesFor c now cause.NotJoined a result b
       | Some k ↦ IsSeated (record { client = c; space = p.header.space; sid = k.sid }) a.history
-          × Serves decides p.header.kind (record { client = c; space = p.header.space; sid = k.sid }) p.header.id p.header.payload p.attachments now a result b
+          × Serves policy p.header.kind (record { client = c; space = p.header.space; sid = k.sid }) p.header.id p.header.payload p.attachments now a result b
     ]
 
-    joined-alike : (c : ℕ) (p : SioPacket) (s : Scene) (result : Upshot) (t : Scene) (g : History) → AreAlike s.history g → ServesJoined decides c p now s result t → SimFor (ServesJoined decides c p now) s result t g
+    joined-alike : (c : ℕ) (p : SioPacket) (s : Scene) (result : Upshot) (t : Scene) (g : History) → AreAlike s.history g → ServesJoined policy c p now s result t → SimFor (ServesJoined policy c p now) s result t g
     joined-alike c p s result t g alike does =
         subst (λ (o : Option Socket). (m : History) × Grown s.history t.history g m × ServesAt c p result o (moved s g) (moved t m)) (sym (socket-alike s.history g alike c p.header.space))
         (on (socket_of s.history.base s.history.journal c (place_of s.history.limits p.header.space)) does)
@@ -236,8 +237,8 @@ module _ (keeps : StaysSound) (now : ℕ) where
       let m = with_step g now w in
       (m, both.0, (is, both.1, advances, ap (λ (u : Scene). moved u m) same))
 
-  module _ (allows : (space payload : List ℕ) → PlainVerdict → Type 0) (c : ℕ) (space payload : List ℕ) (s : Stage) (result : Upshot) (t : Stage) (g : History) (alike : AreAlike s.scene.history g) where
-    asks-app : AsksApp allows c space payload now s result t → SimFrom (AsksApp allows c space payload now) s result t g
+  module _ (policy : Policy) (c : ℕ) (space payload : List ℕ) (s : Stage) (result : Upshot) (t : Stage) (g : History) (alike : AreAlike s.scene.history g) where
+    asks-app : AsksApp policy c space payload now s result t → SimFrom (AsksApp policy c space payload now) s result t g
     asks-app (inl (short, drawn)) = let (m, grown, also) = short-alike s.scene result t.scene g alike short in (m, grown, inl (also, drawn))
     asks-app (inr (inl (effects, allowed, clean, (drawn, does)))) =
         let (m, grown, also) = connects-as (record { client = c; space = space; sid = s.ids 0 }) (s.ids 1) effects s.scene result t.scene g alike does in
@@ -249,10 +250,10 @@ module _ (keeps : StaysSound) (now : ℕ) where
     abbrev ReturnsBy : PlainRecovery → Stage → Stage → Type 0
     ReturnsBy r a b =
         DrawsNone (Returns (what.Recovered r) r.socket.sid now) a result b
-        ⊎ (CannotReturn a.scene.history now (what.Recovered r) × AsksApp allows c space payload now a result b)
+        ⊎ (CannotReturn a.scene.history now (what.Recovered r) × AsksApp policy c space payload now a result b)
         ⊎ ((e : Stopped) × (result ≡ Err e) × StopsAt a.scene.history now (what.Recovered r) e.fault × StopsFor e.fault a.scene e b.scene × (b.ids ≡ a.ids))
 
-    comes-back : (pid offset : ℕ) → ComesBack allows c space payload pid offset now s result t → SimFrom (ComesBack allows c space payload pid offset now) s result t g
+    comes-back : (pid offset : ℕ) → ComesBack policy c space payload pid offset now s result t → SimFrom (ComesBack policy c space payload pid offset now) s result t g
     comes-back pid offset does =
         subst (λ (r : PlainRecovery). (m : History) × Grown s.scene.history t.scene.history g m × ReturnsBy r (shifted s g) (shifted t m)) (sym (return-alike s.scene.history g alike c space pid offset)) (on does)
       where
@@ -266,7 +267,7 @@ module _ (keeps : StaysSound) (now : ℕ) where
         on (inr (inr (e, is, stops, (none, same), drawn))) =
             (g, same-scene s.scene t.scene g alike same, inr (inr (e, is, stops-alike keeps now s.scene.history g alike (what.Recovered r) e.fault stops, (none, ap (λ (u : Scene). moved u g) same), drawn)))
 
-    may-come-back : MayComeBack allows c space payload now s result t → SimFrom (MayComeBack allows c space payload now) s result t g
+    may-come-back : MayComeBack policy c space payload now s result t → SimFrom (MayComeBack policy c space payload now) s result t g
     may-come-back (inl (short, drawn)) = let (m, grown, also) = short-alike s.scene result t.scene g alike short in (m, grown, inl (also, drawn))
     may-come-back (inr (inl (none, asks))) = let (m, grown, also) = asks-app asks in (m, grown, inr (inl (none, also)))
     may-come-back (inr (inr (named, names, comes))) = let (m, grown, also) = comes-back named.0 named.1 comes in (m, grown, inr (inr (named, names, also)))
@@ -275,13 +276,13 @@ module _ (keeps : StaysSound) (now : ℕ) where
     abbrev FindsSocket : Option Socket → Stage → Stage → Type 0
     FindsSocket o a b = elim o as (λ (o : Option Socket). Type 0) [
       | Some k ↦ DrawsNone (ClosesFor c now cause.AlreadyConnected) a result b
-      | None ↦ MayComeBack allows c space payload now a result b
+      | None ↦ MayComeBack policy c space payload now a result b
     ]
 
     abbrev FindsSpace : Bool → Option Socket → Stage → Stage → Type 0
     FindsSpace there o a b = elim there as (λ (there : Bool). Type 0) [ false ↦ DrawsNone (Refuses c now space (codes "Invalid namespace")) a result b | true ↦ FindsSocket o a b ]
 
-    asks-to-connect : AsksToConnect allows c space payload now s result t → SimFrom (AsksToConnect allows c space payload now) s result t g
+    asks-to-connect : AsksToConnect policy c space payload now s result t → SimFrom (AsksToConnect policy c space payload now) s result t g
     asks-to-connect does =
         let h = s.scene.history in
         subst (λ (b : Bool). (m : History) × Grown h t.scene.history g m × FindsSpace b (socket_of g.base g.journal c (place_of g.limits space)) (shifted s g) (shifted t m)) (sym (space-alike h g alike space))
@@ -295,18 +296,18 @@ module _ (keeps : StaysSound) (now : ℕ) where
 
   -- ---- a packet
 
-  module _ (decides : Who → Arrived → List Effect → Type 0) (allows : (space payload : List ℕ) → PlainVerdict → Type 0) (c : ℕ) where
-    works-alike : (p : SioPacket) (s : Stage) (result : Upshot) (t : Stage) (g : History) → AreAlike s.scene.history g → Works decides allows c p now s result t → SimFrom (Works decides allows c p now) s result t g
+  module _ (policy : Policy) (c : ℕ) where
+    works-alike : (p : SioPacket) (s : Stage) (result : Upshot) (t : Stage) (g : History) → AreAlike s.scene.history g → Works policy c p now s result t → SimFrom (Works policy c p now) s result t g
     works-alike p s result t g alike does = on p.header.kind does
       where
-        joins : ServesJoined decides c p now s.scene result t.scene × (t.ids ≡ s.ids) → SimFrom (DrawsNone (ServesJoined decides c p now)) s result t g
-        joins (does, drawn) = let (m, grown, also) = joined-alike decides c p s.scene result t.scene g alike does in (m, grown, (also, drawn))
+        joins : ServesJoined policy c p now s.scene result t.scene × (t.ids ≡ s.ids) → SimFrom (DrawsNone (ServesJoined policy c p now)) s result t g
+        joins (does, drawn) = let (m, grown, also) = joined-alike policy c p s.scene result t.scene g alike does in (m, grown, (also, drawn))
 
         on : (k : Kind)
-            → elim k as (λ (k : Kind). Type 0) [ kind.Connect ↦ AsksToConnect allows c p.header.space p.header.payload now s result t | _ ↦ DrawsNone (ServesJoined decides c p now) s result t ]
+            → elim k as (λ (k : Kind). Type 0) [ kind.Connect ↦ AsksToConnect policy c p.header.space p.header.payload now s result t | _ ↦ DrawsNone (ServesJoined policy c p now) s result t ]
             → (m : History) × Grown s.scene.history t.scene.history g m
-            × elim k as (λ (k : Kind). Type 0) [ kind.Connect ↦ AsksToConnect allows c p.header.space p.header.payload now (shifted s g) result (shifted t m) | _ ↦ DrawsNone (ServesJoined decides c p now) (shifted s g) result (shifted t m) ]
-        on kind.Connect does = asks-to-connect allows c p.header.space p.header.payload s result t g alike does
+            × elim k as (λ (k : Kind). Type 0) [ kind.Connect ↦ AsksToConnect policy c p.header.space p.header.payload now (shifted s g) result (shifted t m) | _ ↦ DrawsNone (ServesJoined policy c p now) (shifted s g) result (shifted t m) ]
+        on kind.Connect does = asks-to-connect policy c p.header.space p.header.payload s result t g alike does
         on kind.Disconnect does = joins does
         on kind.Event does = joins does
         on kind.Ack does = joins does
@@ -323,7 +324,7 @@ module _ (keeps : StaysSound) (now : ℕ) where
     short-one : (s : Stage) (result : Upshot) (t : Stage) (g : History) → AreAlike s.scene.history g → DrawsNone IsShort s result t → SimFrom (DrawsNone IsShort) s result t g
     short-one s result t g alike (short, drawn) = let (m, grown, also) = short-alike s.scene result t.scene g alike short in (m, grown, (also, drawn))
 
-    goes-on : (given : Result (Option SioPacket) SioError) (s : Stage) (result : Upshot) (t : Stage) (g : History) → AreAlike s.scene.history g → GoesOn decides allows c given now s result t → SimFrom (GoesOn decides allows c given now) s result t g
+    goes-on : (given : Result (Option SioPacket) SioError) (s : Stage) (result : Upshot) (t : Stage) (g : History) → AreAlike s.scene.history g → GoesOn policy c given now s result t → SimFrom (GoesOn policy c given now) s result t g
     goes-on (Ok None) s result t g alike (is, same) = (g, same-stage s t g alike same, (is, ap (λ (u : Stage). shifted u g) same))
     goes-on (Ok (Some p)) s result t g alike (whole, works) = let (m, grown, also) = works-alike p s result t g alike works in (m, grown, (whole, also))
     goes-on (Err sio.Memory) s result t g alike does = short-one s result t g alike does
@@ -338,27 +339,27 @@ module _ (keeps : StaysSound) (now : ℕ) where
     goes-on (Err sio.TextAwaitingBinary) s result t g alike does = closes-one _ s result t g alike does
     goes-on (Err sio.BinaryUnawaited) s result t g alike does = closes-one _ s result t g alike does
 
-    takes-frame : (frame : Frame) (s : Stage) (result : Upshot) (t : Stage) (g : History) → AreAlike s.scene.history g → TakesFrame decides allows c frame now s result t → SimFrom (TakesFrame decides allows c frame now) s result t g
+    takes-frame : (frame : Frame) (s : Stage) (result : Upshot) (t : Stage) (g : History) → AreAlike s.scene.history g → TakesFrame policy c frame now s result t → SimFrom (TakesFrame policy c frame now) s result t g
     takes-frame frame s result t g alike (given, line, accepts, advances, does) =
-        let (m, grown, also) = goes-on (Ok given) (with_line decides allows s line) result t g alike does in (m, grown, (given, line, accepts, advances, also))
+        let (m, grown, also) = goes-on (Ok given) (with_line policy s line) result t g alike does in (m, grown, (given, line, accepts, advances, also))
 
-    takes-text : (content : List ℕ) (s : Stage) (result : Upshot) (t : Stage) (g : History) → AreAlike s.scene.history g → TakesText decides allows c content now s result t → SimFrom (TakesText decides allows c content now) s result t g
+    takes-text : (content : List ℕ) (s : Stage) (result : Upshot) (t : Stage) (g : History) → AreAlike s.scene.history g → TakesText policy c content now s result t → SimFrom (TakesText policy c content now) s result t g
     takes-text content s result t g alike (inl short) = let (m, grown, also) = short-one s result t g alike short in (m, grown, inl also)
     takes-text content s result t g alike (inr (inl takes)) = let (m, grown, also) = takes-frame (text content) s result t g alike takes in (m, grown, inr (inl also))
     takes-text content s result t g alike (inr (inr (error, refuses, does))) =
-        let (m, grown, also) = goes-on (Err error) (with_line decides allows s (record s.scene.line { assembler = Failed error })) result t g alike does in (m, grown, inr (inr (error, refuses, also)))
+        let (m, grown, also) = goes-on (Err error) (with_line policy s (record s.scene.line { assembler = Failed error })) result t g alike does in (m, grown, inr (inr (error, refuses, also)))
 
-    reads-binary : (content : List ℕ) (s : Stage) (result : Upshot) (t : Stage) (g : History) → AreAlike s.scene.history g → ReadsBinary decides allows c content now s result t → SimFrom (ReadsBinary decides allows c content now) s result t g
+    reads-binary : (content : List ℕ) (s : Stage) (result : Upshot) (t : Stage) (g : History) → AreAlike s.scene.history g → ReadsBinary policy c content now s result t → SimFrom (ReadsBinary policy c content now) s result t g
     reads-binary content s result t g alike (inl short) = let (m, grown, also) = short-one s result t g alike short in (m, grown, inl also)
     reads-binary content s result t g alike (inr (inl takes)) = let (m, grown, also) = takes-frame (binary content) s result t g alike takes in (m, grown, inr (inl also))
     reads-binary content s result t g alike (inr (inr (error, refuses, does))) =
-        let (m, grown, also) = goes-on (Err error) (with_line decides allows s (record s.scene.line { assembler = Failed error })) result t g alike does in (m, grown, inr (inr (error, refuses, also)))
+        let (m, grown, also) = goes-on (Err error) (with_line policy s (record s.scene.line { assembler = Failed error })) result t g alike does in (m, grown, inr (inr (error, refuses, also)))
 
     -- the row of bytes, by whether they are too many
     abbrev FindsLong : List ℕ → Upshot → Bool → Stage → Stage → Type 0
-    FindsLong content result long a b = elim long as (λ (long : Bool). Type 0) [ true ↦ DrawsNone (ClosesFor c now cause.TooLong) a result b | false ↦ ReadsBinary decides allows c content now a result b ]
+    FindsLong content result long a b = elim long as (λ (long : Bool). Type 0) [ true ↦ DrawsNone (ClosesFor c now cause.TooLong) a result b | false ↦ ReadsBinary policy c content now a result b ]
 
-    takes-binary : (content : List ℕ) (s : Stage) (result : Upshot) (t : Stage) (g : History) → AreAlike s.scene.history g → TakesBinary decides allows c content now s result t → SimFrom (TakesBinary decides allows c content now) s result t g
+    takes-binary : (content : List ℕ) (s : Stage) (result : Upshot) (t : Stage) (g : History) → AreAlike s.scene.history g → TakesBinary policy c content now s result t → SimFrom (TakesBinary policy c content now) s result t g
     takes-binary content s result t g alike does =
         subst (λ (l : Limits). (m : History) × Grown s.scene.history t.scene.history g m × FindsLong content result (exceeds s.scene.line.assembler l.bytes (length content)) (shifted s g) (shifted t m)) (sym alike.same.same_limits)
         (on (exceeds s.scene.line.assembler s.scene.history.limits.bytes (length content)) does)
@@ -367,7 +368,7 @@ module _ (keeps : StaysSound) (now : ℕ) where
         on true does = closes-one cause.TooLong s result t g alike does
         on false does = reads-binary content s result t g alike does
 
-    handles-alike : (packet : Packet) (s : Stage) (result : Upshot) (t : Stage) (g : History) → AreAlike s.scene.history g → Handles decides allows c packet now s result t → SimFrom (Handles decides allows c packet now) s result t g
+    handles-alike : (packet : Packet) (s : Stage) (result : Upshot) (t : Stage) (g : History) → AreAlike s.scene.history g → Handles policy c packet now s result t → SimFrom (Handles policy c packet now) s result t g
     handles-alike (eio.Close content) s result t g alike (does, drawn) = let (m, grown, also) = parks-for c s.scene result t.scene g alike does in (m, grown, (also, drawn))
     handles-alike (eio.Ping content) s result t g alike does = closes-one cause.PingFromClient s result t g alike does
     handles-alike (eio.Pong content) s result t g alike (is, advances, same) =
@@ -378,20 +379,20 @@ module _ (keeps : StaysSound) (now : ℕ) where
     handles-alike (eio.Upgrade content) s result t g alike (is, same) = (g, same-stage s t g alike same, (is, ap (λ (u : Stage). shifted u g) same))
     handles-alike (eio.Noop content) s result t g alike (is, same) = (g, same-stage s t g alike same, (is, ap (λ (u : Stage). shifted u g) same))
 
-    pub packet-alike : (packet : Packet) (s : Stage) (result : Upshot) (t : Stage) (g : History) → AreAlike s.scene.history g → HandlesOrBreaks decides allows c packet now s result t → SimFrom (HandlesOrBreaks decides allows c packet now) s result t g
+    pub packet-alike : (packet : Packet) (s : Stage) (result : Upshot) (t : Stage) (g : History) → AreAlike s.scene.history g → HandlesOrBreaks policy c packet now s result t → SimFrom (HandlesOrBreaks policy c packet now) s result t g
     packet-alike packet s result t g alike does = on s.scene.done.closed does
       where
-        on : (o : Option Cause) → elim o as (λ (o : Option Cause). Type 0) [ Some why ↦ (result ≡ Ok tt) × (t ≡ s) | None ↦ Handles decides allows c packet now (begun decides allows s) result t ]
+        on : (o : Option Cause) → elim o as (λ (o : Option Cause). Type 0) [ Some why ↦ (result ≡ Ok tt) × (t ≡ s) | None ↦ Handles policy c packet now (begun policy s) result t ]
             → (m : History) × Grown s.scene.history t.scene.history g m
-            × elim o as (λ (o : Option Cause). Type 0) [ Some why ↦ (result ≡ Ok tt) × (shifted t m ≡ shifted s g) | None ↦ Handles decides allows c packet now (begun decides allows (shifted s g)) result (shifted t m) ]
+            × elim o as (λ (o : Option Cause). Type 0) [ Some why ↦ (result ≡ Ok tt) × (shifted t m ≡ shifted s g) | None ↦ Handles policy c packet now (begun policy (shifted s g)) result (shifted t m) ]
         on (Some why) (is, same) = (g, same-stage s t g alike same, (is, ap (λ (u : Stage). shifted u g) same))
-        on None handles = handles-alike packet (begun decides allows s) result t g alike handles
+        on None handles = handles-alike packet (begun policy s) result t g alike handles
 
-    pub packets-alike : (packets : List Packet) (s t : Stage) (g : History) → AreAlike s.scene.history g → Runs (HandlesInTurn decides allows c now) packets s t → SimStage (Runs (HandlesInTurn decides allows c now) packets) s t g
+    pub packets-alike : (packets : List Packet) (s t : Stage) (g : History) → AreAlike s.scene.history g → Runs (HandlesInTurn policy c now) packets s t → SimStage (Runs (HandlesInTurn policy c now) packets) s t g
     packets-alike packets s t g alike run =
-        runs-alike (λ (u : Stage). u.scene.history) shifted (HandlesInTurn decides allows c now) (λ a packet b k same does. packet-alike packet a (Ok tt) b k same does) packets s t g alike run
+        runs-alike (λ (u : Stage). u.scene.history) shifted (HandlesInTurn policy c now) (λ a packet b k same does. packet-alike packet a (Ok tt) b k same does) packets s t g alike run
 
-    pub breaks-alike : (packets : List Packet) (s : Stage) (e : CoreError) (t : Stage) (g : History) → AreAlike s.scene.history g → BreaksAfter decides allows c now packets s e t → SimStage (λ a b. BreaksAfter decides allows c now packets a e b) s t g
+    pub breaks-alike : (packets : List Packet) (s : Stage) (e : CoreError) (t : Stage) (g : History) → AreAlike s.scene.history g → BreaksAfter policy c now packets s e t → SimStage (λ a b. BreaksAfter policy c now packets a e b) s t g
     breaks-alike packets s e t g alike (at, run, packet, there, breaks) =
         let (m, grown, also) = packets-alike (take e.packets packets) s at g alike run in
         let (n, further, ends) = packet-alike packet at (Err (record { fault = e.fault; effects = e.effects })) t m grown.alike breaks in

@@ -10,13 +10,14 @@ use Rattle.terms.specs.declared.entry.Entry.{Entry}
 use Rattle.room_maps.specs.declared.error.RoomError.{RoomError}
 use Rattle.terms.specs.Room.{same_room, own_room}
 use Rattle.room_maps.specs.Membership as room_maps
-use Rattle.room_maps.specs.Membership.{RoomSets, AreConsistent, is_socket, is_in}
+use Rattle.room_maps.specs.Membership.{RoomSets, is_socket, is_in}
 use Rattle.room_maps.proofs.OrderLemmas.{same_room_is, same_room_itself}
 use Rattle.recovery.specs.PacketLog.{LogContents}
 use Rattle.recovery.specs.SavedTable.{TableContents, removed}
 use Rattle.journal.specs.declared.error.HubError.{HubError}
 use Rattle.journal.specs.declared.error.HubError.TheVariants.{UnknownClient, UnknownNamespace, AlreadyConnected, IdTaken, OutboxFull}
 use Rattle.journal.specs.declared.socket.Socket.{Socket}
+use Rattle.journal.specs.declared.ending.Side.{Side}
 use Rattle.journal.specs.declared.step.Step.{Step}
 use Rattle.journal.specs.declared.step.What.{What}
 use Rattle.journal.specs.declared.step.What.TheVariants.{Opened, Attached, Recovered, Joined, Left, AllJoined, AllLeft, Cast, Told, Took, Parked, Ended, AllEnded, Closed, Swept}
@@ -237,13 +238,13 @@ module _ (base : PlainBase) (limits : Limits) (before : List Step) (legal : IsLe
       let after = closed base limits c (length (held_entries (find c))) now (moment base before) find (λ q. if c == q then None else find q) seat (λ s. if list_any (has_id sid_of s) its then None else seat s) pids (λ p. if list_any (has_id pid_of p) its then false else pids p)
       sets (without_sockets sets its) table packets counts before hub (sym allowed.0) refl (λ q. refl) (λ s. refl) (λ p. refl) refl (no-sockets-fine sets sound.rooms_agree its) in after.2
 
-  goes-ended : (s : ℕ) → Goes (Ended s)
-  goes-ended s allowed = on (seat s) refl (not-false _ (unfold-none _ _ _ (free (Ended s) allowed)))
+  goes-ended : (s : ℕ) (by : Side) → Goes (Ended s by)
+  goes-ended s by allowed = on (seat s) refl (not-false _ (unfold-none _ _ _ (free (Ended s by) allowed)))
     where
-      on : (o : Option Socket) → seat s ≡ o → is_some (seat s) ≡ true → IsSound base limits (record { at = at; what = Ended s } ∷ before)
+      on : (o : Option Socket) → seat s ≡ o → is_some (seat s) ≡ true → IsSound base limits (record { at = at; what = Ended s by } ∷ before)
       on None found known = absurd (cc (ap (λ (o : Option Socket). is_some o) (sym found) ∙ known))
       on (Some k) found known =
-          let after = ended base limits s k now (moment base before) find (λ q. if k.client == q then option_map (without_place k.space) (find q) else find q) seat (λ x. if k.sid == x then None else seat x) pids (λ x. if k.pid == x then false else pids x)
+          let after = ended base limits s by k now (moment base before) find (λ q. if k.client == q then option_map (without_place k.space) (find q) else find q) seat (λ x. if k.sid == x then None else seat x) pids (λ x. if k.pid == x then false else pids x)
           sets (room_maps.without_socket sets k.sid) table packets counts before hub (sym allowed.0) found (λ q. refl) (λ x. refl) (λ x. refl) refl (no-socket-fine sets sound.rooms_agree k.sid) in after.2
 
   goes-all-ended : (d : PlainDismissal) → Goes (AllEnded d)
@@ -312,7 +313,7 @@ module _ (base : PlainBase) (limits : Limits) (before : List Step) (legal : IsLe
   goes (Told m) allowed = told-sound base limits m at before legal allowed sound late (not-false _ (unfold-none _ _ _ (free (Told m) allowed)))
   goes (Took c most n) allowed = took-sound base limits c most n at before legal allowed sound late (not-false _ (unfold-none _ _ _ (free (Took c most n) allowed)))
   goes (Parked c) allowed = goes-parked c allowed
-  goes (Ended s) allowed = goes-ended s allowed
+  goes (Ended s by) allowed = goes-ended s by allowed
   goes (AllEnded d) allowed = goes-all-ended d allowed
   goes (Closed c) allowed = goes-closed c allowed
   goes Swept allowed = swept-sound base limits at before legal allowed sound late

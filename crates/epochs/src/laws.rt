@@ -68,18 +68,18 @@ pub fn does_in_all_epochs<A: App>(app: &A)
     ensures does { (now : ℕ) (timing : Timing) (numbers : Numbers) (event : Event) (answer : Answer)
         (sealed : List History) (h k : History) (old new : List (ℕ × PlainLine)) (ids left : ℕ → ℕ)
         → AreAlike h (in_one sealed h) → Agree h old
-        → Does (A.decides app.now) (A.allows app.now) (A.leaves app.now) now timing numbers event
+        → Does (A.policy app.now) now timing numbers event
         (place h old) ids answer (place k new) left
-        → Does (A.decides app.now) (A.allows app.now) (A.leaves app.now) now timing numbers event
+        → Does (A.policy app.now) now timing numbers event
         (place (in_one sealed h) old) ids answer (place (in_one sealed k) new) left
         × AreAlike k (in_one sealed k) × Agree k new }
     ensures back { (now : ℕ) (timing : Timing) (numbers : Numbers) (event : Event) (answer : Answer)
         (sealed : List History) (h m : History) (old new : List (ℕ × PlainLine)) (ids left : ℕ → ℕ)
         → AreAlike h (in_one sealed h) → Agree h old
-        → Does (A.decides app.now) (A.allows app.now) (A.leaves app.now) now timing numbers event
+        → Does (A.policy app.now) now timing numbers event
         (place (in_one sealed h) old) ids answer (place m new) left
         → (k : History) × (m ≡ in_one sealed k)
-        × Does (A.decides app.now) (A.allows app.now) (A.leaves app.now) now timing numbers event
+        × Does (A.policy app.now) now timing numbers event
         (place h old) ids answer (place k new) left }
 
     // the account of all events so far, with one more
@@ -87,11 +87,11 @@ pub fn does_in_all_epochs<A: App>(app: &A)
         (answer : Answer) (events : List (Event × ℕ)) (answers : List Answer) (s : Place)
         (sealed : List History) (h k : History) (old new : List (ℕ × PlainLine))
         (ids left rest : ℕ → ℕ) → AreAlike h (in_one sealed h) → Agree h old
-        → Machine (A.decides app.now) (A.allows app.now) (A.leaves app.now) timing numbers
+        → Machine (A.policy app.now) timing numbers
         events answers s ids (place (in_one sealed h) old) left
-        → Does (A.decides app.now) (A.allows app.now) (A.leaves app.now) now timing numbers event
+        → Does (A.policy app.now) now timing numbers event
         (place h old) left answer (place k new) rest
-        → Machine (A.decides app.now) (A.allows app.now) (A.leaves app.now) timing numbers
+        → Machine (A.policy app.now) timing numbers
         (events ++ (event, now) ∷ []) (answers ++ answer ∷ [])
         s ids (place (in_one sealed k) new) rest }
 {}

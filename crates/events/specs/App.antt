@@ -8,11 +8,19 @@ use Rattle.events.specs.declared.app.Arrived.{Arrived}
 use Rattle.events.specs.declared.app.Arrived.TheVariants.{Event, Answer}
 use Rattle.events.specs.declared.app.Effect.{Effect}
 use Rattle.events.specs.declared.app.Effect.TheVariants.{Emit, EmitAsk, Reply}
+use Rattle.events.specs.declared.app.Who.{Who}
+use Rattle.journal.specs.declared.ending.Ending.{Ending}
 
 -- the socket is connected and these effects follow, or it is refused with a message
 pub data PlainVerdict : Type 0 where
   Accepted : List Effect → PlainVerdict
   Refused : List ℕ → PlainVerdict
+
+-- what an app may answer: to a CONNECT, to what arrived from a socket, and where a socket has ended that was in these rooms
+pub record Policy : Type 1 where
+  pub allows : (space payload : List ℕ) → PlainVerdict → Type 0
+  pub decides : Who → Arrived → List Effect → Type 0
+  pub leaves : Who → (rooms : List (List ℕ)) → Ending → List Effect → Type 0
 
 abbrev pub plain_verdict : Verdict → PlainVerdict
 plain_verdict (Accept effects) = Accepted effects.items

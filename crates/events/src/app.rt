@@ -1,11 +1,7 @@
 //! What the server asks of the app, and where the ids come from.
 
-ghost use Rattle.std.specs.Prelude.{◌≡◌, ◌+◌, ℕ, List, IfOk};
-ghost use Rattle.journal.specs.declared.ending.Ending.{Ending};
-ghost use Rattle.events.specs.declared.app.Arrived.{Arrived};
-ghost use Rattle.events.specs.declared.app.Effect.{Effect};
-ghost use Rattle.events.specs.declared.app.Who.{Who};
-ghost use Rattle.events.specs.App.{PlainVerdict, plain_verdict, IsCleanVerdict, IsCleanArrival, AllClean};
+ghost use Rattle.std.specs.Prelude.{◌≡◌, ◌+◌, ℕ, IfOk};
+ghost use Rattle.events.specs.App.{Policy, plain_verdict, IsCleanVerdict, IsCleanArrival, AllClean};
 
 use crate::emission::Emission;
 use crate::selection::Selection;
@@ -113,16 +109,12 @@ pub struct Reply {
 
 /// The app. Which answers it may give is its own definition.
 pub trait App {
-    ghost allows: { Self → (space payload : List ℕ) → PlainVerdict → Type 0 };
-
-    ghost decides: { Self → Who → Arrived → List Effect → Type 0 };
-
-    ghost leaves: { Self → Who → (rooms : List (List ℕ)) → Ending → List Effect → Type 0 };
+    ghost policy: { Self → Policy };
 
     /// Whether a client may connect to a namespace, with the payload that it sent.
     fn connects(&self, alloc: Global, space: &str, payload: &str) -> Result<Verdict, AllocError>
         ensures allowed { IfOk result (λ verdict.
-            allows self.now space.now payload.now (plain_verdict verdict)) }
+            (policy self.now).allows space.now payload.now (plain_verdict verdict)) }
         ensures clean { IfOk result (λ verdict.
             IsCleanVerdict payload.now (plain_verdict verdict)) };
 
@@ -134,7 +126,7 @@ pub trait App {
         arrived: &Arrived,
     ) -> Result<Vec<Effect>, AllocError>
         ensures decided { IfOk result (λ effects.
-            decides self.now who.now arrived.now effects.items) }
+            (policy self.now).decides who.now arrived.now effects.items) }
         ensures clean { IfOk result (λ effects.
             IsCleanArrival arrived.now → AllClean effects.items) };
 
@@ -148,7 +140,7 @@ pub trait App {
         ending: Ending,
     ) -> Result<Vec<Effect>, AllocError>
         ensures left { IfOk result (λ effects.
-            leaves self.now who.now rooms.now ending effects.items) }
+            (policy self.now).leaves who.now rooms.now ending effects.items) }
         ensures clean { IfOk result (λ effects. AllClean effects.items) };
 }
 

@@ -24,13 +24,10 @@ pub struct Guarded<A> {
 impl<A: App> App for Guarded<A> {
     ghost use Rattle.guarded.specs.Guarded.{Admits, comes_in};
 
-    ghost allows = { λ guarded space payload verdict.
-        Admits (comes_in guarded.token payload) (A.allows guarded.app space payload) verdict };
-
-    ghost decides = { λ guarded who arrived effects. A.decides guarded.app who arrived effects };
-
-    ghost leaves = { λ guarded who rooms ending effects.
-        A.leaves guarded.app who rooms ending effects };
+    ghost policy = { λ guarded. record (A.policy guarded.app) {
+      allows = λ space payload. Admits (comes_in guarded.token payload)
+          ((A.policy guarded.app).allows space payload);
+    } };
 
     fn connects(&self, alloc: Global, space: &str, payload: &str) -> Result<Verdict, AllocError> {
         if let Some(token) = &self.token {

@@ -1,9 +1,9 @@
 //! A head, read by `httparse` (RFC 9112, sections 2, 3 and 5).
 
-ghost use Rattle.std.specs.Prelude.{◌≡◌, ◌⊎◌, ◌≤◌, ℕ, List, Bool, true, false, take, length, map, All, IfOk, IfErr, OnOk, OnErr, IsUtf8, ◌<◌, codes, bytes_eq, string_bytes};
-ghost use Rattle.httparse.specs.Grammar.{RequestHead, ReadsRequest, MayBecomeRequest};
+ghost use Rattle.std.specs.Prelude.{◌≡◌, ◌⊎◌, ◌≤◌, ℕ, true, false, length, map, All, IfOk, IfErr, OnOk, OnErr, IsUtf8, ◌<◌, codes, bytes_eq, string_bytes};
+ghost use Rattle.httparse.specs.Grammar.{RequestHead, MayBecomeRequest};
 ghost use Rattle.httparse.specs.Spans.{IsRequestWithin, IsRequestOf, IsRequestAt, IsHeaderWithin, RequestOverflows, header_bytes};
-ghost use Rattle.http_edge.specs.Request.{NamesLength, IsTargetOf, fields_of};
+ghost use Rattle.http_edge.specs.Request.{NamesLength, IsTargetOf};
 ghost use Rattle.http_edge.specs.Reading.{HasEmptyLine, HasNoHead, LacksLength, NamesTooMuch, IsFault};
 ghost use Rattle.http_edge.specs.Head.{IsHeadOf, HasParsed};
 ghost use Rattle.http_edge.specs.declared.error.EdgeError.TheVariants.{Memory, BadHead, HeadTooLong, NoLength, BodyTooLong};

@@ -1,6 +1,6 @@
 //! What a request asks for: the routes of Engine.IO's one path.
 
-ghost use Rattle.std.specs.Prelude.{◌≡◌, ℕ, List, Option, Some, None, IfOk, IfErr, option_map, string_bytes};
+ghost use Rattle.std.specs.Prelude.{◌≡◌, Option, Some, None, IfOk, IfErr, option_map, string_bytes};
 ghost use Rattle.std.specs.Cow.{cow_str_bytes};
 ghost use Rattle.http_edge.specs.Routes as routes;
 ghost use Rattle.http_edge.specs.Routes.{IsRouted, GivesId, value_of, is_value, under};

@@ -6,10 +6,10 @@ ghost use Rattle.journal.specs.Config.{config_refusal, empty_base};
 ghost use Rattle.journal.specs.Journal.{history};
 ghost use Rattle.hub.specs.Pass.{new_pass, AtLeast, GivesPass, Settles};
 
-mod broadcasts;
-mod commands;
-mod many;
-mod sessions;
+mod counted_broadcasts;
+mod counted_commands;
+mod counted_many;
+mod counted_sessions;
 
 use crate::books::Books;
 use crate::pass::{NotAll, Pass};

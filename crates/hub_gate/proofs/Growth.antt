@@ -9,11 +9,7 @@ use Rattle.events.specs.declared.event.Event.TheVariants as event
 use Rattle.dispatch.specs.Machine.{IsOf}
 use Rattle.events.specs.Answer.{Answer}
 use Rattle.dispatch.specs.Place.{PlainCore}
-use Rattle.journal.specs.declared.ending.Ending.{Ending}
-use Rattle.events.specs.declared.app.Arrived.{Arrived}
-use Rattle.events.specs.declared.app.Effect.{Effect}
-use Rattle.events.specs.declared.app.Who.{Who}
-use Rattle.events.specs.App.{PlainVerdict}
+use Rattle.events.specs.App.{Policy}
 use Rattle.events.specs.declared.peer.PeerFault.{PeerFault}
 use Rattle.hub_gate.specs.Turns.{Applied, Attempt, Desk, Serves, ServesAll, TellsLost, TellsWhere}
 
@@ -94,29 +90,29 @@ folds_grow R pass_of each old (x ∷ xs) new run =
 same_grows : (old new : Desk) → new ≡ old → Grows old.pass new.pass
 same_grows old new same = subst (λ (d : Desk). Grows old.pass d.pass) (sym same) (grows_self old.pass)
 
-module _ {decides : Who → Arrived → List Effect → Type 0} {allows : (space payload : List ℕ) → PlainVerdict → Type 0} {leaves : Who → (rooms : List (List ℕ)) → Ending → List Effect → Type 0} where
+module _ {policy : Policy} where
   applied_grows : (e : Event) (now : ℕ) (before : PlainCore) (old : Desk) (got : Answer) (after : PlainCore) (new : Desk)
-      → Applied decides allows leaves e now before old got after new → Grows old.pass new.pass
+      → Applied policy e now before old got after new → Grows old.pass new.pass
   applied_grows e now before old got after new applied =
       grows_by_turn e old.ids before.hub after.hub old.pass new.pass applied.turns applied.at_least_before applied.at_least_after
 
-  told_grows : (client now : ℕ) (old new : Desk) → TellsLost decides allows leaves client now old new → Grows old.pass new.pass
+  told_grows : (client now : ℕ) (old new : Desk) → TellsLost policy client now old new → Grows old.pass new.pass
   told_grows client now old new tells =
-      folds_grow (λ (d : Desk) (a : Attempt) (e : Desk). Applied decides allows leaves (event.TransportLost client) now a.before d a.got a.after e) (λ (d : Desk). d.pass)
+      folds_grow (λ (d : Desk) (a : Attempt) (e : Desk). Applied policy (event.TransportLost client) now a.before d a.got a.after e) (λ (d : Desk). d.pass)
       (λ d a e. applied_grows (event.TransportLost client) now a.before d a.got a.after e) old tells.attempts new tells.told
 
-where_grows : (decides : Who → Arrived → List Effect → Type 0) (allows : (space payload : List ℕ) → PlainVerdict → Type 0) (leaves : Who → (rooms : List (List ℕ)) → Ending → List Effect → Type 0) (failed : Bool) (lost : Option (ℕ × ℕ)) (old new : Desk)
-    → TellsWhere decides allows leaves failed lost old new → Grows old.pass new.pass
-where_grows decides allows leaves false lost old new same = same_grows old new same
-where_grows decides allows leaves true None old new same = same_grows old new same
-where_grows decides allows leaves true (Some lost) old new tells = told_grows {decides = decides} {allows = allows} {leaves = leaves} lost.0 lost.1 old new tells
+where_grows : (policy : Policy) (failed : Bool) (lost : Option (ℕ × ℕ)) (old new : Desk)
+    → TellsWhere policy failed lost old new → Grows old.pass new.pass
+where_grows policy false lost old new same = same_grows old new same
+where_grows policy true None old new same = same_grows old new same
+where_grows policy true (Some lost) old new tells = told_grows {policy = policy} lost.0 lost.1 old new tells
 
 module _ {P : Type 0} {gives : P → Result (Option (Event × ℕ)) PeerFault → P → Type 0} {hears : P → Answer → Result (Unit {0}) PeerFault → P → Type 0}
-    {decides : Who → Arrived → List Effect → Type 0} {allows : (space payload : List ℕ) → PlainVerdict → Type 0} {leaves : Who → (rooms : List (List ℕ)) → Ending → List Effect → Type 0} where
+    {policy : Policy} where
   -- by all that is done for one peer
   pub serves_grow : {turns : ℕ} {old : P × Desk} {failed : Bool} {new : P × Desk}
-      → ServesAll gives hears decides allows leaves turns old failed new → Grows old.1.pass new.1.pass
+      → ServesAll gives hears policy turns old failed new → Grows old.1.pass new.1.pass
   serves_grow {turns} {old} {failed} {new} serves =
-      let talks = folds_grow (Serves gives hears decides allows leaves) (λ (d : P × Desk). d.1.pass)
+      let talks = folds_grow (Serves gives hears policy) (λ (d : P × Desk). d.1.pass)
       (λ d r e s. applied_grows r.event r.now r.before d.1 r.got r.after e.1 s.applied) old serves.talk.rounds (serves.talk.last, serves.between) serves.talk.talks in
-      grows_trans old.1.pass serves.between.pass new.1.pass talks (where_grows decides allows leaves failed serves.lost serves.between new.1 serves.told)
+      grows_trans old.1.pass serves.between.pass new.1.pass talks (where_grows policy failed serves.lost serves.between new.1 serves.told)

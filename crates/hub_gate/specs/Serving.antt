@@ -4,11 +4,7 @@ use Rattle.std.specs.List.{FoldsTo}
 use Rattle.journal.specs.declared.totals.Totals.{Totals}
 use Rattle.hub.specs.declared.pass.NotAll.{NotAll}
 use Rattle.hub.specs.Pass.{PlainPass, Settles, new_pass}
-use Rattle.journal.specs.declared.ending.Ending.{Ending}
-use Rattle.events.specs.declared.app.Arrived.{Arrived}
-use Rattle.events.specs.declared.app.Effect.{Effect}
-use Rattle.events.specs.declared.app.Who.{Who}
-use Rattle.events.specs.App.{PlainVerdict}
+use Rattle.events.specs.App.{Policy}
 use Rattle.events.specs.declared.event.Event.{Event}
 use Rattle.events.specs.Answer.{Answer}
 use Rattle.dispatch.specs.Place.{PlainCore}
@@ -56,14 +52,14 @@ IsLackingFor pass _ = ⊥
 -- ---- the work of each worker
 
 module _ {P : Type 0} (gives : P → Result (Option (Event × ℕ)) PeerFault → P → Type 0) (hears : P → Answer → Result (Unit {0}) PeerFault → P → Type 0)
-    (decides : Who → Arrived → List Effect → Type 0) (allows : (space payload : List ℕ) → PlainVerdict → Type 0) (leaves : Who → (rooms : List (List ℕ)) → Ending → List Effect → Type 0) where
+    (policy : Policy) where
   -- a worker served these peers, and no others, in this order, with a pass of its own and its own ids; its counts are
   -- what the pass has then, how many peers there were and how many failed
   pub record WorksAs (turns : ℕ) (peers : List P) (ids : ℕ → ℕ) (counts : WorkerCounts) : Type 0 where
     pub handled : List (Handled P)
     pub end : Desk
     pub given : map (λ h. h.given) handled ≡ peers
-    pub served : FoldsTo (λ (d : Desk) (h : Handled P) (e : Desk). ServesAll gives hears decides allows leaves turns (h.given, d) h.failed (h.left, e)) (desk new_pass ids) handled end
+    pub served : FoldsTo (λ (d : Desk) (h : Handled P) (e : Desk). ServesAll gives hears policy turns (h.given, d) h.failed (h.left, e)) (desk new_pass ids) handled end
     pub commands : counts.commands ≡ end.pass.commands
     pub taken : counts.taken ≡ end.pass.taken
     pub peers_are : counts.peers ≡ min (length peers) 18446744073709551615

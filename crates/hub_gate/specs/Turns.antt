@@ -3,11 +3,7 @@ use Rattle.std.specs.Prelude.{◌≡◌, ◌⊎◌, ℕ, ◌≤◌, Bool, true, 
 use Rattle.std.specs.Iterator.{Drains}
 use Rattle.std.specs.Option.{option_or}
 use Rattle.std.specs.List.{FoldsTo}
-use Rattle.journal.specs.declared.ending.Ending.{Ending}
-use Rattle.events.specs.declared.app.Arrived.{Arrived}
-use Rattle.events.specs.declared.app.Effect.{Effect}
-use Rattle.events.specs.declared.app.Who.{Who}
-use Rattle.events.specs.App.{PlainVerdict}
+use Rattle.events.specs.App.{Policy}
 use Rattle.effects.specs.Following.{Spares}
 use Rattle.dispatch.specs.Counting.{TurnsFor}
 use Rattle.hub.specs.Pass.{PlainPass, AtLeast}
@@ -31,12 +27,12 @@ pub record Desk : Type 0 where
 abbrev pub desk : PlainPass → (ids : ℕ → ℕ) → Desk
 desk pass ids = record { pass = pass; ids = ids }
 
-module _ (decides : Who → Arrived → List Effect → Type 0) (allows : (space payload : List ℕ) → PlainVerdict → Type 0) (leaves : Who → (rooms : List (List ℕ)) → Ending → List Effect → Type 0) where
+module _ (policy : Policy) where
   -- the event was applied to a core at its moment, with the worker's ids, and counted in its pass. The core was sound, and
   -- is again; both times it had counted at least what the pass had, and by the turn its journal only grew, by the steps
   -- that the pass counts
   pub record Applied (event : Event) (now : ℕ) (before : PlainCore) (old : Desk) (got : Answer) (after : PlainCore) (new : Desk) : Type 0 where
-    pub does : Does decides allows leaves now before.timing before.numbers event (place before.hub.history before.lines) old.ids got (place after.hub.history after.lines) new.ids
+    pub does : Does policy now before.timing before.numbers event (place before.hub.history before.lines) old.ids got (place after.hub.history after.lines) new.ids
     pub settings : (after.timing ≡ before.timing) × (after.numbers ≡ before.numbers)
     pub handed : (c : ℕ) (turns : List Turn) → Handed c turns before.hub.history → Handed c ((event, got) ∷ turns) after.hub.history
     pub turns : (c : ℕ) → IsOf event old.ids c → TurnsFor c before.hub after.hub old.pass new.pass
@@ -63,11 +59,11 @@ pub record Attempt : Type 0 where
   pub got : Answer
   pub after : PlainCore
 
-module _ (decides : Who → Arrived → List Effect → Type 0) (allows : (space payload : List ℕ) → PlainVerdict → Type 0) (leaves : Who → (rooms : List (List ℕ)) → Ending → List Effect → Type 0) where
+module _ (policy : Policy) where
   -- the core was told that the client's connection is lost, up to three times until it accepted that
   pub record TellsLost (client now : ℕ) (old new : Desk) : Type 0 where
     pub attempts : List Attempt
-    pub told : FoldsTo (λ (d : Desk) (a : Attempt) (e : Desk). Applied decides allows leaves (event.TransportLost client) now a.before d a.got a.after e) old attempts new
+    pub told : FoldsTo (λ (d : Desk) (a : Attempt) (e : Desk). Applied policy (event.TransportLost client) now a.before d a.got a.after e) old attempts new
     pub tries : AreTries (map (λ a. a.got) attempts)
 
   -- where there is no such client, nothing was done
@@ -102,12 +98,12 @@ abbrev pub IsUnheard : List Round → Type 0
 IsUnheard rounds = (before : List Round) × (last : Round) × (rounds ≡ before ++ last ∷ []) × (last.heard ≡ false)
 
 module _ {P : Type 0} (gives : P → Result (Option (Event × ℕ)) PeerFault → P → Type 0) (hears : P → Answer → Result (Unit {0}) PeerFault → P → Type 0)
-    (decides : Who → Arrived → List Effect → Type 0) (allows : (space payload : List ℕ) → PlainVerdict → Type 0) (leaves : Who → (rooms : List (List ℕ)) → Ending → List Effect → Type 0) where
+    (policy : Policy) where
   -- the peer gave the event, it was applied to the core as it was lent, and the peer heard that very answer
   pub record Serves (old : P × Desk) (r : Round) (new : P × Desk) : Type 0 where
     pub asking : P
     pub gave : gives old.0 (Ok (Some (r.event, r.now))) asking
-    pub applied : Applied decides allows leaves r.event r.now r.before old.1 r.got r.after new.1
+    pub applied : Applied policy r.event r.now r.before old.1 r.got r.after new.1
     pub reply : Result (Unit {0}) PeerFault
     pub heard_is : r.heard ≡ is_ok reply
     pub told : hears asking r.got reply new.0
@@ -131,7 +127,7 @@ module _ {P : Type 0} (gives : P → Result (Option (Event × ℕ)) PeerFault �
     pub lost : Option (ℕ × ℕ)
     pub between : Desk
     pub talk : Talks turns old failed lost (new.0, between)
-    pub told : TellsWhere decides allows leaves failed lost between new.1
+    pub told : TellsWhere policy failed lost between new.1
 
 -- ---- one worker
 
@@ -146,12 +142,12 @@ abbrev pub failures : {P : Type 0} → List (Handled P) → ℕ
 failures handled = sum_by (λ h. (if h.failed then 1 else 0)) handled
 
 module _ {P S : Type 0} (next_gives : S → Option P → S → Type 0) (gives : P → Result (Option (Event × ℕ)) PeerFault → P → Type 0) (hears : P → Answer → Result (Unit {0}) PeerFault → P → Type 0)
-    (decides : Who → Arrived → List Effect → Type 0) (allows : (space payload : List ℕ) → PlainVerdict → Type 0) (leaves : Who → (rooms : List (List ℕ)) → Ending → List Effect → Type 0) where
+    (policy : Policy) where
   -- the worker served all peers of its source, each with its desk as the one before left it, and counted them; the
   -- counts stay at the greatest usize
   pub record WorksOff (turns : ℕ) (source : S) (old : Desk) (peers faults : ℕ) (new : Desk) : Type 0 where
     pub handled : List (Handled P)
     pub given : Drains next_gives source (map (λ h. h.given) handled)
-    pub served : FoldsTo (λ (d : Desk) (h : Handled P) (e : Desk). ServesAll gives hears decides allows leaves turns (h.given, d) h.failed (h.left, e)) old handled new
+    pub served : FoldsTo (λ (d : Desk) (h : Handled P) (e : Desk). ServesAll gives hears policy turns (h.given, d) h.failed (h.left, e)) old handled new
     pub peers_is : peers ≡ min (length handled) 18446744073709551615
     pub faults_is : faults ≡ min (failures handled) 18446744073709551615

@@ -148,7 +148,7 @@ pub(crate) fn apply_counted<C: Ledger, T: Ledger, A: App, I: IdSource>(
 ) -> Result<Outcome, CoreError>
     requires sound { IsSoundCore core.old }
     requires counted { AtLeast core.old.hub pass.old }
-    ensures { Applied (A.decides app.now) (A.allows app.now) (A.leaves app.now) event.now now
+    ensures { Applied (A.policy app.now) event.now now
         core.old (desk pass.old (I.stream ids.old)) result
         core.new (desk pass.new (I.stream ids.new)) }
 {

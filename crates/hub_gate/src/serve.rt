@@ -95,9 +95,7 @@ impl<C: Ledger, T: Ledger, A: App, P: Peer, I: IdSource> Promise<Finished<C, T>>
     ghost use Rattle.std.specs.Vec.Iter.{into_iter_items};
     ghost use Rattle.hub_gate.specs.Serving.{WorksAs};
 
-    ghost kept_by = { λ s finished. WorksAs P.gives P.hears (A.decides s.app.value)
-        (A.allows s.app.value)
-        (A.leaves s.app.value) s.turns (into_iter_items s.job.value.queue.peers)
+    ghost kept_by = { λ s finished. WorksAs P.gives P.hears (A.policy s.app.value) s.turns (into_iter_items s.job.value.queue.peers)
         (I.stream s.job.value.ids) finished.counts };
 }
 
@@ -136,8 +134,7 @@ pub fn serve_peers<
         ≡ pass.old.taken + sum_by (λ w. w.taken) s.report.workers.items) }
     ensures counted { IfOk result (λ s. AreCounted pass.new s.core.value s.report.totals) }
     ensures works { IfOk result (λ s. (vec_len s.report.workers ≡ workers)
-        × AreServed P.gives P.hears (A.decides pool.now.app.now) (A.allows pool.now.app.now)
-        (A.leaves pool.now.app.now)
+        × AreServed P.gives P.hears (A.policy pool.now.app.now)
         I.stream pool.now.turns workers peers.items ids.items s.report.workers.items) }
     ensures refused { MatchResult result (λ r. (0 < workers) × (workers ≤ 1024))
         (λ e. IsRefused workers pass.old pass.new e) }
@@ -235,8 +232,7 @@ fn run_all<
     I: IdSource + Send + Drop,
 >(pool: &Pool<R, C, T, A, G>, jobs: Vec<Job<C, T, P, I>>) -> Result<Vec<Finished<C, T>>, ServeError>
     ensures work { IfOk result (λ v. AllZip (λ job f. WorksAs P.gives P.hears
-        (A.decides pool.now.app.now) (A.allows pool.now.app.now)
-        (A.leaves pool.now.app.now) pool.now.turns
+        (A.policy pool.now.app.now) pool.now.turns
         (into_iter_items job.queue.peers) (I.stream job.ids) f.counts) jobs.items v.items) }
     ensures len { IfOk result (λ v. vec_len v ≡ vec_len jobs) }
     ensures error { IfErr result IsFromStarting }
@@ -246,8 +242,7 @@ fn run_all<
         pool.rt,
         |scope| -> Result<Vec<Finished<C, T>>, ServeError>
             ensures work { IfOk result (λ v. AllZip (λ job f. WorksAs P.gives P.hears
-                (A.decides pool.entry.now.app.now) (A.allows pool.entry.now.app.now)
-                (A.leaves pool.entry.now.app.now)
+                (A.policy pool.entry.now.app.now)
                 pool.entry.now.turns (into_iter_items job.queue.peers) (I.stream job.ids)
                 f.counts) jobs.items v.items) }
             ensures len { IfOk result (λ v. vec_len v ≡ vec_len jobs) }
@@ -325,8 +320,7 @@ fn work<R: Wait, C: Ledger, T: Ledger, A: App, P: Peer + Drop, G: Turnstile, I: 
     worker: usize,
     job: Job<C, T, P, I>,
 ) -> Finished<C, T>
-    ensures { WorksAs P.gives P.hears (A.decides pool.now.app.now) (A.allows pool.now.app.now)
-        (A.leaves pool.now.app.now)
+    ensures { WorksAs P.gives P.hears (A.policy pool.now.app.now)
         pool.now.turns (into_iter_items job.queue.peers) (I.stream job.ids) result.counts }
 {
     let Job {

@@ -48,8 +48,7 @@ impl<R: Wait, C: Ledger, T: Ledger, A: App, G: Turnstile> Pool<'_, R, C, T, A, G
         now: u64,
         ids: &mut I,
     ) -> Turn<C, T>
-        ensures { Applied (A.decides self.now.app.now) (A.allows self.now.app.now)
-            (A.leaves self.now.app.now) event.now now
+        ensures { Applied (A.policy self.now.app.now) event.now now
             result.before.value (desk pass.old (I.stream ids.old)) result.got
             result.after.value (desk pass.new (I.stream ids.new)) }
     {
@@ -63,8 +62,7 @@ impl<R: Wait, C: Ledger, T: Ledger, A: App, G: Turnstile> Pool<'_, R, C, T, A, G
 
     /// Tells the core that a client is lost, up to three times until it accepts that.
     fn tell_lost<I: IdSource>(&self, pass: &mut Pass<C, T>, client: u128, now: u64, ids: &mut I)
-        ensures { TellsLost (A.decides self.now.app.now) (A.allows self.now.app.now)
-            (A.leaves self.now.app.now) client now
+        ensures { TellsLost (A.policy self.now.app.now) client now
             (desk pass.old (I.stream ids.old)) (desk pass.new (I.stream ids.new)) }
     {
         let mut loss = Loss::new(client);
@@ -87,8 +85,7 @@ impl<R: Wait, C: Ledger, T: Ledger, A: App, G: Turnstile> Pool<'_, R, C, T, A, G
         turn: &mut u64,
         ids: &mut I,
     ) -> (bool, Option<(u128, u64)>)
-        ensures { Talks P.gives P.hears (A.decides self.now.app.now) (A.allows self.now.app.now)
-            (A.leaves self.now.app.now)
+        ensures { Talks P.gives P.hears (A.policy self.now.app.now)
             self.now.turns (peer.old, desk pass.old (I.stream ids.old)) result.0 result.1
             (peer.new, desk pass.new (I.stream ids.new)) }
     {
@@ -122,8 +119,7 @@ impl<R: Wait, C: Ledger, T: Ledger, A: App, G: Turnstile> Pool<'_, R, C, T, A, G
         turn: &mut u64,
         ids: &mut I,
     ) -> bool
-        ensures { ServesAll P.gives P.hears (A.decides self.now.app.now) (A.allows self.now.app.now)
-            (A.leaves self.now.app.now)
+        ensures { ServesAll P.gives P.hears (A.policy self.now.app.now)
             self.now.turns (peer.old, desk pass.old (I.stream ids.old)) result
             (peer.new, desk pass.new (I.stream ids.new)) }
     {
@@ -162,9 +158,7 @@ pub fn run_worker<
     ensures commands { result.1.commands + pass.commands ≡ result.0.commands }
     ensures taken { result.1.taken + pass.taken ≡ result.0.taken }
     ensures parts { result.0.parts ≡ pass.parts }
-    ensures work { WorksOff S.next_gives P.gives P.hears (A.decides pool.now.app.now)
-        (A.allows pool.now.app.now)
-        (A.leaves pool.now.app.now) pool.now.turns peers.old (desk pass (I.stream ids.old))
+    ensures work { WorksOff S.next_gives P.gives P.hears (A.policy pool.now.app.now) pool.now.turns peers.old (desk pass (I.stream ids.old))
         result.1.peers result.1.faults (desk result.0 (I.stream ids.new)) }
 {
     let mut pass = pass;

@@ -1,6 +1,6 @@
 //! A client's queue of entries, which is bounded by their number and by their bytes.
 
-ghost use Rattle.std.specs.Prelude.{◌≡◌, ℕ, ◌+◌, ◌<◌, ◌≤◌, ◌^◌, [], ◌∷◌, ◌++◌, length, take, drop, map, false, ◌||◌, nat_le, nat_lt, IfOk, OnOk, IfSome, IfNone, option_copied, slice_get, Some, None};
+ghost use Rattle.std.specs.Prelude.{◌≡◌, ◌+◌, ◌<◌, ◌≤◌, [], ◌∷◌, ◌++◌, length, take, drop, map, false, ◌||◌, nat_le, nat_lt, IfOk, OnOk, IfSome, IfNone, option_copied, slice_get, Some, None};
 ghost use Rattle.std.specs.Arc.{arc_value};
 ghost use Rattle.terms.specs.Entry.{entry_size};
 ghost use Rattle.journal.specs.Outboxes.{total_size, has_no_place};

@@ -1,5 +1,5 @@
 -- Sockets that are connected, and those that ended, are in namespaces of the hub.
-use Rattle.std.proofs.Common.{◌≡◌, ℕ, ◌==◌, Bool, true, false, not, cond, List, [], ◌∷◌, map, filter, refl, sym, ap, ◌∙◌, Option, None, Some, if◌then◌else◌}
+use Rattle.std.proofs.Common.{◌≡◌, ℕ, ◌==◌, Bool, true, false, not, cond, List, [], ◌∷◌, map, filter, refl, Option, None, Some, if◌then◌else◌}
 use Rattle.std.specs.List.{find, flat_map, AllByRecursion}
 use Rattle.journal.specs.declared.error.HubError.{HubError}
 use Rattle.journal.specs.declared.error.HubError.TheVariants.{UnknownClient, UnknownNamespace}
@@ -7,11 +7,9 @@ use Rattle.journal.specs.declared.ending.Ending.{Ending}
 use Rattle.journal.specs.declared.socket.Socket.{Socket}
 use Rattle.journal.specs.declared.step.Step.{Step}
 use Rattle.journal.specs.declared.step.What.{What}
-use Rattle.journal.specs.declared.step.What.TheVariants.{Opened, Attached, Recovered, Joined, Left, AllJoined, AllLeft, Cast, Told, Took, Parked, Ended, AllEnded, Closed, Swept}
+use Rattle.journal.specs.declared.step.What.TheVariants.{Attached, Recovered, Parked, Ended, AllEnded, Closed}
 use Rattle.journal.specs.Plain.{PlainBase, Limits}
-use Rattle.journal.specs.Journal.{history}
 use Rattle.journal.specs.Casting.{in_space}
-use Rattle.journal.specs.Command.{own_refusal}
 use Rattle.journal.specs.Legal.{IsLegal, IsAllowed}
 use Rattle.journal.specs.Refusals.{or_spent}
 use Rattle.journal.specs.Totals.{is_spent}
@@ -91,7 +89,7 @@ module _ (base : PlainBase) (limits : Limits) where
   of-in before all c = all-filter IsIn _ (sockets base before) all
 
   by-in : (before : List Step) (what : What) → AllIn (sockets base before) → AllByRecursion IsGoneIn (departed_by base before what)
-  by-in before (Ended s) all = gone-in _ (rooms base before) _ (with-in before all s)
+  by-in before (Ended s by) all = gone-in _ (rooms base before) _ (with-in before all s)
   by-in before (AllEnded d) all = gone-in _ (rooms base before) _ (each-in _ (λ s. here-in d.space _ (with-in before all s)) d.ended)
   by-in before (Parked c) all = gone-in _ (rooms base before) _ (of-in before all c)
   by-in before (Closed c) all = gone-in _ (rooms base before) _ (of-in before all c)

@@ -31,7 +31,7 @@ found (Some k) = k ∷ []
 
 -- the sockets that a step ends
 abbrev pub departed_by : PlainBase → List Step → What → List PlainDeparted
-departed_by base before (Ended s) = map (departing ending.Alone (rooms base before)) (found (socket_with sid_of base before s))
+departed_by base before (Ended s by) = map (departing (ending.Alone by) (rooms base before)) (found (socket_with sid_of base before s))
 departed_by base before (AllEnded d) =
     map (departing ending.Together (rooms base before)) (flat_map (λ s. in_space d.space (socket_with sid_of base before s)) d.ended)
 departed_by base before (Parked c) = map (departing ending.Saved (rooms base before)) (sockets_of base before c)

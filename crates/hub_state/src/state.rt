@@ -1,18 +1,15 @@
 //! The state of a hub: what its base and its journal say, kept in maps.
 
-ghost use Rattle.std.specs.Prelude.{◌≡◌, ℕ, ◌+◌, ◌<◌, ◌≤◌, ◌||◌, true, false, max, List, [], ◌∷◌, ◌++◌, length, OnOk, OnErr, IfOk, IfErr, None, Some, unwrap_or};
-ghost use Rattle.std.specs.List.{IsDistinct, AllByRecursion};
+ghost use Rattle.std.specs.Prelude.{◌≡◌, ℕ, ◌+◌, ◌<◌, ◌≤◌, ◌||◌, true, max, List, [], ◌∷◌, ◌++◌, length, OnOk, OnErr, IfOk, IfErr, None, Some, unwrap_or};
 ghost use Rattle.journal.specs.Config.{config_refusal, empty_base};
-ghost use Rattle.room_maps.specs.Membership as room_maps;
 ghost use Rattle.journal.specs.Journal.{moment, moment_at};
-ghost use Rattle.journal.specs.Membership.{open_clients, is_open, sockets, is_connected, sid_of, is_space, rooms};
+ghost use Rattle.journal.specs.Membership.{sockets, rooms};
 ghost use Rattle.journal.specs.Sessions.{sessions};
-ghost use Rattle.journal.specs.Log.{log, log_calls, next_number};
+ghost use Rattle.journal.specs.Log.{log};
 ghost use Rattle.journal.specs.Totals as counted;
-ghost use Rattle.journal.specs.Totals.{IsConserved, is_past, is_spent};
+ghost use Rattle.journal.specs.Totals.{is_past, is_spent};
 ghost use Rattle.journal.specs.Refusals.{or_spent};
 ghost use Rattle.journal.specs.Legal.{IsLegal, IsSound};
-ghost use Rattle.recovery.specs.PacketLog.{IsRun, Rises, latest};
 ghost use Rattle.journal.specs.Fields.{CanCount};
 ghost use Rattle.journal.specs.Plain.{PlainBroadcast};
 ghost use Rattle.journal.specs.Broadcast.{RightCast};
@@ -27,7 +24,6 @@ mod cast;
 mod close;
 mod connect;
 mod deliver;
-mod depart;
 mod dismiss;
 mod end;
 mod event;
@@ -35,6 +31,7 @@ mod gather;
 mod look;
 mod members;
 mod missed;
+mod note_departed;
 mod open;
 mod park;
 mod recover;

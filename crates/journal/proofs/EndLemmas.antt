@@ -11,6 +11,8 @@ use Rattle.recovery.specs.SavedTable.{PlainSaved, TableContents}
 use Rattle.journal.specs.declared.socket.Socket.{Socket}
 use Rattle.journal.specs.declared.step.Step.{Step}
 use Rattle.journal.specs.declared.step.What.{What}
+use Rattle.journal.specs.declared.ending.Side.{Side}
+use Rattle.journal.specs.declared.ending.Side.TheVariants.{Server}
 use Rattle.journal.specs.declared.step.What.TheVariants.{Ended}
 use Rattle.journal.specs.declared.totals.Counts.{Counts}
 use Rattle.journal.specs.Plain.{PlainBase, Limits, PlainClient}
@@ -404,19 +406,19 @@ same-left s q k (l ∷ ks) of h = on (l.client == q) refl (same-left s q k ks of
     on false e rest = rest
 
 module _ (base : PlainBase) (limits : Limits) where
-  one-ended : (s : ℕ) (k : Socket) (before : List Step) → EachTwo AreApart (sockets base before) → socket_with sid_of base before s ≡ Some k → (ended_by base before (Ended s) ≡ k ∷ []) × ((k.sid == s) ≡ true)
+  one-ended : (s : ℕ) (by : Side) (k : Socket) (before : List Step) → EachTwo AreApart (sockets base before) → socket_with sid_of base before s ≡ Some k → (ended_by base before (Ended s by) ≡ k ∷ []) × ((k.sid == s) ≡ true)
   unfolding socket_with
-  one-ended s k before apart found = alone sid_of s k (sockets base before) (sids-differ (sockets base before) apart) found
+  one-ended s by k before apart found = alone sid_of s k (sockets base before) (sids-differ (sockets base before) apart) found
 
-  of-ended : (s at : ℕ) (before : List Step) (q : ℕ) → sockets_of base (record { at = at; what = Ended s } ∷ before) q ≡ filter (λ (l : Socket). not (l.sid == s)) (sockets_of base before q)
+  of-ended : (s : ℕ) (by : Side) (at : ℕ) (before : List Step) (q : ℕ) → sockets_of base (record { at = at; what = Ended s by } ∷ before) q ≡ filter (λ (l : Socket). not (l.sid == s)) (sockets_of base before q)
   unfolding sockets_of
-  of-ended s at before q =
-      ap (filter (λ (l : Socket). l.client == q)) (sockets-ended base limits (record { at = at; what = Ended s }) before refl)
+  of-ended s by at before q =
+      ap (filter (λ (l : Socket). l.client == q)) (sockets-ended base limits (record { at = at; what = Ended s by }) before refl)
       ∙ filter-swap (λ (l : Socket). l.client == q) (λ (l : Socket). not (l.sid == s)) (sockets base before)
 
-  of-another : (s : ℕ) (k : Socket) (before : List Step) (q : ℕ) → ended_by base before (Ended s) ≡ k ∷ [] → (k.client == q) ≡ false → filter (λ (l : Socket). not (l.sid == s)) (sockets_of base before q) ≡ sockets_of base before q
+  of-another : (s : ℕ) (by : Side) (k : Socket) (before : List Step) (q : ℕ) → ended_by base before (Ended s by) ≡ k ∷ [] → (k.client == q) ≡ false → filter (λ (l : Socket). not (l.sid == s)) (sockets_of base before q) ≡ sockets_of base before q
   unfolding sockets_of
-  of-another s k before q one other =
+  of-another s by k before q one other =
       kept-whole (has_id sid_of s) (filter (λ (l : Socket). l.client == q) (sockets base before))
       (filter-swap (has_id sid_of s) (λ (l : Socket). l.client == q) (sockets base before) ∙ ap (filter (λ (l : Socket). l.client == q)) one ∙ rw other refl)
 
@@ -425,52 +427,52 @@ module _ (base : PlainBase) (limits : Limits) where
   unfolding sockets_of socket_with
   of-one s k before q apart found e = same-left s q k (sockets base before) (eqb-true k.client q e) (alone-there s k (sockets base before) apart found)
 
-  ended-at : (s : ℕ) (k : Socket) (at : ℕ) (before : List Step) → IsLegal base limits before → EachTwo AreApart (sockets base before) → socket_with sid_of base before s ≡ Some k → ended_by base before (Ended s) ≡ k ∷ [] → (q : ℕ) (b : Bool) → (k.client == q) ≡ b
-      → client_at base limits (record { at = at; what = Ended s } ∷ before) q ≡ (if b then option_map (without_place k.space) (client_at base limits before q) else client_at base limits before q)
+  ended-at : (s : ℕ) (by : Side) (k : Socket) (at : ℕ) (before : List Step) → IsLegal base limits before → EachTwo AreApart (sockets base before) → socket_with sid_of base before s ≡ Some k → ended_by base before (Ended s by) ≡ k ∷ [] → (q : ℕ) (b : Bool) → (k.client == q) ≡ b
+      → client_at base limits (record { at = at; what = Ended s by } ∷ before) q ≡ (if b then option_map (without_place k.space) (client_at base limits before q) else client_at base limits before q)
   unfolding put
-  ended-at s k at before legal apart found one q true e =
-      let step : Step = record { at = at; what = Ended s } in
-      rw (is_open-quiet base step before refl (λ c. refl) q, of-ended s at before q, of-one s k before q apart found e, waiting-quiet base limits step before legal q refl refl refl) (on (is_open base before q))
+  ended-at s by k at before legal apart found one q true e =
+      let step : Step = record { at = at; what = Ended s by } in
+      rw (is_open-quiet base step before refl (λ c. refl) q, of-ended s by at before q, of-one s k before q apart found e, waiting-quiet base limits step before legal q refl refl refl) (on (is_open base before q))
     where
       on : (o : Bool) → (if o then Some (record { sockets = filter (λ (l : Socket). not (l.space == k.space)) (sockets_of base before q); outbox = record { waiting = waiting base limits before q; capacity = limits.capacity; bytes = limits.bytes } }) else None)
           ≡ option_map (without_place k.space) (if o then Some (record { sockets = sockets_of base before q; outbox = record { waiting = waiting base limits before q; capacity = limits.capacity; bytes = limits.bytes } }) else None)
       on true = refl
       on false = refl
-  ended-at s k at before legal apart found one q false e =
-      let step : Step = record { at = at; what = Ended s } in
-      rw (is_open-quiet base step before refl (λ c. refl) q, of-ended s at before q, of-another s k before q one e, waiting-quiet base limits step before legal q refl refl refl) refl
+  ended-at s by k at before legal apart found one q false e =
+      let step : Step = record { at = at; what = Ended s by } in
+      rw (is_open-quiet base step before refl (λ c. refl) q, of-ended s by at before q, of-another s by k before q one e, waiting-quiet base limits step before legal q refl refl refl) refl
 
   one-room : (sets : RoomSets) (k : Socket) → without_sockets sets (k ∷ []) ≡ without_socket sets k.sid
   unfolding without_sockets
   one-room sets k = refl
 
-  pub puts_ended : (before : List Step) (s : ℕ) → placed_by base limits before (Ended s) ≡ 0
+  pub puts_ended : (before : List Step) (s : ℕ) (by : Side) → placed_by base limits before (Ended s by) ≡ 0
   unfolding put
-  puts_ended before s = refl
+  puts_ended before s by = refl
 
-  pub ended : (s : ℕ) (k : Socket) (now newest : ℕ) (find find' : ℕ → Option PlainClient) (seat seat' : ℕ → Option Socket) (is_pid is_pid' : ℕ → Bool) (sets sets' : RoomSets) (table : TableContents) (packets : LogContents) (counts : Counts) (before : List Step)
+  pub ended : (s : ℕ) (by : Side) (k : Socket) (now newest : ℕ) (find find' : ℕ → Option PlainClient) (seat seat' : ℕ → Option Socket) (is_pid is_pid' : ℕ → Bool) (sets sets' : RoomSets) (table : TableContents) (packets : LogContents) (counts : Counts) (before : List Step)
       → IsHub base limits find seat is_pid sets table packets newest counts before
-      → None ≡ or_spent (end_refusal base before s) (is_spent base limits before (Ended s))
+      → None ≡ or_spent (end_refusal base before s) (is_spent base limits before (Ended s by))
       → socket_with sid_of base before s ≡ Some k
       → ((q : ℕ) → find' q ≡ (if k.client == q then option_map (without_place k.space) (find q) else find q))
       → ((x : ℕ) → seat' x ≡ (if k.sid == x then None else seat x))
       → ((x : ℕ) → is_pid' x ≡ (if k.pid == x then false else is_pid x))
       → sets' ≡ without_socket sets k.sid → AreConsistent sets'
-      → IsHub base limits find' seat' is_pid' sets' table packets (max now newest) (record { commands = counts.commands + 1; placed = counts.placed + 0; dropped = counts.dropped + 0; taken = counts.taken + 0; discarded = counts.discarded + 0 }) (record { at = max now newest; what = Ended s } ∷ before)
+      → IsHub base limits find' seat' is_pid' sets' table packets (max now newest) (record { commands = counts.commands + 1; placed = counts.placed + 0; dropped = counts.dropped + 0; taken = counts.taken + 0; discarded = counts.discarded + 0 }) (record { at = max now newest; what = Ended s by } ∷ before)
   unfolding put
-  ended s k now newest find find' seat seat' is_pid is_pid' sets sets' table packets counts before was accepted found clients seats pids left consistent =
-      let step : Step = record { at = max now newest; what = Ended s } in
+  ended s by k now newest find find' seat seat' is_pid is_pid' sets sets' table packets counts before was accepted found clients seats pids left consistent =
+      let step : Step = record { at = max now newest; what = Ended s by } in
       let late : moment base before ≤ max now newest = rw (← was.0.last) (omega arith) in
       let later : newest ≤ max now newest = omega arith in
       let leaves : LeavesBacklog base limits step before = record { same_sessions = refl; no_call = refl; unused = refl } in
       let fine : IsAllowed base limits before step step.what = (sym accepted, tt) in
-      let one = one-ended s k before was.2.sockets_apart found in
+      let one = one-ended s by k before was.2.sockets_apart found in
       let same : k.sid ≡ s = eqb-true k.sid s one.1 in
       let change : sets' ≡ without_socket sets s = left ∙ ap (without_socket sets) same in
       let agree : AreConsistent (without_socket (rooms base before) s) = subst AreConsistent (change ∙ ap (λ v. without_socket v s) was.0.rooms_are) consistent in
-      let flows = flow-quiet base limits step before was.1 fine was.2.clients_once refl (λ c. refl) (λ c. refl) tt (sum-zero (λ c. taken_by c (Ended s)) (open_clients base before) (λ c e. refl)) in (
+      let flows = flow-quiet base limits step before was.1 fine was.2.clients_once refl (λ c. refl) (λ c. refl) tt (sum-zero (λ c. taken_by c (Ended s by)) (open_clients base before) (λ c e. refl)) in (
         ended-fields base limits step before refl find find' seat seat' is_pid is_pid' sets sets' table table packets newest was.0 was.2.sockets_apart
-            (λ q. clients q ∙ ap (λ o. if k.client == q then option_map (without_place k.space) o else o) (was.0.clients q) ∙ sym (ended-at s k (max now newest) before was.1 was.2.sockets_apart found one.0 q (k.client == q) refl))
+            (λ q. clients q ∙ ap (λ o. if k.client == q then option_map (without_place k.space) o else o) (was.0.clients q) ∙ sym (ended-at s by k (max now newest) before was.1 was.2.sockets_apart found one.0 q (k.client == q) refl))
             (k ∷ []) (sym one.0)
             (λ x. seats x ∙ ap (λ b. if b then None else seat x) (sym (or-none (k.sid == x))))
             (λ x. pids x ∙ ap (λ b. if b then false else is_pid x) (sym (or-none (k.pid == x))))
@@ -484,15 +486,15 @@ module _ (base : PlainBase) (limits : Limits) where
             (subst (AllByRecursion (IsAway (sockets base (step ∷ before)))) (sym (sessions-quiet base limits step before leaves)) (away-ended base limits step before refl (sessions base limits before) was.2.apart))
             (backlog-quiet base limits step before leaves late was.2)
             (conserved-step base limits step before was.2.conserved (omega (arith, flows))),
-        counted base limits before counts was.3 was.2.conserved step 0 0 0 0 (puts_ended before s) refl refl refl,
+        counted base limits before counts was.3 was.2.conserved step 0 0 0 0 (puts_ended before s by) refl refl refl,
       )
 
-  pub can_end : (before : List Step) (counts : Counts) → Counted base limits counts before → IsSound base limits before → (s : ℕ) → None ≡ or_spent (end_refusal base before s) (is_spent base limits before (Ended s)) → CanCount counts 0 0 0 0
-  can_end before counts was sound s accepted =
-      can base limits before counts was sound.conserved (Ended s) 0 0 0 0 (puts_ended before s) refl refl refl (unspent (end_refusal base before s) (is_spent base limits before (Ended s)) accepted)
+  pub can_end : (before : List Step) (counts : Counts) → Counted base limits counts before → IsSound base limits before → (s : ℕ) (by : Side) → None ≡ or_spent (end_refusal base before s) (is_spent base limits before (Ended s by)) → CanCount counts 0 0 0 0
+  can_end before counts was sound s by accepted =
+      can base limits before counts was sound.conserved (Ended s by) 0 0 0 0 (puts_ended before s by) refl refl refl (unspent (end_refusal base before s) (is_spent base limits before (Ended s by)) accepted)
 
   -- the rooms know the socket that is ended
   pub one-known : (s : ℕ) (k : Socket) (before : List Step) (sets : RoomSets) → IsSound base limits before → sets ≡ rooms base before → socket_with sid_of base before s ≡ Some k → is_socket sets k.sid ≡ true
   one-known s k before sets was same found =
-      let one = one-ended s k before was.sockets_apart found in
+      let one = one-ended s Server k before was.sockets_apart found in
       ap (λ v. is_socket v k.sid) same ∙ ap (is_socket (rooms base before)) (eqb-true k.sid s one.1) ∙ was.seated s ∙ ap is_some found

@@ -147,7 +147,7 @@ module _ (limits : Limits) (base base' : PlainBase) (before before' : List Step)
   own_refusal-same at (Told m) = tell-same m.client m.entry
   own_refusal-same at (Took c most n) = ap (λ b. first_refusal ((not b, UnknownClient) ∷ [])) (same.same_open c)
   own_refusal-same at (Parked c) = λ i. first_refusal ((not (same.same_open c i), UnknownClient) ∷ (nat_lt (limits.saved - length (same.same_sessions i)) (length (same.same_sockets c i)), SavedFull) ∷ [])
-  own_refusal-same at (Ended s) = λ i. first_refusal ((not (is_some (same.same_by_sid s i)), UnknownSocket) ∷ [])
+  own_refusal-same at (Ended s by) = λ i. first_refusal ((not (is_some (same.same_by_sid s i)), UnknownSocket) ∷ [])
   own_refusal-same at (AllEnded d) = refl
   own_refusal-same at (Closed c) = ap (λ b. first_refusal ((not b, UnknownClient) ∷ [])) (same.same_open c)
   own_refusal-same at Swept = refl

@@ -139,7 +139,7 @@ module _ (limits : Limits) (base base' : PlainBase) (before before' : List Step)
   rooms_after-same (Left s room) = ap (λ sets. without_pair sets s room) same.same_rooms
   rooms_after-same (AllJoined m) = ap (λ sets. with_members sets m.changed m.room) same.same_rooms
   rooms_after-same (AllLeft m) = ap (λ sets. without_members sets m.changed m.room) same.same_rooms
-  rooms_after-same (Ended s) = ap (λ sets. without_socket sets s) same.same_rooms
+  rooms_after-same (Ended s by) = ap (λ sets. without_socket sets s) same.same_rooms
   rooms_after-same (Parked c) = λ i. without_sockets (same.same_rooms i) (same.same_sockets c i)
   rooms_after-same (Closed c) = λ i. without_sockets (same.same_rooms i) (same.same_sockets c i)
   rooms_after-same (AllEnded d) =

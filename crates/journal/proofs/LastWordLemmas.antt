@@ -46,7 +46,7 @@ after base before sets (AllJoined m) s room = is_in-with_members sets m.changed 
 after base before sets (AllLeft m) s room = is_in-without_members sets m.changed m.room s room ∙ removes (list_any (λ t. s == t) m.changed && same_room m.room room) (is_in sets s room)
 after base before sets (AllEnded d) s room =
     is_in-without_sockets (filter (ends (AllEnded d)) (sockets base before)) sets s room ∙ removes (is_among (filter (ends (AllEnded d)) (sockets base before)) s) (is_in sets s room)
-after base before sets (Ended t) s room = is_in-without_socket sets t s room ∙ removes (t == s) (is_in sets s room)
+after base before sets (Ended t by) s room = is_in-without_socket sets t s room ∙ removes (t == s) (is_in sets s room)
 after base before sets (Parked c) s room = is_in-without_sockets (sockets_of base before c) sets s room ∙ removes (is_among (sockets_of base before c) s) (is_in sets s room)
 after base before sets (Closed c) s room = is_in-without_sockets (sockets_of base before c) sets s room ∙ removes (is_among (sockets_of base before c) s) (is_in sets s room)
 after base before sets (Opened c) s room = refl

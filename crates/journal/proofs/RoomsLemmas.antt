@@ -1,6 +1,6 @@
 -- What joining and leaving a room make of a hub.
 use Rattle.std.proofs.Common.{◌≡◌, ℕ, ◌+◌, ◌≤◌, Bool, true, false, List, ◌∷◌, max, refl, sym, ◌∙◌, ap, subst, arith, Option, None, Some}
-use Rattle.room_maps.specs.Membership.{RoomSets, is_socket, AreConsistent, with_pair, without_pair}
+use Rattle.room_maps.specs.Membership.{RoomSets, AreConsistent, with_pair, without_pair}
 use Rattle.room_maps.specs.Membership as room_maps
 use Rattle.room_maps.specs.declared.error.RoomError.{RoomError}
 use Rattle.room_maps.proofs.MembershipLaws.{is_socket-with_pair, is_socket-without_pair}

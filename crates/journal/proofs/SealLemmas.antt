@@ -32,7 +32,7 @@ use Rattle.journal.specs.Sessions.{sessions}
 use Rattle.journal.specs.Log.{log_calls, log, next_number, next}
 use Rattle.journal.specs.Outboxes.{base_waiting, placements, taken, waiting}
 use Rattle.journal.specs.Totals as counted
-use Rattle.journal.specs.Totals.{handed_out, waiting_in_all, IsConserved, totals}
+use Rattle.journal.specs.Totals.{handed_out, waiting_in_all, totals}
 use Rattle.journal.specs.Legal.{EachTwo, AreApart, IsAway, DifferInIds, IsSound, IsLegal}
 use Rattle.journal.specs.Fields.{Fields, Counted, client_at}
 use Rattle.journal.specs.Seal.{ids_of, client_of, base_of, base_client, LeadsTo, SaysTheSame}

@@ -4,7 +4,7 @@ use Rattle.std.specs.Prelude.{is_some}
 use Rattle.std.specs.List.{take_while, IsDistinct, AllByRecursion}
 use Rattle.room_maps.specs.Membership.{RoomSets, AreConsistent, is_socket, are_too_many}
 use Rattle.recovery.specs.Expiry.{is_outdated}
-use Rattle.recovery.specs.PacketLog.{PlainLogged, LogContents, LogCall, IsRun, Rises, RisesTo, latest, kept, survives, drops, is_fresh, swept}
+use Rattle.recovery.specs.PacketLog.{PlainLogged, LogContents, LogCall, IsRun, Rises, RisesTo, latest, kept, survives, is_fresh, swept}
 use Rattle.recovery.specs.PacketLog as packets
 use Rattle.recovery.specs.SavedTable.{PlainSaved, TableContents, is_alive, table_swept}
 use Rattle.recovery.proofs.PacketLogLemmas.{kept-swept, rises_later, run_dropped, swept_front}

@@ -34,7 +34,7 @@ word base before s room (AllLeft m) =
     if list_any (λ t. s == t) m.changed && same_room m.room room then Some false else None
 word base before s room (AllEnded d) =
     if is_among (filter (ends (AllEnded d)) (sockets base before)) s then Some false else None
-word base before s room (Ended t) = if t == s then Some false else None
+word base before s room (Ended t by) = if t == s then Some false else None
 word base before s room (Parked c) =
     if is_among (sockets_of base before c) s then Some false else None
 word base before s room (Closed c) =

@@ -56,7 +56,7 @@ connects _ = []
 
 -- the step ends the socket, by itself, with others or with its client
 abbrev pub ends : What → Socket → Bool
-ends (Ended s) k = k.sid == s
+ends (Ended s by) k = k.sid == s
 ends (AllEnded d) k = list_any (λ s. k.sid == s) d.ended
 ends (Parked c) k = k.client == c
 ends (Closed c) k = k.client == c
@@ -125,7 +125,7 @@ rooms_after base before sets (AllJoined m) = with_members sets m.changed m.room
 rooms_after base before sets (AllLeft m) = without_members sets m.changed m.room
 rooms_after base before sets (AllEnded d) =
     without_sockets sets (filter (ends (AllEnded d)) (sockets base before))
-rooms_after base before sets (Ended s) = without_socket sets s
+rooms_after base before sets (Ended s by) = without_socket sets s
 rooms_after base before sets (Parked c) = without_sockets sets (sockets_of base before c)
 rooms_after base before sets (Closed c) = without_sockets sets (sockets_of base before c)
 rooms_after base before sets _ = sets

@@ -1,5 +1,14 @@
 //! How a socket ended.
 
+/// Who ended a socket by itself.
+#[derive(Clone, Copy, Debug, PartialEq, Eq)]
+pub enum Side {
+    /// Its client did: it left its namespace.
+    Client,
+    /// The server did.
+    Server,
+}
+
 /// How a socket ended (Socket.IO server documentation, "Server API": the event `disconnect`).
 #[derive(Clone, Copy, Debug, PartialEq, Eq)]
 pub enum Ending {
@@ -7,8 +16,8 @@ pub enum Ending {
     Saved,
     /// Its client was closed.
     Closed,
-    /// It was ended by itself.
-    Alone,
+    /// It was ended by itself, by its client or by the server.
+    Alone(Side),
     /// It was ended with others of its namespace.
     Together,
 }

@@ -20,7 +20,7 @@ pub use base::{Base, BaseClient};
 pub use cast::Cast;
 pub use config::Config;
 pub use contents::{Broadcast, Dismissal, Message, Recovery, RoomChange};
-pub use ending::Ending;
+pub use ending::{Ending, Side};
 pub use epoch::Epoch;
 pub use error::{HubError, RecoveryRefusal};
 pub use laws::{epochs_compose, last_words, what_waits};

@@ -1,6 +1,7 @@
 //! The steps of a journal: the commands that were accepted.
 
 use crate::contents::{Broadcast, Dismissal, Message, Recovery, RoomChange};
+use crate::ending::Side;
 use crate::socket::Socket;
 use terms::{Room, Sid};
 
@@ -37,8 +38,8 @@ pub enum What {
     Took(u128, usize, usize),
     /// A client was lost, and its sockets' sessions were saved.
     Parked(u128),
-    /// A socket was ended.
-    Ended(Sid),
+    /// A socket was ended by itself, by its client or by the server.
+    Ended(Sid, Side),
     /// Many sockets were told so and ended.
     AllEnded(Dismissal),
     /// A client was closed, and its sockets were ended.

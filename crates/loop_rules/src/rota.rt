@@ -1,11 +1,10 @@
 //! Which connections of a loop have something to do, and whose turn is next.
 
-ghost use Rattle.std.specs.Prelude.{◌≡◌, ◌+◌, ◌≤◌, ◌<◌, ◌↔◌, true, false, ℕ, IsTrue, length, vec_len};
+ghost use Rattle.std.specs.Prelude.{◌≡◌, ◌+◌, ◌≤◌, ◌<◌, ◌↔◌, true, false, ℕ, IsTrue, length};
 ghost use Rattle.std.specs.VecDeque.{DequeUnchanged, deque_capacity};
-ghost use Rattle.loop_rules.specs.Looks.{is_queued, may_rest};
+ghost use Rattle.loop_rules.specs.Looks.{is_queued};
 ghost use Rattle.loop_rules.specs.Rotas as rotas;
 ghost use Rattle.loop_rules.specs.Rotas.{IsQuiet, has_turn, look_of, will_look};
-ghost use Rattle.loop_rules.specs.Turns.{left_after, verdict_for};
 
 use crate::looks::{Found, Look, LookState, Pause};
 use crate::turns::{Turn, Verdict};

@@ -1,6 +1,6 @@
 //! Which connection what is put for a client goes to.
 
-ghost use Rattle.std.specs.Prelude.{◌≡◌, ◌≢◌, ◌⊎◌, ℕ, true, false, None, Some, nat_eq, ◌&&◌};
+ghost use Rattle.std.specs.Prelude.{◌≡◌, ◌≢◌, ◌⊎◌, ℕ, true, false, None, Some};
 ghost use Rattle.loop_rules.specs.Takers.{taker_of, is_taker};
 
 use std::alloc::Global;

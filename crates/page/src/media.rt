@@ -1,6 +1,6 @@
 //! What a file is, by the end of its name.
 
-ghost use Rattle.std.specs.Prelude.{◌≡◌, ◌≢◌};
+ghost use Rattle.std.specs.Prelude.{◌≡◌};
 ghost use Rattle.page.specs.Media as media;
 ghost use Rattle.page.specs.Media.{ends};
 

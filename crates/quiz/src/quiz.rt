@@ -22,11 +22,11 @@ pub struct Quiz;
 impl App for Quiz {
     ghost use Rattle.quiz.specs.Quiz.{Allows, decided};
 
-    ghost allows = { λ app space payload verdict. Allows verdict };
-
-    ghost decides = { λ app who arrived effects. effects ≡ decided arrived };
-
-    ghost leaves = { λ app who rooms ending effects. effects ≡ [] };
+    ghost policy = { λ app. record {
+      allows = λ space payload verdict. Allows verdict;
+      decides = λ who arrived effects. effects ≡ decided arrived;
+      leaves = λ who rooms ending effects. effects ≡ [];
+    } };
 
     fn connects(&self, alloc: Global, _space: &str, _payload: &str) -> Result<Verdict, AllocError> {
         Ok(Verdict::Accept(Vec::new(alloc)))

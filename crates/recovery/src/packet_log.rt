@@ -1,6 +1,6 @@
 //! The latest broadcasts (Socket.IO server documentation, "Connection state recovery").
 
-ghost use Rattle.std.specs.Prelude.{◌≡◌, ◌≢◌, ℕ, ◌+◌, ◌^◌, ◌<◌, ◌≤◌, ◌==◌, max, length, List, [], ◌∷◌, ◌++◌, filter, map, drop, IfOk, IfErr, IfSome, OnOk, OnErr, OnSome, IfNone, Some, None, option_copied, is_some, true};
+ghost use Rattle.std.specs.Prelude.{◌≡◌, ℕ, ◌+◌, ◌^◌, ◌<◌, ◌≤◌, ◌==◌, max, length, List, [], ◌∷◌, ◌++◌, filter, map, drop, IfOk, IfErr, IfSome, OnOk, OnErr, IfNone, Some, None, option_copied, is_some};
 ghost use Rattle.std.specs.List.{find, take_while};
 ghost use Rattle.recovery.specs.Expiry as expiry;
 ghost use Rattle.std.specs.Arc.{arc_value};

@@ -11,6 +11,7 @@ use Rattle.terms.specs.Room.{own_room}
 use Rattle.eio_wire.specs.Payload.{IsWhole}
 use Rattle.journal.specs.declared.ending.Ending.{Ending}
 use Rattle.journal.specs.declared.ending.Ending.TheVariants.{Saved, Closed, Alone, Together}
+use Rattle.journal.specs.declared.ending.Side.TheVariants.{Client, Server}
 use Rattle.events.specs.App.{AllClean}
 use Rattle.relay.specs.Presence.{payload, name_of, others, event_for, told_of}
 
@@ -44,7 +45,8 @@ whole-name : (ending : Ending) → IsWhole (name_of ending)
 unfolding holds_none
 whole-name Saved = whole (codes "saved") refl
 whole-name Closed = whole (codes "closed") refl
-whole-name Alone = whole (codes "alone") refl
+whole-name (Alone Client) = whole (codes "left") refl
+whole-name (Alone Server) = whole (codes "alone") refl
 whole-name Together = whole (codes "together") refl
 
 whole-payload : (sid : ℕ) (ending : Ending) → IsWhole (payload sid ending)

@@ -4,6 +4,7 @@ use Rattle.terms.specs.Ids.{id_digits}
 use Rattle.terms.specs.Room.{own_room, same_room}
 use Rattle.journal.specs.declared.ending.Ending.{Ending}
 use Rattle.journal.specs.declared.ending.Ending.TheVariants.{Saved, Closed, Alone, Together}
+use Rattle.journal.specs.declared.ending.Side.TheVariants.{Client, Server}
 use Rattle.events.specs.declared.app.Effect.{Effect}
 use Rattle.events.specs.declared.app.Effect.TheVariants.{Emit}
 
@@ -11,7 +12,8 @@ use Rattle.events.specs.declared.app.Effect.TheVariants.{Emit}
 abbrev pub name_of : Ending → List ℕ
 name_of Saved = codes "saved"
 name_of Closed = codes "closed"
-name_of Alone = codes "alone"
+name_of (Alone Client) = codes "left"
+name_of (Alone Server) = codes "alone"
 name_of Together = codes "together"
 
 -- the event: the socket's id, as its client was told it, and how it ended

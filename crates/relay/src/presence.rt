@@ -4,7 +4,7 @@ ghost use Rattle.std.specs.Prelude.{◌≡◌, ◌++◌, IfOk, OnOk};
 ghost use Rattle.relay.specs.Presence as table;
 
 use events::{App, Arrived, Effect, Emission, Verdict, Who};
-use journal::Ending;
+use journal::{Ending, Side};
 use std::alloc::{AllocError, Global};
 use terms::{Attachments, Room, Sid, Text, ascii_text, id_text};
 
@@ -19,14 +19,11 @@ pub struct Presence<A> {
 impl<A: App> App for Presence<A> {
     ghost use Rattle.relay.specs.Presence.{Leaves, told};
 
-    ghost allows = { λ presence space payload verdict.
-        A.allows presence.app space payload verdict };
-
-    ghost decides = { λ presence who arrived effects. A.decides presence.app who arrived effects };
-
-    ghost leaves = { λ presence who rooms ending effects.
-        Leaves (A.leaves presence.app who rooms ending)
-        (told presence.tells who.sid rooms ending) effects };
+    ghost policy = { λ presence. record (A.policy presence.app) {
+      leaves = λ who rooms ending.
+          Leaves ((A.policy presence.app).leaves who rooms ending)
+          (told presence.tells who.sid rooms ending);
+    } };
 
     fn connects(&self, alloc: Global, space: &str, payload: &str) -> Result<Verdict, AllocError> {
         self.app.connects(alloc, space, payload)
@@ -107,7 +104,8 @@ fn name_of(ending: Ending) -> &'static str
     match ending {
         Ending::Saved => "saved",
         Ending::Closed => "closed",
-        Ending::Alone => "alone",
+        Ending::Alone(Side::Client) => "left",
+        Ending::Alone(Side::Server) => "alone",
         Ending::Together => "together",
     }
 }

@@ -1,8 +1,6 @@
 //! The demonstration app: what it does with each event.
 
-ghost use Rattle.std.specs.Prelude.{◌≡◌, ◌∷◌, ◌++◌, [], IfOk, OnOk, Some, None, true, false, option_map};
-ghost use Rattle.eio_wire.specs.Payload.{IsWhole};
-ghost use Rattle.terms.specs.Room.{own_room};
+ghost use Rattle.std.specs.Prelude.{◌≡◌, ◌++◌, [], IfOk, OnOk, Some, None, true, false};
 ghost use Rattle.relay.specs.Relay as table;
 ghost use Rattle.relay.specs.Relay.{texts_of};
 
@@ -26,11 +24,11 @@ pub struct RelayApp;
 impl App for RelayApp {
     ghost use Rattle.relay.specs.Relay.{Allows, decided};
 
-    ghost allows = { λ app space payload verdict. Allows payload verdict };
-
-    ghost decides = { λ app who arrived effects. effects ≡ decided who arrived };
-
-    ghost leaves = { λ app who rooms ending effects. effects ≡ [] };
+    ghost policy = { λ app. record {
+      allows = λ space payload verdict. Allows payload verdict;
+      decides = λ who arrived effects. effects ≡ decided who arrived;
+      leaves = λ who rooms ending effects. effects ≡ [];
+    } };
 
     fn connects(&self, alloc: Global, _space: &str, payload: &str) -> Result<Verdict, AllocError> {
         if payload == NO_TOKEN {

@@ -11,11 +11,7 @@ use Rattle.connection.specs.Line.{PlainLine}
 use Rattle.journal.specs.Membership.{place_of, is_open, is_space, is_in_space, rooms}
 use Rattle.journal.specs.Seal.{IsSealed}
 use Rattle.journal.specs.Totals as counted
-use Rattle.journal.specs.declared.ending.Ending.{Ending}
-use Rattle.events.specs.declared.app.Arrived.{Arrived}
-use Rattle.events.specs.declared.app.Effect.{Effect}
-use Rattle.events.specs.declared.app.Who.{Who}
-use Rattle.events.specs.App.{PlainVerdict}
+use Rattle.events.specs.App.{Policy}
 use Rattle.events.specs.declared.event.Event.{Event}
 use Rattle.events.specs.declared.event.Event.TheVariants as event
 use Rattle.events.specs.declared.outcome.Outcome.TheVariants as outcome
@@ -126,11 +122,11 @@ Prints row (Some said) = row said
 -- ---- an event, and the lines
 
 -- of the app: which effects it decides on, which verdicts it allows, and what it wants where sockets have ended
-module _ (decides : Who → Arrived → List Effect → Type 0) (allows : (space payload : List ℕ) → PlainVerdict → Type 0) (leaves : Who → (rooms : List (List ℕ)) → Ending → List Effect → Type 0) where
+module _ (policy : Policy) where
   -- the event happens to the server at its moment, as the machine's row says: the app decides and allows what its own
   -- words say, and the ids count up; no name stands for another client than before
   pub record Happens (s : Server) (event : Event) (answer : Answer) (t : Server) : Type 0 where
-    pub does : Does decides allows leaves s.now s.core.timing s.core.numbers event
+    pub does : Does policy s.now s.core.timing s.core.numbers event
         (place s.core.hub.history s.core.lines) (counted_from s.next) answer (place t.core.hub.history t.core.lines) (counted_from t.next)
     pub same_timing : t.core.timing ≡ s.core.timing
     pub same_numbers : t.core.numbers ≡ s.core.numbers

@@ -5,13 +5,9 @@ use Rattle.std.specs.Borrow.{Bor}
 use Rattle.std.specs.declared.sync.ledger.Ledger.{Ghosts}
 use Rattle.std.specs.Io.KnownBytes.{Appends, Consumes}
 use Rattle.journal.specs.Config.{config_refusal}
-use Rattle.journal.specs.declared.ending.Ending.{Ending}
-use Rattle.events.specs.declared.app.Arrived.{Arrived}
-use Rattle.events.specs.declared.app.Effect.{Effect}
-use Rattle.events.specs.declared.app.Who.{Who}
 use Rattle.events.specs.declared.fault.CoreFault.{CoreFault}
 use Rattle.events.specs.declared.fault.CoreFault.TheVariants.{BadConfig}
-use Rattle.events.specs.App.{PlainVerdict}
+use Rattle.events.specs.App.{Policy}
 use Rattle.script.specs.declared.script_line.Key.{Key}
 use Rattle.script.specs.declared.script_line.ScriptLine.{ScriptLine}
 use Rattle.script.specs.declared.script_line.ScriptLine.TheVariants as line
@@ -77,10 +73,10 @@ Gives before (Some bytes) after = Consumes before after bytes.now
 -- ---- the lines
 
 -- of the app: which effects it decides on, which verdicts it allows, and what it wants where sockets have ended
-module _ (decides : Who → Arrived → List Effect → Type 0) (allows : (space payload : List ℕ) → PlainVerdict → Type 0) (leaves : Who → (rooms : List (List ℕ)) → Ending → List Effect → Type 0) where
+module _ (policy : Policy) where
   -- the line is played where there is a server
   abbrev pub PlaysOn : ScriptLine → Stage → (said : Option (List ℕ)) → Stage → Type 0
-  PlaysOn line (Playing server) said t = (after : Server) × Plays decides allows leaves line server said after × (t ≡ Playing after)
+  PlaysOn line (Playing server) said t = (after : Server) × Plays policy line server said after × (t ≡ Playing after)
   PlaysOn line stage said t = (said ≡ None) × (t ≡ stage)
 
   -- where there is none that is the answer

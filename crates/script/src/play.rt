@@ -53,8 +53,7 @@ impl<C: Ledger, T: Ledger> Play<C, T> {
     ) -> Result<Option<Answer<'a>>, RunError>
         ensures nothing { line.entry ≡ ScriptLine.Nothing → result ≡ Ok None }
         ensures bad { line.entry ≡ ScriptLine.Bad → result ≡ Ok (Some Answer.BadLine) }
-        ensures plays { IfOk result (λ answer. Plays (A.decides app.now) (A.allows app.now)
-            (A.leaves app.now)
+        ensures plays { IfOk result (λ answer. Plays (A.policy app.now)
             line.entry (server_of self.old) (option_map answer_text answer) (server_of self.new)) }
         ensures err { IsOkUnless result Memory }
     {
@@ -76,8 +75,7 @@ impl<C: Ledger, T: Ledger> Play<C, T> {
         line: ScriptLine<'a>,
     ) -> Result<Answer<'a>, RunError>
         ensures bad { line.entry ≡ ScriptLine.Bad → result ≡ Ok Answer.BadLine }
-        ensures replies { IfOk result (λ answer. Replies (A.decides app.now) (A.allows app.now)
-            (A.leaves app.now)
+        ensures replies { IfOk result (λ answer. Replies (A.policy app.now)
             line.entry (server_of self.old) (answer_text answer) (server_of self.new)) }
         ensures err { IsOkUnless result Memory }
     {
@@ -103,7 +101,7 @@ impl<C: Ledger, T: Ledger> Play<C, T> {
         ensures bad { IsOfNone line.entry (get_by_text self.old.clients)
             → result ≡ Ok Answer.BadLine }
         ensures replies { IfOk result (λ answer.
-            RepliesForClient (A.decides app.now) (A.allows app.now) (A.leaves app.now) line.entry
+            RepliesForClient (A.policy app.now) line.entry
             (server_of self.old) (answer_text answer) (server_of self.new)) }
         ensures err { IsOkUnless result Memory }
     {
@@ -126,8 +124,7 @@ impl<C: Ledger, T: Ledger> Play<C, T> {
         app: &A,
         event: &Event,
     ) -> Result<Result<Outcome, CoreError>, RunError>
-        ensures happens { IfOk result (λ answer. Happens (A.decides app.now) (A.allows app.now)
-            (A.leaves app.now)
+        ensures happens { IfOk result (λ answer. Happens (A.policy app.now)
             (server_of self.old) event.now answer (server_of self.new)) }
         ensures err { IsOkUnless result Memory }
     {
@@ -147,7 +144,7 @@ impl<C: Ledger, T: Ledger> Play<C, T> {
         event: &Event,
     ) -> Result<Answer<'a>, RunError>
         ensures asks { IfOk result (λ answer.
-            Asks (A.decides app.now) (A.allows app.now) (A.leaves app.now) name.entry.now event.now
+            Asks (A.policy app.now) name.entry.now event.now
             (server_of self.old) (answer_text answer) (server_of self.new)) }
         ensures err { IsOkUnless result Memory }
     {
@@ -163,8 +160,7 @@ impl<C: Ledger, T: Ledger> Play<C, T> {
         name: &'a str,
         socket: bool,
     ) -> Result<Answer<'a>, RunError>
-        ensures opens { IfOk result (λ answer. Opens (A.decides app.now) (A.allows app.now)
-            (A.leaves app.now)
+        ensures opens { IfOk result (λ answer. Opens (A.policy app.now)
             name.entry.now socket (server_of self.old) (answer_text answer) (server_of self.new)) }
         ensures err { IsOkUnless result Memory }
     {

@@ -1,6 +1,6 @@
 //! The run of a script: lines come in, and each that prints is answered by one line.
 
-ghost use Rattle.std.specs.Prelude.{◌≡◌, ◌≢◌, ◌<◌, [], ◌∷◌, ◌++◌, IsOkUnless, IfOk, IfErr, OnOk, IfSome, None, Some, Ok, length, option_map};
+ghost use Rattle.std.specs.Prelude.{◌≡◌, ◌≢◌, ◌<◌, [], ◌∷◌, IsOkUnless, IfOk, IfErr, OnOk, IfSome, None, Some, Ok, length, option_map};
 ghost use Rattle.std.specs.Io.KnownBytes.{Appends, Keeps, IsAtEnd};
 ghost use Rattle.script.specs.declared.faults.RunError.TheVariants.{Memory, Reading, Writing};
 ghost use Rattle.script.specs.Printing.{answer_text};
@@ -53,8 +53,7 @@ pub fn run_script<A: App, R: Read, W: Write>(
     writer: &mut W,
 ) -> Result<(), RunError>
     ensures end { OnOk result (IsAtEnd (R.remaining reader.new)) }
-    ensures answered { OnOk result (IsAnswered (A.decides app.now) (A.allows app.now)
-        (A.leaves app.now)
+    ensures answered { OnOk result (IsAnswered (A.policy app.now)
         (R.remaining reader.old) (W.contents writer.old) (W.contents writer.new)) }
 {
     let (commands, taken) = (Blank::new(PARTS), Blank::new(PARTS));
@@ -78,8 +77,7 @@ fn serve<C: Ledger, T: Ledger, A: App, R: Read, W: Write>(
         × (commands.parts ≡ C.parts) × (commands.parts ≡ 65536) }
     requires taken { (taken.name ≡ T.name) × (taken.parts ≡ T.parts) × (taken.parts ≡ 65536) }
     ensures end { OnOk result (IsAtEnd (R.remaining reader.new)) }
-    ensures answered { OnOk result (IsAnswered (A.decides app.now) (A.allows app.now)
-        (A.leaves app.now)
+    ensures answered { OnOk result (IsAnswered (A.policy app.now)
         (R.remaining reader.old) (W.contents writer.old) (W.contents writer.new)) }
 {
     let mut run: Run<C, T> = Run::Setting(Setup::usual(), Ledgers::new(commands, taken));
@@ -96,7 +94,7 @@ fn answer_all<C: Ledger, T: Ledger, A: App, R: Read, W: Write>(
 ) -> Result<(), RunError>
     ensures end { OnOk result (IsAtEnd (R.remaining reader.new)) }
     ensures answered { OnOk result (stage_of run.old ≡ Setting USUAL
-        → IsAnswered (A.decides app.now) (A.allows app.now) (A.leaves app.now)
+        → IsAnswered (A.policy app.now)
         (R.remaining reader.old) (W.contents writer.old) (W.contents writer.new)) }
 {
     let mut line = Vec::new(alloc);
@@ -155,7 +153,7 @@ fn answer_lines<C: Ledger, T: Ledger, A: App, W: Write>(
 ) -> Result<(), RunError>
     ensures unended { OnOk result (IsUnended line.old.items → IsUnended line.new.items) }
     ensures answered { OnOk result (IsUnended line.old.items
-        → WritesOn (A.decides app.now) (A.allows app.now) (A.leaves app.now) (W.contents writer.old)
+        → WritesOn (A.policy app.now) (W.contents writer.old)
         (W.contents writer.new) (stage_of run.old) line.old.items bytes.now
         line.new.items (stage_of run.new)) }
     ensures err { IfErr result (λ fault. fault ≢ Reading) }
@@ -177,7 +175,7 @@ fn answer_byte<C: Ledger, T: Ledger, A: App, W: Write>(
 ) -> Result<(), RunError>
     ensures unended { OnOk result (IsUnended line.old.items → IsUnended line.new.items) }
     ensures answered { OnOk result (IsUnended line.old.items
-        → WritesOn (A.decides app.now) (A.allows app.now) (A.leaves app.now) (W.contents writer.old)
+        → WritesOn (A.policy app.now) (W.contents writer.old)
         (W.contents writer.new) (stage_of run.old) line.old.items (byte ∷ [])
         line.new.items (stage_of run.new)) }
     ensures err { IfErr result (λ fault. fault ≢ Reading) }
@@ -198,8 +196,7 @@ fn answer_line<C: Ledger, T: Ledger, A: App, W: Write>(
     writer: &mut W,
 ) -> Result<(), RunError>
     ensures emptied { OnOk result (line.new.items ≡ []) }
-    ensures answered { OnOk result (WritesLine (A.decides app.now) (A.allows app.now)
-        (A.leaves app.now)
+    ensures answered { OnOk result (WritesLine (A.policy app.now)
         (W.contents writer.old) (W.contents writer.new) line.old.items
         (stage_of run.old) (stage_of run.new)) }
     ensures err { IfErr result (λ fault. fault ≢ Reading) }
@@ -244,8 +241,7 @@ impl<C: Ledger, T: Ledger> Run<C, T> {
         line: ScriptLine<'a>,
     ) -> Result<Option<Answer<'a>>, RunError>
         ensures nothing { line.entry ≡ ScriptLine.Nothing → result ≡ Ok None }
-        ensures answers { IfOk result (λ answer. Answers (A.decides app.now) (A.allows app.now)
-            (A.leaves app.now)
+        ensures answers { IfOk result (λ answer. Answers (A.policy app.now)
             line.entry (stage_of self.old) (option_map answer_text answer) (stage_of self.new)) }
         ensures err { IsOkUnless result Memory }
     {
@@ -319,8 +315,7 @@ impl<C: Ledger, T: Ledger> Run<C, T> {
         app: &A,
         line: ScriptLine<'a>,
     ) -> Result<Option<Answer<'a>>, RunError>
-        ensures plays { IfOk result (λ answer. PlaysOn (A.decides app.now) (A.allows app.now)
-            (A.leaves app.now)
+        ensures plays { IfOk result (λ answer. PlaysOn (A.policy app.now)
             line.entry (stage_of self.old) (option_map answer_text answer) (stage_of self.new)) }
         ensures err { IsOkUnless result Memory }
     {

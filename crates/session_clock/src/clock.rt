@@ -2,9 +2,9 @@
 //! "Heartbeat" and "Upgrade").
 #![tactic(auto, unfolding(crate::specs::History::moment, crate::specs::History::was_joined, crate::specs::Heartbeat::awaited_ping, crate::specs::Heartbeat::interval_start, crate::specs::Heartbeat::due_at, crate::specs::Upgrade::transport, crate::specs::Clock::IsLegal))]
 
-ghost use Rattle.std.specs.Prelude.{◌≡◌, ◌≤◌, List, [], ◌∷◌, OnOk, OnErr};
+ghost use Rattle.std.specs.Prelude.{◌≡◌, ◌≤◌, [], ◌∷◌, OnOk, OnErr};
 ghost use Rattle.terms.specs.Refusal.{ok_unless};
-ghost use Rattle.session_clock.specs.History.{Opening, Call, Ticked, Ponged, Joined, Probed, Upgraded, ProbeLost};
+ghost use Rattle.session_clock.specs.History.{Ticked, Ponged, Joined, Probed, Upgraded, ProbeLost};
 ghost use Rattle.session_clock.specs.Heartbeat.{due, due_at};
 ghost use Rattle.session_clock.specs.Upgrade.{transport, probe_refusal, unprobed_refusal};
 ghost use Rattle.session_clock.specs.Clock.{LeadsTo, ForEachHistory, HasHistory, state_after};

@@ -1,6 +1,6 @@
 //! The parts of a header, from left to right (Socket.IO protocol 5, "Packet encoding").
 
-ghost use Rattle.std.specs.Prelude.{◌≡◌, ◌<◌, ◌≤◌, ◌==◌, take, drop, length, slice_index, nat_lt};
+ghost use Rattle.std.specs.Prelude.{◌≡◌, ◌<◌, ◌≤◌, take, drop, length, slice_index};
 ghost use Rattle.std.specs.Char.{is_ascii_digit};
 ghost use Rattle.std.specs.List.{take_while, list_any, before_first, after_first as rest_after};
 ghost use Rattle.std.specs.Str.Parse.{AllDigits, digits_value};

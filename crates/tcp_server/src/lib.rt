@@ -1,8 +1,8 @@
 //! A server over TCP: a pool of threads serves its loops and who keeps time, over one locked core.
 #![tactic(auto)]
 
-mod locked_core;
 mod server;
+mod watched_core;
 
 pub use server::Server;
 pub use tcp_streams::{Ended, Log, ServerFault, Shared};

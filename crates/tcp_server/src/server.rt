@@ -4,7 +4,7 @@ ghost use Rattle.std.specs.Prelude.{◌≡◌, ◌+◌, None, Err, IfOk, IfSome,
 ghost use Rattle.settings.specs.Wrong.{wrong_setting};
 ghost use Rattle.tcp_streams.specs.declared.fault.ServerFault.TheVariants.{BadSetting};
 
-use crate::locked_core::LockedCore;
+use crate::watched_core::WatchedCore;
 use dispatch::Core;
 use events::{App, CoreError, CoreFault, IdSource, Peer};
 use hub::Pass;
@@ -167,7 +167,7 @@ fn serve_over<
     ensures taken { IfOk result (λ r. r.totals.taken
         ≡ pass.old.taken + sum_by (λ w. w.taken) r.workers.items) }
 {
-    let core = LockedCore {
+    let core = WatchedCore {
         locked,
         pass: looks,
     };

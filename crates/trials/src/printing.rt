@@ -52,7 +52,7 @@ fn name_of(step: &Step) -> &'static str {
         What::Told(_) => "told",
         What::Took(_, _, _) => "took",
         What::Parked(_) => "parked",
-        What::Ended(_) => "ended",
+        What::Ended(_, _) => "ended",
         What::Closed(_) => "closed",
         What::Swept => "swept",
         What::AllJoined(_) => "all-joined",

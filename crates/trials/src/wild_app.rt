@@ -91,11 +91,11 @@ fn was_in(rooms: &[Room], name: &[u8]) -> bool {
 pub struct WildApp;
 
 impl App for WildApp {
-    ghost allows = { λ app space payload verdict. Unit {0} };
-
-    ghost decides = { λ app who arrived effects. Unit {0} };
-
-    ghost leaves = { λ app who rooms ending effects. Unit {0} };
+    ghost policy = { λ app. record {
+      allows = λ space payload verdict. Unit {0};
+      decides = λ who arrived effects. Unit {0};
+      leaves = λ who rooms ending effects. Unit {0};
+    } };
 
     fn connects(&self, alloc: Global, space: &str, payload: &str) -> Result<Verdict, AllocError> {
         match effects_of(alloc, Room::own(Sid::new(7)), payload)? {

@@ -9,8 +9,8 @@ ghost use Rattle.journal.specs.Fields.{held_sockets, held_entries};
 ghost use Rattle.journal.specs.declared.step.What.{What};
 ghost use Rattle.hub_state.specs.Changes.{CanForget, WithoutSeats, WithoutPids, refusal_now};
 
-use crate::state::depart::note;
 use crate::state::end::forget_all;
+use crate::state::note_departed::note;
 use crate::state::{Added, NONE, State};
 use hub_parts::{Client, Seats};
 use journal::{HubError, What};

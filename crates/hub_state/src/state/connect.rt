@@ -1,7 +1,6 @@
 //! Sockets are connected (Socket.IO protocol 5, "Connection to a namespace").
 
 ghost use Rattle.std.specs.Prelude.{◌≡◌, ℕ, ◌+◌, ◌≤◌, ◌==◌, ◌||◌, true, false, [], length, OnOk, OnErr, IfOk, IfErr, None, Some, nat_le, nat_lt, get_or, if◌then◌else◌};
-ghost use Rattle.std.specs.List.{find};
 ghost use Rattle.std.specs.Option.{option_map};
 ghost use Rattle.std.specs.Ordering.{nat_cmp};
 ghost use Rattle.std.specs.BTreeMap.{get};
@@ -9,7 +8,7 @@ ghost use Rattle.std.specs.Arc.{arc_value};
 ghost use Rattle.room_maps.specs.Membership as room_maps;
 ghost use Rattle.terms.specs.Entry.{entry_size};
 ghost use Rattle.sio_wire.specs.ConnectAnswer as connect_answer;
-ghost use Rattle.journal.specs.Membership.{place_of, is_space, is_open, is_connected, pid_of, sid_of, sockets_of, socket_of};
+ghost use Rattle.journal.specs.Membership.{place_of, is_space, is_open, is_connected, pid_of, sid_of, socket_of};
 ghost use Rattle.journal.specs.Sessions.{sessions, is_sid_saved, is_pid_saved};
 ghost use Rattle.journal.specs.Outboxes.{answer, waiting, total_size, is_full};
 ghost use Rattle.journal.specs.Outboxes as outboxes;

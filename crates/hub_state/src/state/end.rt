@@ -13,10 +13,10 @@ ghost use Rattle.hub_parts.specs.Seats.{WithoutSeat};
 ghost use Rattle.hub_state.specs.Changes.{ChangesClient, WithoutPid, WithoutSeats, WithoutPids, refusal_now};
 
 use crate::state::connect::drop_ids;
-use crate::state::depart::note;
+use crate::state::note_departed::note;
 use crate::state::{NONE, State};
 use hub_parts::{Client, Seats, Sockets};
-use journal::{HubError, Socket, What};
+use journal::{HubError, Side, Socket, What};
 use recovery::Pid;
 use room_maps::Rooms;
 use std::alloc::Global;
@@ -74,11 +74,11 @@ impl State {
     }
 
     /// The socket that is to end, or why it can't be ended.
-    fn ending(&self, sid: Sid) -> Result<Socket, HubError>
+    fn ending(&self, sid: Sid, by: Side) -> Result<Socket, HubError>
         ensures socket { IfOk result (λ socket.
             socket_with sid_of self.now.base self.now.journal sid ≡ Some socket) }
-        ensures accepted { IfOk result (λ _. refusal_now self.now (What.Ended sid) ≡ None) }
-        ensures refused { IfErr result (λ e. refusal_now self.now (What.Ended sid) ≡ Some e) }
+        ensures accepted { IfOk result (λ _. refusal_now self.now (What.Ended sid by) ≡ None) }
+        ensures refused { IfErr result (λ e. refusal_now self.now (What.Ended sid by) ≡ Some e) }
     {
         let Some(socket) = self.socket_with(sid) else {
             return Err(HubError::UnknownSocket);
@@ -92,17 +92,17 @@ impl State {
     /// Ends a socket: it leaves its client and all its rooms, and nothing is saved. Refused as
     /// `UnknownSocket`, `Spent`, then for `Memory`. It takes the logarithm of the clients and
     /// sockets, and each of the socket's rooms takes the logarithm of the sockets and of the rooms.
-    pub fn end(&mut self, alloc: Global, sid: Sid, now: u64) -> Result<(), HubError>
-        ensures { Does self.old self.new now (What.Ended sid) result }
+    pub fn end(&mut self, alloc: Global, sid: Sid, by: Side, now: u64) -> Result<(), HubError>
+        ensures { Does self.old self.new now (What.Ended sid by) result }
     {
-        let socket = self.ending(sid)?;
-        let ended = self.departed_by(alloc, &What::Ended(sid))?;
+        let socket = self.ending(sid, by)?;
+        let ended = self.departed_by(alloc, &What::Ended(sid, by))?;
         self.records.steps.reserve()?;
         note(&mut self.departed, ended)?;
         drop_from(&mut self.clients, socket.client, usize::from(socket.space));
         forget(&mut self.seats, &mut self.pids, &mut self.rooms, socket);
         self.rooms.kept_facts();
-        self.records.add(now, What::Ended(sid), NONE);
+        self.records.add(now, What::Ended(sid, by), NONE);
         Ok(())
     }
 }

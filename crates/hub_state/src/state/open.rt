@@ -1,10 +1,9 @@
 //! Clients are opened.
 
-ghost use Rattle.std.specs.Prelude.{◌≡◌, ℕ, ◌<◌, [], length, nat_le, ◌==◌, OnOk, OnErr, IfOk, IfErr, Some, if◌then◌else◌};
+ghost use Rattle.std.specs.Prelude.{◌≡◌, ℕ, ◌<◌, length, nat_le, ◌==◌, OnOk, OnErr, IfOk, IfErr, Some, if◌then◌else◌};
 ghost use Rattle.std.specs.Ordering.{nat_cmp};
 ghost use Rattle.std.specs.BTreeMap.{get};
 ghost use Rattle.journal.specs.Membership.{open_clients, sockets};
-ghost use Rattle.journal.specs.Outboxes.{waiting};
 ghost use Rattle.journal.specs.Command.{Does};
 ghost use Rattle.journal.specs.Fields.{new_client};
 ghost use Rattle.journal.specs.declared.step.What.{What};

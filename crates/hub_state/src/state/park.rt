@@ -14,7 +14,7 @@ ghost use Rattle.journal.specs.declared.step.What.{What};
 ghost use Rattle.hub_state.specs.Changes.{refusal_now};
 
 use crate::state::close::forget_client;
-use crate::state::depart::{note, rooms_in};
+use crate::state::note_departed::{note, rooms_in};
 use crate::state::recover::take_session;
 use crate::state::{Added, NONE, State};
 use hub_parts::{Client, Sockets, Steps};

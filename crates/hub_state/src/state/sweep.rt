@@ -1,7 +1,7 @@
 //! Outdated broadcasts and sessions are dropped (Socket.IO server documentation, "Connection state
 //! recovery").
 
-ghost use Rattle.std.specs.Prelude.{◌≡◌, ◌+◌, max, length, None, IfOk};
+ghost use Rattle.std.specs.Prelude.{◌≡◌, ◌+◌, max, length, IfOk};
 ghost use Rattle.recovery.specs.PacketLog.{swept};
 ghost use Rattle.recovery.specs.SavedTable.{table_swept};
 ghost use Rattle.journal.specs.Sessions.{sessions};

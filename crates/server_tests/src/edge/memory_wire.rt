@@ -1,6 +1,6 @@
 //! A wire in memory, of which a test says where it ends or breaks.
 
-ghost use Rattle.std.specs.Prelude.{None, ◌≡◌};
+ghost use Rattle.std.specs.Prelude.{None};
 
 use http_edge::{Broken, EdgeError, Request, Wire, read_request};
 use std::alloc::Global;

@@ -1,6 +1,6 @@
 //! A wire in memory, and moments that stand still.
 
-ghost use Rattle.std.specs.Prelude.{None, ◌≡◌};
+ghost use Rattle.std.specs.Prelude.{None};
 
 use http_edge::{Broken, Wire};
 use peers::Moments;

@@ -8,7 +8,7 @@ pub returns-then-not-has_space : goal.returns-then-not-has_space
 returns-then-not-has_space g c =
     let ids = g.I.IdSource.stream c.args.ids.now in (
       search rules,
-      asks-nowhere (g.A.App.allows c.args.app.now) c.args.scene.now.visit.client c.args.header.space c.args.header.payload c.args.scene.now.visit.moment (stage (seen c.args.scene.now) ids) c.refuse.result
+      asks-nowhere (g.A.App.policy c.args.app.now) c.args.scene.now.visit.client c.args.header.space c.args.header.payload c.args.scene.now.visit.moment (stage (seen c.args.scene.now) ids) c.refuse.result
           (stage (seen c.refuse.new.scene) ids)
           (sym (rw c.as_str.ensures at c.has_space.ensures) ∙ c.if-not-has_space.true)
           (rw c.as_str-then-not-has_space.ensures at c.refuse.ensures.1, refl),
@@ -17,7 +17,7 @@ returns-then-not-has_space g c =
 pub returns : goal.returns
 returns g c = (
   search rules,
-  asks-free (g.A.App.allows c.args.app.now) c.args.scene.now.visit.client c.args.header.space c.args.header.payload c.args.scene.now.visit.moment (stage (seen c.args.scene.now) (g.I.IdSource.stream c.args.ids.now)) c.connect_free.result
+  asks-free (g.A.App.policy c.args.app.now) c.args.scene.now.visit.client c.args.header.space c.args.header.payload c.args.scene.now.visit.moment (stage (seen c.args.scene.now) (g.I.IdSource.stream c.args.ids.now)) c.connect_free.result
       (stage (seen c.connect_free.new.scene) (g.I.IdSource.stream c.connect_free.new.ids))
       (sym (rw c.as_str.ensures at c.has_space.ensures) ∙ c.if-not-has_space.false)
       (sym (rw c.as_str-2.ensures at c.socket_of.ensures) ∙ c.in_default.is)

@@ -9,7 +9,7 @@ returns-in-Message g c =
     let took = rw c.as_str.ensures at c.text-given.ensures in (
       search rules,
       rw c.in-Message.is
-          (takes-text (g.A.App.decides c.args.app.now) (g.A.App.allows c.args.app.now) c.args.scene.now.visit.client c.in-Message.text c.args.scene.now.visit.moment
+          (takes-text (g.A.App.policy c.args.app.now) c.args.scene.now.visit.client c.in-Message.text c.args.scene.now.visit.moment
           (stage (seen c.args.scene.now) (g.I.IdSource.stream c.args.ids.now))
           c.text-given.new.self
           c.text-given.result
@@ -27,5 +27,5 @@ returns-in-Binary g c =
     let end = stage (seen c.take_binary.new.scene) (g.I.IdSource.stream c.take_binary.new.ids) in (
       search rules,
       rw c.in-Binary.is
-          (subst (λ (bytes : List ℕ). TakesBinary (g.A.App.decides c.args.app.now) (g.A.App.allows c.args.app.now) c.args.scene.now.visit.client bytes c.args.scene.now.visit.moment start c.take_binary.result end) c.as_slice.ensures.value c.take_binary.ensures.1),
+          (subst (λ (bytes : List ℕ). TakesBinary (g.A.App.policy c.args.app.now) c.args.scene.now.visit.client bytes c.args.scene.now.visit.moment start c.take_binary.result end) c.as_slice.ensures.value c.take_binary.ensures.1),
     )

@@ -7,7 +7,7 @@ use Rattle.dispatch.proofs.packets.handle_each.Given as goal
 abbrev pub invariant-loop-packet : goal.invariant-loop-packet
 invariant-loop-packet g l = record {
   same : IsSameEvent l.fn.scene l.scene;
-  run : Runs (HandlesInTurn (g.A.App.decides l.app) (g.A.App.allows l.app) l.fn.scene.visit.client l.fn.scene.visit.moment) (take l.packet-index l.packets)
+  run : Runs (HandlesInTurn (g.A.App.policy l.app) l.fn.scene.visit.client l.fn.scene.visit.moment) (take l.packet-index l.packets)
       (stage (seen l.fn.scene) (g.I.IdSource.stream l.fn.ids)) (stage (seen l.scene) (g.I.IdSource.stream l.ids));
   count : l.count ≡ l.packet-index;
 }

@@ -8,7 +8,7 @@ pub returns : goal.returns
 returns g c = (
   search rules,
   rw (sym (rw c.most_bytes.ensures at c.exceeds.ensures) ∙ c.if-exceeds.false)
-      (reads-binary (g.A.App.decides c.args.app.now) (g.A.App.allows c.args.app.now) c.args.scene.now.visit.client c.args.bytes.now c.args.scene.now.visit.moment
+      (reads-binary (g.A.App.policy c.args.app.now) c.args.scene.now.visit.client c.args.bytes.now c.args.scene.now.visit.moment
       (stage (seen c.args.scene.now) (g.I.IdSource.stream c.args.ids.now))
       c.binary-given.new.self
       c.binary-given.result

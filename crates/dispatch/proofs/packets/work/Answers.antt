@@ -8,7 +8,7 @@ pub returns : goal.returns
 returns g c =
     let ids = g.I.IdSource.stream c.args.ids.now in (
       search rules,
-      works-joined (g.A.App.decides c.args.app.now) (g.A.App.allows c.args.app.now) c.args.scene.now.visit.client c.args.packet c.args.scene.now.visit.moment
+      works-joined (g.A.App.policy c.args.app.now) c.args.scene.now.visit.client c.args.packet c.args.scene.now.visit.moment
           (stage (seen c.args.scene.now) ids)
           c.serve_joined.result
           (stage (seen c.serve_joined.new.scene) ids)

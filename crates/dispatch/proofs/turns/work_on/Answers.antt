@@ -10,8 +10,7 @@ use Rattle.dispatch.proofs.turns.work_on.Goals as goal
 pub returns-in-Err : goal.returns-in-Err
 returns-in-Err g c = λ line known.
     let client = c.args.visit.client in
-    let decides = g.A.App.decides c.args.app.now in
-    let allows = g.A.App.allows c.args.app.now in
+    let policy = g.A.App.policy c.args.app.now in
     let ids = g.I.IdSource.stream c.args.ids.now in
     let left = g.I.IdSource.stream c.handle_each.new.ids in
     let worked = c.handle_each.new.scene in
@@ -22,6 +21,6 @@ returns-in-Err g c = λ line known.
     let others : KeepsOthers client (place c.args.state.now c.args.lines.now.entries) (place state new) = search rules in
     let has : line_of new client ≡ Some c.line-1.given.0 = search rules in
     let same : c.in-Some.line.now ≡ line = search rules in
-    ends-with decides allows c.args.visit.moment client c.args.packets.now line (place c.args.state.now c.args.lines.now.entries) (place state new) ids left c.in-Err.error (stage (seen worked) left)
-    (subst (λ (l : PlainLine). BreaksAfter decides allows client c.args.visit.moment c.args.packets.now (stage (opening c.args.state.now l) ids) c.in-Err.error (stage (seen worked) left)) same (rw c.new-tally.ensures at c.in-Err.ensures.err))
+    ends-with policy c.args.visit.moment client c.args.packets.now line (place c.args.state.now c.args.lines.now.entries) (place state new) ids left c.in-Err.error (stage (seen worked) left)
+    (subst (λ (l : PlainLine). BreaksAfter policy client c.args.visit.moment c.args.packets.now (stage (opening c.args.state.now l) ids) c.in-Err.error (stage (seen worked) left)) same (rw c.new-tally.ensures at c.in-Err.ensures.err))
     made (has ∙ ap (λ (l : PlainLine). Some l) kept) others refl

@@ -16,7 +16,7 @@ returns g c =
       handled = said.work.handled;
       end = end;
       given = given;
-      served = subst (λ (p : PlainPass). FoldsTo (λ (d : Desk) (h : Handled _) (e : Desk). ServesAll g.P.Peer.gives g.P.Peer.hears (g.A.App.decides c.args.pool.now.app.now) (g.A.App.allows c.args.pool.now.app.now) (g.A.App.leaves c.args.pool.now.app.now) c.args.pool.now.turns (h.given, d) h.failed (h.left, e)) (desk p (g.I.IdSource.stream job.ids)) said.work.handled end)
+      served = subst (λ (p : PlainPass). FoldsTo (λ (d : Desk) (h : Handled _) (e : Desk). ServesAll g.P.Peer.gives g.P.Peer.hears (g.A.App.policy c.args.pool.now.app.now) c.args.pool.now.turns (h.given, d) h.failed (h.left, e)) (desk p (g.I.IdSource.stream job.ids)) said.work.handled end)
           (is_new job.pass job.nothing.0 job.nothing.1 job.nothing.2) said.work.served;
       commands = omega (arith, said.commands, job.nothing.0);
       taken = omega (arith, said.taken, job.nothing.1);

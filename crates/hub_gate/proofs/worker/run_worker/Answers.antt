@@ -19,7 +19,7 @@ peers-preserved g c =
       grows = grows_trans _ _ _ before.grows (serves_grow c.serve_peer.ensures);
       handled = before.handled ++ h ∷ [];
       given = subst (λ xs. Yields g.S.PeerSource.next_gives c.args.peers.now xs c.next_peer.new.self) (sym (map-append (λ x. x.given) before.handled (h ∷ []))) (yields-push g.S.PeerSource.next_gives _ (map (λ x. x.given) before.handled) _ c.in-Some-next_peer.peer _ before.given c.in-Some-next_peer.ensures);
-      served = FoldsTo-push (λ (d : Desk) (k : Handled _) (e : Desk). ServesAll g.P.Peer.gives g.P.Peer.hears (g.A.App.decides c.args.pool.now.app.now) (g.A.App.allows c.args.pool.now.app.now) (g.A.App.leaves c.args.pool.now.app.now) c.args.pool.now.turns (k.given, d) k.failed (k.left, e))
+      served = FoldsTo-push (λ (d : Desk) (k : Handled _) (e : Desk). ServesAll g.P.Peer.gives g.P.Peer.hears (g.A.App.policy c.args.pool.now.app.now) c.args.pool.now.turns (k.given, d) k.failed (k.left, e))
           (desk c.args.pass (g.I.IdSource.stream c.args.ids.now)) before.handled (desk c.peers.pass (g.I.IdSource.stream c.peers.ids)) h (desk c.serve_peer.new.pass (g.I.IdSource.stream c.serve_peer.new.ids)) before.served c.serve_peer.ensures;
       peers_is = omega (arith, length-append before.handled (h ∷ []), before.peers_is);
       faults_is = elim c.if-serve_peer.branch [

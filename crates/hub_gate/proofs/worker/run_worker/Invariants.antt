@@ -10,7 +10,7 @@ invariant-peers g l = record {
   grows : Grows l.fn.pass l.pass;
   handled : List (Handled _);
   given : Yields g.S.PeerSource.next_gives l.fn.peers (map (λ h. h.given) handled) l.peers;
-  served : FoldsTo (λ (d : Desk) (h : Handled _) (e : Desk). ServesAll g.P.Peer.gives g.P.Peer.hears (g.A.App.decides l.pool.app.now) (g.A.App.allows l.pool.app.now) (g.A.App.leaves l.pool.app.now) l.pool.turns (h.given, d) h.failed (h.left, e)) (desk l.fn.pass (g.I.IdSource.stream l.fn.ids)) handled (desk l.pass (g.I.IdSource.stream l.ids));
+  served : FoldsTo (λ (d : Desk) (h : Handled _) (e : Desk). ServesAll g.P.Peer.gives g.P.Peer.hears (g.A.App.policy l.pool.app.now) l.pool.turns (h.given, d) h.failed (h.left, e)) (desk l.fn.pass (g.I.IdSource.stream l.fn.ids)) handled (desk l.pass (g.I.IdSource.stream l.ids));
   peers_is : l.served ≡ min (length handled) 18446744073709551615;
   faults_is : l.faults ≡ min (failures handled) 18446744073709551615;
 }

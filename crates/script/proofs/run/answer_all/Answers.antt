@@ -7,9 +7,7 @@ use Rattle.script.proofs.run.answer_all.Goals as goal
 
 pub returns-then-is_empty-clause-answered : goal.returns-then-is_empty-clause-answered
 returns-then-is_empty-clause-answered g c = λ start.
-    let decides = g.A.App.decides c.args.app.now in
-    let allows = g.A.App.allows c.args.app.now in
-    let leaves = g.A.App.leaves c.args.app.now in
+    let policy = g.A.App.policy c.args.app.now in
     let contents = g.W.Write.contents in
     let remaining = g.R.Read.remaining in
     let before = c.loop.invariant in
@@ -17,30 +15,28 @@ returns-then-is_empty-clause-answered g c = λ start.
     let end : IsAtEnd (g.R.Read.remaining c.read_some.new.reader) = search rules in
     let got = rw c.in-Some.is at c.in_ok-bytes.ensures.got in
     let consumed = consumes_nothing (remaining c.args.reader.now) (remaining c.loop.reader) (remaining c.read_some.new.reader) before.read c.in-Some.bytes.now before.consumed got none in
-    let flushed = writes_kept decides allows leaves (contents c.args.writer.now) (contents c.loop.writer) (contents c.flush.new.writer) (stage_of c.args.run.now) (stage_of c.loop.run)
+    let flushed = writes_kept policy (contents c.args.writer.now) (contents c.loop.writer) (contents c.flush.new.writer) (stage_of c.args.run.now) (stage_of c.loop.run)
     [] before.read c.loop.line.items before.written c.in_ok-flush.ensures.kept in
-    writes_all decides allows leaves (remaining c.args.reader.now) (remaining c.read_some.new.reader)
+    writes_all policy (remaining c.args.reader.now) (remaining c.read_some.new.reader)
     (contents c.args.writer.now) (contents c.flush.new.writer) (contents c.answer_line.new.writer) (contents c.flush-then-is_empty.new.writer)
     (stage_of c.args.run.now) (stage_of c.loop.run) (stage_of c.answer_line.new.run) before.read c.loop.line.items
     start consumed end flushed before.unended c.in_ok-answer_line.ensures.answered c.in_ok-flush-2.ensures.kept
 
 pub loop-preserved : goal.loop-preserved
 loop-preserved g c =
-    let decides = g.A.App.decides c.args.app.now in
-    let allows = g.A.App.allows c.args.app.now in
-    let leaves = g.A.App.leaves c.args.app.now in
+    let policy = g.A.App.policy c.args.app.now in
     let contents = g.W.Write.contents in
     let remaining = g.R.Read.remaining in
     let before = c.loop.invariant in
     let bytes = c.in-Some.bytes.now in
     let got = rw c.in-Some.is at c.in_ok-bytes.ensures.got in
-    let flushed = writes_kept decides allows leaves (contents c.args.writer.now) (contents c.loop.writer) (contents c.flush.new.writer) (stage_of c.args.run.now) (stage_of c.loop.run)
+    let flushed = writes_kept policy (contents c.args.writer.now) (contents c.loop.writer) (contents c.flush.new.writer) (stage_of c.args.run.now) (stage_of c.loop.run)
     [] before.read c.loop.line.items before.written c.in_ok-flush.ensures.kept in
     record {
       read = before.read ++ bytes;
       consumed = Consumes-trans (remaining c.args.reader.now) (remaining c.loop.reader) (remaining c.read_some.new.reader) before.read bytes before.consumed got;
       unended = c.in_ok-answer_lines.ensures.unended before.unended;
-      written = writes_further decides allows leaves (contents c.args.writer.now) (contents c.flush.new.writer) (contents c.answer_lines.new.writer)
+      written = writes_further policy (contents c.args.writer.now) (contents c.flush.new.writer) (contents c.answer_lines.new.writer)
           (stage_of c.args.run.now) (stage_of c.loop.run) (stage_of c.answer_lines.new.run) [] before.read c.loop.line.items bytes c.answer_lines.new.line.items
           flushed (c.in_ok-answer_lines.ensures.answered before.unended);
     }

@@ -11,5 +11,5 @@ invariant-loop g l =
       read : List ℕ;
       consumed : Consumes (g.R.Read.remaining l.fn.reader) (g.R.Read.remaining l.reader) read;
       unended : IsUnended l.line.items;
-      written : WritesOn (g.A.App.decides l.app) (g.A.App.allows l.app) (g.A.App.leaves l.app) (contents l.fn.writer) (contents l.writer) (stage_of l.fn.run) [] read l.line.items (stage_of l.run);
+      written : WritesOn (g.A.App.policy l.app) (contents l.fn.writer) (contents l.writer) (stage_of l.fn.run) [] read l.line.items (stage_of l.run);
     }

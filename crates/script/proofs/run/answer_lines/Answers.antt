@@ -6,9 +6,7 @@ use Rattle.script.proofs.run.answer_lines.Goals as goal
 
 pub loop-byte-preserved : goal.loop-byte-preserved
 loop-byte-preserved g c =
-    let decides = g.A.App.decides c.args.app.now in
-    let allows = g.A.App.allows c.args.app.now in
-    let leaves = g.A.App.leaves c.args.app.now in
+    let policy = g.A.App.policy c.args.app.now in
     let contents = g.W.Write.contents in
     let before = c.loop-byte.invariant in
     let read = take c.loop-byte.byte-index c.args.bytes.now in
@@ -16,9 +14,9 @@ loop-byte-preserved g c =
     record {
       unended = λ whole. c.in_ok-answer_byte.ensures.unended (before.unended whole);
       written = λ whole.
-          subst (λ bytes. WritesOn decides allows leaves (contents c.args.writer.now) (contents c.answer_byte.new.writer) (stage_of c.args.run.now) c.args.line.now.items bytes c.answer_byte.new.line.items (stage_of c.answer_byte.new.run))
+          subst (λ bytes. WritesOn policy (contents c.args.writer.now) (contents c.answer_byte.new.writer) (stage_of c.args.run.now) c.args.line.now.items bytes c.answer_byte.new.line.items (stage_of c.answer_byte.new.run))
           (sym (take_more c.args.bytes.now c.loop-byte.byte-index 0 (omega arith)))
-          (writes_further decides allows leaves (contents c.args.writer.now) (contents c.loop-byte.writer) (contents c.answer_byte.new.writer)
+          (writes_further policy (contents c.args.writer.now) (contents c.loop-byte.writer) (contents c.answer_byte.new.writer)
           (stage_of c.args.run.now) (stage_of c.loop-byte.run) (stage_of c.answer_byte.new.run)
           c.args.line.now.items read c.loop-byte.line.items (byte ∷ []) c.answer_byte.new.line.items
           (before.written whole) (c.in_ok-answer_byte.ensures.answered (before.unended whole)));

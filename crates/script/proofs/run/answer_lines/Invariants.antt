@@ -8,5 +8,5 @@ invariant-loop-byte g l =
     let contents = g.W.Write.contents in
     record {
       unended : IsUnended l.fn.line.items → IsUnended l.line.items;
-      written : IsUnended l.fn.line.items → WritesOn (g.A.App.decides l.app) (g.A.App.allows l.app) (g.A.App.leaves l.app) (contents l.fn.writer) (contents l.writer) (stage_of l.fn.run) l.fn.line.items (take l.byte-index l.bytes) l.line.items (stage_of l.run);
+      written : IsUnended l.fn.line.items → WritesOn (g.A.App.policy l.app) (contents l.fn.writer) (contents l.writer) (stage_of l.fn.run) l.fn.line.items (take l.byte-index l.bytes) l.line.items (stage_of l.run);
     }

@@ -11,17 +11,17 @@ use Rattle.dispatch.proofs.server.Core.apply.Goals as goal
 left : (g : Over) (c : goal.After-catch_up g)
     → Applied c.args.event.now (g.I.IdSource.stream c.args.ids.now) c.apply_to-answer.result c.hub.inside.state c.apply_to-answer.new.state c.apply_to-answer.new.lines.entries
 left g c =
-    left-by (g.A.App.decides c.args.app.now) (g.A.App.allows c.args.app.now) (g.A.App.leaves c.args.app.now) c.args.now c.hub.inside.state c.apply_to-answer.new.state
+    left-by (g.A.App.policy c.args.app.now) c.args.now c.hub.inside.state c.apply_to-answer.new.state
     c.self.inside.lines.entries c.apply_to-answer.new.lines.entries (rw (← c.hub.view_is) at c.self.invariant.0) (g.I.IdSource.stream c.args.ids.now) (g.I.IdSource.stream c.apply_to-answer.new.ids)
-    c.apply_to-answer.result c.self.inside.greeting.timing c.self.inside.greeting.numbers c.args.event.now (rw (← c.hub.view_is) at c.self.invariant.1).names c.apply_to-answer.ensures
+    c.apply_to-answer.result c.self.inside.handshake.timing c.self.inside.handshake.numbers c.args.event.now (rw (← c.hub.view_is) at c.self.invariant.1).names c.apply_to-answer.ensures
 
 pub catch_up-requires-clause-grown : goal.catch_up-requires-clause-grown
 catch_up-requires-clause-grown g c =
     let some = of-some c.args.event.now (g.I.IdSource.stream c.args.ids.now) in
     let left =
-    left-by (g.A.App.decides c.args.app.now) (g.A.App.allows c.args.app.now) (g.A.App.leaves c.args.app.now) c.args.now c.hub.inside.state c.apply_to-answer.new.state
+    left-by (g.A.App.policy c.args.app.now) c.args.now c.hub.inside.state c.apply_to-answer.new.state
     c.self.inside.lines.entries c.apply_to-answer.new.lines.entries (rw (← c.hub.view_is) at c.self.invariant.0) (g.I.IdSource.stream c.args.ids.now) (g.I.IdSource.stream c.apply_to-answer.new.ids)
-    c.apply_to-answer.result c.self.inside.greeting.timing c.self.inside.greeting.numbers c.args.event.now (rw (← c.hub.view_is) at c.self.invariant.1).names c.apply_to-answer.ensures in
+    c.apply_to-answer.result c.self.inside.handshake.timing c.self.inside.handshake.numbers c.args.event.now (rw (← c.hub.view_is) at c.self.invariant.1).names c.apply_to-answer.ensures in
     grown some.0 c.hub.inside.state c.apply_to-answer.new.state (left.turns some.0 some.1) c.hub.inside.books.commands c.hub.inside.books.taken c.hub.invariant.0 c.hub.invariant.1
 
 pub invariant_of-self : goal.invariant_of-self

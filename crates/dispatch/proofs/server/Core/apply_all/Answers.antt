@@ -6,7 +6,7 @@ use Rattle.dispatch.proofs.server.Core.apply_all.Goals as goal
 
 pub loop-event-init : goal.loop-event-init
 loop-event-init g c = record {
-  run = machine-start (g.A.App.decides c.args.app.now) (g.A.App.allows c.args.app.now) (g.A.App.leaves c.args.app.now) c.args.self.now.timing c.args.self.now.numbers c.in_ok-answers.answers.items (place c.args.self.now.hub.history c.args.self.now.lines) (g.I.IdSource.stream c.args.ids.now) c.in_ok-answers.ensures.items;
+  run = machine-start (g.A.App.policy c.args.app.now) c.args.self.now.timing c.args.self.now.numbers c.in_ok-answers.answers.items (place c.args.self.now.hub.history c.args.self.now.lines) (g.I.IdSource.stream c.args.ids.now) c.in_ok-answers.ensures.items;
   handed = hands-start c.in_ok-answers.answers.items c.args.self.now.hub.history c.in_ok-answers.ensures.items;
   said = ap length c.in_ok-answers.ensures.items;
   timing = refl;
@@ -20,7 +20,7 @@ loop-event-preserved g c =
     let before = c.loop-event.invariant in
     let said = c.apply-answer.ensures in
     record {
-      run = machine-next (g.A.App.decides c.args.app.now) (g.A.App.allows c.args.app.now) (g.A.App.leaves c.args.app.now) c.args.self.now.timing c.args.self.now.numbers c.args.events.now c.loop-event.event-index c.loop-event-item.result
+      run = machine-next (g.A.App.policy c.args.app.now) c.args.self.now.timing c.args.self.now.numbers c.args.events.now c.loop-event.event-index c.loop-event-item.result
           c.loop-event.answers.items c.push_reserved.new.self.items c.apply-answer.result c.loop-event.self.timing c.loop-event.self.numbers
           (place c.args.self.now.hub.history c.args.self.now.lines) (place c.loop-event.self.hub.history c.loop-event.self.lines) (place c.apply-answer.new.self.hub.history c.apply-answer.new.self.lines)
           (g.I.IdSource.stream c.args.ids.now) (g.I.IdSource.stream c.loop-event.ids) (g.I.IdSource.stream c.apply-answer.new.ids)
@@ -40,7 +40,7 @@ push_reserved-requires g c = omega (arith, c.loop-event.invariant.count, c.loop-
 
 pub returns-clause-does : goal.returns-clause-does
 returns-clause-does g c =
-    machine-whole (g.A.App.decides c.args.app.now) (g.A.App.allows c.args.app.now) (g.A.App.leaves c.args.app.now) c.args.self.now.timing c.args.self.now.numbers c.args.events.now c.loop-event.event-index c.loop-event.answers.items
+    machine-whole (g.A.App.policy c.args.app.now) c.args.self.now.timing c.args.self.now.numbers c.args.events.now c.loop-event.event-index c.loop-event.answers.items
     (place c.args.self.now.hub.history c.args.self.now.lines) (place c.loop-event.self.hub.history c.loop-event.self.lines) (g.I.IdSource.stream c.args.ids.now) (g.I.IdSource.stream c.loop-event.ids) c.loop-event-test.false c.loop-event.invariant.run
 
 pub returns-clause-handed : goal.returns-clause-handed

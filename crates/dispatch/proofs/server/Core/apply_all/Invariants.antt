@@ -6,7 +6,7 @@ use Rattle.dispatch.proofs.server.Core.apply_all.Given as goal
 
 abbrev pub invariant-loop-event : goal.invariant-loop-event
 invariant-loop-event g l = record {
-  run : Machine (g.A.App.decides l.app) (g.A.App.allows l.app) (g.A.App.leaves l.app) l.fn.self.timing l.fn.self.numbers (take l.event-index l.events) l.answers.items
+  run : Machine (g.A.App.policy l.app) l.fn.self.timing l.fn.self.numbers (take l.event-index l.events) l.answers.items
       (place l.fn.self.hub.history l.fn.self.lines) (g.I.IdSource.stream l.fn.ids) (place l.self.hub.history l.self.lines) (g.I.IdSource.stream l.ids);
   handed : HandsOn (take l.event-index l.events) l.answers.items l.fn.self.hub.history l.self.hub.history;
   said : length l.answers.items ≡ l.event-index;

@@ -22,7 +22,7 @@ turns-preserved g c =
     let gave = rw c.in-Some.is at c.in-Ok.ensures in
     record {
       rounds = before.rounds ++ r ∷ [];
-      talks = FoldsTo-push (Serves g.P.Peer.gives g.P.Peer.hears (g.A.App.decides c.args.self.now.app.now) (g.A.App.allows c.args.self.now.app.now) (g.A.App.leaves c.args.self.now.app.now)) _ before.rounds _ r _ before.talks (record {
+      talks = FoldsTo-push (Serves g.P.Peer.gives g.P.Peer.hears (g.A.App.policy c.args.self.now.app.now)) _ before.rounds _ r _ before.talks (record {
         asking = c.next.new.self;
         gave = gave;
         applied = c.apply-done.ensures;
@@ -66,7 +66,7 @@ returns-then-is_err g c =
     record {
       rounds = before.rounds ++ r ∷ [];
       last = c.answer.new.self;
-      talks = FoldsTo-push (Serves g.P.Peer.gives g.P.Peer.hears (g.A.App.decides c.args.self.now.app.now) (g.A.App.allows c.args.self.now.app.now) (g.A.App.leaves c.args.self.now.app.now)) _ before.rounds _ r _ before.talks (record {
+      talks = FoldsTo-push (Serves g.P.Peer.gives g.P.Peer.hears (g.A.App.policy c.args.self.now.app.now)) _ before.rounds _ r _ before.talks (record {
         asking = c.next.new.self;
         gave = gave;
         applied = c.apply-done.ensures;

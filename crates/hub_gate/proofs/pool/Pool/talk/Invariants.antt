@@ -6,7 +6,7 @@ use Rattle.hub_gate.proofs.pool.Pool.talk.Given as goal
 abbrev pub invariant-turns : goal.invariant-turns
 invariant-turns g l = record {
   rounds : List Round;
-  talks : FoldsTo (Serves g.P.Peer.gives g.P.Peer.hears (g.A.App.decides l.self.app.now) (g.A.App.allows l.self.app.now) (g.A.App.leaves l.self.app.now)) (l.fn.peer, desk l.fn.pass (g.I.IdSource.stream l.fn.ids)) rounds (l.peer, desk l.pass (g.I.IdSource.stream l.ids));
+  talks : FoldsTo (Serves g.P.Peer.gives g.P.Peer.hears (g.A.App.policy l.self.app.now)) (l.fn.peer, desk l.fn.pass (g.I.IdSource.stream l.fn.ids)) rounds (l.peer, desk l.pass (g.I.IdSource.stream l.ids));
   count : length rounds ≡ l.counter;
   lost_is : l.lost ≡ last_client None rounds;
 }

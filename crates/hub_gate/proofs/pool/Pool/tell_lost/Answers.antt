@@ -26,7 +26,7 @@ tries-preserved g c =
     let left = ap (λ (l : Loss). l.left) c.hears.ensures.told in
     record {
       attempts = before.attempts ++ a ∷ [];
-      told = FoldsTo-push (λ (d : Desk) (x : Attempt) (e : Desk). Applied (g.A.App.decides c.args.self.now.app.now) (g.A.App.allows c.args.self.now.app.now) (g.A.App.leaves c.args.self.now.app.now) (TransportLost c.args.client) c.args.now x.before d x.got x.after e)
+      told = FoldsTo-push (λ (d : Desk) (x : Attempt) (e : Desk). Applied (g.A.App.policy c.args.self.now.app.now) (TransportLost c.args.client) c.args.now x.before d x.got x.after e)
           _ before.attempts _ a _ before.told (rw event at c.apply-told.ensures);
       refused = refused_more before.attempts a before.refused again.0;
       client = ap (λ (l : Loss). l.client) c.hears.ensures.told ∙ before.client;
@@ -41,7 +41,7 @@ returns-in-Over g c =
     let event : c.event.result ≡ TransportLost c.args.client = c.event.ensures ∙ ap TransportLost before.client in
     record {
       attempts = before.attempts ++ a ∷ [];
-      told = FoldsTo-push (λ (d : Desk) (x : Attempt) (e : Desk). Applied (g.A.App.decides c.args.self.now.app.now) (g.A.App.allows c.args.self.now.app.now) (g.A.App.leaves c.args.self.now.app.now) (TransportLost c.args.client) c.args.now x.before d x.got x.after e)
+      told = FoldsTo-push (λ (d : Desk) (x : Attempt) (e : Desk). Applied (g.A.App.policy c.args.self.now.app.now) (TransportLost c.args.client) c.args.now x.before d x.got x.after e)
           _ before.attempts _ a _ before.told (rw event at c.apply-told.ensures);
       tries = tries_end before.attempts a c.tries.loss.left before.refused before.left before.more (sym c.hears.ensures.telling ∙ c.in-Over.is);
     }

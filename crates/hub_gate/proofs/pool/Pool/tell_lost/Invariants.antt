@@ -7,7 +7,7 @@ use Rattle.hub_gate.proofs.pool.Pool.tell_lost.Given as goal
 abbrev pub invariant-tries : goal.invariant-tries
 invariant-tries g l = record {
   attempts : List Attempt;
-  told : FoldsTo (λ (d : Desk) (a : Attempt) (e : Desk). Applied (g.A.App.decides l.self.app.now) (g.A.App.allows l.self.app.now) (g.A.App.leaves l.self.app.now) (TransportLost l.client) l.now a.before d a.got a.after e) (desk l.fn.pass (g.I.IdSource.stream l.fn.ids)) attempts (desk l.pass (g.I.IdSource.stream l.ids));
+  told : FoldsTo (λ (d : Desk) (a : Attempt) (e : Desk). Applied (g.A.App.policy l.self.app.now) (TransportLost l.client) l.now a.before d a.got a.after e) (desk l.fn.pass (g.I.IdSource.stream l.fn.ids)) attempts (desk l.pass (g.I.IdSource.stream l.ids));
   refused : All (λ got. is_err got ≡ true) (map (λ a. a.got) attempts);
   client : l.loss.client ≡ l.client;
   left : l.loss.left + length attempts ≡ 3;

@@ -1,7 +1,4 @@
-use Rattle.std.proofs.Common.{rules, ◌≡◌, true, List, subst}
-use Rattle.std.specs.List.{AllByRecursion}
-use Rattle.journal.specs.Membership.{is_space}
-use Rattle.hub_state.specs.Departing.{PlainDeparted}
+use Rattle.std.proofs.Common.{rules, ◌≡◌}
 use Rattle.hub_state.proofs.InSpaceLemmas.{departed-in}
 use Rattle.hub_state.proofs.state.State.departed.Goals as goal
 

@@ -24,9 +24,9 @@ returns g c =
     let jobs = sym (append-nil at.yielded) ∙ (rw no_job at at.invariant.yielded) ∙ c.into_iter-job-iterator.ensures.into_iter_gives.0 in
     record {
       work = zip_join (λ j h. (h.promise.job.value ≡ j) × (h.promise.app.value ≡ c.captures.pool.now.app.now) × (h.promise.turns ≡ c.captures.pool.now.turns))
-          (λ h f. WorksAs g.P.Peer.gives g.P.Peer.hears (g.A.App.decides h.promise.app.value) (g.A.App.allows h.promise.app.value) (g.A.App.leaves h.promise.app.value) h.promise.turns
+          (λ h f. WorksAs g.P.Peer.gives g.P.Peer.hears (g.A.App.policy h.promise.app.value) h.promise.turns
           (into_iter_items h.promise.job.value.queue.peers) (g.I.IdSource.stream h.promise.job.value.ids) f.counts)
-          (λ j f. WorksAs g.P.Peer.gives g.P.Peer.hears (g.A.App.decides c.captures.pool.now.app.now) (g.A.App.allows c.captures.pool.now.app.now) (g.A.App.leaves c.captures.pool.now.app.now) c.captures.pool.now.turns
+          (λ j f. WorksAs g.P.Peer.gives g.P.Peer.hears (g.A.App.policy c.captures.pool.now.app.now) c.captures.pool.now.turns
           (into_iter_items j.queue.peers) (g.I.IdSource.stream j.ids) f.counts)
           (λ j h f one two. rw (one.0, one.1, one.2) at two)
           c.captures.jobs.items at.handles.items c.join_all.result.items (rw jobs at at.invariant.begun) c.join_all.ensures.kept;

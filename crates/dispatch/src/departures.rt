@@ -1,0 +1,93 @@
+//! What the app does of the sockets that an event ended (Socket.IO server documentation, "Server
+//! API": the events `disconnecting` and `disconnect`).
+
+ghost use Rattle.std.specs.Prelude.{◌≡◌, Ok, Err, Some, drop, IfOk, IfErr};
+ghost use Rattle.hub_state.specs.Departing.{departed};
+ghost use Rattle.events.specs.Plain.{PlainDone};
+ghost use Rattle.effects.specs.Departed.{HearsOfAll};
+ghost use Rattle.effects.specs.Saying.{work};
+ghost use Rattle.dispatch.specs.Hearing.{HearsAfter};
+
+use effects::{Visit, hear_all};
+use events::{App, CoreError, Done, Outcome};
+use hub_state::State;
+
+/// The app hears of the sockets that ended, and what it wants then is done, too.
+fn hear<A: App>(
+    visit: Visit,
+    state: &mut State,
+    app: &A,
+    from: usize,
+    done: Done,
+) -> Result<Done, CoreError>
+    ensures ok { let ended = drop from (departed state.old.base state.old.journal) in
+        IfOk result (λ after. HearsOfAll (A.policy app.now) visit.client visit.moment ended
+        (work state.old done) (Ok tt) (work state.new after)) }
+    ensures err { let ended = drop from (departed state.old.base state.old.journal) in
+        IfErr result (λ e. (after : PlainDone)
+        × HearsOfAll (A.policy app.now) visit.client visit.moment ended
+        (work state.old done) (Err e.fault) (work state.new after)
+        × (e ≡ record { fault = e.fault; packets = after.packets; effects = after.effects })) }
+{
+    let mut done = done;
+    match hear_all(visit, state, app, &mut done, from) {
+        Ok(()) => Ok(done),
+        Err(fault) => Err(CoreError {
+            fault,
+            packets: done.packets,
+            effects: done.effects,
+        }),
+    }
+}
+
+/// The app hears of the sockets that an event ended which ends with an error itself. The error
+/// stays.
+fn hear_after_error<A: App>(
+    visit: Visit,
+    state: &mut State,
+    app: &A,
+    from: usize,
+    error: CoreError,
+) -> CoreError
+    ensures { let ended = drop from (departed state.old.base state.old.journal) in
+        HearsAfter (A.policy app.now) visit.moment (Some visit.client) ended
+        state.old (Err error) (Err result) state.new }
+{
+    let mut done = Done::nothing(visit.alloc);
+    done.packets = error.packets;
+    done.effects = error.effects;
+    let _heard = hear_all(visit, state, app, &mut done, from);
+    CoreError {
+        fault: error.fault,
+        packets: error.packets,
+        effects: done.effects,
+    }
+}
+
+/// The app hears of the sockets that an event of the client ended, those from an index on. The
+/// event was answered so.
+pub(crate) fn hear_after<A: App>(
+    visit: Visit,
+    state: &mut State,
+    app: &A,
+    from: usize,
+    said: Result<Outcome, CoreError>,
+) -> Result<Outcome, CoreError>
+    ensures { let ended = drop from (departed state.old.base state.old.journal) in
+        HearsAfter (A.policy app.now) visit.moment (Some visit.client) ended
+        state.old said result state.new }
+{
+    match said {
+        Ok(Outcome::Done(done)) => Ok(Outcome::Done(hear(visit, state, app, from, done)?)),
+        Ok(Outcome::Lost { saved, done }) => {
+            let done = hear(visit, state, app, from, done)?;
+            Ok(Outcome::Lost { saved, done })
+        }
+        Ok(Outcome::Ticked { ping, done }) => {
+            let done = hear(visit, state, app, from, done)?;
+            Ok(Outcome::Ticked { ping, done })
+        }
+        Ok(outcome) => Ok(outcome),
+        Err(error) => Err(hear_after_error(visit, state, app, from, error)),
+    }
+}

@@ -1,0 +1,143 @@
+//! What a packet of a connected socket does (Socket.IO protocol 5, "Sending and receiving data",
+//! "Acknowledgement" and "Disconnection from a namespace").
+
+ghost use Rattle.std.specs.Prelude.{◌≡◌};
+ghost use Rattle.effects.specs.Commands.{IsSeated};
+ghost use Rattle.effects.specs.Effects.{IsOpenFor, StandsWith};
+ghost use Rattle.effects.specs.Scene.{seen, Plays};
+ghost use Rattle.dispatch.specs.Packets.{IsFresh, Decides, Leaves, TakesAck, HearsEvent, Serves, ServesJoined};
+
+use crate::packets::close_for;
+use effects::{Scene, act_all, commands};
+use events::{Answer, App, Arrived, Cause, CoreFault, Message, Stopped, Who};
+use journal::Side;
+use sio_wire::{Header, Kind, SioPacket};
+use terms::{Attachments, Text};
+
+/// What came to a socket: a packet without its namespace.
+#[derive(Drop)]
+struct Said {
+    kind: Kind,
+    id: Option<u64>,
+    payload: Text,
+    attachments: Attachments,
+}
+
+/// Asks the app about what arrived, and does what it wants.
+fn decide<A: App>(scene: &mut Scene, app: &A, who: &Who, arrived: &Arrived) -> Result<(), Stopped>
+    requires own { who.now.client ≡ scene.old.visit.client }
+    requires stands { StandsWith who.now (seen scene.old) }
+    ensures { Plays (Decides (A.policy app.now) who.now arrived.now)
+        scene.old result scene.new }
+{
+    match app.decides(scene.visit.alloc, who, arrived) {
+        Ok(wanted) => act_all(scene, who, wanted, 0),
+        Err(_) => Err(CoreFault::Memory.into()),
+    }
+}
+
+/// Ends the socket that leaves its namespace.
+fn leave(scene: &mut Scene, who: &Who) -> Result<(), Stopped>
+    requires { IsSeated who.now scene.old.state.now }
+    ensures { Plays (Leaves who.now)
+        scene.old result scene.new }
+{
+    commands::end(scene.visit, scene.state, who.sid, Side::Client)?;
+    scene.line.leave(who.sid);
+    Ok(())
+}
+
+/// Takes the answer to a question. One to a question that isn't open is ignored.
+fn take_answer<A: App>(scene: &mut Scene, app: &A, who: &Who, said: Said) -> Result<(), Stopped>
+    requires own { who.now.client ≡ scene.old.visit.client }
+    requires stands { StandsWith who.now (seen scene.old) }
+    ensures { Plays (TakesAck (A.policy app.now) who.now said.id said.payload said.attachments)
+        scene.old result scene.new }
+{
+    let Some(id) = said.id else {
+        scene.tally.ignore();
+        return Ok(());
+    };
+    let Ok(tag) = scene.line.answer(who.sid, id) else {
+        scene.tally.ignore();
+        return Ok(());
+    };
+    let arrived = Arrived::Answer(Answer {
+        tag,
+        payload: said.payload,
+        attachments: said.attachments,
+    });
+    decide(scene, app, who, &arrived)
+}
+
+/// Hears an event of a socket. One with an id asks to be acknowledged.
+fn hear<A: App>(scene: &mut Scene, app: &A, who: &Who, said: Said) -> Result<(), Stopped>
+    requires own { who.now.client ≡ scene.old.visit.client }
+    requires stands { StandsWith who.now (seen scene.old) }
+    ensures { Plays (HearsEvent (A.policy app.now) who.now said.id said.payload said.attachments)
+        scene.old result scene.new }
+{
+    scene.tally.asked = said.id;
+    let arrived = Arrived::Event(Message {
+        payload: said.payload,
+        attachments: said.attachments,
+        asked: said.id.is_some(),
+    });
+    decide(scene, app, who, &arrived)
+}
+
+/// What a packet of a connected socket does.
+fn serve<A: App>(scene: &mut Scene, app: &A, who: &Who, said: Said) -> Result<(), Stopped>
+    requires own { who.now.client ≡ scene.old.visit.client }
+    requires seated { IsSeated who.now scene.old.state.now }
+    requires stands { StandsWith who.now (seen scene.old) }
+    ensures { Plays
+        (Serves (A.policy app.now) said.kind who.now said.id said.payload said.attachments)
+        scene.old result scene.new }
+{
+    match said.kind {
+        Kind::Disconnect => leave(scene, who),
+        Kind::Event | Kind::BinaryEvent => hear(scene, app, who, said),
+        Kind::Ack | Kind::BinaryAck => take_answer(scene, app, who, said),
+        Kind::Connect | Kind::ConnectError => Ok(()),
+    }
+}
+
+/// What a packet does that isn't a CONNECT. One for a namespace that the client hasn't joined
+/// closes it.
+pub(crate) fn serve_joined<A: App>(
+    scene: &mut Scene,
+    app: &A,
+    packet: SioPacket,
+) -> Result<(), Stopped>
+    requires open_client { IsOpenFor scene.old.visit.client (seen scene.old) }
+    requires fresh { IsFresh (seen scene.old) }
+    ensures { Plays (ServesJoined (A.policy app.now) scene.old.visit.client packet)
+        scene.old result scene.new }
+{
+    let SioPacket {
+        header,
+        attachments,
+    } = packet;
+    let Header {
+        kind,
+        space,
+        id,
+        payload,
+        ..
+    } = header;
+    // A hub's sockets are connected, each in one of its namespaces.
+    scene.state.facts();
+    let client = scene.visit.client;
+    let Some(sid) = scene.state.socket_of(client, space.as_str()) else {
+        return close_for(scene, Cause::NotJoined);
+    };
+    let who = Who { client, space, sid };
+    let said = Said {
+        kind,
+        id,
+        payload,
+        attachments,
+    };
+    serve(scene, app, &who, said)
+}

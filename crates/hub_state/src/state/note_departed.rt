@@ -1,0 +1,127 @@
+//! Sockets that end are noted (Socket.IO server documentation, "Server API": the events
+//! `disconnecting` and `disconnect`).
+
+ghost use Rattle.std.specs.Prelude.{◌≡◌, ◌++◌, map, true, IfOk, IfErr, OnOk, OnErr};
+ghost use Rattle.std.specs.List.{AllByRecursion};
+ghost use Rattle.journal.specs.Membership.{is_space, rooms, sockets_of};
+ghost use Rattle.journal.specs.Sessions.{rooms_rising};
+ghost use Rattle.hub_state.specs.Departing.{PlainDeparted, departing, departed_by, departed};
+
+use crate::departed::Departed;
+use crate::state::State;
+use crate::state::aim::sockets_in;
+use hub_parts::Sockets;
+use journal::{Ending, HubError, Socket, What};
+use room_maps::Rooms;
+use std::alloc::Global;
+use terms::{Room, Sid};
+
+/// The rooms that a socket is in, rising.
+pub(crate) fn rooms_in(rooms: &Rooms, alloc: Global, sid: Sid) -> Result<Vec<Room>, HubError>
+    ensures rooms { IfOk result (λ inside. inside.items ≡ rooms_rising rooms.now sid) }
+    ensures memory { IfErr result (λ e. e ≡ HubError.Memory) }
+{
+    match rooms.rooms_of(alloc, sid) {
+        Ok(inside) => Ok(inside),
+        Err(_) => Err(HubError::Memory),
+    }
+}
+
+/// A client's sockets as a list.
+fn listed(alloc: Global, sockets: &Sockets) -> Result<Vec<Socket>, HubError>
+    ensures ok { IfOk result (λ list. list.items ≡ sockets.now) }
+    ensures memory { IfErr result (λ e. e ≡ HubError.Memory) }
+{
+    let mut list = Vec::new(alloc);
+    for socket in sockets.values() {
+        list.push(*socket)?;
+    }
+    Ok(list)
+}
+
+/// Sockets as they end now.
+fn departing(
+    rooms: &Rooms,
+    alloc: Global,
+    ending: Ending,
+    sockets: &[Socket],
+) -> Result<Vec<Departed>, HubError>
+    ensures ok { IfOk result (λ list.
+        list.items ≡ map (departing ending rooms.now) sockets.now) }
+    ensures memory { IfErr result (λ e. e ≡ HubError.Memory) }
+{
+    let mut list = Vec::new(alloc);
+    for socket in sockets {
+        let inside = rooms_in(rooms, alloc, socket.sid)?;
+        list.push(Departed {
+            socket: *socket,
+            rooms: inside,
+            ending,
+        })?;
+    }
+    Ok(list)
+}
+
+/// Notes sockets that end.
+pub(crate) fn note(departed: &mut Vec<Departed>, ended: Vec<Departed>) -> Result<(), HubError>
+    ensures ok { OnOk result (departed.new.items ≡ departed.old.items ++ ended.items) }
+    ensures unchanged { OnErr result (departed.new.items ≡ departed.old.items) }
+    ensures memory { IfErr result (λ e. e ≡ HubError.Memory) }
+{
+    let mut ended = ended;
+    match departed.append(&mut ended) {
+        Ok(()) => Ok(()),
+        Err(_) => Err(HubError::Memory),
+    }
+}
+
+impl State {
+    /// The sockets that ended since the base, in the order in which they did. It grows until a
+    /// seal.
+    pub fn departed(&self) -> &[Departed]
+        ensures all { result.now ≡ departed self.now.base self.now.journal }
+        ensures in_spaces { let h = self.now in AllByRecursion
+            (λ (gone : PlainDeparted). is_space h.limits gone.socket.space ≡ true) result.now }
+    {
+        self.departed.as_slice()
+    }
+
+    /// The sockets of a client, as they end with it now.
+    fn its_departed(
+        &self,
+        alloc: Global,
+        ending: Ending,
+        client: u128,
+    ) -> Result<Vec<Departed>, HubError>
+        ensures ok { let h = self.now in IfOk result (λ list. list.items
+            ≡ map (departing ending (rooms h.base h.journal)) (sockets_of h.base h.journal client)) }
+        ensures memory { IfErr result (λ e. e ≡ HubError.Memory) }
+    {
+        let Some(known) = self.clients.get(&client) else {
+            return Ok(Vec::new(alloc));
+        };
+        let sockets = listed(alloc, &known.sockets)?;
+        departing(&self.rooms, alloc, ending, &sockets)
+    }
+
+    /// The sockets that a step ends now.
+    pub(crate) fn departed_by(&self, alloc: Global, what: &What) -> Result<Vec<Departed>, HubError>
+        ensures ok { IfOk result (λ list.
+            list.items ≡ departed_by self.now.base self.now.journal what.now) }
+        ensures memory { IfErr result (λ e. e ≡ HubError.Memory) }
+    {
+        match what {
+            What::Parked(client) => self.its_departed(alloc, Ending::Saved, *client),
+            What::Closed(client) => self.its_departed(alloc, Ending::Closed, *client),
+            What::Ended(sid, by) => match self.socket_with(*sid) {
+                Some(socket) => departing(&self.rooms, alloc, Ending::Alone(*by), &[socket]),
+                None => Ok(Vec::new(alloc)),
+            },
+            What::AllEnded(dismissal) => {
+                let sockets = sockets_in(alloc, &self.seats, &dismissal.ended, dismissal.space)?;
+                departing(&self.rooms, alloc, Ending::Together, &sockets)
+            }
+            _ => Ok(Vec::new(alloc)),
+        }
+    }
+}
