@@ -73,15 +73,10 @@ pub fn read_folder<R: Files + AllocGlobal + Clone + Drop>(
 ) -> Result<Page, FolderFault> {
     let alloc = rt.alloc();
     let mut page = Page::new(alloc);
-    let entries = match fs::read_dir(rt, folder) {
-        Ok(entries) => entries,
-        Err(error) => return Err(fault_at(alloc, folder, &error)),
-    };
+    let entries = fs::read_dir(rt, folder).map_err(|error| fault_at(alloc, folder, &error))?;
     for entry in entries {
-        match entry {
-            Ok(entry) => add_entry(rt, &mut page, entry.file_name(), entry.path())?,
-            Err(error) => return Err(fault_at(alloc, folder, &error)),
-        }
+        let entry = entry.map_err(|error| fault_at(alloc, folder, &error))?;
+        add_entry(rt, &mut page, entry.file_name(), entry.path())?;
     }
     Ok(page)
 }

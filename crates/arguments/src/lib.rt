@@ -2,10 +2,10 @@
 //! they name, and what is told where they are refused.
 #![tactic(auto)]
 
-pub mod folder;
+mod folder;
 pub mod options;
 mod origin;
 mod path;
 pub mod refused;
 pub mod task;
-pub mod token;
+mod token;

@@ -194,15 +194,11 @@ pub(crate) fn server<'a>(
 }
 
 fn argument<'a>(alloc: Global, entry: &'static Entry) -> Arg<'a> {
-    let (action, parser, unsaid): (_, _, &'static [&'static str]) = match entry.takes {
-        Takes::Needed(least, most) => (ArgAction::Set, ValueParser::unsigned(least, most), &[]),
-        Takes::Number(least, most, unsaid) => (
-            ArgAction::Set,
-            ValueParser::unsigned(least, most),
-            unsaid,
-        ),
-        Takes::Text(unsaid) => (ArgAction::Set, ValueParser::String, unsaid),
-        Takes::Texts(unsaid) => (ArgAction::Append, ValueParser::String, unsaid),
+    let (action, parser, usual): (_, _, &'static [&'static str]) = match entry.takes {
+        Takes::Needed(from, to) => (ArgAction::Set, ValueParser::unsigned(from, to), &[]),
+        Takes::Number(from, to, usual) => (ArgAction::Set, ValueParser::unsigned(from, to), usual),
+        Takes::Text(usual) => (ArgAction::Set, ValueParser::String, usual),
+        Takes::Texts(usual) => (ArgAction::Append, ValueParser::String, usual),
         Takes::Nothing => (ArgAction::SetTrue, ValueParser::Bool, &[]),
     };
     Arg::new(alloc, entry.name)
@@ -211,7 +207,7 @@ fn argument<'a>(alloc: Global, entry: &'static Entry) -> Arg<'a> {
         .required(matches!(entry.takes, Takes::Needed(_, _)))
         .action(action)
         .value_parser(parser)
-        .default_values(unsaid)
+        .default_values(usual)
 }
 
 /// What the options ask for, where so many threads serve if none says how many.
@@ -238,14 +234,21 @@ fn settings(
     processors: usize,
 ) -> Result<Settings, AllocError> {
     let host = String::from_str(alloc, matches.get_str("host").unwrap_or("127.0.0.1"))?;
-    let hub = hub(alloc, matches)?;
-    let origins = origins(alloc, matches)?;
     Ok(Settings {
         host,
         port: matches.get_one::<u16>("port").unwrap_or(0),
         workers: matches.get_one::<usize>("workers").unwrap_or(processors),
         connections: unless_0(count(matches, "connections")),
-        hub,
+        hub: Config {
+            clients: size(matches, "clients"),
+            capacity: size(matches, "capacity"),
+            bytes: size(matches, "bytes"),
+            log: size(matches, "log"),
+            saved: size(matches, "saved"),
+            keep: count(matches, "keep"),
+            first_offset: 1,
+            spaces: spaces(alloc, matches)?,
+        },
         timing: Timing {
             ping_interval: count(matches, "ping-interval"),
             ping_timeout: count(matches, "ping-timeout"),
@@ -254,24 +257,10 @@ fn settings(
         max_payload: count(matches, "max-payload"),
         together: count(matches, "together"),
         poll_entries: size(matches, "poll-entries"),
-        origins,
+        origins: origins(alloc, matches)?,
         page: Page::new(alloc),
         metrics: text(alloc, matches, "metrics")?,
         report: unless_0(count(matches, "report")),
-    })
-}
-
-/// The limits of the hub, with the namespaces.
-fn hub(alloc: Global, matches: &ArgMatches<'_>) -> Result<Config, AllocError> {
-    Ok(Config {
-        clients: size(matches, "clients"),
-        capacity: size(matches, "capacity"),
-        bytes: size(matches, "bytes"),
-        log: size(matches, "log"),
-        saved: size(matches, "saved"),
-        keep: count(matches, "keep"),
-        first_offset: 1,
-        spaces: spaces(alloc, matches)?,
     })
 }
 

@@ -8,7 +8,7 @@ use crate::token::{TokenFault, read_token};
 use clap::error::ErrorKind;
 use clap::{ArgMatches, Command, Error};
 use journal::Config;
-use settings::{Setting, Settings};
+use settings::Settings;
 use std::alloc::{AllocError, Global};
 use std::convert::AsStr;
 use std::rt::{Env, Files};
@@ -109,54 +109,30 @@ fn read_files<R: Files + AllocGlobal + Clone + Drop>(
     program: Program,
     options: &mut Options,
 ) -> Result<(), Error> {
-    add_page(rt, program, options)?;
-    add_token(rt, program, options)
-}
-
-/// Reads the files of the folder that the options name, if they name one.
-fn add_page<R: Files + AllocGlobal + Clone + Drop>(
-    rt: &R,
-    program: Program,
-    options: &mut Options,
-) -> Result<(), Error> {
-    let Some(folder) = &options.folder else {
-        return Ok(());
-    };
-    let (alloc, folder) = (rt.alloc(), folder.as_str());
-    match read_folder(rt, folder) {
-        Ok(page) => {
-            options.settings.page = page;
-            Ok(())
-        }
-        Err(FolderFault::Memory) => Err(Error::from(AllocError)),
-        Err(fault) => {
-            let message = format!(in alloc; "--page {folder}: {fault}")?;
-            Err(program.refusal(alloc, message.as_str())?)
+    let alloc = rt.alloc();
+    if let Some(folder) = &options.folder {
+        let folder = folder.as_str();
+        match read_folder(rt, folder) {
+            Ok(page) => options.settings.page = page,
+            Err(FolderFault::Memory) => return Err(Error::from(AllocError)),
+            Err(fault) => {
+                let message = format!(in alloc; "--page {folder}: {fault}")?;
+                return Err(program.refusal(alloc, message.as_str())?);
+            }
         }
     }
-}
-
-/// Reads the token in the file that the options name, if they name one.
-fn add_token<R: Files + AllocGlobal>(
-    rt: &R,
-    program: Program,
-    options: &mut Options,
-) -> Result<(), Error> {
-    let Some(file) = &options.token_file else {
-        return Ok(());
-    };
-    let (alloc, file) = (rt.alloc(), file.as_str());
-    match read_token(rt, file) {
-        Ok(token) => {
-            options.token = Some(token);
-            Ok(())
-        }
-        Err(TokenFault::Memory) => Err(Error::from(AllocError)),
-        Err(fault) => {
-            let message = format!(in alloc; "--token-file {file}: {fault}")?;
-            Err(program.refusal(alloc, message.as_str())?)
+    if let Some(file) = &options.token_file {
+        let file = file.as_str();
+        match read_token(rt, file) {
+            Ok(token) => options.token = Some(token),
+            Err(TokenFault::Memory) => return Err(Error::from(AllocError)),
+            Err(fault) => {
+                let message = format!(in alloc; "--token-file {file}: {fault}")?;
+                return Err(program.refusal(alloc, message.as_str())?);
+            }
         }
     }
+    Ok(())
 }
 
 /// The arguments as text, the program's name first.
@@ -171,11 +147,7 @@ fn words<R: Env + AllocGlobal>(rt: &R, program: Program) -> Result<Vec<String>, 
 
 /// What these words ask `event_server` for, its name first, where so many threads serve if none says how
 /// many. The files of a folder are not read yet.
-pub fn task_of<'a, S: AsStr>(
-    alloc: Global,
-    words: &'a [S],
-    processors: usize,
-) -> Result<Task, Error> {
+fn task_of<'a, S: AsStr>(alloc: Global, words: &'a [S], processors: usize) -> Result<Task, Error> {
     let matches = Program::EventServer.matches(alloc, words)?;
     match matches.subcommand_matches("serve") {
         Some(serve) => {
@@ -195,7 +167,15 @@ fn right_options(
 ) -> Result<Box<Options>, Error> {
     let mut options = read_options(alloc, matches, processors)?;
     if let Some(setting) = options.settings.wrong() {
-        return Err(wrong(alloc, program, setting, &mut options.settings.hub)?);
+        // The numbers are in their ranges, so of the limits it is a namespace that is wrong.
+        let message = match wrong_space(&mut options.settings.hub) {
+            Some(space) => {
+                let name = space.as_str();
+                format!(in alloc; "--space {name:?}: {WRONG_SPACE}")?
+            }
+            None => format!(in alloc; "bad {setting}")?,
+        };
+        return Err(program.refusal(alloc, message.as_str())?);
     }
     match wrong_text(&options.settings) {
         Some((name, text, why)) => {
@@ -217,24 +197,6 @@ fn wrong_text(settings: &Settings) -> Option<(&'static str, &str, &'static str)>
         Some(path) if !is_path(path.as_str()) => Some(("metrics", path.as_str(), WRONG_PATH)),
         _ => None,
     }
-}
-
-/// The error of options with which no server is made. Their numbers are in their ranges, so of the
-/// limits it is a namespace that is wrong.
-fn wrong(
-    alloc: Global,
-    program: Program,
-    setting: Setting,
-    hub: &mut Config,
-) -> Result<Error, AllocError> {
-    let message = match wrong_space(hub) {
-        Some(space) => {
-            let name = space.as_str();
-            format!(in alloc; "--space {name:?}: {WRONG_SPACE}")?
-        }
-        None => format!(in alloc; "bad {setting}")?,
-    };
-    program.refusal(alloc, message.as_str())
 }
 
 /// Takes the first namespace away that is wrong, with those behind it.

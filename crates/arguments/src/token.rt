@@ -1,6 +1,5 @@
 //! The file with the token that clients need.
 
-use std::alloc::{AllocError, Global};
 use std::io::ErrorKind;
 use std::rt::Files;
 use std::{fmt, fs, io};
@@ -27,12 +26,6 @@ impl fmt::Display for TokenFault {
     }
 }
 
-impl From<AllocError> for TokenFault {
-    fn from(_refused: AllocError) -> TokenFault {
-        TokenFault::Memory
-    }
-}
-
 impl From<io::Error> for TokenFault {
     fn from(error: io::Error) -> TokenFault {
         match error.kind() {
@@ -46,14 +39,10 @@ impl From<io::Error> for TokenFault {
 /// The token in a file: its text, without the end of its line.
 pub fn read_token<R: Files + AllocGlobal>(rt: &R, path: &str) -> Result<Text, TokenFault> {
     let text = fs::read_to_string(rt, path)?;
-    token_in(rt.alloc(), text.as_str())
-}
-
-fn token_in(alloc: Global, text: &str) -> Result<Text, TokenFault> {
-    let line = text.strip_suffix('\n').unwrap_or(text);
+    let line = text.as_str().strip_suffix('\n').unwrap_or(text.as_str());
     let token = line.strip_suffix('\r').unwrap_or(line);
     if token.is_empty() {
         return Err(TokenFault::Empty);
     }
-    Ok(Text::copy_of(alloc, token)?)
+    Text::copy_of(rt.alloc(), token).map_err(|_| TokenFault::Memory)
 }

@@ -95,7 +95,8 @@ impl<C: Ledger, T: Ledger, A: App, P: Peer, I: IdSource> Promise<Finished<C, T>>
     ghost use Rattle.std.specs.Vec.Iter.{into_iter_items};
     ghost use Rattle.hub_gate.specs.Serving.{WorksAs};
 
-    ghost kept_by = { λ s finished. WorksAs P.gives P.hears (A.policy s.app.value) s.turns (into_iter_items s.job.value.queue.peers)
+    ghost kept_by = { λ s finished. WorksAs P.gives P.hears (A.policy s.app.value)
+        s.turns (into_iter_items s.job.value.queue.peers)
         (I.stream s.job.value.ids) finished.counts };
 }
 

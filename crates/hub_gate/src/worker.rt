@@ -158,7 +158,8 @@ pub fn run_worker<
     ensures commands { result.1.commands + pass.commands ≡ result.0.commands }
     ensures taken { result.1.taken + pass.taken ≡ result.0.taken }
     ensures parts { result.0.parts ≡ pass.parts }
-    ensures work { WorksOff S.next_gives P.gives P.hears (A.policy pool.now.app.now) pool.now.turns peers.old (desk pass (I.stream ids.old))
+    ensures work { WorksOff S.next_gives P.gives P.hears (A.policy pool.now.app.now)
+        pool.now.turns peers.old (desk pass (I.stream ids.old))
         result.1.peers result.1.faults (desk result.0 (I.stream ids.new)) }
 {
     let mut pass = pass;

@@ -2,7 +2,7 @@
 
 use crate::error_log::ErrorLog;
 use events::App;
-use hub_gate::{Report, WorkerCounts};
+use hub_gate::Report;
 use script::Answer;
 use settings::Settings;
 use std::io::Read;
@@ -37,18 +37,6 @@ impl fmt::Display for ServeFault {
     }
 }
 
-impl From<ServerFault> for ServeFault {
-    fn from(fault: ServerFault) -> ServeFault {
-        ServeFault::Server(fault)
-    }
-}
-
-impl From<io::Error> for ServeFault {
-    fn from(_error: io::Error) -> ServeFault {
-        ServeFault::Writing
-    }
-}
-
 /// A server that listens, and tells standard error of itself.
 pub type Listening<R> = Server<ErrorLog<R>>;
 
@@ -63,8 +51,8 @@ pub fn listen<R: Net + Print + Eprint + AllocGlobal + Copy + Drop + Sync>(
         return Err(ServeFault::Server(ServerFault::Memory));
     };
     let log = ErrorLog { rt: *rt, verbose };
-    let server = Server::listen(rt, alloc, settings, log)?;
-    println!(rt; "listening {place}")?;
+    let server = Server::listen(rt, alloc, settings, log).map_err(ServeFault::Server)?;
+    println!(rt; "listening {place}").map_err(|_| ServeFault::Writing)?;
     Ok(server)
 }
 
@@ -84,8 +72,8 @@ pub fn serve<
         + 'static,
     A: App + Sync,
 >(rt: &R, server: Listening<R>, app: &A) -> Result<ExitCode, ServeFault> {
-    let report = server.run(rt, rt.alloc(), app)?;
-    tell_report(rt, &report)?;
+    let report = server.run(rt, rt.alloc(), app).map_err(ServeFault::Server)?;
+    tell_report(rt, &report).map_err(|_| ServeFault::Writing)?;
     Ok(ExitCode::SUCCESS)
 }
 
@@ -106,15 +94,9 @@ pub fn wait_for_end<R: Wait + Clock + Input>(rt: &R, shared: &Arc<Shared>) {
 fn tell_report<R: Print>(rt: &R, report: &Report) -> io::Result<()> {
     let totals = Answer::Totals(report.totals);
     println!(rt; "{totals}")?;
-    let mut number: usize = 0;
-    for worker in report.workers.iter() {
-        tell_worker(rt, number, worker)?;
-        number = number.saturating_add(1);
+    for (number, worker) in report.workers.iter().enumerate() {
+        let (commands, taken) = (worker.commands, worker.taken);
+        println!(rt; "worker {number}: commands {commands}, taken {taken}")?;
     }
     Ok(())
-}
-
-fn tell_worker<R: Print>(rt: &R, number: usize, worker: &WorkerCounts) -> io::Result<()> {
-    let (commands, taken) = (worker.commands, worker.taken);
-    println!(rt; "worker {number}: commands {commands}, taken {taken}")
 }

@@ -8,7 +8,7 @@ use crate::watched_core::WatchedCore;
 use dispatch::Core;
 use events::{App, CoreError, CoreFault, IdSource, Peer};
 use hub::Pass;
-use hub_gate::{Locked, Pool, Report, ServeError, Settled, Turnstile, serve_peers};
+use hub_gate::{Locked, Pool, Report, ServeError, Turnstile, serve_peers};
 use settings::{Setting, Settings};
 use std::alloc::Global;
 use std::marker::Brand;
@@ -212,22 +212,10 @@ fn serve_pool<
 {
     let number = workers.len();
     match serve_peers(pool, pass, workers, number, ids) {
-        Ok(
-            Settled {
-                report,
-                core: _core,
-            },
-        ) => Ok(report),
-        Err(error) => Err(fault_of(error)),
-    }
-}
-
-/// What stopped the pool of threads.
-fn fault_of(error: ServeError) -> ServerFault {
-    match error {
-        ServeError::Memory => ServerFault::Memory,
-        ServeError::NotAll(_) => ServerFault::Books,
-        _ => ServerFault::Starting,
+        Ok(settled) => Ok(settled.report),
+        Err(ServeError::Memory) => Err(ServerFault::Memory),
+        Err(ServeError::NotAll(_)) => Err(ServerFault::Books),
+        Err(_) => Err(ServerFault::Starting),
     }
 }
 
@@ -253,12 +241,9 @@ fn lock_core<C: Ledger, T: Ledger>(
     requires taken { (taken.name ≡ T.name) × (taken.parts ≡ T.parts) × (taken.parts ≡ 65536) }
     ensures pass { IfOk result (λ made. made.1 ≡ record { commands = 0; taken = 0; parts = 1 }) }
 {
-    let Making {
-        hub,
-        timing,
-        numbers,
-    } = Box::into_inner(making);
-    let made = Core::new(alloc, hub, timing, numbers, commands, taken);
+    let making = Box::into_inner(making);
+    let (hub, timing) = (making.hub, making.timing);
+    let made = Core::new(alloc, hub, timing, making.numbers, commands, taken);
     let (mut core, pass) = made.map_err(refused)?;
     let Ok(looks) = core.new_pass() else {
         return Err(ServerFault::Starting);
