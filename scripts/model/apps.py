@@ -1,4 +1,4 @@
-"""What apps want of a CONNECT, of an event, and where a socket has ended."""
+"""What apps want of a CONNECT, an event, an answer, and where a socket has ended."""
 from wire import id_text, is_text
 
 # How a socket ended, as its rooms are told.
@@ -17,6 +17,9 @@ class Relay:
         texts = [it if is_text(it) else None for it in header.tree]
         effects = self.first(texts[0], room_in(texts, 1), room_in(texts, 2), id_text(sid))
         return effects + [("reply",)] * (header.id is not None) + [("bye",)] * (texts[0] == "bye")
+
+    def answers(self, header):
+        return []
 
     def left(self, sid, rooms, ending):
         return []
@@ -68,3 +71,25 @@ class Wild(Relay):
             '["late"]': late, '{"do":"late"}': late, '{"do":"join"}': join, '["mute"]': [("no array",)],
             '["vague"]': [("no array",)], '["again"]': [("no array",)],
         }.get(wish)
+
+
+class Quiz:
+    """The quiz (docs/APPS.md)."""
+
+    QUESTION = ("ask", '["question","How much is six times seven?"]', 30_000)
+
+    def connects(self, payload):
+        return []
+
+    def decides(self, sid, header):
+        return [self.QUESTION] * begins_with(header, "play") + [("reply",)] * (header.id is not None)
+
+    def answers(self, header):
+        return [("emit", [], [], True, '["solved"]')] if begins_with(header, "42") else [self.QUESTION]
+
+    def left(self, sid, rooms, ending):
+        return []
+
+
+def begins_with(header, word):
+    return header.tree[:1] == [word] and is_text(header.tree[0])

@@ -167,9 +167,9 @@ def read(text):
     return word, parts
 
 
-def printed_by(script):
-    """What a script prints."""
-    played, printed = Script(), []
+def printed_by(script, app=Wild()):
+    """What a script prints that is played to an app."""
+    played, printed = Script(app), []
     for line in script.split(b"\n")[: None if not script.endswith(b"\n") else -1]:
         printed += played.play(line)
     return "".join(f"{line}\n" for line in printed).encode()

@@ -1,4 +1,4 @@
-"""A server: each client's connection and its packets, and the demonstration app behind it."""
+"""A server: each client's connection and its packets, and an app behind it."""
 import contextlib
 
 from hub import Entry, Hub, Refused
@@ -110,7 +110,7 @@ def then_heard(event):
 
 
 class Server:
-    """Ids count from 1. An app says what it wants of a CONNECT, of an event, and where a socket has ended."""
+    """Ids count from 1. An app says what it wants of a CONNECT, an event, an answer, and where a socket has ended."""
 
     def __init__(self, app, **limits):
         self.app, self.hub, self.lines, self.id = app, Hub(**limits), {}, 0
@@ -289,7 +289,10 @@ class Server:
             effects = self.app.decides(sid, header)
             self.act(client, sid, header, parts, effects, done, now)
         elif header.kind in "36":
-            done.is_ignored = line.questions[sid][1].pop(header.id, None) is None or done.is_ignored
+            if line.questions[sid][1].pop(header.id, None) is None:
+                done.is_ignored = True
+            else:
+                self.act(client, sid, header, parts, self.app.answers(header), done, now)
         return None
 
     def connect(self, client, header, done, now):
@@ -337,7 +340,8 @@ class Server:
         elif name == "leave":
             hub.leave(sid, *words, now)
         elif name == "emit":
-            hub.cast(space, *words, header.payload, parts, now)
+            own = words[3:]
+            hub.cast(space, *words[:3], *own or [header.payload], [] if own else parts, now)
         elif name == "pull":
             hub.join_all(space, words[0], [], words[1], now)
         elif name == "push":
@@ -349,7 +353,7 @@ class Server:
         elif name == "no array":
             raise Refused("BadEffect")
         elif name == "ask":
-            self.ask(client, line.questions[sid], header, parts, now)
+            self.ask(client, line.questions[sid], space, *words or (header.payload, WAIT), [] if words else parts, now)
         elif name == "reply":
             self.tell(client, f"3{start(space)}{header.id}[]", now)
         elif name == "bye":
@@ -359,10 +363,10 @@ class Server:
             hub.end(sid, now)
             del line.questions[sid]
 
-    def ask(self, client, book, header, parts, now):
+    def ask(self, client, book, space, payload, wait, parts, now):
         number, book[0] = book[0], book[0] + 1
-        self.tell(client, event_text(header.space, header.payload, len(parts), number), now, parts)
-        book[1][number] = min(now + WAIT, GREATEST)
+        self.tell(client, event_text(space, payload, len(parts), number), now, parts)
+        book[1][number] = min(now + wait, GREATEST)
 
 
 def too_long():

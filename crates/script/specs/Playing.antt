@@ -121,10 +121,10 @@ Prints row (Some said) = row said
 
 -- ---- an event, and the lines
 
--- of the app: which effects it decides on, which verdicts it allows, and what it wants where sockets have ended
+-- with an app of this policy
 module _ (policy : Policy) where
-  -- the event happens to the server at its moment, as the machine's row says: the app decides and allows what its own
-  -- words say, and the ids count up; no name stands for another client than before
+  -- the event happens to the server at its moment, as the machine's row says: the app answers what its policy
+  -- allows, and the ids count up; no name stands for another client than before
   pub record Happens (s : Server) (event : Event) (answer : Answer) (t : Server) : Type 0 where
     pub does : Does policy s.now s.core.timing s.core.numbers event
         (place s.core.hub.history s.core.lines) (counted_from s.next) answer (place t.core.hub.history t.core.lines) (counted_from t.next)

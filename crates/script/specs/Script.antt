@@ -72,7 +72,7 @@ Gives before (Some bytes) after = Consumes before after bytes.now
 
 -- ---- the lines
 
--- of the app: which effects it decides on, which verdicts it allows, and what it wants where sockets have ended
+-- with an app of this policy
 module _ (policy : Policy) where
   -- the line is played where there is a server
   abbrev pub PlaysOn : ScriptLine → Stage → (said : Option (List ℕ)) → Stage → Type 0

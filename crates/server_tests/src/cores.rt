@@ -6,7 +6,6 @@ mod devices;
 mod event_lines;
 mod expected;
 mod gates;
-mod guards;
 mod hall;
 mod lists;
 mod long_lines;

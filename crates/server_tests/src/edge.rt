@@ -3,7 +3,6 @@
 mod answers;
 mod gathering;
 mod gets;
-mod limits;
 mod lost;
 mod memory_wire;
 mod moments;

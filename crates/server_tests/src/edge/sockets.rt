@@ -13,7 +13,7 @@ use tungstenite::{NoMask, Role, WebSocket};
 use usual_core::{OnServer, Server, Settings, on_new_server};
 
 /// One whose head was read before.
-pub type Accepted = SocketPeer<Replay<Spoken>, Still>;
+type Accepted = SocketPeer<Replay<Spoken>, Still>;
 
 /// What the reads of a WebSocket give: a client's frames, masked by zeros, one of them in two
 /// pieces.
@@ -286,7 +286,7 @@ fn clients_of_websockets(rt: HostRuntime) {
     }
 }
 
-pub static HEAD: &[u8] =
+static HEAD: &[u8] =
     b"GET /socket.io/?EIO=4&transport=websocket HTTP/1.1\r\nHost: a\r\nUpgrade: websocket\r\nConnection: Upgrade\r\nSec-WebSocket-Key: dGhlIHNhbXBsZSBub25jZQ==\r\nSec-WebSocket-Version: 13\r\n\r\n";
 
 static NO_KEY: &[u8] =
@@ -300,7 +300,7 @@ static SWITCHES: &[u8] =
 static FRAME: &[u8] = b"\x81\x82\0\0\0\x0040";
 
 /// A peer of a stream whose head and more were read before.
-pub fn accepted(alloc: Global, head: &[u8], rest: Vec<u8>, words: &str) -> Option<Accepted> {
+fn accepted(alloc: Global, head: &[u8], rest: Vec<u8>, words: &str) -> Option<Accepted> {
     let stream = Spoken::new(alloc, pieces_of(alloc, words).ok()?, 1_000);
     let head = Vec::from_slice(alloc, head).ok()?;
     let socket = accept_socket(alloc, stream, head, rest)?;

@@ -5,6 +5,7 @@ use crate::loops::wire::{brings, closes, says, sends};
 use std::net::{Net, TcpStream};
 use std::rt::Clock;
 use std::sync::Wait;
+use std::time::Duration;
 
 /// One joins a room while its GET waits, and so hears the other.
 pub fn polling<R: Net<Stream = TcpStream> + Clock + Wait>(place: &Place<'_, R>) -> bool {
@@ -18,6 +19,21 @@ pub fn polling<R: Net<Stream = TcpStream> + Clock + Wait>(place: &Place<'_, R>) 
     is_in
         && place.posts(other, r#"42["say","r","hi"]"#)
         && place.hears(hearing, r#"42["say","r","hi","0000000000000001"]"#)
+}
+
+/// A second GET closes the client. The app fails when it hears of this, and still the first GET is
+/// told so at once.
+pub fn closing<R: Net<Stream = TcpStream> + Clock + Wait>(place: &Place<'_, R>) -> bool {
+    let Some(id) = place.open() else {
+        return false;
+    };
+    let Some(first) = place.wait(id.as_str()) else {
+        return false;
+    };
+    // Sooner than it gives up.
+    let is_bounded = first.set_read_timeout(Some(Duration::from_secs(10)));
+    let _second = place.get(id.as_str());
+    is_bounded.is_ok() && place.hears(Some(first), "1")
 }
 
 /// One speaks from the first, the other comes over while a GET of it waits.

@@ -1,7 +1,9 @@
 //! A server that runs while its clients play a scene.
 
 use crate::loops::place::Place;
-use crate::loops::scenes::{polling, speaking};
+use crate::loops::scenes::{closing, polling, speaking};
+use crate::loops::vague::Vague;
+use events::App;
 use hub_gate::Report;
 use journal::Totals;
 use relay::RelayApp;
@@ -18,6 +20,14 @@ use tcp_server::{Ended, Log, Server, Shared};
 
 /// How many loops a server has.
 const LOOPS: usize = 4;
+
+/// What clients do.
+#[derive(Clone, Copy)]
+enum Scene {
+    Polling,
+    Speaking,
+    Closing,
+}
 
 /// Hears nothing.
 #[derive(Drop)]
@@ -45,12 +55,12 @@ fn listen<R: Net>(rt: &R, alloc: Global, connections: u64) -> Option<Server<Deaf
 fn is_so<R: Net<Stream = TcpStream> + Clock + Wait>(
     place: &Place<'_, R>,
     shared: &Shared,
-    speaks: bool,
+    scene: Scene,
 ) -> bool {
-    let is_so = if speaks {
-        speaking(place)
-    } else {
-        polling(place)
+    let is_so = match scene {
+        Scene::Polling => polling(place),
+        Scene::Speaking => speaking(place),
+        Scene::Closing => closing(place),
     };
     if !is_so {
         shared.stop(place.rt, Duration::from_millis(0));
@@ -77,7 +87,7 @@ fn counts_of(report: &Report) -> Option<[u64; 3]> {
     adds_up.then_some([totals.placed, totals.taken, totals.dropped])
 }
 
-/// What is counted of a scene beside a server, where all was so.
+/// What is counted of a scene beside a server of this app, where all was so.
 fn play<
     R: Threads
         + Wait
@@ -90,7 +100,8 @@ fn play<
         + Sync
         + Send
         + 'static,
->(rt: &R, connections: u64, speaks: bool) -> Option<[u64; 3]> {
+    A: App + Sync,
+>(rt: &R, app: &A, connections: u64, scene: Scene) -> Option<[u64; 3]> {
     let alloc = rt.alloc();
     let server = listen(rt, alloc, connections)?;
     let shared = server.shared().ok()?;
@@ -98,8 +109,8 @@ fn play<
     let place = Place { rt, alloc, port };
     let ends = thread::join(
         rt,
-        || server.run(rt, alloc, &RelayApp),
-        || is_so(&place, &shared, speaks),
+        || server.run(rt, alloc, app),
+        || is_so(&place, &shared, scene),
     );
     match ends {
         (Ok(report), true) => counts_of(&report),
@@ -109,10 +120,15 @@ fn play<
 
 #[test]
 fn polling_over_loopback(rt: HostRuntime) {
-    assert_eq!(rt; play(&rt, 10, false), Some([4, 4, 0]));
+    assert_eq!(rt; play(&rt, &RelayApp, 10, Scene::Polling), Some([4, 4, 0]));
 }
 
 #[test]
 fn socket_over_loopback(rt: HostRuntime) {
-    assert_eq!(rt; play(&rt, 6, true), Some([6, 6, 0]));
+    assert_eq!(rt; play(&rt, &RelayApp, 6, Scene::Speaking), Some([6, 6, 0]));
+}
+
+#[test]
+fn closing_over_loopback(rt: HostRuntime) {
+    assert_eq!(rt; play(&rt, &Vague, 5, Scene::Closing), Some([1, 1, 0]));
 }

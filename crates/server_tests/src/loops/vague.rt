@@ -1,0 +1,43 @@
+//! An app that wants what can't be done.
+
+use events::{App, Arrived, Effect, Verdict, Who};
+use journal::Ending;
+use std::alloc::{AllocError, Global};
+use terms::Room;
+
+/// It lets everybody in. Where a socket has ended it wants it disconnected.
+#[derive(Clone, Copy)]
+pub struct Vague;
+
+impl App for Vague {
+    ghost policy = { λ app. record {
+      allows = λ space payload verdict. Unit {0};
+      decides = λ who arrived effects. Unit {0};
+      leaves = λ who rooms ending effects. Unit {0};
+    } };
+
+    fn connects(&self, alloc: Global, _space: &str, _payload: &str) -> Result<Verdict, AllocError> {
+        Ok(Verdict::Accept(Vec::new(alloc)))
+    }
+
+    fn decides(
+        &self,
+        alloc: Global,
+        _who: &Who,
+        _arrived: &Arrived,
+    ) -> Result<Vec<Effect>, AllocError> {
+        Ok(Vec::new(alloc))
+    }
+
+    fn left(
+        &self,
+        alloc: Global,
+        _who: &Who,
+        _rooms: &[Room],
+        _ending: Ending,
+    ) -> Result<Vec<Effect>, AllocError> {
+        let mut effects = Vec::new(alloc);
+        effects.push(Effect::Disconnect)?;
+        Ok(effects)
+    }
+}
