@@ -5,42 +5,25 @@ use std::alloc::{AllocError, Global};
 use std::io::{ErrorKind, Read};
 use std::path::Path;
 use std::rt::Files;
-use std::{fmt, fs, io};
+use std::{fs, io};
 use terms::{Bytes, Text};
+use thiserror::Error;
 
 /// Why a folder can't be served.
-#[derive(Drop)]
+#[derive(Debug, Drop, Error)]
 pub enum FolderFault {
     /// An allocation was refused.
-    Memory,
+    #[error("out of memory")]
+    Memory(#[from(alloc)] AllocError),
     /// The folder, or a file of it.
+    #[error("{0} can't be read")]
     Unreadable(String),
-    /// The name of a file.
+    #[error("the name of a file in it is not UTF-8")]
     NotUtf8,
-    /// Of the files.
+    #[error("it has more than {MOST_FILES} files")]
     TooMany,
-    /// Of their bytes together.
+    #[error("its files have more than {MOST_BYTES} bytes together")]
     TooLarge,
-}
-
-impl fmt::Display for FolderFault {
-    fn fmt<W: fmt::Write>(&self, f: &mut fmt::Formatter<W>) -> fmt::Result {
-        match self {
-            FolderFault::Memory => f.write_str("out of memory"),
-            FolderFault::Unreadable(path) => write!(f, "{path} can't be read"),
-            FolderFault::NotUtf8 => f.write_str("the name of a file in it is not UTF-8"),
-            FolderFault::TooMany => write!(f, "it has more than {MOST_FILES} files"),
-            FolderFault::TooLarge => {
-                write!(f, "its files have more than {MOST_BYTES} bytes together")
-            }
-        }
-    }
-}
-
-impl From<AllocError> for FolderFault {
-    fn from(_refused: AllocError) -> FolderFault {
-        FolderFault::Memory
-    }
 }
 
 impl From<PageError> for FolderFault {
@@ -48,7 +31,7 @@ impl From<PageError> for FolderFault {
         match error {
             PageError::TooMany => FolderFault::TooMany,
             PageError::TooLarge => FolderFault::TooLarge,
-            PageError::Memory => FolderFault::Memory,
+            PageError::Memory => FolderFault::Memory(AllocError),
         }
     }
 }
@@ -56,13 +39,13 @@ impl From<PageError> for FolderFault {
 /// What a failed call on this path comes to.
 fn fault_at(alloc: Global, path: &str, error: &io::Error) -> FolderFault {
     match error.kind() {
-        ErrorKind::OutOfMemory => FolderFault::Memory,
+        ErrorKind::OutOfMemory => FolderFault::Memory(AllocError),
         // The one fault of a name.
         ErrorKind::InvalidFilename => FolderFault::NotUtf8,
-        _ => match String::from_str(alloc, path) {
-            Ok(path) => FolderFault::Unreadable(path),
-            Err(_) => FolderFault::Memory,
-        },
+        _ => String::from_str(alloc, path).map_or_else(
+            FolderFault::Memory,
+            FolderFault::Unreadable,
+        ),
     }
 }
 
@@ -88,15 +71,13 @@ fn add_entry<R: Files + AllocGlobal>(
     name: &str,
     path: Path<'_>,
 ) -> Result<(), FolderFault> {
-    match read_file(rt, path, MOST_BYTES - page.size()) {
-        Ok(None) => Ok(()),
-        Ok(Some(bytes)) => {
-            let (name, bytes) = (Text::copy_of(rt.alloc(), name)?, Bytes::from_vec(bytes));
-            page.add(File { name, bytes })?;
-            Ok(())
-        }
-        Err(error) => Err(fault_at(rt.alloc(), path.as_str(), &error)),
+    let (alloc, room) = (rt.alloc(), MOST_BYTES - page.size());
+    let read = read_file(rt, path, room).map_err(|error| fault_at(alloc, path.as_str(), &error))?;
+    if let Some(bytes) = read {
+        let (name, bytes) = (Text::copy_of(alloc, name)?, Bytes::from_vec(bytes));
+        page.add(File { name, bytes })?;
     }
+    Ok(())
 }
 
 /// The bytes of a file, but just one more than there is room for where it has more. Nothing where it

@@ -4,8 +4,7 @@
 
 mod folder;
 pub mod options;
-mod origin;
-mod path;
 pub mod refused;
 pub mod task;
+mod texts;
 mod token;

@@ -2,9 +2,9 @@
 
 use clap::builder::ValueParser;
 use clap::{Arg, ArgAction, ArgMatches, Command};
+use connection::Timing;
 use journal::Config;
 use page::Page;
-use session_clock::Timing;
 use settings::{MOST_BYTES, Settings};
 use std::alloc::{AllocError, Global};
 use terms::Text;
@@ -13,10 +13,6 @@ use terms::Text;
 #[derive(Drop)]
 pub struct Options {
     pub settings: Settings,
-    /// The folder whose files are served, if there is one.
-    pub folder: Option<String>,
-    /// The file with the token, if there is one.
-    pub token_file: Option<String>,
     /// The token that clients need, if they need one. It stands in no output.
     pub token: Option<Text>,
     /// Whether the rooms of a socket that has ended are told so.
@@ -51,134 +47,49 @@ enum Takes {
 /// The most that a u32 counts.
 const MANY: u64 = 4_294_967_295;
 
+/// A table of options: each one's name, what it takes, and its help.
+macro_rules! options {
+    ($($name:literal, $takes:expr, $help:literal;)*) => {
+        [$(Entry { name: $name, takes: $takes, help: $help }),*]
+    };
+}
+
 /// The options, in the order in which help tells them.
-static OPTIONS: [Entry; 25] = [
-    Entry {
-        name: "port",
-        takes: Takes::Needed(1, 65_535),
-        help: "The port to listen at",
-    },
-    Entry {
-        name: "host",
-        takes: Takes::Text(&["127.0.0.1"]),
-        help: "The address to listen at",
-    },
-    Entry {
-        name: "workers",
-        takes: Takes::Number(1, 1_023, &[]),
-        help: "The threads that serve [default: one a processor, at most 8]",
-    },
-    Entry {
-        name: "connections",
-        takes: Takes::Number(0, u64::MAX, &["0"]),
-        help: "Ends after so many connections; 0: never",
-    },
-    Entry {
-        name: "clients",
-        takes: Takes::Number(1, MANY, &["10000"]),
-        help: "The most clients at a time",
-    },
-    Entry {
-        name: "capacity",
-        takes: Takes::Number(1, 65_536, &["64"]),
-        help: "The most entries that wait for a client",
-    },
-    Entry {
-        name: "bytes",
-        takes: Takes::Number(1, MANY, &["8388608"]),
-        help: "The most bytes that wait for a client",
-    },
-    Entry {
-        name: "log",
-        takes: Takes::Number(1, MANY, &["1024"]),
-        help: "The most broadcasts that are logged",
-    },
-    Entry {
-        name: "saved",
-        takes: Takes::Number(0, MANY, &["4096"]),
-        help: "The most sessions that are saved",
-    },
-    Entry {
-        name: "keep",
-        takes: Takes::Number(0, u64::MAX, &["120000"]),
-        help: "How long these are kept, in milliseconds",
-    },
-    Entry {
-        name: "together",
-        takes: Takes::Number(1, u64::MAX, &["16"]),
-        help: "How many connections, one after another, one thread is given",
-    },
-    Entry {
-        name: "poll-entries",
-        takes: Takes::Number(1, 65_536, &["15"]),
-        help: "The most entries of one answer to a GET",
-    },
-    Entry {
-        name: "space",
-        takes: Takes::Texts(&["/admin"]),
-        help: "A namespace beside /; may come again",
-    },
-    Entry {
-        name: "ping-interval",
-        takes: Takes::Number(1, u64::MAX, &["25000"]),
-        help: "How often a client is pinged, in milliseconds",
-    },
-    Entry {
-        name: "ping-timeout",
-        takes: Takes::Number(1, u64::MAX, &["20000"]),
-        help: "How long it may take to answer, in milliseconds",
-    },
-    Entry {
-        name: "connect-timeout",
-        takes: Takes::Number(1, u64::MAX, &["45000"]),
-        help: "How long it may take to join a namespace, in milliseconds",
-    },
-    Entry {
-        name: "max-payload",
-        takes: Takes::Number(1, MOST_BYTES, &["1000000"]),
-        help: "How many bytes clients are told that a payload may have",
-    },
-    Entry {
-        name: "report",
-        takes: Takes::Number(0, MANY, &["0"]),
-        help: "Tells the totals on standard error every so many seconds; 0: never",
-    },
-    Entry {
-        name: "origin",
-        takes: Takes::Texts(&[]),
-        help: "Serves only pages of this origin, * for any, and tells browsers so; may come again",
-    },
-    Entry {
-        name: "token-file",
-        takes: Takes::Text(&[]),
-        help: "A file with the token that clients need",
-    },
-    Entry {
-        name: "page",
-        takes: Takes::Text(&[]),
-        help: "A folder whose files are served beside the socket's path",
-    },
-    Entry {
-        name: "metrics",
-        takes: Takes::Text(&[]),
-        help: "A path at which a GET is answered by the counts, for Prometheus",
-    },
-    Entry {
-        name: "tell-left",
-        takes: Takes::Nothing,
-        help: "Tells the rooms of a socket that has ended that it left",
-    },
-    Entry {
-        name: "until-eof",
-        takes: Takes::Nothing,
-        help: "Ends once standard input does",
-    },
-    Entry {
-        name: "verbose",
-        takes: Takes::Nothing,
-        help: "Tells on standard error of each client that ends",
-    },
-];
+static OPTIONS: [Entry; 25] = options! {
+    "port", Takes::Needed(1, 65_535), "The port to listen at";
+    "host", Takes::Text(&["127.0.0.1"]), "The address to listen at";
+    "workers", Takes::Number(1, 1_023, &[]),
+        "The threads that serve [default: one a processor, at most 8]";
+    "connections", Takes::Number(0, u64::MAX, &["0"]), "Ends after so many connections; 0: never";
+    "clients", Takes::Number(1, MANY, &["10000"]), "The most clients at a time";
+    "capacity", Takes::Number(1, 65_536, &["64"]), "The most entries that wait for a client";
+    "bytes", Takes::Number(1, MANY, &["8388608"]), "The most bytes that wait for a client";
+    "log", Takes::Number(1, MANY, &["1024"]), "The most broadcasts that are logged";
+    "saved", Takes::Number(0, MANY, &["4096"]), "The most sessions that are saved";
+    "keep", Takes::Number(0, u64::MAX, &["120000"]), "How long these are kept, in milliseconds";
+    "together", Takes::Number(1, u64::MAX, &["16"]),
+        "How many connections, one after another, one thread is given";
+    "poll-entries", Takes::Number(1, 65_536, &["15"]), "The most entries of one answer to a GET";
+    "space", Takes::Texts(&["/admin"]), "A namespace beside /; may come again";
+    "ping-interval", Takes::Number(1, u64::MAX, &["25000"]),
+        "How often a client is pinged, in milliseconds";
+    "ping-timeout", Takes::Number(1, u64::MAX, &["20000"]),
+        "How long it may take to answer, in milliseconds";
+    "connect-timeout", Takes::Number(1, u64::MAX, &["45000"]),
+        "How long it may take to join a namespace, in milliseconds";
+    "max-payload", Takes::Number(1, MOST_BYTES, &["1000000"]),
+        "How many bytes clients are told that a payload may have";
+    "report", Takes::Number(0, MANY, &["0"]),
+        "Tells the totals on standard error every so many seconds; 0: never";
+    "origin", Takes::Texts(&[]),
+        "Serves only pages of this origin, * for any, and tells browsers so; may come again";
+    "token-file", Takes::Text(&[]), "A file with the token that clients need";
+    "page", Takes::Text(&[]), "A folder whose files are served beside the socket's path";
+    "metrics", Takes::Text(&[]), "A path at which a GET is answered by the counts, for Prometheus";
+    "tell-left", Takes::Nothing, "Tells the rooms of a socket that has ended that it left";
+    "until-eof", Takes::Nothing, "Ends once standard input does";
+    "verbose", Takes::Nothing, "Tells on standard error of each client that ends";
+};
 
 /// The command of this name that serves, with its options.
 pub(crate) fn server<'a>(
@@ -218,8 +129,6 @@ pub(crate) fn read_options(
 ) -> Result<Box<Options>, AllocError> {
     let options = Options {
         settings: settings(alloc, matches, processors)?,
-        folder: text(alloc, matches, "page")?,
-        token_file: text(alloc, matches, "token-file")?,
         token: None,
         tell_left: matches.get_flag("tell-left"),
         until_eof: matches.get_flag("until-eof"),
@@ -233,9 +142,10 @@ fn settings(
     matches: &ArgMatches<'_>,
     processors: usize,
 ) -> Result<Settings, AllocError> {
-    let host = String::from_str(alloc, matches.get_str("host").unwrap_or("127.0.0.1"))?;
+    let host = matches.get_str("host").unwrap_or("127.0.0.1");
+    let metrics = matches.get_str("metrics");
     Ok(Settings {
-        host,
+        host: String::from_str(alloc, host)?,
         port: matches.get_one::<u16>("port").unwrap_or(0),
         workers: matches.get_one::<usize>("workers").unwrap_or(processors),
         connections: unless_0(count(matches, "connections")),
@@ -259,7 +169,9 @@ fn settings(
         poll_entries: size(matches, "poll-entries"),
         origins: origins(alloc, matches)?,
         page: Page::new(alloc),
-        metrics: text(alloc, matches, "metrics")?,
+        metrics: metrics
+            .map(|path| String::from_str(alloc, path))
+            .transpose()?,
         report: unless_0(count(matches, "report")),
     })
 }
@@ -276,14 +188,7 @@ fn spaces(alloc: Global, matches: &ArgMatches<'_>) -> Result<Vec<Text>, AllocErr
 
 /// A number of which 0 says never.
 fn unless_0(number: u64) -> Option<u64> {
-    if number == 0 { None } else { Some(number) }
-}
-
-fn text(alloc: Global, matches: &ArgMatches<'_>, name: &str) -> Result<Option<String>, AllocError> {
-    match matches.get_str(name) {
-        Some(text) => Ok(Some(String::from_str(alloc, text)?)),
-        None => Ok(None),
-    }
+    (number != 0).then_some(number)
 }
 
 fn count(matches: &ArgMatches<'_>, name: &str) -> u64 {

@@ -7,25 +7,18 @@ ghost use Rattle.arguments.specs.declared.refused.TellFault.TheVariants as fault
 
 use clap::Error;
 use clap::error::ErrorKind;
-use std::fmt;
 use std::process::ExitCode;
+use thiserror::Error;
 
 /// Why such arguments have no status of their own.
-#[derive(Clone, Copy)]
+#[derive(Clone, Copy, Debug, Error)]
 pub enum TellFault {
     /// An allocation was refused as they were read.
+    #[error("out of memory")]
     Memory,
     /// The help that they ask for can't be written.
+    #[error("device fault while writing")]
     Writing,
-}
-
-impl fmt::Display for TellFault {
-    fn fmt<W: fmt::Write>(&self, f: &mut fmt::Formatter<W>) -> fmt::Result {
-        f.write_str(match self {
-            TellFault::Memory => "out of memory",
-            TellFault::Writing => "device fault while writing",
-        })
-    }
 }
 
 /// Shows the text of a parse without matches, and gives the status: 0 for help, 2 for bad arguments.

@@ -2,8 +2,7 @@
 
 use crate::folder::{FolderFault, read_folder};
 use crate::options::{Options, read_options, server};
-use crate::origin::is_origin;
-use crate::path::is_path;
+use crate::texts::{is_origin, is_path};
 use crate::token::{TokenFault, read_token};
 use clap::error::ErrorKind;
 use clap::{ArgMatches, Command, Error};
@@ -79,12 +78,13 @@ pub fn read_arguments<R: Env + Files + AllocGlobal + Clone + Drop>(
     rt: &R,
     processors: usize,
 ) -> Result<Task, Error> {
-    let words = words(rt, Program::EventServer)?;
-    let mut task = task_of(rt.alloc(), words.as_slice(), processors)?;
-    if let Task::Serve(options) = &mut task {
-        read_files(rt, Program::EventServer, options)?;
+    let program = Program::EventServer;
+    let words = words(rt, program)?;
+    let matches = program.matches(rt.alloc(), words.as_slice())?;
+    match matches.subcommand_matches("serve") {
+        Some(serve) => Ok(Task::Serve(right_options(rt, program, serve, processors)?)),
+        None => Ok(Task::Script),
     }
-    Ok(task)
 }
 
 /// Reads the arguments of a program of this name that serves and does nothing else. Its options are
@@ -98,41 +98,7 @@ pub fn read_server_arguments<R: Env + Files + AllocGlobal + Clone + Drop>(
     let program = Program::Server(name, about);
     let words = words(rt, program)?;
     let matches = program.matches(rt.alloc(), words.as_slice())?;
-    let mut options = right_options(rt.alloc(), program, &matches, processors)?;
-    read_files(rt, program, &mut options)?;
-    Ok(options)
-}
-
-/// Reads what the options name: the files of a folder, and a token.
-fn read_files<R: Files + AllocGlobal + Clone + Drop>(
-    rt: &R,
-    program: Program,
-    options: &mut Options,
-) -> Result<(), Error> {
-    let alloc = rt.alloc();
-    if let Some(folder) = &options.folder {
-        let folder = folder.as_str();
-        match read_folder(rt, folder) {
-            Ok(page) => options.settings.page = page,
-            Err(FolderFault::Memory) => return Err(Error::from(AllocError)),
-            Err(fault) => {
-                let message = format!(in alloc; "--page {folder}: {fault}")?;
-                return Err(program.refusal(alloc, message.as_str())?);
-            }
-        }
-    }
-    if let Some(file) = &options.token_file {
-        let file = file.as_str();
-        match read_token(rt, file) {
-            Ok(token) => options.token = Some(token),
-            Err(TokenFault::Memory) => return Err(Error::from(AllocError)),
-            Err(fault) => {
-                let message = format!(in alloc; "--token-file {file}: {fault}")?;
-                return Err(program.refusal(alloc, message.as_str())?);
-            }
-        }
-    }
-    Ok(())
+    right_options(rt, program, &matches, processors)
 }
 
 /// The arguments as text, the program's name first.
@@ -145,44 +111,63 @@ fn words<R: Env + AllocGlobal>(rt: &R, program: Program) -> Result<Vec<String>, 
     }
 }
 
-/// What these words ask `event_server` for, its name first, where so many threads serve if none says how
-/// many. The files of a folder are not read yet.
-fn task_of<'a, S: AsStr>(alloc: Global, words: &'a [S], processors: usize) -> Result<Task, Error> {
-    let matches = Program::EventServer.matches(alloc, words)?;
-    match matches.subcommand_matches("serve") {
-        Some(serve) => {
-            let options = right_options(alloc, Program::EventServer, serve, processors)?;
-            Ok(Task::Serve(options))
-        }
-        None => Ok(Task::Script),
-    }
-}
-
-/// What the options ask for. Those with which no server is made are refused.
-fn right_options(
-    alloc: Global,
+/// What the options ask for, with what is in the files that they name. Those with which no server is
+/// made are refused.
+fn right_options<R: Files + AllocGlobal + Clone + Drop>(
+    rt: &R,
     program: Program,
     matches: &ArgMatches<'_>,
     processors: usize,
 ) -> Result<Box<Options>, Error> {
+    let alloc = rt.alloc();
     let mut options = read_options(alloc, matches, processors)?;
-    if let Some(setting) = options.settings.wrong() {
+    let mut wrong = wrong_option(alloc, &mut options.settings)?;
+    if wrong.is_none() {
+        wrong = read_files(rt, matches, &mut options)?;
+    }
+    match wrong {
+        Some(wrong) => Err(program.refusal(alloc, wrong.as_str())?),
+        None => Ok(options),
+    }
+}
+
+/// Reads what the options name, the files of a folder and a token, and tells what can't be read.
+fn read_files<R: Files + AllocGlobal + Clone + Drop>(
+    rt: &R,
+    matches: &ArgMatches<'_>,
+    options: &mut Options,
+) -> Result<Option<String>, AllocError> {
+    let alloc = rt.alloc();
+    if let Some(folder) = matches.get_str("page") {
+        match read_folder(rt, folder) {
+            Ok(page) => options.settings.page = page,
+            Err(FolderFault::Memory(refused)) => return Err(refused),
+            Err(fault) => return Ok(Some(format!(in alloc; "--page {folder}: {fault}")?)),
+        }
+    }
+    if let Some(file) = matches.get_str("token-file") {
+        match read_token(rt, file) {
+            Ok(token) => options.token = Some(token),
+            Err(TokenFault::Memory(refused)) => return Err(refused),
+            Err(fault) => return Ok(Some(format!(in alloc; "--token-file {file}: {fault}")?)),
+        }
+    }
+    Ok(None)
+}
+
+/// What is told of the first option that is wrong, if one is.
+fn wrong_option(alloc: Global, settings: &mut Settings) -> Result<Option<String>, AllocError> {
+    if let Some(setting) = settings.wrong() {
         // The numbers are in their ranges, so of the limits it is a namespace that is wrong.
-        let message = match wrong_space(&mut options.settings.hub) {
-            Some(space) => {
-                let name = space.as_str();
-                format!(in alloc; "--space {name:?}: {WRONG_SPACE}")?
-            }
+        let message = match wrong_space(&mut settings.hub) {
+            Some(space) => format!(in alloc; "--space {:?}: {WRONG_SPACE}", space.as_str())?,
             None => format!(in alloc; "bad {setting}")?,
         };
-        return Err(program.refusal(alloc, message.as_str())?);
+        return Ok(Some(message));
     }
-    match wrong_text(&options.settings) {
-        Some((name, text, why)) => {
-            let message = format!(in alloc; "--{name} {text:?}: {why}")?;
-            Err(program.refusal(alloc, message.as_str())?)
-        }
-        None => Ok(options),
+    match wrong_text(settings) {
+        Some((name, text, why)) => Ok(Some(format!(in alloc; "--{name} {text:?}: {why}")?)),
+        None => Ok(None),
     }
 }
 

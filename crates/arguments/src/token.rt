@@ -1,35 +1,30 @@
 //! The file with the token that clients need.
 
+use std::alloc::AllocError;
 use std::io::ErrorKind;
 use std::rt::Files;
-use std::{fmt, fs, io};
+use std::{fs, io};
 use terms::Text;
+use thiserror::Error;
 
 /// Why a file gives no token.
-#[derive(Clone, Copy, Debug, PartialEq, Eq)]
+#[derive(Clone, Copy, Debug, Error)]
 pub enum TokenFault {
     /// An allocation was refused.
-    Memory,
+    #[error("out of memory")]
+    Memory(#[from(alloc)] AllocError),
+    #[error("it can't be read")]
     Unreadable,
+    #[error("it is not UTF-8")]
     NotUtf8,
+    #[error("there is no token in it")]
     Empty,
-}
-
-impl fmt::Display for TokenFault {
-    fn fmt<W: fmt::Write>(&self, f: &mut fmt::Formatter<W>) -> fmt::Result {
-        f.write_str(match self {
-            TokenFault::Memory => "out of memory",
-            TokenFault::Unreadable => "it can't be read",
-            TokenFault::NotUtf8 => "it is not UTF-8",
-            TokenFault::Empty => "there is no token in it",
-        })
-    }
 }
 
 impl From<io::Error> for TokenFault {
     fn from(error: io::Error) -> TokenFault {
         match error.kind() {
-            ErrorKind::OutOfMemory => TokenFault::Memory,
+            ErrorKind::OutOfMemory => TokenFault::Memory(AllocError),
             ErrorKind::InvalidData => TokenFault::NotUtf8,
             _ => TokenFault::Unreadable,
         }
@@ -44,5 +39,5 @@ pub fn read_token<R: Files + AllocGlobal>(rt: &R, path: &str) -> Result<Text, To
     if token.is_empty() {
         return Err(TokenFault::Empty);
     }
-    Text::copy_of(rt.alloc(), token).map_err(|_| TokenFault::Memory)
+    Ok(Text::copy_of(rt.alloc(), token)?)
 }

@@ -12,17 +12,17 @@ use Rattle.std.specs.Map.{lookup}
 use Rattle.std.specs.Map.Calls.{RetainsPairs}
 use Rattle.std.specs.BTreeMap.{is_at}
 use Rattle.sio_wire.specs.Frames.{Frame, text, binary, Groups, Accepted, Accepts, text_refusal, binary_refusal}
-use Rattle.session_clock.specs.History as clock_history
-use Rattle.session_clock.specs.declared.error.ClockError.{ClockError}
-use Rattle.session_clock.specs.Clock as clock
-use Rattle.session_clock.specs.declared.timing.Due.{Due}
-use Rattle.session_clock.specs.declared.timing.Due.TheVariants.{Nothing, SendPing, PingTimeout, ConnectTimeout}
-use Rattle.session_clock.specs.Contents as clock_contents
-use Rattle.ack_book.specs.Questions as questions
-use Rattle.ack_book.specs.declared.error.AckError.{AckError}
-use Rattle.ack_book.specs.declared.book.Question.{Question}
-use Rattle.ack_book.specs.Book as book
-use Rattle.ack_book.specs.Contents as book_contents
+use Rattle.connection.specs.ClockHistory as clock_history
+use Rattle.connection.specs.declared.clock_error.ClockError.{ClockError}
+use Rattle.connection.specs.Clock as clock
+use Rattle.connection.specs.declared.timing.Due.{Due}
+use Rattle.connection.specs.declared.timing.Due.TheVariants.{Nothing, SendPing, PingTimeout, ConnectTimeout}
+use Rattle.connection.specs.ClockContents as clock_contents
+use Rattle.connection.specs.Questions as questions
+use Rattle.connection.specs.declared.ack_error.AckError.{AckError}
+use Rattle.connection.specs.declared.ack_book.Question.{Question}
+use Rattle.connection.specs.Book as book
+use Rattle.connection.specs.BookContents as book_contents
 use Rattle.connection.specs.History.{Call, Framed, FrameRefused, Ticked, Ponged, Probed, Upgraded, ProbeLost, GetBegan, GetEnded, PingCarried, Entered, Left, Asked, Answered, frames, failure, IsLegal, clock_calls, book_calls, is_getting, is_ping_due}
 use Rattle.connection.specs.Line.{PlainLine, ping_after, fresh_book, book_in, failure_of, HasTaken, LeadsTo, HasHistory, Advances}
 

@@ -2,10 +2,10 @@
 use Rattle.std.specs.Prelude.{◌≡◌, ℕ, ◌==◌, Bool, true, false, if◌then◌else◌, List, [], ◌∷◌, ◌++◌, Option, None, Some}
 use Rattle.sio_wire.specs.declared.error.SioError.{SioError}
 use Rattle.sio_wire.specs.Frames.{Frame}
-use Rattle.session_clock.specs.declared.timing.Due.{Due}
-use Rattle.session_clock.specs.declared.timing.Due.TheVariants.{SendPing}
-use Rattle.session_clock.specs.History as clock
-use Rattle.ack_book.specs.Questions as book
+use Rattle.connection.specs.declared.timing.Due.{Due}
+use Rattle.connection.specs.declared.timing.Due.TheVariants.{SendPing}
+use Rattle.connection.specs.ClockHistory as clock
+use Rattle.connection.specs.Questions as book
 
 -- a call that changed the line: a frame that the assembler took, or one that it refused for an error; a tick at a moment,
 -- with what was due, and a pong; the steps of an upgrade; a GET that begins to wait or waits no more; a ping that was

@@ -1,2 +1,11 @@
+pub mod ClockHistory
+pub mod Heartbeat
+pub mod Upgrade
+pub mod ClockContents
+pub mod Clock
+pub mod ClockFields
+pub mod Questions
+pub mod BookContents
+pub mod Book
 pub mod History
 pub mod Line

@@ -1,5 +1,5 @@
 -- What a line holds, and which histories lead to it.
-use Rattle.std.specs.Prelude.{◌≡◌, ℕ, Bool, true, List, [], ◌++◌, Option, None, Some, unwrap_or}
+use Rattle.std.specs.Prelude.{◌≡◌, ℕ, Bool, true, List, [], ◌∷◌, ◌++◌, Option, None, Some, unwrap_or, Result, OnOk, OnErr}
 use Rattle.std.specs.Ordering.{nat_cmp}
 use Rattle.std.specs.Map.{lookup}
 use Rattle.std.specs.BTreeMap.{is_at}
@@ -9,13 +9,17 @@ use Rattle.sio_wire.specs.declared.assembler.Progress.{Progress}
 use Rattle.sio_wire.specs.declared.assembler.Progress.TheVariants.{Failed}
 use Rattle.sio_wire.specs.declared.error.SioError.{SioError}
 use Rattle.sio_wire.specs.Frames.{Frame, Accepted}
-use Rattle.session_clock.specs.declared.timing.Due.{Due}
-use Rattle.session_clock.specs.declared.timing.Due.TheVariants.{SendPing}
-use Rattle.session_clock.specs.History.{Opening}
-use Rattle.session_clock.specs.Clock as clock
-use Rattle.session_clock.specs.Contents as clock_contents
-use Rattle.ack_book.specs.Book as book
-use Rattle.ack_book.specs.Contents as book_contents
+use Rattle.connection.specs.declared.timing.Due.{Due}
+use Rattle.connection.specs.declared.timing.Due.TheVariants.{SendPing}
+use Rattle.terms.specs.Refusal.{ok_unless}
+use Rattle.connection.specs.declared.clock_error.ClockError.{ClockError}
+use Rattle.connection.specs.declared.transport.Transport.{Transport}
+use Rattle.connection.specs.Upgrade.{transport}
+use Rattle.connection.specs.ClockHistory.{Opening}
+use Rattle.connection.specs.Clock as clock
+use Rattle.connection.specs.ClockContents as clock_contents
+use Rattle.connection.specs.Book as book
+use Rattle.connection.specs.BookContents as book_contents
 use Rattle.connection.specs.History.{Call, frames, failure, IsLegal, clock_calls, book_calls, is_getting, is_ping_due}
 
 -- the assembler and the clock, whether a GET waits and whether a ping is due, and the books of sockets by their ids
@@ -25,6 +29,9 @@ pub record PlainLine : Type 0 where
   pub getting : Bool
   pub ping : Bool
   pub books : List (ℕ × book_contents.Contents)
+
+abbrev pub plain_line : Progress → clock_contents.Contents → Bool → Bool → List (ℕ × book_contents.Contents) → PlainLine
+plain_line assembler clock getting ping books = record { assembler = assembler; clock = clock; getting = getting; ping = ping; books = books }
 
 -- a ping is due after a tick that was answered so, where one was due before it or not
 abbrev pub ping_after : Due → Bool → Bool
@@ -72,6 +79,13 @@ pub record HasHistory (l : PlainLine) : Type 0 where
 -- with these calls more, the newest first, each history that leads to the one line leads to the other
 abbrev pub Advances : PlainLine → List Call → PlainLine → Type 0
 Advances old calls new = ForEachHistory old (λ o h. LeadsTo o (calls ++ h) new)
+
+-- a call of the clock that it may refuse, by how the client speaks: then nothing has changed
+pub record StepsBy (call : Call) (refusal : Transport → Option ClockError) (old : PlainLine) (result : Result (Unit {0}) ClockError) (new : PlainLine) : Type 0 where
+  pub answer : ForEachHistory old (λ o h. result ≡ ok_unless (refusal (transport o (clock_calls h))))
+  pub reached : HasHistory old
+  pub advances : OnOk result (Advances old (call ∷ []) new)
+  pub unchanged : OnErr result (new ≡ old)
 
 -- the assembler has failed with this error, and nothing else has changed
 abbrev pub FailsWith : SioError → PlainLine → PlainLine → Type 0

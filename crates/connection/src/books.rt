@@ -1,11 +1,11 @@
 //! The acknowledgement books of a client's sockets.
 
-ghost use Rattle.std.specs.Prelude.{◌≡◌, ℕ, ◌==◌, false, ◌∷◌, None, Err, IfOk, IfErr, IfSome, OnOk, OnErr, if◌then◌else◌};
-ghost use Rattle.ack_book.specs.Questions.{Asked, Answered, Expired, next_id, question_at};
-ghost use Rattle.ack_book.specs.Book.{LeadsTo, ForEachHistory, ask_refusal, answer_of};
+ghost use Rattle.std.specs.Prelude.{◌≡◌, ℕ, ◌==◌, false, None, Err, IfOk, IfErr, IfSome, OnOk, OnErr, if◌then◌else◌};
+ghost use Rattle.connection.specs.Questions.{Asked, Answered, Expired, next_id, question_at};
+ghost use Rattle.connection.specs.Book.{ForEachHistory, Advances, ask_refusal, answer_of};
 ghost use Rattle.connection.specs.Line.{fresh_book, book_in};
 
-use ack_book::{AckBook, AckError};
+use crate::{AckBook, AckError};
 use std::alloc::Global;
 use std::collections::BTreeMap;
 use terms::Sid;
@@ -41,8 +41,7 @@ fn first_question(alloc: Global, tag: u64, until: u64) -> Result<(u64, AckBook),
         ask_refusal first h ≡ None → IfErr result (λ e. e ≡ AckError.Memory)) }
     ensures id { IfOk result (λ both.
         ForEachHistory fresh_book (λ first h. both.0 ≡ next_id first h)) }
-    ensures leads { IfOk result (λ both. ForEachHistory fresh_book (λ first h.
-        LeadsTo first (Asked tag until ∷ h) both.1)) }
+    ensures leads { IfOk result (λ both. Advances fresh_book (Asked tag until) both.1) }
 {
     let mut book = AckBook::new(alloc, 0);
     let id = book.ask(alloc, tag, until)?;
@@ -63,8 +62,8 @@ pub(crate) fn ask(
         ask_refusal first h ≡ None → IfErr result (λ e. e ≡ AckError.Memory)) }
     ensures id { IfOk result (λ id.
         ForEachHistory (book_in books.old.entries sid) (λ first h. id ≡ next_id first h)) }
-    ensures leads { OnOk result (ForEachHistory (book_in books.old.entries sid) (λ first h.
-        LeadsTo first (Asked tag until ∷ h) (book_in books.new.entries sid))) }
+    ensures leads { let old = book_in books.old.entries sid in
+        OnOk result (Advances old (Asked tag until) (book_in books.new.entries sid)) }
     ensures unchanged { OnErr result
         (book_in books.new.entries sid ≡ book_in books.old.entries sid) }
     ensures others { (s : ℕ) → sid == s ≡ false
@@ -82,8 +81,8 @@ pub(crate) fn ask(
 pub(crate) fn answer(books: &mut BTreeMap<Sid, AckBook>, sid: Sid, id: u64) -> Result<u64, AckError>
     ensures answer { ForEachHistory (book_in books.old.entries sid) (λ first h.
         result ≡ answer_of (question_at first h id)) }
-    ensures leads { OnOk result (ForEachHistory (book_in books.old.entries sid) (λ first h.
-        LeadsTo first (Answered id ∷ h) (book_in books.new.entries sid))) }
+    ensures leads { let old = book_in books.old.entries sid in
+        OnOk result (Advances old (Answered id) (book_in books.new.entries sid)) }
     ensures unchanged { OnErr result
         (book_in books.new.entries sid ≡ book_in books.old.entries sid) }
     ensures others { (s : ℕ) → sid == s ≡ false
@@ -97,8 +96,8 @@ pub(crate) fn answer(books: &mut BTreeMap<Sid, AckBook>, sid: Sid, id: u64) -> R
 
 /// Forgets each question that has run out at this moment.
 pub(crate) fn expire(books: &mut BTreeMap<Sid, AckBook>, now: u64)
-    ensures { (s : ℕ) → ForEachHistory (book_in books.old.entries s) (λ first h.
-        LeadsTo first (Expired now ∷ h) (book_in books.new.entries s)) }
+    ensures { (s : ℕ) →
+        Advances (book_in books.old.entries s) (Expired now) (book_in books.new.entries s) }
 {
     books.retain(|_, book| {
         book.expire(now);

@@ -2,7 +2,7 @@
 
 ghost use Rattle.std.specs.Prelude.{◌≡◌, List, []};
 ghost use Rattle.sio_wire.specs.declared.assembler.Progress.{Progress};
-ghost use Rattle.session_clock.specs.History.{Opening};
+ghost use Rattle.connection.specs.ClockHistory.{Opening};
 ghost use Rattle.connection.specs.History.{Call, frames, failure};
 ghost use Rattle.connection.specs.Line.{PlainLine, LeadsTo};
 

@@ -1,10 +1,24 @@
-//! One client's line: what the server keeps of a client beside the hub (Engine.IO protocol 4 and
-//! Socket.IO protocol 5).
+//! One client's line: what the server keeps of a client beside the hub. It has the client's clock,
+//! which says when it is pinged, when it is given up and over which transport it speaks (Engine.IO
+//! protocol 4, "Heartbeat" and "Upgrade"), and its questions that wait for an acknowledgement
+//! (Socket.IO protocol 5, "Acknowledgement").
 #![tactic(auto)]
 
+mod ack_book;
+mod ack_error;
 mod books;
+mod clock;
+mod clock_error;
 mod laws;
 mod line;
+mod timing;
+mod transport;
 
+pub use ack_book::AckBook;
+pub use ack_error::AckError;
+pub use clock::Clock;
+pub use clock_error::ClockError;
 pub use laws::frames_tell;
 pub use line::Line;
+pub use timing::{Due, Timing};
+pub use transport::{ClockState, Transport};

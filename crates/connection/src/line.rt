@@ -2,18 +2,15 @@
 #![tactic(auto, unfolding(crate::specs::History::frames, crate::specs::History::failure, crate::specs::History::IsLegal, crate::specs::History::clock_calls, crate::specs::History::book_calls, crate::specs::History::is_getting, crate::specs::History::is_ping_due))]
 
 ghost use Rattle.std.specs.Prelude.{◌≡◌, ◌⊎◌, [], ◌∷◌, length, Some, None, Err, IfOk, IfErr, IfSome, OnOk, OnErr};
-ghost use Rattle.terms.specs.Refusal.{ok_unless};
 ghost use Rattle.sio_wire.specs.Frames.{text as text_frame, binary as binary_frame, Accepts, RefusesText, binary_refusal, exceeds};
-ghost use Rattle.session_clock.specs.Heartbeat.{due};
-ghost use Rattle.session_clock.specs.Upgrade.{transport, probe_refusal, unprobed_refusal};
-ghost use Rattle.ack_book.specs.Questions.{next_id, question_at};
-ghost use Rattle.ack_book.specs.Book.{ask_refusal, answer_of};
+ghost use Rattle.connection.specs.Heartbeat.{due};
+ghost use Rattle.connection.specs.Upgrade.{transport, probe_refusal, unprobed_refusal};
+ghost use Rattle.connection.specs.Questions.{next_id, question_at};
+ghost use Rattle.connection.specs.Book.{ask_refusal, answer_of};
 ghost use Rattle.connection.specs.History.{Framed, Ticked, Ponged, Probed, Upgraded, ProbeLost, GetBegan, GetEnded, PingCarried, Entered, Left, Asked, Answered, clock_calls, book_calls, is_getting, is_ping_due};
-ghost use Rattle.connection.specs.Line.{LeadsTo, ForEachHistory, HasHistory, Advances, FailsWith, IsWholeIfGiven, ping_after};
+ghost use Rattle.connection.specs.Line.{LeadsTo, ForEachHistory, HasHistory, Advances, FailsWith, IsWholeIfGiven, StepsBy, ping_after};
 
-use crate::books;
-use ack_book::{AckBook, AckError};
-use session_clock::{Clock, ClockError, Due, Timing, Transport};
+use crate::{AckBook, AckError, Clock, ClockError, Due, Timing, Transport, books};
 use sio_wire::{Assembler, SioError, SioPacket};
 use std::alloc::Global;
 use std::collections::BTreeMap;
@@ -50,25 +47,14 @@ impl Drop for Line {
 }
 
 impl Model for Line {
-    ghost use Rattle.connection.specs.Line.{PlainLine, HasHistory};
+    ghost use Rattle.connection.specs.Line.{PlainLine, HasHistory, plain_line};
 
     ghost Value = { PlainLine };
 
-    ghost view = { λ l. record {
-      assembler = l.assembler;
-      clock = l.clock;
-      getting = l.getting;
-      ping = l.ping;
-      books = l.books.entries;
-    } };
+    ghost view = { λ l. plain_line l.assembler l.clock l.getting l.ping l.books.entries };
 
-    ghost invariant = { λ l. HasHistory (record {
-      assembler = l.assembler;
-      clock = l.clock;
-      getting = l.getting;
-      ping = l.ping;
-      books = l.books.entries;
-    }) };
+    ghost invariant = { λ l.
+        HasHistory (plain_line l.assembler l.clock l.getting l.ping l.books.entries) };
 }
 
 /// Whether a ping is due after a tick that was answered so, where one was due before it or not.
@@ -171,33 +157,21 @@ impl Line {
 
     /// A probe over a WebSocket begins.
     pub fn probe(&mut self) -> Result<(), ClockError>
-        ensures answer { ForEachHistory self.old (λ o h.
-            result ≡ ok_unless (probe_refusal (transport o (clock_calls h)))) }
-        ensures reached { HasHistory self.old }
-        ensures advances { OnOk result (Advances self.old (Probed ∷ []) self.new) }
-        ensures unchanged { OnErr result (self.new ≡ self.old) }
+        ensures { StepsBy Probed probe_refusal self.old result self.new }
     {
         self.clock.probe()
     }
 
     /// The client speaks over the WebSocket from now on.
     pub fn upgrade(&mut self) -> Result<(), ClockError>
-        ensures answer { ForEachHistory self.old (λ o h.
-            result ≡ ok_unless (unprobed_refusal (transport o (clock_calls h)))) }
-        ensures reached { HasHistory self.old }
-        ensures advances { OnOk result (Advances self.old (Upgraded ∷ []) self.new) }
-        ensures unchanged { OnErr result (self.new ≡ self.old) }
+        ensures { StepsBy Upgraded unprobed_refusal self.old result self.new }
     {
         self.clock.upgrade()
     }
 
     /// The probe failed, and the client polls on.
     pub fn probe_lost(&mut self) -> Result<(), ClockError>
-        ensures answer { ForEachHistory self.old (λ o h.
-            result ≡ ok_unless (unprobed_refusal (transport o (clock_calls h)))) }
-        ensures reached { HasHistory self.old }
-        ensures advances { OnOk result (Advances self.old (ProbeLost ∷ []) self.new) }
-        ensures unchanged { OnErr result (self.new ≡ self.old) }
+        ensures { StepsBy ProbeLost unprobed_refusal self.old result self.new }
     {
         self.clock.probe_lost()
     }

@@ -3,11 +3,11 @@
 use Rattle.std.proofs.Common.{◌≡◌, ℕ, ◌==◌, Bool, true, false, List, [], ◌∷◌, refl, sym, ◌∙◌, ap, subst, is_some, is_none, Option, None, Some, Ok, Err, IfOk, inl, inr}
 use Rattle.eio_wire.specs.declared.handshake.Numbers.{Numbers}
 use Rattle.eio_wire.specs.declared.packet.Packet.{Packet}
-use Rattle.session_clock.specs.declared.timing.Due.{Due}
-use Rattle.session_clock.specs.declared.timing.Due.TheVariants as due
-use Rattle.session_clock.specs.declared.timing.Timing.{Timing}
-use Rattle.session_clock.specs.declared.transport.Transport.{Transport}
-use Rattle.session_clock.specs.declared.transport.Transport.TheVariants.{Polling, Probing, Socket}
+use Rattle.connection.specs.declared.timing.Due.{Due}
+use Rattle.connection.specs.declared.timing.Due.TheVariants as due
+use Rattle.connection.specs.declared.timing.Timing.{Timing}
+use Rattle.connection.specs.declared.transport.Transport.{Transport}
+use Rattle.connection.specs.declared.transport.Transport.TheVariants.{Polling, Probing, Socket}
 use Rattle.connection.specs.History.{Call, GetBegan, GetEnded, Ticked, Probed, Upgraded, ProbeLost}
 use Rattle.connection.specs.Line.{PlainLine}
 use Rattle.journal.specs.declared.step.What.{What}

@@ -4,9 +4,9 @@ use Rattle.std.proofs.lemmas.Bool.Decides.{nat_tests}
 use Rattle.std.proofs.lemmas.List.{drop-append-le, drop-drop, length-take-le, take_more, take_all}
 use Rattle.eio_wire.specs.declared.handshake.Numbers.{Numbers}
 use Rattle.eio_wire.specs.declared.packet.Packet.{Packet}
-use Rattle.session_clock.specs.declared.timing.Timing.{Timing}
-use Rattle.session_clock.specs.declared.transport.Transport.{Transport}
-use Rattle.session_clock.specs.declared.transport.Transport.TheVariants.{Polling, Probing, Socket}
+use Rattle.connection.specs.declared.timing.Timing.{Timing}
+use Rattle.connection.specs.declared.transport.Transport.{Transport}
+use Rattle.connection.specs.declared.transport.Transport.TheVariants.{Polling, Probing, Socket}
 use Rattle.terms.specs.declared.entry.Entry.{Entry}
 use Rattle.connection.specs.Line.{PlainLine}
 use Rattle.journal.specs.declared.error.HubError.{HubError}

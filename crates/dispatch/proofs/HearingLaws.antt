@@ -4,7 +4,7 @@ use Rattle.std.specs.Prelude.{unwrap_or}
 use Rattle.std.specs.List.{AllByRecursion}
 use Rattle.eio_wire.specs.declared.handshake.Numbers.{Numbers}
 use Rattle.eio_wire.specs.Payload.{IsWhole}
-use Rattle.session_clock.specs.declared.timing.Timing.{Timing}
+use Rattle.connection.specs.declared.timing.Timing.{Timing}
 use Rattle.connection.specs.Line.{PlainLine}
 use Rattle.terms.specs.declared.entry.Entry.{Entry}
 use Rattle.journal.specs.Plain.{Limits}

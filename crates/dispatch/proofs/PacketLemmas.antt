@@ -11,9 +11,9 @@ use Rattle.sio_wire.specs.declared.assembler.Progress.TheVariants.{Failed}
 use Rattle.sio_wire.specs.declared.error.SioError.{SioError}
 use Rattle.sio_wire.specs.declared.error.SioError.TheVariants as sio
 use Rattle.sio_wire.specs.Frames.{text, binary, Accepts, RefusesText, binary_refusal}
-use Rattle.ack_book.specs.Book.{answer_of}
-use Rattle.ack_book.specs.Questions.{question_at}
-use Rattle.ack_book.specs.declared.book.Question.{Question}
+use Rattle.connection.specs.Book.{answer_of}
+use Rattle.connection.specs.Questions.{question_at}
+use Rattle.connection.specs.declared.ack_book.Question.{Question}
 use Rattle.connection.specs.History.{Framed, book_calls}
 use Rattle.connection.specs.Line.{PlainLine, ForEachHistory, Advances, book_in}
 use Rattle.journal.specs.declared.socket.Socket.{Socket}

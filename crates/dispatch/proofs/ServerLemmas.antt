@@ -7,7 +7,7 @@ use Rattle.std.proofs.lemmas.List.Elements.{All-nil, All-cons}
 use Rattle.eio_wire.specs.Payload.{IsWhole}
 use Rattle.terms.specs.Refusal.{first_refusal}
 use Rattle.eio_wire.specs.declared.handshake.Numbers.{Numbers}
-use Rattle.session_clock.specs.declared.timing.Timing.{Timing}
+use Rattle.connection.specs.declared.timing.Timing.{Timing}
 use Rattle.connection.specs.Line.{PlainLine}
 use Rattle.journal.specs.declared.error.HubError.{HubError}
 use Rattle.journal.specs.declared.step.Step.{Step}
@@ -22,8 +22,8 @@ use Rattle.journal.specs.Seal.{PlainEpoch, base_client, client_of, IsSealed, Say
 use Rattle.journal.proofs.EntriesLemmas.{what-waits}
 use Rattle.journal.proofs.SealListsLemmas.{all-append}
 use Rattle.journal.specs.Totals.{commands, handed_out}
-use Rattle.hub.specs.Pass.{PlainHub, PlainBooks, PlainPass}
-use Rattle.hub.proofs.CountingLemmas.{commands-grow, handed_out-grows}
+use Rattle.hub_totals.specs.Pass.{PlainHub, PlainBooks, PlainPass}
+use Rattle.hub_totals.proofs.CountingLemmas.{commands-grow, handed_out-grows}
 use Rattle.events.specs.App.{Policy}
 use Rattle.effects.specs.Following.{is_clean, is_turn, Follows}
 use Rattle.events.specs.declared.event.Event.{Event}

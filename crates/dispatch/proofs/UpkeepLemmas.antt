@@ -1,6 +1,6 @@
 -- What a tick does, from what its parts do.
 use Rattle.std.proofs.Common.{◌≡◌, ℕ, Bool, true, false, List, [], ◌∷◌, inl, inr, Some, Ok}
-use Rattle.session_clock.specs.declared.timing.Due.{Due}
+use Rattle.connection.specs.declared.timing.Due.{Due}
 use Rattle.connection.specs.History.{Ticked}
 use Rattle.connection.specs.Line.{PlainLine, Advances}
 use Rattle.journal.specs.Journal.{History}

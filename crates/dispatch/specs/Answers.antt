@@ -8,11 +8,13 @@ use Rattle.events.specs.declared.cause.Cause.{Cause}
 use Rattle.events.specs.declared.fault.CoreError.{CoreError}
 use Rattle.events.specs.declared.fault.CoreFault.{CoreFault}
 use Rattle.events.specs.declared.fault.CoreFault.TheVariants.{Memory, UnknownClient, BadConfig}
+use Rattle.journal.specs.Journal.{History}
+use Rattle.effects.specs.declared.scene.Visit.{Visit}
 use Rattle.effects.specs.Commands.{Makes, StopsAt}
 use Rattle.events.specs.Plain.{PlainDone, nothing_done}
 use Rattle.events.specs.Answer.{Answer, at_once}
 use Rattle.events.specs.declared.outcome.Outcome.TheVariants as outcome
-use Rattle.dispatch.specs.Place.{Place, HasLine, LosesLine, KeepsLines}
+use Rattle.dispatch.specs.Place.{Place, place, HasLine, LosesLine, KeepsLines}
 
 -- why there is no core: the limits allow no hub, or there is no memory
 abbrev pub fault_of_config : Option HubError → CoreFault
@@ -51,3 +53,11 @@ ForClient c row s answer t = elim (s.lines c) [
   | None ↦ Refused UnknownClient s answer t
   | Some line ↦ row line s answer t
 ]
+
+-- an event of a client at a moment
+abbrev pub ForVisit : Visit → (ℕ → ℕ → PlainLine → Place → Answer → Place → Type 0) → History → List (ℕ × PlainLine) → Answer → History → List (ℕ × PlainLine) → Type 0
+ForVisit visit row h lines answer g after = ForClient visit.client (row visit.moment visit.client) (place h lines) answer (place g after)
+
+-- an event of a client that concerns its line alone, whatever the hub's history is
+abbrev pub OnLine : (c : ℕ) → (ℕ → PlainLine → Place → Answer → Place → Type 0) → List (ℕ × PlainLine) → Answer → List (ℕ × PlainLine) → Type 0
+OnLine c row lines answer after = (h : History) → ForClient c (row c) (place h lines) answer (place h after)

@@ -5,8 +5,8 @@ use Rattle.eio_wire.specs.declared.handshake.Numbers.{Numbers}
 use Rattle.eio_wire.specs.declared.packet.Packet.{Packet}
 use Rattle.eio_wire.specs.Handshake.{open_packet_text}
 use Rattle.eio_wire.specs.Payload.{Payload, HasFault}
-use Rattle.session_clock.specs.declared.timing.Timing.{Timing}
-use Rattle.session_clock.specs.declared.transport.Transport.TheVariants.{Socket}
+use Rattle.connection.specs.declared.timing.Timing.{Timing}
+use Rattle.connection.specs.declared.transport.Transport.TheVariants.{Socket}
 use Rattle.connection.specs.History.{GetBegan, GetEnded}
 use Rattle.connection.specs.Line.{PlainLine, LeadsTo}
 use Rattle.journal.specs.declared.error.HubError.TheVariants as hub

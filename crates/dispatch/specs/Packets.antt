@@ -17,8 +17,8 @@ use Rattle.sio_wire.specs.ConnectAnswer.{refused_text}
 use Rattle.sio_wire.specs.Frames.{Frame, text, binary, Accepts, RefusesText, binary_refusal, exceeds}
 use Rattle.sio_wire.specs.JsonFields.{resume_at}
 use Rattle.sio_wire.specs.Offset.{offset_digits}
-use Rattle.ack_book.specs.Questions.{question_at}
-use Rattle.ack_book.specs.declared.book.Question.{Question}
+use Rattle.connection.specs.Questions.{question_at}
+use Rattle.connection.specs.declared.ack_book.Question.{Question}
 use Rattle.connection.specs.History.{Framed, Ponged, Entered, Left, Answered, book_calls}
 use Rattle.connection.specs.Line.{PlainLine, ForEachHistory, Advances, IsWholeIfGiven}
 use Rattle.journal.specs.declared.error.HubError.TheVariants as hub
@@ -36,6 +36,7 @@ use Rattle.events.specs.declared.fault.CoreFault.{CoreFault}
 use Rattle.events.specs.declared.fault.CoreFault.TheVariants.{Memory}
 use Rattle.events.specs.App.{Policy, Accepted, Refused, IsCleanArrival, AllClean}
 use Rattle.events.specs.Cause.{cause_of_sio}
+use Rattle.events.specs.Plain.{one_packet_more}
 use Rattle.effects.specs.Commands.{Makes, IsRefused, StopsAt, CannotReturn, IsSeated, seat, return_of}
 use Rattle.effects.specs.Effects.{Scene, told_to, counted, Closes, ActsInTurn, StopsAfter}
 use Rattle.events.specs.declared.fault.CoreError.{CoreError}
@@ -295,7 +296,7 @@ module _ (policy : Policy) where
 
   -- one packet more is worked on, which asks for no acknowledgement yet
   abbrev pub begun : Stage → Stage
-  begun s = record s { scene = record s.scene { done = record s.scene.done { packets = min (s.scene.done.packets + 1) 18446744073709551615 }; asked = None; ended = false } }
+  begun s = record s { scene = record s.scene { done = one_packet_more s.scene.done; asked = None; ended = false } }
 
   -- a packet in its turn: after the client was closed nothing more is done
   abbrev pub HandlesOrBreaks : ℕ → Packet → ℕ → Stage → Upshot → Stage → Type 0

@@ -1,17 +1,19 @@
 -- What a core holds: the hub's history, and a line for each client that is open.
-use Rattle.std.specs.Prelude.{◌≡◌, ℕ, ◌==◌, false, List, Option, None, Some, is_some}
+use Rattle.std.specs.Prelude.{◌≡◌, ℕ, ◌==◌, false, List, [], Option, None, Some, is_some}
 use Rattle.std.specs.Ordering.{nat_cmp}
 use Rattle.std.specs.List.{AllByRecursion}
 use Rattle.std.specs.Map.{lookup}
 use Rattle.std.specs.BTreeMap.{is_at}
 use Rattle.eio_wire.specs.declared.handshake.Numbers.{Numbers}
 use Rattle.eio_wire.specs.Payload.{IsWhole}
-use Rattle.session_clock.specs.declared.timing.Timing.{Timing}
+use Rattle.connection.specs.declared.timing.Timing.{Timing}
 use Rattle.connection.specs.Line.{PlainLine}
+use Rattle.journal.specs.Plain.{Limits}
+use Rattle.journal.specs.Config.{empty_base}
 use Rattle.journal.specs.Journal.{History}
 use Rattle.journal.specs.Membership.{is_open}
 use Rattle.journal.specs.Entries.{BringsOnly}
-use Rattle.hub.specs.Pass.{PlainHub}
+use Rattle.hub_totals.specs.Pass.{PlainHub}
 use Rattle.effects.specs.Following.{is_clean}
 
 -- the hub, the lines by their clients, and what each new client is told
@@ -20,6 +22,16 @@ pub record PlainCore : Type 0 where
   pub lines : List (ℕ × PlainLine)
   pub timing : Timing
   pub numbers : Numbers
+
+-- with no clients
+abbrev pub new_core : Limits → Timing → Numbers → PlainCore
+new_core config timing numbers =
+    record {
+      hub = record { history = record { base = empty_base config.first_offset; limits = config; journal = [] }; rest = 65535 };
+      lines = [];
+      timing = timing;
+      numbers = numbers;
+    }
 
 -- the client's line
 abbrev pub line_of : List (ℕ × PlainLine) → ℕ → Option PlainLine

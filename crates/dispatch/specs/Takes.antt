@@ -4,9 +4,9 @@ use Rattle.std.specs.List.{flat_map}
 use Rattle.eio_wire.specs.declared.packet.Packet.{Packet}
 use Rattle.eio_wire.specs.declared.packet.Packet.TheVariants.{Ping, Message, Binary, Noop}
 use Rattle.eio_wire.specs.Payload.{Payload, HasWholeData}
-use Rattle.session_clock.specs.declared.transport.Transport.{Transport}
-use Rattle.session_clock.specs.declared.transport.Transport.TheVariants.{Probing, Socket}
-use Rattle.session_clock.specs.Upgrade.{transport}
+use Rattle.connection.specs.declared.transport.Transport.{Transport}
+use Rattle.connection.specs.declared.transport.Transport.TheVariants.{Probing, Socket}
+use Rattle.connection.specs.Upgrade.{transport}
 use Rattle.terms.specs.declared.entry.Entry.{Entry}
 use Rattle.connection.specs.History.{Call, GetEnded, PingCarried, clock_calls, is_getting, is_ping_due}
 use Rattle.connection.specs.Line.{PlainLine, ForEachHistory, Advances}

@@ -1,9 +1,9 @@
 -- What the passing of time brings: a client's heartbeat and its end (Engine.IO protocol 4, "Heartbeat"; Socket.IO server
 -- documentation, "connectTimeout"), and the sweep of what is kept no longer (the same, "Connection state recovery").
 use Rattle.std.specs.Prelude.{◌≡◌, ℕ, true, false, [], ◌∷◌, Some, Ok, Err}
-use Rattle.session_clock.specs.declared.timing.Due.{Due}
-use Rattle.session_clock.specs.declared.timing.Due.TheVariants.{Nothing, SendPing, PingTimeout, ConnectTimeout}
-use Rattle.session_clock.specs.Heartbeat.{due}
+use Rattle.connection.specs.declared.timing.Due.{Due}
+use Rattle.connection.specs.declared.timing.Due.TheVariants.{Nothing, SendPing, PingTimeout, ConnectTimeout}
+use Rattle.connection.specs.Heartbeat.{due}
 use Rattle.connection.specs.History.{Ticked, clock_calls}
 use Rattle.connection.specs.Line.{PlainLine, ForEachHistory}
 use Rattle.journal.specs.declared.step.What.TheVariants as what

@@ -8,14 +8,14 @@ ghost use Rattle.dispatch.specs.Packets.{Draws, IsFresh, IsFreeIn, Refuses, Conn
 
 use crate::packets::close_for;
 use effects::{Scene, act_all, commands};
-use events::{App, Cause, CoreFault, Effect, IdSource, Stopped, Verdict, Who};
+use events::{App, Cause, CoreFault, Effect, IdSource, Stopped, Verdict, Who, Worked};
 use recovery::Pid;
 use sio_wire::{Header, Resume, SioError, read_offset, refused_text, resume_of};
 use std::alloc::Global;
 use terms::{Attachments, Entry, Sid, Text, read_id};
 
 /// Tells the client that it isn't connected, or closes it where its outbox has no place for that.
-fn refuse(scene: &mut Scene, space: &str, message: &str) -> Result<(), Stopped>
+fn refuse(scene: &mut Scene, space: &str, message: &str) -> Worked
     requires { IsOpenFor scene.old.visit.client (seen scene.old) }
     ensures { let client = scene.old.visit.client in
         Plays (λ now. Refuses client now space.now message.now) scene.old result scene.new }
@@ -35,13 +35,12 @@ fn refuse(scene: &mut Scene, space: &str, message: &str) -> Result<(), Stopped>
 }
 
 /// Connects the client with a new socket, and does what the app wants then.
-fn accept(scene: &mut Scene, who: &Who, pid: Pid, wanted: Vec<Effect>) -> Result<(), Stopped>
+fn accept(scene: &mut Scene, who: &Who, pid: Pid, wanted: Vec<Effect>) -> Worked
     requires own { who.now.client ≡ scene.old.visit.client }
     requires open_client { IsOpenFor scene.old.visit.client (seen scene.old) }
     requires fresh { IsFresh (seen scene.old) }
     requires free { IsFreeIn who.now.space scene.old.visit.client (seen scene.old) }
-    ensures { Plays (ConnectsAs who.now pid wanted.items)
-        scene.old result scene.new }
+    ensures { Plays (ConnectsAs who.now pid wanted.items) scene.old result scene.new }
 {
     if commands::attach(scene.visit, scene.state, who, pid)? {
         scene.line.enter(who.sid);
@@ -57,7 +56,7 @@ fn ask_app<A: App, I: IdSource>(
     app: &A,
     ids: &mut I,
     asked: (Text, Text),
-) -> Result<(), Stopped>
+) -> Worked
     requires open_client { IsOpenFor scene.old.visit.client (seen scene.old) }
     requires fresh { IsFresh (seen scene.old) }
     requires free { IsFreeIn asked.0 scene.old.visit.client (seen scene.old) }
@@ -69,11 +68,8 @@ fn ask_app<A: App, I: IdSource>(
         Ok(Verdict::Accept(wanted)) => {
             let sid = Sid::new(ids.draw());
             let pid = Pid::new(ids.draw());
-            let who = Who {
-                client: scene.visit.client,
-                space,
-                sid,
-            };
+            let client = scene.visit.client;
+            let who = Who { client, space, sid };
             accept(scene, &who, pid, wanted)
         }
         Ok(Verdict::Refuse(message)) => { refuse(scene, space.as_str(), message.as_str()) }
@@ -130,7 +126,7 @@ fn return_or_ask<A: App, I: IdSource>(
     ids: &mut I,
     asked: (Text, Text),
     named: (Pid, u64),
-) -> Result<(), Stopped>
+) -> Worked
     requires open_client { IsOpenFor scene.old.visit.client (seen scene.old) }
     requires fresh { IsFresh (seen scene.old) }
     requires free { IsFreeIn asked.0 scene.old.visit.client (seen scene.old) }
@@ -151,7 +147,7 @@ fn connect_free<A: App, I: IdSource>(
     app: &A,
     ids: &mut I,
     asked: (Text, Text),
-) -> Result<(), Stopped>
+) -> Worked
     requires open_client { IsOpenFor scene.old.visit.client (seen scene.old) }
     requires fresh { IsFresh (seen scene.old) }
     requires free { IsFreeIn asked.0 scene.old.visit.client (seen scene.old) }
@@ -170,7 +166,7 @@ pub(crate) fn connect<A: App, I: IdSource>(
     app: &A,
     ids: &mut I,
     header: Header,
-) -> Result<(), Stopped>
+) -> Worked
     requires open_client { IsOpenFor scene.old.visit.client (seen scene.old) }
     requires fresh { IsFresh (seen scene.old) }
     ensures { let client = scene.old.visit.client in Draws

@@ -9,7 +9,7 @@ ghost use Rattle.effects.specs.Saying.{work};
 ghost use Rattle.dispatch.specs.Hearing.{HearsAfter};
 
 use effects::{Visit, hear_all};
-use events::{App, CoreError, Done, Outcome};
+use events::{Answered, App, CoreError, Done, Outcome};
 use hub_state::State;
 
 /// The app hears of the sockets that ended, and what it wants then is done, too.
@@ -71,8 +71,8 @@ pub(crate) fn hear_after<A: App>(
     state: &mut State,
     app: &A,
     from: usize,
-    said: Result<Outcome, CoreError>,
-) -> Result<Outcome, CoreError>
+    said: Answered,
+) -> Answered
     ensures { let ended = drop from (departed state.old.base state.old.journal) in
         HearsAfter (A.policy app.now) visit.moment (Some visit.client) ended
         state.old said result state.new }

@@ -10,17 +10,15 @@ ghost use Rattle.dispatch.specs.Machine.{HearsFor, TakesFrames};
 ghost use Rattle.dispatch.specs.Place.{place, Agree};
 ghost use Rattle.dispatch.specs.Takes.{handed, carried};
 
-use crate::lines::transport_of;
-use crate::takes::count;
+use crate::lines::{Lines, transport_of};
+use crate::takes::{Taken, count};
 use crate::turns::{close_unread, work_on};
-use connection::Line;
+use connection::{Line, Transport};
 use effects::Visit;
 use eio_wire::{Packet, WireError, read_packet};
-use events::{App, Cause, CoreError, CoreFault, Frames, IdSource, Outcome, WsFrame};
+use events::{Answered, App, Cause, CoreFault, Frames, IdSource, Outcome, WsFrame};
 use hub_state::State;
-use session_clock::Transport;
 use std::alloc::{AllocError, Global};
-use std::collections::BTreeMap;
 use std::slice;
 use terms::{Entry, Text};
 
@@ -54,11 +52,11 @@ fn read_frame(alloc: Global, frame: &WsFrame) -> Result<Packet, WireError>
 pub(crate) fn hear<A: App, I: IdSource>(
     visit: Visit,
     state: &mut State,
-    lines: &mut BTreeMap<u128, Line>,
+    lines: &mut Lines,
     app: &A,
     ids: &mut I,
     frame: &WsFrame,
-) -> Result<Outcome, CoreError>
+) -> Answered
     requires { Agree state.old lines.old.entries }
     ensures { HearsFor (A.policy app.now) visit.moment visit.client frame.now
         (place state.old lines.old.entries) (I.stream ids.old) result
@@ -135,13 +133,7 @@ fn frames_for(
 
 /// Hands out the frames of a client that speaks over a WebSocket, or says that there is nothing.
 /// They are written before the entries are taken.
-fn send_waiting(
-    visit: Visit,
-    state: &mut State,
-    line: &mut Line,
-    most: usize,
-    ping: bool,
-) -> Result<Outcome, CoreFault>
+fn send_waiting(visit: Visit, state: &mut State, line: &mut Line, most: usize, ping: bool) -> Taken
     requires { is_open state.old.base state.old.journal visit.client ≡ true }
     ensures { SendsWaiting ping visit.client most visit.moment result
         state.old state.new line.old line.new }
@@ -155,15 +147,9 @@ fn send_waiting(
 }
 
 /// Takes the frames for a client's WebSocket.
-fn frame_take(
-    visit: Visit,
-    state: &mut State,
-    line: &mut Line,
-    most: usize,
-) -> Result<Outcome, CoreFault>
+fn frame_take(visit: Visit, state: &mut State, line: &mut Line, most: usize) -> Taken
     requires { is_open state.old.base state.old.journal visit.client ≡ true }
-    ensures { SendsFor visit.client most visit.moment result
-        state.old state.new line.old line.new }
+    ensures { SendsFor visit.client most visit.moment result state.old state.new line.old line.new }
 {
     let transport = line.transport();
     let ping = line.is_ping_due();
@@ -174,12 +160,7 @@ fn frame_take(
 }
 
 /// Takes the frames for the client's WebSocket.
-pub(crate) fn take(
-    visit: Visit,
-    state: &mut State,
-    lines: &mut BTreeMap<u128, Line>,
-    most: usize,
-) -> Result<Outcome, CoreError>
+pub(crate) fn take(visit: Visit, state: &mut State, lines: &mut Lines, most: usize) -> Answered
     requires { Agree state.old lines.old.entries }
     ensures { ForClient visit.client (TakesFrames visit.moment visit.client most)
         (place state.old lines.old.entries) result (place state.new lines.new.entries) }
@@ -187,8 +168,5 @@ pub(crate) fn take(
     let Some(line) = lines.get_mut(&visit.client) else {
         return Err(CoreFault::UnknownClient.at_once());
     };
-    match frame_take(visit, state, line, most) {
-        Ok(outcome) => Ok(outcome),
-        Err(fault) => Err(fault.at_once()),
-    }
+    Ok(frame_take(visit, state, line, most)?)
 }

@@ -9,7 +9,7 @@ ghost use Rattle.dispatch.specs.Packets.{IsFresh, Decides, Leaves, TakesAck, Hea
 
 use crate::packets::close_for;
 use effects::{Scene, act_all, commands};
-use events::{Answer, App, Arrived, Cause, CoreFault, Message, Stopped, Who};
+use events::{Answer, App, Arrived, Cause, CoreFault, Message, Who, Worked};
 use journal::Side;
 use sio_wire::{Header, Kind, SioPacket};
 use terms::{Attachments, Text};
@@ -24,11 +24,10 @@ struct Said {
 }
 
 /// Asks the app about what arrived, and does what it wants.
-fn decide<A: App>(scene: &mut Scene, app: &A, who: &Who, arrived: &Arrived) -> Result<(), Stopped>
+fn decide<A: App>(scene: &mut Scene, app: &A, who: &Who, arrived: &Arrived) -> Worked
     requires own { who.now.client ≡ scene.old.visit.client }
     requires stands { StandsWith who.now (seen scene.old) }
-    ensures { Plays (Decides (A.policy app.now) who.now arrived.now)
-        scene.old result scene.new }
+    ensures { Plays (Decides (A.policy app.now) who.now arrived.now) scene.old result scene.new }
 {
     match app.decides(scene.visit.alloc, who, arrived) {
         Ok(wanted) => act_all(scene, who, wanted, 0),
@@ -37,10 +36,9 @@ fn decide<A: App>(scene: &mut Scene, app: &A, who: &Who, arrived: &Arrived) -> R
 }
 
 /// Ends the socket that leaves its namespace.
-fn leave(scene: &mut Scene, who: &Who) -> Result<(), Stopped>
+fn leave(scene: &mut Scene, who: &Who) -> Worked
     requires { IsSeated who.now scene.old.state.now }
-    ensures { Plays (Leaves who.now)
-        scene.old result scene.new }
+    ensures { Plays (Leaves who.now) scene.old result scene.new }
 {
     commands::end(scene.visit, scene.state, who.sid, Side::Client)?;
     scene.line.leave(who.sid);
@@ -48,7 +46,7 @@ fn leave(scene: &mut Scene, who: &Who) -> Result<(), Stopped>
 }
 
 /// Takes the answer to a question. One to a question that isn't open is ignored.
-fn take_answer<A: App>(scene: &mut Scene, app: &A, who: &Who, said: Said) -> Result<(), Stopped>
+fn take_answer<A: App>(scene: &mut Scene, app: &A, who: &Who, said: Said) -> Worked
     requires own { who.now.client ≡ scene.old.visit.client }
     requires stands { StandsWith who.now (seen scene.old) }
     ensures { Plays (TakesAck (A.policy app.now) who.now said.id said.payload said.attachments)
@@ -71,7 +69,7 @@ fn take_answer<A: App>(scene: &mut Scene, app: &A, who: &Who, said: Said) -> Res
 }
 
 /// Hears an event of a socket. One with an id asks to be acknowledged.
-fn hear<A: App>(scene: &mut Scene, app: &A, who: &Who, said: Said) -> Result<(), Stopped>
+fn hear<A: App>(scene: &mut Scene, app: &A, who: &Who, said: Said) -> Worked
     requires own { who.now.client ≡ scene.old.visit.client }
     requires stands { StandsWith who.now (seen scene.old) }
     ensures { Plays (HearsEvent (A.policy app.now) who.now said.id said.payload said.attachments)
@@ -87,7 +85,7 @@ fn hear<A: App>(scene: &mut Scene, app: &A, who: &Who, said: Said) -> Result<(),
 }
 
 /// What a packet of a connected socket does.
-fn serve<A: App>(scene: &mut Scene, app: &A, who: &Who, said: Said) -> Result<(), Stopped>
+fn serve<A: App>(scene: &mut Scene, app: &A, who: &Who, said: Said) -> Worked
     requires own { who.now.client ≡ scene.old.visit.client }
     requires seated { IsSeated who.now scene.old.state.now }
     requires stands { StandsWith who.now (seen scene.old) }
@@ -105,11 +103,7 @@ fn serve<A: App>(scene: &mut Scene, app: &A, who: &Who, said: Said) -> Result<()
 
 /// What a packet does that isn't a CONNECT. One for a namespace that the client hasn't joined
 /// closes it.
-pub(crate) fn serve_joined<A: App>(
-    scene: &mut Scene,
-    app: &A,
-    packet: SioPacket,
-) -> Result<(), Stopped>
+pub(crate) fn serve_joined<A: App>(scene: &mut Scene, app: &A, packet: SioPacket) -> Worked
     requires open_client { IsOpenFor scene.old.visit.client (seen scene.old) }
     requires fresh { IsFresh (seen scene.old) }
     ensures { Plays (ServesJoined (A.policy app.now) scene.old.visit.client packet)

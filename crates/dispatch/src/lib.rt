@@ -5,7 +5,6 @@
 mod connect;
 mod departures;
 mod frames;
-mod handshake;
 mod joined;
 mod laws;
 mod lines;
@@ -15,7 +14,6 @@ mod server;
 mod takes;
 mod turns;
 mod upgrade;
-mod upkeep;
 
 pub use laws::named_once;
 pub use server::Core;

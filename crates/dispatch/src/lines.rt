@@ -1,21 +1,27 @@
-//! The lines of the open clients, by their ids.
+//! The lines of the open clients, and what each new one is told at its handshake.
 
 ghost use Rattle.std.specs.Prelude.{◌≡◌, ℕ, ◌==◌, false, Some, None, IfErr, IfSome, IfNone, OnOk, OnErr};
 ghost use Rattle.connection.specs.Line.{PlainLine};
 ghost use Rattle.dispatch.specs.Place.{line_of};
 ghost use Rattle.dispatch.specs.Takes.{IsOn};
 
-use connection::Line;
+use connection::{Line, Timing, Transport};
+use eio_wire::Numbers;
 use events::CoreFault;
-use session_clock::Transport;
 use std::collections::BTreeMap;
 
+/// The lines of the open clients, by their ids.
+pub(crate) type Lines = BTreeMap<u128, Line>;
+
+/// What each new client is told, and by which times it is closed.
+#[derive(Drop)]
+pub(crate) struct Handshake {
+    pub(crate) timing: Timing,
+    pub(crate) numbers: Numbers,
+}
+
 /// Gives the client a line.
-pub(crate) fn put(
-    lines: &mut BTreeMap<u128, Line>,
-    client: u128,
-    line: Line,
-) -> Result<(), CoreFault>
+pub(crate) fn put(lines: &mut Lines, client: u128, line: Line) -> Result<(), CoreFault>
     ensures own { OnOk result (line_of lines.new.entries client ≡ Some line) }
     ensures others { (d : ℕ) → client == d ≡ false
         → line_of lines.new.entries d ≡ line_of lines.old.entries d }
@@ -23,14 +29,12 @@ pub(crate) fn put(
         (line_of lines.new.entries client ≡ line_of lines.old.entries client) }
     ensures memory { IfErr result (λ f. f ≡ CoreFault.Memory) }
 {
-    match lines.insert(client, line) {
-        Ok(_) => Ok(()),
-        Err(_) => Err(CoreFault::Memory),
-    }
+    lines.insert(client, line)?;
+    Ok(())
 }
 
 /// Forgets the client's line.
-pub(crate) fn forget(lines: &mut BTreeMap<u128, Line>, client: u128)
+pub(crate) fn forget(lines: &mut Lines, client: u128)
     ensures gone { line_of lines.new.entries client ≡ None }
     ensures others { (d : ℕ) → client == d ≡ false
         → line_of lines.new.entries d ≡ line_of lines.old.entries d }
@@ -39,13 +43,10 @@ pub(crate) fn forget(lines: &mut BTreeMap<u128, Line>, client: u128)
 }
 
 /// How the client speaks.
-pub(crate) fn transport_of(lines: &BTreeMap<u128, Line>, client: u128) -> Option<Transport>
+pub(crate) fn transport_of(lines: &Lines, client: u128) -> Option<Transport>
     ensures none { IfNone result (line_of lines.now.entries client ≡ None) }
     ensures some { IfSome result (λ on. (line : PlainLine)
         × (line_of lines.now.entries client ≡ Some line) × IsOn on line) }
 {
-    match lines.get(&client) {
-        Some(line) => Some(line.transport()),
-        None => None,
-    }
+    Some(lines.get(&client)?.transport())
 }

@@ -1,18 +1,62 @@
-//! Clients that are gone (Socket.IO server documentation, "Connection state recovery").
+//! How clients are lost, and what the passing of time brings: the loss of a connection (Socket.IO
+//! server documentation, "Connection state recovery"), a client's heartbeat and its end (Engine.IO
+//! protocol 4, "Heartbeat"), and the sweep of what the hub keeps no longer.
 
-ghost use Rattle.std.specs.Prelude.{◌≡◌, true};
+ghost use Rattle.std.specs.Prelude.{◌≡◌, ℕ, ◌==◌, true, false, List, None, Some};
 ghost use Rattle.journal.specs.Membership.{is_open};
-ghost use Rattle.dispatch.specs.Answers.{ForClient};
+ghost use Rattle.connection.specs.Line.{PlainLine};
+ghost use Rattle.events.specs.Plain.{nothing_done};
+ghost use Rattle.dispatch.specs.Answers.{ForVisit};
 ghost use Rattle.dispatch.specs.Machine.{Loses};
 ghost use Rattle.dispatch.specs.Parking.{Parks};
-ghost use Rattle.dispatch.specs.Place.{place, Agree};
+ghost use Rattle.dispatch.specs.Place.{line_of, place, Agree};
+ghost use Rattle.dispatch.specs.Upkeep.{Ticks, Sweeps};
 
-use crate::lines::forget;
-use connection::Line;
+use crate::lines::{Lines, forget};
+use connection::Due;
 use effects::{Visit, commands};
-use events::{CoreError, CoreFault, Done, Outcome};
+use events::{Answered, Cause, CoreFault, Done, Outcome};
 use hub_state::State;
-use std::collections::BTreeMap;
+
+/// Does what is due to the client now. Questions of its sockets that ran out are forgotten first.
+pub(crate) fn tick(visit: Visit, state: &mut State, lines: &mut Lines) -> Answered
+    requires { Agree state.old lines.old.entries }
+    ensures { ForVisit visit Ticks state.old lines.old.entries result state.new lines.new.entries }
+{
+    let Some(line) = lines.get_mut(&visit.client) else {
+        return Err(CoreFault::UnknownClient.at_once());
+    };
+    match line.tick(visit.moment) {
+        Due::Nothing => Ok(Outcome::Ticked {
+            ping: false,
+            done: Done::nothing(visit.alloc),
+        }),
+        Due::SendPing => Ok(Outcome::Ticked {
+            ping: true,
+            done: Done::nothing(visit.alloc),
+        }),
+        Due::PingTimeout => match park_or_close(visit, state) {
+            Ok(_) => Ok(give_up(visit, lines, Cause::PingTimeout)),
+            Err(fault) => Err(fault.at_once()),
+        },
+        Due::ConnectTimeout => match commands::close(visit, state) {
+            Ok(()) => Ok(give_up(visit, lines, Cause::ConnectTimeout)),
+            Err(fault) => Err(fault.at_once()),
+        },
+    }
+}
+
+/// Forgets the line of a client that timed out.
+fn give_up(visit: Visit, lines: &mut Lines, cause: Cause) -> Outcome
+    ensures answer { result ≡ Outcome.Ticked false (record nothing_done { closed = Some cause }) }
+    ensures gone { line_of lines.new.entries visit.client ≡ None }
+    ensures others { (d : ℕ) → visit.client == d ≡ false
+        → line_of lines.new.entries d ≡ line_of lines.old.entries d }
+{
+    forget(lines, visit.client);
+    let done = Done::closed(visit.alloc, cause);
+    Outcome::Ticked { ping: false, done }
+}
 
 /// Saves the sessions of a client, and says so, or closes it where they have no place.
 pub(crate) fn park_or_close(visit: Visit, state: &mut State) -> Result<bool, CoreFault>
@@ -28,24 +72,24 @@ pub(crate) fn park_or_close(visit: Visit, state: &mut State) -> Result<bool, Cor
 
 /// The client's connection was lost: its sessions are saved, or where they have no place it is
 /// closed.
-pub(crate) fn lose(
-    visit: Visit,
-    state: &mut State,
-    lines: &mut BTreeMap<u128, Line>,
-) -> Result<Outcome, CoreError>
+pub(crate) fn lose(visit: Visit, state: &mut State, lines: &mut Lines) -> Answered
     requires { Agree state.old lines.old.entries }
-    ensures { ForClient visit.client (λ line. Loses visit.moment visit.client)
-        (place state.old lines.old.entries) result (place state.new lines.new.entries) }
+    ensures { ForVisit visit (λ now c _. Loses now c)
+        state.old lines.old.entries result state.new lines.new.entries }
 {
     let Some(_) = lines.get(&visit.client) else {
         return Err(CoreFault::UnknownClient.at_once());
     };
-    match park_or_close(visit, state) {
-        Ok(saved) => {
-            forget(lines, visit.client);
-            let done = Done::nothing(visit.alloc);
-            Ok(Outcome::Lost { saved, done })
-        }
-        Err(fault) => Err(fault.at_once()),
-    }
+    let saved = park_or_close(visit, state)?;
+    forget(lines, visit.client);
+    let done = Done::nothing(visit.alloc);
+    Ok(Outcome::Lost { saved, done })
+}
+
+/// Drops what the hub keeps no longer. No client opens or ends by it, so no line changes.
+pub(crate) fn sweep(visit: Visit, state: &mut State) -> Answered
+    ensures { (lines : List (ℕ × PlainLine)) → Sweeps visit.moment
+        (place state.old lines) result (place state.new lines) }
+{
+    Ok(Outcome::Swept(commands::sweep(visit, state)?))
 }

@@ -14,11 +14,11 @@ use crate::joined::serve_joined;
 use crate::losing::park_or_close;
 use effects::Scene;
 use eio_wire::Packet;
-use events::{App, Cause, CoreError, CoreFault, IdSource, Stopped};
+use events::{App, Cause, CoreError, CoreFault, IdSource, Worked};
 use sio_wire::{Kind, SioError, SioPacket};
 
 /// Closes the client for a cause.
-pub(crate) fn close_for(scene: &mut Scene, cause: Cause) -> Result<(), Stopped>
+pub(crate) fn close_for(scene: &mut Scene, cause: Cause) -> Worked
     requires { IsOpenFor scene.old.visit.client (seen scene.old) }
     ensures { let client = scene.old.visit.client in
         Plays (λ now. ClosesFor client now cause) scene.old result scene.new }
@@ -28,7 +28,7 @@ pub(crate) fn close_for(scene: &mut Scene, cause: Cause) -> Result<(), Stopped>
 }
 
 /// Saves the sessions of a client that closes itself, or closes it where they have no place.
-fn park_for(scene: &mut Scene) -> Result<(), Stopped>
+fn park_for(scene: &mut Scene) -> Worked
     requires { IsOpenFor scene.old.visit.client (seen scene.old) }
     ensures { Plays (ParksFor scene.old.visit.client) scene.old result scene.new }
 {
@@ -38,12 +38,7 @@ fn park_for(scene: &mut Scene) -> Result<(), Stopped>
 }
 
 /// What a packet does that came whole.
-fn work<A: App, I: IdSource>(
-    scene: &mut Scene,
-    app: &A,
-    ids: &mut I,
-    packet: SioPacket,
-) -> Result<(), Stopped>
+fn work<A: App, I: IdSource>(scene: &mut Scene, app: &A, ids: &mut I, packet: SioPacket) -> Worked
     requires open_client { IsOpenFor scene.old.visit.client (seen scene.old) }
     requires fresh { IsFresh (seen scene.old) }
     ensures { Draws (Works (A.policy app.now) scene.old.visit.client packet)
@@ -61,7 +56,7 @@ fn go_on<A: App, I: IdSource>(
     app: &A,
     ids: &mut I,
     given: Result<Option<SioPacket>, SioError>,
-) -> Result<(), Stopped>
+) -> Worked
     requires open_client { IsOpenFor scene.old.visit.client (seen scene.old) }
     requires fresh { IsFresh (seen scene.old) }
     requires whole { IfOk given IsWholeIfGiven }
@@ -78,12 +73,7 @@ fn go_on<A: App, I: IdSource>(
 
 /// Takes a binary message. One that brings the awaited attachments over the bytes that may wait for
 /// the client closes it, and isn't kept.
-fn take_binary<A: App, I: IdSource>(
-    scene: &mut Scene,
-    app: &A,
-    ids: &mut I,
-    bytes: &[u8],
-) -> Result<(), Stopped>
+fn take_binary<A: App, I: IdSource>(scene: &mut Scene, app: &A, ids: &mut I, bytes: &[u8]) -> Worked
     requires open_client { IsOpenFor scene.old.visit.client (seen scene.old) }
     requires fresh { IsFresh (seen scene.old) }
     ensures { Draws (TakesBinary (A.policy app.now) scene.old.visit.client bytes.now)
@@ -97,12 +87,7 @@ fn take_binary<A: App, I: IdSource>(
 }
 
 /// What a packet does.
-fn handle<A: App, I: IdSource>(
-    scene: &mut Scene,
-    app: &A,
-    ids: &mut I,
-    packet: &Packet,
-) -> Result<(), Stopped>
+fn handle<A: App, I: IdSource>(scene: &mut Scene, app: &A, ids: &mut I, packet: &Packet) -> Worked
     requires open_client { IsOpenFor scene.old.visit.client (seen scene.old) }
     requires fresh { IsFresh (seen scene.old) }
     ensures { Draws (Handles (A.policy app.now) scene.old.visit.client packet.now)
@@ -130,7 +115,7 @@ fn handle_in_turn<A: App, I: IdSource>(
     app: &A,
     ids: &mut I,
     packet: &Packet,
-) -> Result<(), Stopped>
+) -> Worked
     requires { let s = seen scene.old in
         is_open s.history.base s.history.journal scene.old.visit.client ≡ is_none s.done.closed }
     ensures { let client = scene.old.visit.client in Draws

@@ -3,13 +3,13 @@
 ghost use Rattle.std.specs.Prelude.{◌≡◌, ℕ, ◌+◌, List, [], ◌∷◌, length, Some, None, is_some, IsOk, IfOk, IfErr, IfSome, OnOk, OnErr};
 ghost use Rattle.std.specs.Ordering.{nat_cmp};
 ghost use Rattle.terms.specs.Listing.{ListsRising};
-ghost use Rattle.journal.specs.Config.{config_refusal, empty_base};
+ghost use Rattle.journal.specs.Config.{config_refusal};
 ghost use Rattle.journal.specs.Membership.{is_open};
 ghost use Rattle.journal.specs.Seal.{Seals};
-ghost use Rattle.hub.specs.Pass.{new_pass, AtLeast, GivesPass, Settles};
+ghost use Rattle.hub_totals.specs.Pass.{new_pass, AtLeast, GivesPass, Settles};
 ghost use Rattle.effects.specs.Following.{Spares};
 ghost use Rattle.connection.specs.Line.{PlainLine};
-ghost use Rattle.dispatch.specs.Place.{line_of, place, Agree, IsClean};
+ghost use Rattle.dispatch.specs.Place.{new_core, line_of, place, Agree, IsClean};
 ghost use Rattle.dispatch.specs.Takes.{IsOn};
 ghost use Rattle.events.specs.Answer.{at_once};
 ghost use Rattle.dispatch.specs.Answers.{fault_of_config};
@@ -18,17 +18,15 @@ ghost use Rattle.dispatch.specs.Handed.{Turn, turns_after, Handed};
 ghost use Rattle.dispatch.specs.Machine.{Row, Does, Machine, IsOf, listed};
 
 use crate::departures::hear_after;
-use crate::handshake::Handshake;
-use crate::lines::transport_of;
-use crate::{frames, losing, turns, upgrade, upkeep};
-use connection::Line;
+use crate::lines::{Handshake, Lines, transport_of};
+use crate::{frames, losing, turns, upgrade};
+use connection::{Timing, Transport};
 use effects::Call;
 use eio_wire::Numbers;
-use events::{App, CoreError, CoreFault, Event, IdSource, Outcome};
-use hub::{Hub, NotAll, Pass};
+use events::{Answered, App, CoreError, CoreFault, Event, IdSource};
 use hub_state::State;
+use hub_totals::{Hub, NotAll, Pass};
 use journal::{Config, Epoch, HubError, Totals};
-use session_clock::{Timing, Transport};
 use std::alloc::{AllocError, Global};
 use std::collections::BTreeMap;
 use std::marker::Model;
@@ -39,8 +37,8 @@ use std::sync::ledger::{Blank, Ledger};
 /// clients, and U+001E, which separates the packets of a payload, stands in no entry of it.
 pub struct Core<C: Ledger, T: Ledger> {
     hub: Hub<C, T>,
-    lines: BTreeMap<u128, Line>,
-    handshake: Handshake,
+    lines: Lines,
+    told: Handshake,
 }
 
 /// Written out, so that a crate above takes the drop of all that lies in it by this one call.
@@ -49,7 +47,7 @@ impl<C: Ledger, T: Ledger> Drop for Core<C, T> {
         let Self {
             hub: _,
             lines: _,
-            handshake: _,
+            told: _,
         } = self;
     }
 }
@@ -62,8 +60,8 @@ impl<C: Ledger, T: Ledger> Model for Core<C, T> {
     ghost view = { λ c. record {
       hub = c.hub;
       lines = c.lines.entries;
-      timing = c.handshake.timing;
-      numbers = c.handshake.numbers;
+      timing = c.told.timing;
+      numbers = c.told.numbers;
     } };
 
     ghost invariant = { λ c. Agree c.hub.history c.lines.entries × IsClean c.hub.history };
@@ -83,15 +81,7 @@ impl<C: Ledger, T: Ledger> Core<C, T> {
             × (commands.parts ≡ C.parts) × (commands.parts ≡ 65536) }
         requires taken { (taken.name ≡ T.name) × (taken.parts ≡ T.parts) × (taken.parts ≡ 65536) }
         ensures config { OnOk result (config_refusal config ≡ None) }
-        ensures core { IfOk result (λ made. made.0 ≡ record {
-          hub = record {
-            history = record { base = empty_base config.first_offset; limits = config; journal = [] };
-            rest = 65535;
-          };
-          lines = [];
-          timing = timing;
-          numbers = numbers;
-        }) }
+        ensures core { IfOk result (λ made. made.0 ≡ new_core config timing numbers) }
         ensures handed { IfOk result (λ made. (c : ℕ) → Handed c [] made.0.hub.history) }
         ensures pass { IfOk result (λ made. made.1 ≡ new_pass) }
         ensures err { IfErr result (λ e. e ≡ at_once (fault_of_config (config_refusal config))) }
@@ -101,7 +91,7 @@ impl<C: Ledger, T: Ledger> Core<C, T> {
                 Core {
                     hub,
                     lines: BTreeMap::new(alloc),
-                    handshake: Handshake { timing, numbers },
+                    told: Handshake { timing, numbers },
                 },
                 pass,
             )),
@@ -120,7 +110,7 @@ impl<C: Ledger, T: Ledger> Core<C, T> {
         event: &Event,
         now: u64,
         ids: &mut I,
-    ) -> Result<Outcome, CoreError>
+    ) -> Answered
         ensures does { Does (A.policy app.now) now
             self.old.timing self.old.numbers event.now
             (place self.old.hub.history self.old.lines) (I.stream ids.old) result
@@ -136,12 +126,8 @@ impl<C: Ledger, T: Ledger> Core<C, T> {
     {
         let before = self.hub.state.totals();
         let call = Call { alloc, moment: now };
-        let Core {
-            hub,
-            lines,
-            handshake,
-        } = self;
-        let answer = apply_to(call, &mut hub.state, lines, handshake, app, event, ids);
+        let Core { hub, lines, told } = self;
+        let answer = apply_to(call, &mut hub.state, lines, told, app, event, ids);
         hub.books.catch_up(pass, &before, &hub.state);
         answer
     }
@@ -155,7 +141,7 @@ impl<C: Ledger, T: Ledger> Core<C, T> {
         app: &A,
         events: &[(Event, u64)],
         ids: &mut I,
-    ) -> Result<Vec<Result<Outcome, CoreError>>, AllocError>
+    ) -> Result<Vec<Answered>, AllocError>
         ensures does { IfOk result (λ answers.
             Machine (A.policy app.now) self.old.timing
             self.old.numbers events.now answers.items
@@ -268,12 +254,12 @@ impl<C: Ledger, T: Ledger> Core<C, T> {
 fn apply_to<A: App, I: IdSource>(
     call: Call,
     state: &mut State,
-    lines: &mut BTreeMap<u128, Line>,
+    lines: &mut Lines,
     handshake: &Handshake,
     app: &A,
     event: &Event,
     ids: &mut I,
-) -> Result<Outcome, CoreError>
+) -> Answered
     requires agree { Agree state.old lines.old.entries }
     requires clean { IsClean state.old }
     ensures { Does (A.policy app.now) call.moment
@@ -294,12 +280,12 @@ fn apply_to<A: App, I: IdSource>(
 fn do_row<A: App, I: IdSource>(
     call: Call,
     state: &mut State,
-    lines: &mut BTreeMap<u128, Line>,
+    lines: &mut Lines,
     handshake: &Handshake,
     app: &A,
     event: &Event,
     ids: &mut I,
-) -> Result<Outcome, CoreError>
+) -> Answered
     requires agree { Agree state.old lines.old.entries }
     requires clean { IsClean state.old }
     ensures { Row (A.policy app.now) call.moment
@@ -326,7 +312,7 @@ fn do_row<A: App, I: IdSource>(
         Event::Upgraded { client } => upgrade::upgrade(call.alloc, lines, *client),
         Event::ProbeLost { client } => upgrade::probe_lost(call.alloc, lines, *client),
         Event::TransportLost { client } => losing::lose(call.of(*client), state, lines),
-        Event::Tick { client } => upkeep::tick(call.of(*client), state, lines),
-        Event::Sweep => upkeep::sweep(call.of(0), state),
+        Event::Tick { client } => losing::tick(call.of(*client), state, lines),
+        Event::Sweep => losing::sweep(call.of(0), state),
     }
 }

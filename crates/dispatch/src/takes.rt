@@ -9,15 +9,17 @@ ghost use Rattle.connection.specs.Line.{Advances};
 ghost use Rattle.dispatch.specs.Place.{IsClean};
 ghost use Rattle.dispatch.specs.Takes.{packets_of, handed, carried, Counts, FailsToCount, TellsNoop, ping_calls, Carries, TakesWaiting, TakesFor, AllWhole};
 
-use connection::Line;
+use connection::{Line, Transport};
 use effects::{Visit, commands};
 use eio_wire::{Packet, WireError, write_payload};
 use events::{CoreFault, Outcome};
 use hub_state::State;
-use session_clock::Transport;
 use std::alloc::{AllocError, Global};
 use std::slice;
 use terms::{Entry, Text};
+
+/// What a take of a client brings, or the fault that ends its event.
+pub(crate) type Taken = Result<Outcome, CoreFault>;
 
 /// Adds the packets of an entry: its text, and then its attachments.
 fn push_entry(packets: &mut Vec<Packet>, entry: &Entry) -> Result<(), AllocError>
@@ -77,7 +79,7 @@ fn payload_of(alloc: Global, packets: &[Packet]) -> Result<Text, CoreFault>
 }
 
 /// Tells a GET that there is nothing to wait for.
-fn noop(alloc: Global, line: &mut Line) -> Result<Outcome, CoreFault>
+fn noop(alloc: Global, line: &mut Line) -> Taken
     ensures { (h : History) → TellsNoop result h h line.old line.new }
 {
     let packet = Packet::Noop(Text::copy_of(alloc, "")?);
@@ -128,7 +130,7 @@ fn carry(
     most: usize,
     ping: bool,
     packets: &[Packet],
-) -> Result<Outcome, CoreFault>
+) -> Taken
     requires open_client { is_open state.old.base state.old.journal visit.client ≡ true }
     requires carried { packets.now ≡ carried ping (handed state.old visit.client most) }
     requires some { 0 < length packets.now }
@@ -150,7 +152,7 @@ fn take_waiting(
     transport: Transport,
     most: usize,
     ping: bool,
-) -> Result<Outcome, CoreFault>
+) -> Taken
     requires open_client { is_open state.old.base state.old.journal visit.client ≡ true }
     requires clean { IsClean state.old }
     ensures { TakesWaiting transport ping visit.client most visit.moment result
@@ -167,16 +169,10 @@ fn take_waiting(
 }
 
 /// Takes the payload for a client's GET.
-pub(crate) fn poll_take(
-    visit: Visit,
-    state: &mut State,
-    line: &mut Line,
-    most: usize,
-) -> Result<Outcome, CoreFault>
+pub(crate) fn poll_take(visit: Visit, state: &mut State, line: &mut Line, most: usize) -> Taken
     requires open_client { is_open state.old.base state.old.journal visit.client ≡ true }
     requires clean { IsClean state.old }
-    ensures { TakesFor visit.client most visit.moment result
-        state.old state.new line.old line.new }
+    ensures { TakesFor visit.client most visit.moment result state.old state.new line.old line.new }
 {
     let transport = line.transport();
     let getting = line.is_getting();

@@ -1,25 +1,21 @@
 //! What each event of a client does to the hub and to the clients' lines.
 
 ghost use Rattle.std.specs.Prelude.{◌≡◌, true, Some, is_some};
-ghost use Rattle.journal.specs.Journal.{History};
 ghost use Rattle.journal.specs.Membership.{is_open};
 ghost use Rattle.connection.specs.Line.{PlainLine};
 ghost use Rattle.dispatch.specs.Place.{line_of, place, Agree, IsClean};
-ghost use Rattle.dispatch.specs.Answers.{ClosesUnread, ForClient};
+ghost use Rattle.dispatch.specs.Answers.{ClosesUnread, ForClient, ForVisit, OnLine};
 ghost use Rattle.dispatch.specs.Machine.{Opens, Begins, Ends, Takes, WorksOn, PostsFor};
 
-use crate::handshake::Handshake;
-use crate::lines::{forget, put, transport_of};
+use crate::lines::{Handshake, Lines, forget, put, transport_of};
 use crate::packets::handle_each;
 use crate::takes;
-use connection::Line;
+use connection::{Line, Transport};
 use effects::{Scene, Tally, Visit, commands};
 use eio_wire::{Packet, WireError, open_text, read_payload};
-use events::{App, Cause, CoreError, CoreFault, Done, IdSource, Opening, Outcome};
+use events::{Answered, App, Cause, CoreFault, Done, IdSource, Opening, Outcome};
 use hub_state::State;
-use session_clock::Transport;
 use std::alloc::Global;
-use std::collections::BTreeMap;
 use terms::Text;
 
 /// Opens the client. Its line stands before the hub is asked, so that no refused growth leaves a
@@ -27,34 +23,26 @@ use terms::Text;
 pub(crate) fn open(
     visit: Visit,
     state: &mut State,
-    lines: &mut BTreeMap<u128, Line>,
+    lines: &mut Lines,
     handshake: &Handshake,
     socket: bool,
-) -> Result<Outcome, CoreError>
+) -> Answered
     requires { Agree state.old lines.old.entries }
     ensures { Opens handshake.now.timing handshake.now.numbers visit.moment socket visit.client
         (place state.old lines.old.entries) result (place state.new lines.new.entries) }
 {
-    let Visit {
-        alloc,
-        client,
-        moment,
-    } = visit;
+    let (alloc, client) = (visit.alloc, visit.client);
     if let Some(_) = lines.get(&client) {
         return Err(CoreFault::IdTaken.at_once());
     }
     let Ok(text) = open_text(alloc, client, !socket, &handshake.numbers) else {
         return Err(CoreFault::Memory.at_once());
     };
-    let line = Line::open(alloc, moment, handshake.timing, socket);
-    if let Err(fault) = put(lines, client, line) {
-        return Err(fault.at_once());
-    }
+    let line = Line::open(alloc, visit.moment, handshake.timing, socket);
+    put(lines, client, line)?;
+    let text = Text::from_string(text);
     match commands::open(visit, state) {
-        Ok(()) => Ok(Outcome::Opened(Opening {
-            client,
-            text: Text::from_string(text),
-        })),
+        Ok(()) => Ok(Outcome::Opened(Opening { client, text })),
         Err(fault) => {
             forget(lines, client);
             Err(fault.at_once())
@@ -66,31 +54,27 @@ pub(crate) fn open(
 pub(crate) fn close_unread(
     visit: Visit,
     state: &mut State,
-    lines: &mut BTreeMap<u128, Line>,
+    lines: &mut Lines,
     cause: Cause,
-) -> Result<Outcome, CoreError>
+) -> Answered
     requires { is_open state.old.base state.old.journal visit.client ≡ true }
     ensures { ClosesUnread visit.moment visit.client cause
         (place state.old lines.old.entries) result (place state.new lines.new.entries) }
 {
-    match commands::close(visit, state) {
-        Ok(()) => {
-            forget(lines, visit.client);
-            Ok(Outcome::Done(Done::closed(visit.alloc, cause)))
-        }
-        Err(fault) => Err(fault.at_once()),
-    }
+    commands::close(visit, state)?;
+    forget(lines, visit.client);
+    Ok(Outcome::Done(Done::closed(visit.alloc, cause)))
 }
 
 /// Works on the packets of a payload that the client posts.
 pub(crate) fn post<A: App, I: IdSource>(
     visit: Visit,
     state: &mut State,
-    lines: &mut BTreeMap<u128, Line>,
+    lines: &mut Lines,
     app: &A,
     ids: &mut I,
     body: &str,
-) -> Result<Outcome, CoreError>
+) -> Answered
     requires { Agree state.old lines.old.entries }
     ensures { PostsFor (A.policy app.now) visit.moment visit.client body.now
         (place state.old lines.old.entries) (I.stream ids.old) result
@@ -112,11 +96,11 @@ pub(crate) fn post<A: App, I: IdSource>(
 pub(crate) fn work_on<A: App, I: IdSource>(
     visit: Visit,
     state: &mut State,
-    lines: &mut BTreeMap<u128, Line>,
+    lines: &mut Lines,
     app: &A,
     ids: &mut I,
     packets: &[Packet],
-) -> Result<Outcome, CoreError>
+) -> Answered
     requires agree { Agree state.old lines.old.entries }
     requires known { is_some (line_of lines.old.entries visit.client) ≡ true }
     ensures { (line : PlainLine) → line_of lines.old.entries visit.client ≡ Some line
@@ -145,14 +129,9 @@ pub(crate) fn work_on<A: App, I: IdSource>(
 }
 
 /// A GET of the client begins to wait. A second one closes it.
-pub(crate) fn begin(
-    visit: Visit,
-    state: &mut State,
-    lines: &mut BTreeMap<u128, Line>,
-) -> Result<Outcome, CoreError>
+pub(crate) fn begin(visit: Visit, state: &mut State, lines: &mut Lines) -> Answered
     requires { Agree state.old lines.old.entries }
-    ensures { ForClient visit.client (Begins visit.moment visit.client)
-        (place state.old lines.old.entries) result (place state.new lines.new.entries) }
+    ensures { ForVisit visit Begins state.old lines.old.entries result state.new lines.new.entries }
 {
     let Some(line) = lines.get_mut(&visit.client) else {
         return Err(CoreFault::UnknownClient.at_once());
@@ -168,13 +147,8 @@ pub(crate) fn begin(
 }
 
 /// The client's GET waits no more.
-pub(crate) fn end(
-    alloc: Global,
-    lines: &mut BTreeMap<u128, Line>,
-    client: u128,
-) -> Result<Outcome, CoreError>
-    ensures { (h : History) → ForClient client (Ends client)
-        (place h lines.old.entries) result (place h lines.new.entries) }
+pub(crate) fn end(alloc: Global, lines: &mut Lines, client: u128) -> Answered
+    ensures { OnLine client Ends lines.old.entries result lines.new.entries }
 {
     let Some(line) = lines.get_mut(&client) else {
         return Err(CoreFault::UnknownClient.at_once());
@@ -184,12 +158,7 @@ pub(crate) fn end(
 }
 
 /// Takes the payload for the client's GET.
-pub(crate) fn take(
-    visit: Visit,
-    state: &mut State,
-    lines: &mut BTreeMap<u128, Line>,
-    most: usize,
-) -> Result<Outcome, CoreError>
+pub(crate) fn take(visit: Visit, state: &mut State, lines: &mut Lines, most: usize) -> Answered
     requires agree { Agree state.old lines.old.entries }
     requires clean { IsClean state.old }
     ensures { ForClient visit.client (Takes visit.moment visit.client most)
@@ -198,8 +167,5 @@ pub(crate) fn take(
     let Some(line) = lines.get_mut(&visit.client) else {
         return Err(CoreFault::UnknownClient.at_once());
     };
-    match takes::poll_take(visit, state, line, most) {
-        Ok(outcome) => Ok(outcome),
-        Err(fault) => Err(fault.at_once()),
-    }
+    Ok(takes::poll_take(visit, state, line, most)?)
 }

@@ -1,28 +1,20 @@
 //! How a client that polls comes to speak over a WebSocket (Engine.IO protocol 4, "Upgrade").
 
 ghost use Rattle.std.specs.Prelude.{◌≡◌, Ok, Err, IfErr, OnOk};
-ghost use Rattle.journal.specs.Journal.{History};
 ghost use Rattle.events.specs.Answer.{at_once};
-ghost use Rattle.dispatch.specs.Answers.{ForClient};
-ghost use Rattle.dispatch.specs.Place.{place};
+ghost use Rattle.dispatch.specs.Answers.{OnLine};
 ghost use Rattle.dispatch.specs.Upgrade.{fault_of_clock, Probes, Upgrades, LosesProbe};
 
-use connection::Line;
-use events::{CoreError, CoreFault, Done, Outcome};
-use session_clock::ClockError;
+use crate::lines::Lines;
+use connection::ClockError;
+use events::{Answered, CoreFault, Done, Outcome};
 use std::alloc::Global;
-use std::collections::BTreeMap;
 use terms::Text;
 
 /// The client, which polls, probes a WebSocket. The answer's text is made first, so that a probe
 /// that is refused for memory has not begun.
-pub(crate) fn probe(
-    alloc: Global,
-    lines: &mut BTreeMap<u128, Line>,
-    client: u128,
-) -> Result<Outcome, CoreError>
-    ensures { (h : History) → ForClient client (Probes client)
-        (place h lines.old.entries) result (place h lines.new.entries) }
+pub(crate) fn probe(alloc: Global, lines: &mut Lines, client: u128) -> Answered
+    ensures { OnLine client Probes lines.old.entries result lines.new.entries }
 {
     let Some(line) = lines.get_mut(&client) else {
         return Err(CoreFault::UnknownClient.at_once());
@@ -34,7 +26,7 @@ pub(crate) fn probe(
 }
 
 /// What comes of what the clock said: this outcome, or the fault by its name.
-fn answer(outcome: Outcome, said: Result<(), ClockError>) -> Result<Outcome, CoreError>
+fn answer(outcome: Outcome, said: Result<(), ClockError>) -> Answered
     ensures ok { OnOk said (result ≡ Ok outcome) }
     ensures err { IfErr said (λ e. result ≡ Err (at_once (fault_of_clock e))) }
 {
@@ -47,13 +39,8 @@ fn answer(outcome: Outcome, said: Result<(), ClockError>) -> Result<Outcome, Cor
 }
 
 /// The probe succeeded, and the client speaks over the WebSocket from now on.
-pub(crate) fn upgrade(
-    alloc: Global,
-    lines: &mut BTreeMap<u128, Line>,
-    client: u128,
-) -> Result<Outcome, CoreError>
-    ensures { (h : History) → ForClient client (Upgrades client)
-        (place h lines.old.entries) result (place h lines.new.entries) }
+pub(crate) fn upgrade(alloc: Global, lines: &mut Lines, client: u128) -> Answered
+    ensures { OnLine client Upgrades lines.old.entries result lines.new.entries }
 {
     let Some(line) = lines.get_mut(&client) else {
         return Err(CoreFault::UnknownClient.at_once());
@@ -62,13 +49,8 @@ pub(crate) fn upgrade(
 }
 
 /// The probe failed, and the client polls on.
-pub(crate) fn probe_lost(
-    alloc: Global,
-    lines: &mut BTreeMap<u128, Line>,
-    client: u128,
-) -> Result<Outcome, CoreError>
-    ensures { (h : History) → ForClient client (LosesProbe client)
-        (place h lines.old.entries) result (place h lines.new.entries) }
+pub(crate) fn probe_lost(alloc: Global, lines: &mut Lines, client: u128) -> Answered
+    ensures { OnLine client LosesProbe lines.old.entries result lines.new.entries }
 {
     let Some(line) = lines.get_mut(&client) else {
         return Err(CoreFault::UnknownClient.at_once());

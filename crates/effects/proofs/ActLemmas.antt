@@ -15,7 +15,7 @@ use Rattle.events.specs.declared.app.Effect.{Effect}
 use Rattle.events.specs.declared.app.Effect.TheVariants.{Join, Leave, Emit, EmitAsk, Reply, Disconnect, AllJoin, AllLeave, AllEnd}
 use Rattle.events.specs.declared.app.Reply as reply
 use Rattle.events.specs.declared.app.Who.{Who}
-use Rattle.effects.specs.declared.tally.Tally.{Tally}
+use Rattle.effects.specs.declared.scene.Tally.{Tally}
 use Rattle.events.specs.declared.cause.Cause.{Cause}
 use Rattle.events.specs.declared.cause.Cause.TheVariants.{OutboxFull}
 use Rattle.events.specs.declared.fault.CoreFault.{CoreFault}

@@ -1,11 +1,11 @@
 -- The question that was asked last is open; why a book has no id.
 use Rattle.std.proofs.Common.{◌≡◌, ◌⊎◌, inl, inr, ℕ, ◌==◌, Bool, true, false, cond, List, [], ◌∷◌, ◌++◌, refl, sym, subst, ap, ◌∙◌, is_some, Option, None, Some, Result, Ok, Err, OnOk, IfErr, IfSome}
 use Rattle.std.specs.Map.{lookup}
-use Rattle.ack_book.specs.declared.book.Question.{Question}
-use Rattle.ack_book.specs.declared.error.AckError.{AckError}
-use Rattle.ack_book.specs.declared.error.AckError.TheVariants as ack
-use Rattle.ack_book.specs.Book.{ask_refusal, answer_of}
-use Rattle.ack_book.specs.Questions.{next_id, open_questions, question_at}
+use Rattle.connection.specs.declared.ack_book.Question.{Question}
+use Rattle.connection.specs.declared.ack_error.AckError.{AckError}
+use Rattle.connection.specs.declared.ack_error.AckError.TheVariants as ack
+use Rattle.connection.specs.Book.{ask_refusal, answer_of}
+use Rattle.connection.specs.Questions.{next_id, open_questions, question_at}
 use Rattle.connection.specs.History.{Call, Asked, Answered, book_calls}
 use Rattle.connection.specs.Line.{PlainLine, LeadsTo, ForEachHistory, Advances}
 use Rattle.terms.specs.declared.entry.Entry.{Entry}

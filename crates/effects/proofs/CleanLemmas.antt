@@ -31,9 +31,7 @@ use Rattle.journal.specs.Casting.{refusal_of, IsCastOf}
 use Rattle.journal.specs.Membership.{place_of, is_space}
 use Rattle.journal.specs.Outboxes.{answer, farewell}
 use Rattle.journal.proofs.SocketsLemmas.{neither}
-use Rattle.events.specs.declared.app.Inquiry as inquiry
-use Rattle.events.specs.declared.app.Reply as reply
-use Rattle.effects.specs.Effects.{IsReply, IsInquiry, is_unsendable, reply_header, inquiry_header}
+use Rattle.effects.specs.Effects.{IsPacket, is_unsendable, header_of}
 use Rattle.effects.specs.Following.{is_clean}
 
 -- the separator stands nowhere in the text
@@ -194,26 +192,15 @@ clean-cast h c b asked allowed space payload =
     refl
     (lacks-offset c.payload b.offset (lacks c.payload payload)))
 
--- ---- acknowledgements
+-- ---- acknowledgements and questions
 
-pub clean-reply : (space : List ℕ) (id : ℕ) (r : reply.Reply) (entry : Entry) → is_unsendable r.payload r.attachments ≡ false → IsReply space id r entry → IsWhole space → IsWhole r.payload → is_clean entry ≡ true
-clean-reply space id r entry fine is named whole =
-    let few = (neither (not (list_any is_bracket r.payload)) (nat_lt 32 (length r.attachments)) fine).1 in
+pub clean-packet : (kinds : Kind × Kind) (space : List ℕ) (id : ℕ) (payload : List ℕ) (parts : List (List ℕ)) (entry : Entry) → is_unsendable payload parts ≡ false → IsPacket kinds space id payload parts entry → IsWhole space → IsWhole payload
+    → is_clean entry ≡ true
+clean-packet kinds space id payload parts entry fine is named whole =
+    let few = (neither (not (list_any is_bracket payload)) (nat_lt 32 (length parts)) fine).1 in
     ap not
-    (lacks-plain (reply_header space id r) entry.text is.text
-    (few-digits (reply_header space id r).kind (length r.attachments) (grind (arith, nat_tests, few)))
+    (lacks-plain (header_of kinds space id payload parts) entry.text is.text
+    (few-digits (header_of kinds space id payload parts).kind (length parts) (grind (arith, nat_tests, few)))
     (lacks space named)
     (lacks-decimal id is.fits)
-    (lacks r.payload whole))
-
--- ---- questions
-
-pub clean-inquiry : (space : List ℕ) (id : ℕ) (q : inquiry.Inquiry) (entry : Entry) → is_unsendable q.payload q.attachments ≡ false → IsInquiry space id q entry → IsWhole space → IsWhole q.payload → is_clean entry ≡ true
-clean-inquiry space id q entry fine is named whole =
-    let few = (neither (not (list_any is_bracket q.payload)) (nat_lt 32 (length q.attachments)) fine).1 in
-    ap not
-    (lacks-plain (inquiry_header space id q) entry.text is.text
-    (few-digits (inquiry_header space id q).kind (length q.attachments) (grind (arith, nat_tests, few)))
-    (lacks space named)
-    (lacks-decimal id is.fits)
-    (lacks q.payload whole))
+    (lacks payload whole))

@@ -25,7 +25,7 @@ use Rattle.effects.specs.Following.{is_clean, is_work, is_turn, is_cast, WorksFo
 use Rattle.effects.specs.Runs.{Runs}
 use Rattle.effects.specs.Saying.{Work, work, Says, cast_of}
 use Rattle.effects.proofs.ActLemmas.{seated-after, stands, stopped-open}
-use Rattle.effects.proofs.CleanLemmas.{clean-cast, clean-reply, clean-inquiry, clean-disconnect, clean-farewell}
+use Rattle.effects.proofs.CleanLemmas.{clean-cast, clean-packet, clean-disconnect, clean-farewell}
 use Rattle.effects.proofs.RunsLemmas.{all-take, run-keeps}
 use Rattle.effects.proofs.StepLemmas.{itself, work-on, work-cast, work-dismissed}
 
@@ -67,10 +67,10 @@ module _ (who : Who) (now : ℕ) (f : History) where
   acts-work s t (Leave room) whole clean fine seated acts was = work-rooms (what.Left who.sid room) s t seated.own seated.own refl tt acts was
   acts-work s t (Emit e) whole clean fine seated (says, is) was = work-says who.client now f who.space e (work s.history s.done) (work t.history t.done) whole clean says was
   acts-work s t (Reply r) whole clean fine seated (id, asked, (entry, is, inl (made, same))) was =
-      work-told entry s t _ (clean-reply who.space id r entry (neither (is_none s.asked) (is_unsendable r.payload r.attachments) fine).1 is whole clean) made refl refl same was
+      work-told entry s t _ (clean-packet _ who.space id _ _ entry (neither (is_none s.asked) (is_unsendable r.payload r.attachments) fine).1 is whole clean) made refl refl same was
   acts-work s t (Reply r) whole clean fine seated (id, asked, (entry, is, inr (refused, closed))) was = work-closed OutboxFull s t closed was
   acts-work s t (EmitAsk q) whole clean fine seated (id, next, entry, is, inl (made, advances, same)) was =
-      work-told entry s t _ (clean-inquiry who.space id q entry fine is whole clean) made refl refl same was
+      work-told entry s t _ (clean-packet _ who.space id _ _ entry fine is whole clean) made refl refl same was
   acts-work s t (EmitAsk q) whole clean fine seated (id, next, entry, is, inr (refused, vain, closed)) was = work-closed OutboxFull (record s { line = t.line }) t closed was
   acts-work s t Disconnect whole clean fine seated (between, says, made, advances, same) was =
       let there = seated-after who now s.history between says seated in

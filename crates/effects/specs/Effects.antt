@@ -5,6 +5,7 @@ use Rattle.std.specs.List.{list_any}
 use Rattle.room_maps.specs.declared.error.RoomError.{RoomError}
 use Rattle.terms.specs.declared.entry.Entry.{Entry}
 use Rattle.sio_wire.specs.declared.header.Header.{Header}
+use Rattle.sio_wire.specs.declared.kind.Kind.{Kind}
 use Rattle.sio_wire.specs.declared.kind.Kind.TheVariants.{Ack, BinaryAck, Event, BinaryEvent}
 use Rattle.sio_wire.specs.Header.{Plain}
 use Rattle.sio_wire.specs.Offset.{is_bracket}
@@ -16,9 +17,9 @@ use Rattle.journal.specs.declared.step.What.TheVariants as what
 use Rattle.journal.specs.Plain.{PlainDismissal}
 use Rattle.journal.specs.Journal.{History}
 use Rattle.journal.specs.ManySockets.{joining, leaving, dismissal}
-use Rattle.ack_book.specs.declared.error.AckError.TheVariants as ack
-use Rattle.ack_book.specs.Book.{ask_refusal}
-use Rattle.ack_book.specs.Questions.{next_id}
+use Rattle.connection.specs.declared.ack_error.AckError.TheVariants as ack
+use Rattle.connection.specs.Book.{ask_refusal}
+use Rattle.connection.specs.Questions.{next_id}
 use Rattle.connection.specs.History.{Call, Asked, Answered, Left, book_calls}
 use Rattle.connection.specs.Line.{PlainLine, ForEachHistory, Advances}
 use Rattle.events.specs.declared.app.Effect.{Effect}
@@ -35,7 +36,7 @@ use Rattle.events.specs.Selection.{PlainSelection}
 use Rattle.journal.specs.Membership.{is_open, place_of}
 use Rattle.effects.specs.Commands.{Makes, IsRefused, StopsAt, DoesOr, IsSeated}
 use Rattle.events.specs.declared.fault.Stopped.{Stopped}
-use Rattle.effects.specs.declared.tally.Tally.{Tally}
+use Rattle.effects.specs.declared.scene.Tally.{Tally}
 use Rattle.events.specs.Plain.{PlainDone, one_more, noted, told}
 use Rattle.effects.specs.Runs.{Runs}
 use Rattle.effects.specs.Saying.{work, Says, CannotSay}
@@ -98,15 +99,19 @@ Emits who e now s t = Says who.client who.space e now (work s.history s.done) (w
 abbrev pub told_to : ℕ → Entry → What
 told_to c entry = what.Told (record { client = c; entry = entry })
 
--- the acknowledgement of the event with this id
-abbrev pub reply_header : List ℕ → (id : ℕ) → reply.Reply → Header
-reply_header space id r =
-    record { kind = if length r.attachments == 0 then Ack else BinaryAck; space = space; id = Some id; payload = r.payload; count = length r.attachments }
+-- the header of a packet with an id: of the one kind, or of the other where it has attachments
+abbrev pub header_of : Kind × Kind → (space : List ℕ) → (id : ℕ) → (payload : List ℕ) → List (List ℕ) → Header
+header_of kinds space id payload parts =
+    record { kind = if length parts == 0 then kinds.0 else kinds.1; space = space; id = Some id; payload = payload; count = length parts }
 
-pub record IsReply (space : List ℕ) (id : ℕ) (r : reply.Reply) (entry : Entry) : Type 0 where
+pub record IsPacket (kinds : Kind × Kind) (space : List ℕ) (id : ℕ) (payload : List ℕ) (parts : List (List ℕ)) (entry : Entry) : Type 0 where
   pub fits : id < 2 ^ 64
-  pub text : Plain (reply_header space id r) entry.text
-  pub attachments : entry.attachments ≡ r.attachments
+  pub text : Plain (header_of kinds space id payload parts) entry.text
+  pub attachments : entry.attachments ≡ parts
+
+-- the acknowledgement of the event with this id
+abbrev pub IsReply : List ℕ → (id : ℕ) → reply.Reply → Entry → Type 0
+IsReply space id r entry = IsPacket (Ack, BinaryAck) space id r.payload r.attachments entry
 
 -- the client is told, or closed where its outbox has no place for it
 abbrev pub Replies : Who → (id : ℕ) → reply.Reply → ℕ → Scene → Scene → Type 0
@@ -115,14 +120,8 @@ Replies who id r now s t = (entry : Entry) × IsReply who.space id r entry
     ⊎ (IsRefused s.history now (told_to who.client entry) hub.OutboxFull × Closes who.client now OutboxFull s t))
 
 -- the question with this id
-abbrev pub inquiry_header : List ℕ → (id : ℕ) → inquiry.Inquiry → Header
-inquiry_header space id q =
-    record { kind = if length q.attachments == 0 then Event else BinaryEvent; space = space; id = Some id; payload = q.payload; count = length q.attachments }
-
-pub record IsInquiry (space : List ℕ) (id : ℕ) (q : inquiry.Inquiry) (entry : Entry) : Type 0 where
-  pub fits : id < 2 ^ 64
-  pub text : Plain (inquiry_header space id q) entry.text
-  pub attachments : entry.attachments ≡ q.attachments
+abbrev pub IsInquiry : List ℕ → (id : ℕ) → inquiry.Inquiry → Entry → Type 0
+IsInquiry space id q entry = IsPacket (Event, BinaryEvent) space id q.payload q.attachments entry
 
 -- the client is told the question with this id, or its outbox has no place for it, or it ends the event
 abbrev pub TellsInquiry : Who → (id : ℕ) → inquiry.Inquiry → ℕ → History → Result Bool CoreFault → History → Type 0

@@ -1,25 +1,21 @@
 //! What the app's effects do (Socket.IO protocol 5, "Sending and receiving data" and "Disconnection
 //! from a namespace"; Socket.IO server documentation, "Rooms").
 
-ghost use Rattle.std.specs.Prelude.{◌≡◌, ◌≤◌, false, ◌||◌, [], IfOk, IfErr, OnOk};
+ghost use Rattle.std.specs.Prelude.{◌≡◌, ◌≤◌, false, [], IfOk, IfErr, OnOk};
 ghost use Rattle.sio_wire.specs.Disconnect.{disconnect_text};
 ghost use Rattle.journal.specs.declared.step.What.{What};
 ghost use Rattle.effects.specs.Commands.{IsSeated};
-ghost use Rattle.effects.specs.Effects.{is_unsendable, is_wrong, Closes, Emits, Replies, Disconnects, Acts, ActsInTurn, Fails, Stops, StopsAfter, StandsWith, FailsAt, IsOpenFor, FailsToEmit, FailsToReply, FailsToDisconnect};
+ghost use Rattle.effects.specs.Effects.{is_unsendable, is_wrong, IsPacket, Closes, Emits, Replies, Disconnects, Acts, ActsInTurn, Fails, Stops, StopsAfter, StandsWith, FailsAt, IsOpenFor, FailsToEmit, FailsToReply, FailsToDisconnect};
 ghost use Rattle.effects.specs.Runs.{Runs};
 ghost use Rattle.effects.specs.Scene.{seen, DoesOrFails, IsSameEvent};
 
 use crate::ask::ask;
-use crate::commands;
-use crate::entry::reply_entry;
 use crate::rooms::{end_all, join, join_all, leave, leave_all};
 use crate::say::{is_unsendable, say};
-use crate::scene::Scene;
-use crate::tally::Tally;
-use crate::visit::Visit;
-use events::{Cause, CoreFault, Effect, Emission, Reply, Stopped, Who};
+use crate::{Scene, commands};
+use events::{Cause, CoreFault, Effect, Emission, Reply, Stopped, Who, Worked};
 use journal::Side;
-use sio_wire::disconnect_text;
+use sio_wire::{Header, Kind, disconnect_text, write_header};
 use std::alloc::Global;
 use terms::{Attachments, Entry, Text};
 
@@ -36,13 +32,6 @@ fn is_wrong(asked: Option<u64>, effect: &Effect) -> bool
         Effect::Join(_) | Effect::Leave(_) | Effect::Disconnect => false,
         Effect::AllJoin(_, _) | Effect::AllLeave(_, _) | Effect::AllEnd(_) => false,
     }
-}
-
-/// Whether the effect can't be done by itself, or comes after the socket was disconnected.
-fn is_bad(tally: &Tally, effect: &Effect) -> bool
-    ensures { result ≡ (tally.now.ended || is_wrong tally.now.asked effect.now) }
-{
-    tally.ended || is_wrong(tally.asked, effect)
 }
 
 /// Closes the client for a cause.
@@ -68,6 +57,41 @@ fn emit(scene: &mut Scene, who: &Who, emission: Emission) -> Result<(), CoreFaul
     say(scene.visit, scene.state, done, &who.space, emission)
 }
 
+/// A packet with an id as an entry: of the one kind, or of the other where it has attachments
+/// (Socket.IO protocol 5, "Acknowledgement").
+pub(crate) fn entry_of(
+    alloc: Global,
+    kinds: (Kind, Kind),
+    space: &str,
+    id: u64,
+    payload: Text,
+    attachments: Attachments,
+) -> Result<Entry, CoreFault>
+    requires { is_unsendable payload attachments ≡ false }
+    ensures ok { IfOk result (λ entry. IsPacket kinds space.now id payload attachments entry) }
+    ensures memory { IfErr result (λ f. f ≡ CoreFault.Memory) }
+{
+    let kind = if attachments.is_empty() {
+        kinds.0
+    } else {
+        kinds.1
+    };
+    let header = Header {
+        kind,
+        space: Text::copy_of(alloc, space)?,
+        id: Some(id),
+        payload,
+        count: attachments.len() as u32,
+    };
+    match write_header(alloc, &header) {
+        Ok(text) => Ok(Entry {
+            text: Text::from_string(text),
+            attachments,
+        }),
+        Err(_) => Err(CoreFault::Memory),
+    }
+}
+
 /// Tells the client the acknowledgement of an event, or closes it where its outbox has no place.
 fn reply(scene: &mut Scene, who: &Who, id: u64, reply: Reply) -> Result<(), CoreFault>
     requires own { who.now.client ≡ scene.old.visit.client }
@@ -76,7 +100,10 @@ fn reply(scene: &mut Scene, who: &Who, id: u64, reply: Reply) -> Result<(), Core
     ensures { DoesOrFails (Replies who.now id reply) (FailsToReply who.now id reply)
         scene.old result scene.new }
 {
-    let entry = reply_entry(scene.visit.alloc, who.space.as_str(), id, reply)?;
+    let alloc = scene.visit.alloc;
+    let kinds = (Kind::Ack, Kind::BinaryAck);
+    let space = who.space.as_str();
+    let entry = entry_of(alloc, kinds, space, id, reply.payload, reply.attachments)?;
     if commands::tell(scene.visit, scene.state, entry)? {
         scene.tally.count();
         scene.tally.asked = None;
@@ -150,7 +177,8 @@ fn act(scene: &mut Scene, who: &Who, effect: Effect) -> Result<(), CoreFault>
     if scene.tally.is_closed() {
         return Ok(());
     }
-    if is_bad(scene.tally, &effect) {
+    // An effect after the socket was disconnected can't be done either.
+    if scene.tally.ended || is_wrong(scene.tally.asked, &effect) {
         return Err(CoreFault::BadEffect);
     }
     act_allowed(scene, who, effect)
@@ -158,12 +186,7 @@ fn act(scene: &mut Scene, who: &Who, effect: Effect) -> Result<(), CoreFault>
 
 /// What the effects of one packet do, in order. So many of its effects were done before, and after
 /// an error so many are done as it says.
-pub fn act_all(
-    scene: &mut Scene,
-    who: &Who,
-    effects: Vec<Effect>,
-    before: usize,
-) -> Result<(), Stopped>
+pub fn act_all(scene: &mut Scene, who: &Who, effects: Vec<Effect>, before: usize) -> Worked
     requires own { who.now.client ≡ scene.old.visit.client }
     requires few { before ≤ 1 }
     requires stands { StandsWith who.now (seen scene.old) }

@@ -6,14 +6,11 @@ ghost use Rattle.connection.specs.Line.{PlainLine, Advances};
 ghost use Rattle.effects.specs.Effects.{is_unsendable, IsOpenFor, IsNextId, HasNoId, Asks, FailsToAsk, TellsInquiry};
 ghost use Rattle.effects.specs.Scene.{seen, DoesOrFails, IsSameEvent};
 
-use crate::act::close_for;
-use crate::commands;
-use crate::entry::inquiry_entry;
-use crate::scene::Scene;
-use crate::visit::Visit;
-use ack_book::AckError;
-use connection::Line;
+use crate::act::{close_for, entry_of};
+use crate::{Scene, Visit, commands};
+use connection::{AckError, Line};
 use events::{Cause, CoreFault, Inquiry, Who};
+use sio_wire::Kind;
 use std::alloc::Global;
 use terms::Sid;
 
@@ -51,7 +48,17 @@ fn tell(scene: &mut Scene, who: &Who, id: u64, inquiry: Inquiry) -> Result<bool,
     ensures kept { (scene.new.line.now ≡ scene.old.line.now)
         × (scene.new.tally.now ≡ scene.old.tally.now) }
 {
-    let entry = inquiry_entry(scene.visit.alloc, who.space.as_str(), id, inquiry)?;
+    let alloc = scene.visit.alloc;
+    let kinds = (Kind::Event, Kind::BinaryEvent);
+    let space = who.space.as_str();
+    let entry = entry_of(
+        alloc,
+        kinds,
+        space,
+        id,
+        inquiry.payload,
+        inquiry.attachments,
+    )?;
     commands::tell(scene.visit, scene.state, entry)
 }
 

@@ -1,16 +1,15 @@
 //! The hub's commands, as an event of one client uses them: refusals that can't come are gone,
 //! those that end the event are faults, and the rest are answers.
 
-ghost use Rattle.std.specs.Prelude.{◌≡◌, true, min, length, None, IfOk, IfSome, IfNone, IfErr};
+ghost use Rattle.std.specs.Prelude.{◌≡◌, true, IfOk};
 ghost use Rattle.journal.specs.declared.error.HubError.TheVariants as hub;
 ghost use Rattle.journal.specs.declared.step.What.{What};
-ghost use Rattle.journal.specs.Membership.{place_of, is_space, is_open, is_connected, sid_of, socket_of};
-ghost use Rattle.journal.specs.Outboxes.{waiting};
+ghost use Rattle.journal.specs.Membership.{is_open, is_connected, sid_of};
 ghost use Rattle.events.specs.declared.app.Who.{Who};
-ghost use Rattle.effects.specs.Commands.{Makes, StopsAt, DoesOrStops, DoesOr, IsSeated, seat, return_of, CannotReturn, Drops};
+ghost use Rattle.effects.specs.Commands.{DoesOrStops, DoesOr, IsSeated, MayJoin, seat, return_of, Recovers, took, Drops};
 ghost use Rattle.effects.specs.Effects.{told_to};
 
-use crate::visit::Visit;
+use crate::Visit;
 use events::{CoreFault, Who};
 use hub_state::State;
 use journal::{HubError, Side, Swept};
@@ -30,21 +29,12 @@ pub fn open(visit: Visit, state: &mut State) -> Result<(), CoreFault>
 /// Connects an open client's socket to a namespace that it hasn't joined. Answers whether its
 /// outbox had a place for the answer.
 pub fn attach(visit: Visit, state: &mut State, who: &Who, pid: Pid) -> Result<bool, CoreFault>
-    requires open_client { is_open state.old.base state.old.journal who.now.client ≡ true }
-    requires in_space { is_space state.old.limits (place_of state.old.limits who.now.space) ≡ true }
-    requires free { let place = place_of state.old.limits who.now.space
-        in socket_of state.old.base state.old.journal who.now.client place ≡ None }
+    requires { MayJoin who.now.client who.now.space state.old }
     ensures { let what = What.Attached (seat who.now pid state.old)
         in DoesOr hub.OutboxFull state.old visit.moment what result state.new }
 {
-    match state.attach(
-        visit.alloc,
-        who.client,
-        who.space.as_str(),
-        who.sid,
-        pid,
-        visit.moment,
-    ) {
+    let space = who.space.as_str();
+    match state.attach(visit.alloc, who.client, space, who.sid, pid, visit.moment) {
         Ok(()) => Ok(true),
         Err(HubError::OutboxFull) => Ok(false),
         Err(error) => Err(CoreFault::of(error)),
@@ -60,19 +50,9 @@ pub fn recover(
     pid: Pid,
     offset: u64,
 ) -> Result<Option<Sid>, CoreFault>
-    requires open_client { is_open state.old.base state.old.journal visit.client ≡ true }
-    requires in_space { is_space state.old.limits (place_of state.old.limits space.now) ≡ true }
-    requires free { let place = place_of state.old.limits space.now
-        in socket_of state.old.base state.old.journal visit.client place ≡ None }
-    ensures back { let r = return_of visit.client space.now pid offset state.old
-        in IfOk result (λ found. IfSome found (λ sid.
-        Makes state.old visit.moment (What.Recovered r) state.new × (sid ≡ r.socket.sid))) }
-    ensures gone { let r = return_of visit.client space.now pid offset state.old
-        in IfOk result (λ found. IfNone found
-        (CannotReturn state.old visit.moment (What.Recovered r) × (state.new ≡ state.old))) }
-    ensures err { let r = return_of visit.client space.now pid offset state.old
-        in IfErr result (λ f.
-        StopsAt state.old visit.moment (What.Recovered r) f × (state.new ≡ state.old)) }
+    requires { MayJoin visit.client space.now state.old }
+    ensures { let back = return_of visit.client space.now pid offset state.old
+        in Recovers back state.old visit.moment result state.new }
 {
     match state.recover(visit.alloc, visit.client, space, pid, offset, visit.moment) {
         Ok(sid) => Ok(Some(sid)),
@@ -134,9 +114,8 @@ pub fn park(visit: Visit, state: &mut State) -> Result<bool, CoreFault>
 /// read them by then.
 pub fn take(visit: Visit, state: &mut State, most: usize) -> Result<(), CoreFault>
     requires { is_open state.old.base state.old.journal visit.client ≡ true }
-    ensures { let h = state.old in
-        let number = min most (length (waiting h.base h.limits h.journal visit.client)) in
-        DoesOrStops h visit.moment (What.Took visit.client most number) result state.new }
+    ensures { let what = took visit.client most state.old
+        in DoesOrStops state.old visit.moment what result state.new }
 {
     match state.take_away(visit.alloc, visit.client, most, visit.moment) {
         Ok(_number) => Ok(()),

@@ -8,8 +8,8 @@ ghost use Rattle.effects.specs.Departed.{Sends, HearsOf, HearsOfAll};
 ghost use Rattle.effects.specs.Runs.{RunsOrFails};
 ghost use Rattle.effects.specs.Saying.{work};
 
+use crate::Visit;
 use crate::say::{is_unsendable, say};
-use crate::visit::Visit;
 use events::{App, CoreFault, Done, Effect, Who};
 use hub_state::State;
 use terms::Text;
@@ -78,8 +78,8 @@ fn hear_of<A: App>(
     send_all(visit, state, done, &who.space, effects)
 }
 
-/// The app hears of the sockets that have ended, from the one at an index on, and what it wants then
-/// is done, until something is refused.
+/// The app hears of the sockets that have ended, from the one at an index on, and what it wants
+/// then is done, until something is refused.
 pub fn hear_all<A: App>(
     visit: Visit,
     state: &mut State,

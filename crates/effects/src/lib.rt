@@ -5,17 +5,12 @@ mod act;
 mod ask;
 pub mod commands;
 mod departures;
-mod entry;
 mod laws;
 mod rooms;
 mod say;
 mod scene;
-mod tally;
-mod visit;
 
 pub use act::{act_all, close_for};
 pub use departures::hear_all;
 pub use laws::{effects_are_work, others_are_spared};
-pub use scene::Scene;
-pub use tally::Tally;
-pub use visit::{Call, Visit};
+pub use scene::{Call, Scene, Tally, Visit};

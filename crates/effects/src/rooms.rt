@@ -12,9 +12,7 @@ ghost use Rattle.effects.specs.Effects.{scene, all_joined, all_left, is_among, C
 ghost use Rattle.effects.specs.Scene.{DoesOrFails};
 
 use crate::say::retain_others;
-use crate::scene::Scene;
-use crate::tally::Tally;
-use crate::visit::Visit;
+use crate::{Scene, Tally, Visit};
 use connection::Line;
 use events::{CoreFault, Selection, Who};
 use journal::{Dismissed, HubError};

@@ -5,7 +5,7 @@ ghost use Rattle.journal.specs.Membership.{is_space, place_of};
 ghost use Rattle.effects.specs.Effects.{is_unsendable};
 ghost use Rattle.effects.specs.Saying.{cast_of, work, SaysOrFails};
 
-use crate::visit::Visit;
+use crate::Visit;
 use events::{CoreFault, Done, Emission};
 use hub_state::State;
 use journal::Cast;

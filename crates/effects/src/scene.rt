@@ -1,9 +1,120 @@
 //! What an event of one client works on.
 
-use crate::tally::Tally;
-use crate::visit::Visit;
+ghost use Rattle.std.specs.Prelude.{◌≡◌, None, Some, is_some, true, false};
+ghost use Rattle.events.specs.Plain.{nothing_done, one_packet_more, one_more, noted};
+
 use connection::Line;
+use events::{Cause, Done};
 use hub_state::State;
+use room_maps::RoomError;
+use std::alloc::Global;
+
+/// When an event came.
+#[derive(Clone, Copy)]
+pub struct Call {
+    /// What memory is taken from.
+    pub alloc: Global,
+    /// The moment, in milliseconds.
+    pub moment: u64,
+}
+
+/// Whose event it is, and when it came.
+#[derive(Clone, Copy)]
+pub struct Visit {
+    /// What memory is taken from.
+    pub alloc: Global,
+    /// The session id of the event's client.
+    pub client: u128,
+    /// The moment of the event, in milliseconds.
+    pub moment: u64,
+}
+
+impl Call {
+    /// The call as one of this client's.
+    pub fn of(self, client: u128) -> Visit
+        ensures client { result.client ≡ client }
+        ensures moment { result.moment ≡ self.moment }
+    {
+        Visit {
+            alloc: self.alloc,
+            client,
+            moment: self.moment,
+        }
+    }
+}
+
+/// What was done of an event so far, and how the packet stands that is worked on.
+#[derive(Drop)]
+pub struct Tally {
+    /// What was done.
+    pub done: Done,
+    /// The id under which the packet still asks to be acknowledged.
+    pub asked: Option<u64>,
+    /// Whether the packet's socket was disconnected.
+    pub ended: bool,
+}
+
+impl Tally {
+    /// Nothing was done yet.
+    pub fn new(alloc: Global) -> Tally
+        ensures { result ≡ record { done = nothing_done; asked = None; ended = false } }
+    {
+        Tally {
+            done: Done::nothing(alloc),
+            asked: None,
+            ended: false,
+        }
+    }
+
+    /// A packet begins, of which nothing is known yet.
+    pub fn begin(&mut self)
+        ensures { let done = one_packet_more self.old.done in
+            self.new ≡ record { done = done; asked = None; ended = false } }
+    {
+        self.done.packets = self.done.packets.saturating_add(1);
+        self.asked = None;
+        self.ended = false;
+    }
+
+    /// Whether the client was closed.
+    pub fn is_closed(&self) -> bool
+        ensures { result ≡ is_some self.now.done.closed }
+    {
+        self.done.closed.is_some()
+    }
+
+    /// The client was closed for a cause.
+    pub fn close(&mut self, cause: Cause)
+        ensures { let done = record self.old.done { closed = Some cause } in
+            self.new ≡ record self.old { done = done } }
+    {
+        self.done.closed = Some(cause);
+    }
+
+    /// The packet was an answer to no question.
+    pub fn ignore(&mut self)
+        ensures { let done = record self.old.done { ignored = true } in
+            self.new ≡ record self.old { done = done } }
+    {
+        self.done.ignored = true;
+    }
+
+    /// One effect more was done.
+    pub fn count(&mut self)
+        ensures { self.new ≡ record self.old { done = one_more self.old.done } }
+    {
+        self.done.effects = self.done.effects.saturating_add(1);
+    }
+
+    /// An effect was skipped for this reason, or not: the first reason is kept.
+    pub(crate) fn note(&mut self, refused: Option<RoomError>)
+        ensures { self.new ≡ record self.old { done = noted refused self.old.done } }
+    {
+        if self.done.skipped.is_none() {
+            self.done.skipped = refused;
+        }
+    }
+}
 
 /// What an event of one client works on: the hub, the client's line, and what was done of the event
 /// so far. Contracts see of it what `seen` says.

@@ -1,7 +1,7 @@
 -- All epochs as one: what an event does there.
 use Rattle.std.proofs.Common.{◌≡◌, ℕ, true, List, [], ◌∷◌, ◌++◌, refl, sym, ◌∙◌, ap, subst, is_some, append_assoc, Option, Some}
 use Rattle.eio_wire.specs.declared.handshake.Numbers.{Numbers}
-use Rattle.session_clock.specs.declared.timing.Timing.{Timing}
+use Rattle.connection.specs.declared.timing.Timing.{Timing}
 use Rattle.connection.specs.Line.{PlainLine}
 use Rattle.journal.specs.declared.step.Step.{Step}
 use Rattle.journal.specs.Journal.{History, history}

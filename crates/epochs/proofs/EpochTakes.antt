@@ -4,8 +4,8 @@ use Rattle.std.specs.List.{AllZip}
 use Rattle.std.proofs.lemmas.List.{length-take}
 use Rattle.eio_wire.specs.declared.packet.Packet.{Packet}
 use Rattle.eio_wire.specs.Payload.{Payload}
-use Rattle.session_clock.specs.declared.transport.Transport.{Transport}
-use Rattle.session_clock.specs.declared.transport.Transport.TheVariants.{Polling, Probing, Socket}
+use Rattle.connection.specs.declared.transport.Transport.{Transport}
+use Rattle.connection.specs.declared.transport.Transport.TheVariants.{Polling, Probing, Socket}
 use Rattle.terms.specs.declared.entry.Entry.{Entry}
 use Rattle.connection.specs.Line.{PlainLine}
 use Rattle.journal.specs.declared.step.What.TheVariants.{Took}

@@ -2,7 +2,7 @@
 
 ghost use Rattle.std.specs.Prelude.{◌≡◌, ℕ, true, false, List, [], ◌∷◌, ◌++◌};
 ghost use Rattle.eio_wire.specs.declared.handshake.Numbers.{Numbers};
-ghost use Rattle.session_clock.specs.declared.timing.Timing.{Timing};
+ghost use Rattle.connection.specs.declared.timing.Timing.{Timing};
 ghost use Rattle.terms.specs.declared.entry.Entry.{Entry};
 ghost use Rattle.connection.specs.Line.{PlainLine};
 ghost use Rattle.journal.specs.declared.step.What.{What};

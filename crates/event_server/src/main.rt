@@ -2,7 +2,6 @@
 //! script` serves the clients of a script.
 #![tactic(auto)]
 
-use arguments::options::Options;
 use arguments::refused::tell_refused;
 use arguments::task::{Task, read_arguments};
 use guarded::Guarded;
@@ -32,24 +31,17 @@ fn main(rt: HostRuntime) -> ExitCode {
     match read_arguments(&rt, processors(&rt)) {
         Ok(Task::Script) => end_with(&rt, NAME, play_script(&rt, &app(false, None))),
         Ok(Task::Serve(options)) => {
-            let Options {
-                settings,
-                tell_left,
-                until_eof,
-                verbose,
-                token,
-                folder: _,
-                token_file: _,
-            } = Box::into_inner(options);
-            match listen(&rt, settings, verbose) {
+            let options = Box::into_inner(options);
+            match listen(&rt, options.settings, options.verbose) {
                 Ok(server) => {
-                    if until_eof {
+                    if options.until_eof {
                         if let Ok(shared) = server.shared() {
                             // Where no thread can be made, the server ends by a kill alone.
                             let _ = thread::spawn(&rt, move || wait_for_end(&rt, &shared));
                         }
                     }
-                    end_with(&rt, NAME, serve(&rt, server, &app(tell_left, token)))
+                    let app = app(options.tell_left, options.token);
+                    end_with(&rt, NAME, serve(&rt, server, &app))
                 }
                 Err(fault) => end_with(&rt, NAME, Err(fault)),
             }

@@ -18,6 +18,10 @@ pub record PlainDone : Type 0 where
 abbrev pub nothing_done : PlainDone
 nothing_done = record { packets = 0; effects = 0; skipped = None; ignored = false; closed = None; clients = [] }
 
+-- one packet more was done
+abbrev pub one_packet_more : PlainDone → PlainDone
+one_packet_more done = record done { packets = min (done.packets + 1) 18446744073709551615 }
+
 -- one effect more was done
 abbrev pub one_more : PlainDone → PlainDone
 one_more done = record done { effects = min (done.effects + 1) 18446744073709551615 }

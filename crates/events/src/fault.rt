@@ -78,6 +78,17 @@ impl CoreFault {
     }
 }
 
+/// What comes of a packet: it was done to its end, or why it wasn't.
+pub type Worked = Result<(), Stopped>;
+
+impl From<CoreFault> for CoreError {
+    ghost from_gives = { λ fault error. error ≡ record { fault = fault; packets = 0; effects = 0 } };
+
+    fn from(fault: CoreFault) -> CoreError {
+        fault.at_once()
+    }
+}
+
 impl From<CoreFault> for Stopped {
     ghost from_gives = { λ fault stopped. stopped ≡ record { fault = fault; effects = 0 } };
 

@@ -4,8 +4,7 @@ ghost use Rattle.std.specs.Prelude.{◌≡◌, ◌-◌};
 ghost use Rattle.events.specs.Loss.{follows, most_tries};
 
 use crate::event::Event;
-use crate::fault::CoreError;
-use crate::outcome::Outcome;
+use crate::outcome::Answered;
 
 /// How often the core is told of a loss, at the most.
 const TRIES: u32 = 3;
@@ -48,7 +47,7 @@ impl Loss {
     }
 
     /// The core was told, and answered this.
-    pub fn hears(&mut self, got: &Result<Outcome, CoreError>) -> Telling
+    pub fn hears(&mut self, got: &Answered) -> Telling
         ensures told { self.new ≡ record self.old { left = self.old.left - 1 } }
         ensures telling { result ≡ follows self.old.left got.now }
     {

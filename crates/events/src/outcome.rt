@@ -4,9 +4,13 @@ ghost use Rattle.std.specs.Prelude.{◌≡◌};
 
 use crate::done::Done;
 use crate::event::WsFrame;
+use crate::fault::CoreError;
 use journal::Swept;
 use std::marker::Model;
 use terms::Text;
+
+/// What an event is answered with.
+pub type Answered = Result<Outcome, CoreError>;
 
 /// What became of an event that was done to its end.
 #[derive(Drop)]

@@ -1,8 +1,7 @@
 //! Who brings events.
 
 use crate::event::Event;
-use crate::fault::CoreError;
-use crate::outcome::Outcome;
+use crate::outcome::Answered;
 
 /// Why a peer is served no more.
 #[derive(Clone, Copy, Debug, PartialEq, Eq)]
@@ -32,6 +31,6 @@ pub trait Peer {
         ensures { gives self.old result self.new };
 
     /// Tells the peer what became of its event.
-    fn answer(&mut self, got: &Result<Outcome, CoreError>) -> Result<(), PeerFault>
+    fn answer(&mut self, got: &Answered) -> Result<(), PeerFault>
         ensures { hears self.old got.now result self.new };
 }

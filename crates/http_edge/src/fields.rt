@@ -103,17 +103,10 @@ pub(crate) fn origin_of(
         (values (codes "origin") (map (header_bytes bytes.now) fields.now))
         (option_map string_bytes origin)) }
 {
-    match values_under(bytes, fields, b"origin") {
-        Values::One(value) => text_of(alloc, value),
-        _ => Ok(None),
-    }
-}
-
-// The bytes, where they are text.
-fn text_of(alloc: Global, bytes: &[u8]) -> Result<Option<String>, AllocError>
-    ensures { IfOk result (λ text. IsOnlyText (bytes.now ∷ []) (option_map string_bytes text)) }
-{
-    match std::str::from_utf8(bytes) {
+    let Values::One(value) = values_under(bytes, fields, b"origin") else {
+        return Ok(None);
+    };
+    match std::str::from_utf8(value) {
         Ok(text) => Ok(Some(String::from_str(alloc, text)?)),
         Err(_) => Ok(None),
     }

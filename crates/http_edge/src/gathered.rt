@@ -53,12 +53,8 @@ impl Gathered {
         ensures done { IfOk result (λ answer. IfSome answer (λ q. self.new ≡ Ok [])) }
         ensures fault { IfErr result (λ e. self.new ≡ Err e) }
     {
-        let step = step_of(
-            alloc,
-            mem::replace(&mut self.stage, Stage::Failed(EdgeError::Memory)),
-            piece,
-        );
-        match step {
+        let stage = mem::replace(&mut self.stage, Stage::Failed(EdgeError::Memory));
+        match step_of(alloc, stage, piece) {
             Ok(Step::More(stage)) => {
                 self.stage = stage;
                 Ok(None)

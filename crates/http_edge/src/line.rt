@@ -59,9 +59,6 @@ impl Line {
         ensures yes { result ≡ true → self ≡ Empty }
         ensures none_yet { result ≡ false → self ≢ Empty }
     {
-        match self {
-            Line::Empty => true,
-            _ => false,
-        }
+        matches!(self, Line::Empty)
     }
 }

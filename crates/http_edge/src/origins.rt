@@ -56,12 +56,9 @@ fn access_of(named: &[String], origin: &Option<String>) -> Access
 fn is_named(named: &[String], origin: &str) -> bool
     ensures { result ≡ origins.is_named origin.now named.now }
 {
-    for name in named {
-        if name.as_str() == "*" || name.as_str() == origin {
-            return true;
-        }
-    }
-    false
+    named
+        .iter()
+        .any(|name| name.as_str() == "*" || name.as_str() == origin)
 }
 
 /// The target of a request with this access, which the table has sent here.

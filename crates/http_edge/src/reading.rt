@@ -26,30 +26,8 @@ pub fn read_request<W: Wire>(alloc: Global, wire: &mut W, turns: u64) -> Result<
         (λ e. e ≡ TurnsSpent → ReadsMore (W.reads wire.old) (W.reads wire.new) turns) }
 {
     let mut gathered = Gathered::new(alloc);
-    read_on(alloc, wire, &mut gathered, turns)
-}
-
-// Reads what is still lacking.
-fn read_on<W: Wire>(
-    alloc: Global,
-    wire: &mut W,
-    gathered: &mut Gathered,
-    turns: u64,
-) -> Result<Request, EdgeError>
-    requires { IsOk gathered.old }
-    ensures request { (start : Option (List ℕ)) → TakesPart start (W.left wire.old) gathered.old
-        → IfOk result (λ q. TakesRequest start (W.left wire.new) q) }
-    ensures fault { (start : Option (List ℕ)) → TakesPart start (W.left wire.old) gathered.old
-        → IfErr result (λ e. TakesFault start (W.left wire.new) e) }
-    ensures stopped { IfErr result (λ e. (e ≡ Device → W.is_broken wire.new ≡ true)
-        × (e ≡ EarlyEnd → IsAtEnd (W.left wire.new))) }
-    ensures counted { (count : ℕ) × (count ≤ turns)
-        × ReadsMore (W.reads wire.old) (W.reads wire.new) count }
-    ensures spent { IfErr result
-        (λ e. e ≡ TurnsSpent → ReadsMore (W.reads wire.old) (W.reads wire.new) turns) }
-{
     for _turn in 0..turns {
-        if let Some(request) = one_read(alloc, wire, gathered)? {
+        if let Some(request) = one_read(alloc, wire, &mut gathered)? {
             return Ok(request);
         }
     }

@@ -89,9 +89,7 @@ pub fn write_response<W: Wire>(
         (http.answer status (option_map string_bytes origin.now) body.now)) }
     ensures broken { IfErr result (λ e. e ≡ Device → W.is_broken wire.new ≡ true) }
 {
-    let Ok(text) = answer_text(alloc, status, origin, body) else {
-        return Err(EdgeError::Memory);
-    };
+    let text = answer_text(alloc, status, origin, body)?;
     match write_all(wire, text.as_str().as_bytes()) {
         Ok(()) => Ok(()),
         Err(Broken) => Err(EdgeError::Device),

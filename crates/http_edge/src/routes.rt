@@ -32,13 +32,11 @@ pub fn refusal_body(refusal: Refusal) -> &'static str
     ensures { result.now ≡ routes.refusal_text refusal }
 {
     match refusal {
-        Refusal::UnknownTransport => "{\"code\":0,\"message\":\"Transport unknown\"}",
-        Refusal::UnknownSession => "{\"code\":1,\"message\":\"Session ID unknown\"}",
-        Refusal::BadMethod => "{\"code\":2,\"message\":\"Bad handshake method\"}",
-        Refusal::BadRequest => "{\"code\":3,\"message\":\"Bad request\"}",
-        Refusal::UnsupportedVersion => {
-            "{\"code\":5,\"message\":\"Unsupported protocol version\"}"
-        }
+        Refusal::UnknownTransport => r#"{"code":0,"message":"Transport unknown"}"#,
+        Refusal::UnknownSession => r#"{"code":1,"message":"Session ID unknown"}"#,
+        Refusal::BadMethod => r#"{"code":2,"message":"Bad handshake method"}"#,
+        Refusal::BadRequest => r#"{"code":3,"message":"Bad request"}"#,
+        Refusal::UnsupportedVersion => r#"{"code":5,"message":"Unsupported protocol version"}"#,
     }
 }
 
@@ -125,10 +123,7 @@ fn choose(
 fn is_text(value: &Option<String>, text: &str) -> bool
     ensures { result ≡ is_value text.now (option_map string_bytes value.now) }
 {
-    match value {
-        Some(found) => found.as_str() == text,
-        None => false,
-    }
+    matches!(value, Some(found) if found.as_str() == text)
 }
 
 // The value of the query's first pair with this key.

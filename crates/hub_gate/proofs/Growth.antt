@@ -1,8 +1,8 @@
 -- A pass that grows over several turns.
 use Rattle.std.proofs.Common.{◌≡◌, ℕ, ◌<◌, ◌≤◌, Bool, true, false, Option, None, Some, Result, List, [], ◌∷◌, arith, refl, sym, subst, ◌∙◌}
 use Rattle.std.specs.List.{FoldsTo}
-use Rattle.hub.proofs.CountingLemmas.{commands-grow, handed_out-grows}
-use Rattle.hub.specs.Pass.{PlainHub, PlainPass, AtLeast, commands_of, taken_of}
+use Rattle.hub_totals.proofs.CountingLemmas.{commands-grow, handed_out-grows}
+use Rattle.hub_totals.specs.Pass.{PlainHub, PlainPass, AtLeast, commands_of, taken_of}
 use Rattle.dispatch.specs.Counting.{TurnsFor}
 use Rattle.events.specs.declared.event.Event.{Event}
 use Rattle.events.specs.declared.event.Event.TheVariants as event

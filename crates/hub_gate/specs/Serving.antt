@@ -2,8 +2,8 @@
 use Rattle.std.specs.Prelude.{◌≡◌, ℕ, ◌<◌, ◌≤◌, List, Option, Some, Result, Ok, Err, length, map, min, slice_get}
 use Rattle.std.specs.List.{FoldsTo}
 use Rattle.journal.specs.declared.totals.Totals.{Totals}
-use Rattle.hub.specs.declared.pass.NotAll.{NotAll}
-use Rattle.hub.specs.Pass.{PlainPass, Settles, new_pass}
+use Rattle.hub_totals.specs.declared.books.NotAll.{NotAll}
+use Rattle.hub_totals.specs.Pass.{PlainPass, Settles, new_pass}
 use Rattle.events.specs.App.{Policy}
 use Rattle.events.specs.declared.event.Event.{Event}
 use Rattle.events.specs.Answer.{Answer}

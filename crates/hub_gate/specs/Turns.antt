@@ -6,7 +6,7 @@ use Rattle.std.specs.List.{FoldsTo}
 use Rattle.events.specs.App.{Policy}
 use Rattle.effects.specs.Following.{Spares}
 use Rattle.dispatch.specs.Counting.{TurnsFor}
-use Rattle.hub.specs.Pass.{PlainPass, AtLeast}
+use Rattle.hub_totals.specs.Pass.{PlainPass, AtLeast}
 use Rattle.events.specs.declared.event.Event.{Event}
 use Rattle.events.specs.declared.event.Event.TheVariants as event
 use Rattle.events.specs.declared.outcome.Outcome.TheVariants as outcome

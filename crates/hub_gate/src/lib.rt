@@ -8,7 +8,7 @@ mod serve;
 mod worker;
 
 pub use locked::{Locked, Sealing, mirrors_of};
-pub use peer::{PeerSource, Queue, Turnstile};
+pub use peer::{Open, PeerSource, Queue, Turnstile};
 pub use pool::Pool;
 pub use serve::{Report, ServeError, Settled, serve_peers};
 pub use worker::{WorkerCounts, run_worker};

@@ -5,7 +5,7 @@ ghost use Rattle.std.specs.Sync.Mutex.{mutex_guard_value};
 ghost use Rattle.room_maps.specs.Mirror.{IsMirrored};
 ghost use Rattle.journal.specs.Membership.{rooms};
 ghost use Rattle.journal.specs.Totals.{held};
-ghost use Rattle.hub.specs.Pass.{new_pass, AtLeast};
+ghost use Rattle.hub_totals.specs.Pass.{new_pass, AtLeast};
 ghost use Rattle.events.specs.declared.fault.CoreFault.{CoreFault};
 ghost use Rattle.events.specs.Answer.{at_once};
 ghost use Rattle.hub_gate.specs.Facts.{IsSoundCore, IsOfCore};
@@ -13,8 +13,8 @@ ghost use Rattle.hub_gate.specs.Sealing.{Seals};
 ghost use Rattle.hub_gate.specs.Turns.{Applied, desk};
 
 use dispatch::Core;
-use events::{App, CoreError, CoreFault, Event, IdSource, Outcome};
-use hub::Pass;
+use events::{Answered, App, CoreError, CoreFault, Event, IdSource};
+use hub_totals::Pass;
 use journal::{Epoch, HubError};
 use std::alloc::Global;
 use std::collections::{BTreeMap, BTreeSet};
@@ -34,7 +34,7 @@ pub struct Locked<C: Ledger, T: Ledger> {
 /// back. The cores are known to contracts alone, and take no bytes.
 pub(crate) struct Turn<C: Ledger, T: Ledger> {
     pub(crate) before: Snapshot<Core<C, T>>,
-    pub(crate) got: Result<Outcome, CoreError>,
+    pub(crate) got: Answered,
     pub(crate) after: Snapshot<Core<C, T>>,
 }
 
@@ -145,7 +145,7 @@ pub(crate) fn apply_counted<C: Ledger, T: Ledger, A: App, I: IdSource>(
     event: &Event,
     now: u64,
     ids: &mut I,
-) -> Result<Outcome, CoreError>
+) -> Answered
     requires sound { IsSoundCore core.old }
     requires counted { AtLeast core.old.hub pass.old }
     ensures { Applied (A.policy app.now) event.now now

@@ -16,6 +16,16 @@ pub trait Turnstile {
     fn after(&self, worker: usize, turn: u64);
 }
 
+/// A gate at which nobody waits.
+#[derive(Drop)]
+pub struct Open;
+
+impl Turnstile for Open {
+    fn before(&self, _worker: usize, _turn: u64) {}
+
+    fn after(&self, _worker: usize, _turn: u64) {}
+}
+
 /// Where a worker's peers come from.
 pub trait PeerSource<P> {
     ghost use Rattle.std.specs.Prelude.{Option};

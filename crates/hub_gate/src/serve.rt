@@ -11,7 +11,7 @@ use crate::pool::Pool;
 use crate::worker::{WorkerCounts, run_worker};
 use dispatch::Core;
 use events::{App, IdSource, Peer};
-use hub::{NotAll, Pass};
+use hub_totals::{NotAll, Pass};
 use journal::Totals;
 use std::alloc::{AllocError, Global};
 use std::snapshot::Snapshot;

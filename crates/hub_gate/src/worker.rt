@@ -6,8 +6,8 @@ ghost use Rattle.hub_gate.specs.Turns.{Applied, ServesAll, Talks, TellsLost, Wor
 use crate::locked::{Turn, apply_counted};
 use crate::peer::{PeerSource, Turnstile};
 use crate::pool::Pool;
-use events::{App, CoreError, Event, IdSource, Loss, Outcome, Peer, Telling};
-use hub::Pass;
+use events::{Answered, App, Event, IdSource, Loss, Outcome, Peer, Telling};
+use hub_totals::Pass;
 use std::snapshot::Snapshot;
 use std::sync::Wait;
 use std::sync::ledger::Ledger;
@@ -27,7 +27,7 @@ pub struct WorkerCounts {
 
 /// Whom a fault that follows the event loses, with the event's moment: the client that the event is
 /// of, or the one that was opened. A sweep is of none.
-fn lost_after(event: &Event, got: &Result<Outcome, CoreError>, now: u64) -> Option<(u128, u64)>
+fn lost_after(event: &Event, got: &Answered, now: u64) -> Option<(u128, u64)>
     ensures { result ≡ option_map (λ c. (c, now)) (lost_by event.now got.now) }
 {
     if let Some(client) = event.client() {

@@ -1,10 +1,9 @@
 -- What a command adds to the counts of a hub.
 use Rattle.std.specs.Prelude.{◌+◌}
 use Rattle.journal.specs.declared.totals.Counts.{Counts}
-use Rattle.hub_state.specs.declared.state.Added.{Added}
 
--- one command more, and what it adds
-abbrev pub counts_after : Counts → Added → Counts
+-- one command more, and what it adds beside itself
+abbrev pub counts_after : (old added : Counts) → Counts
 counts_after old added =
     record {
       commands = old.commands + 1;

@@ -4,3 +4,4 @@ pub mod Returning
 pub mod Changes
 pub mod Counting
 pub mod Sending
+pub mod Words

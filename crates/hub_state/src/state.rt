@@ -1,43 +1,36 @@
 //! The state of a hub: what its base and its journal say, kept in maps.
 
-ghost use Rattle.std.specs.Prelude.{◌≡◌, ℕ, ◌+◌, ◌<◌, ◌≤◌, ◌||◌, true, max, List, [], ◌∷◌, ◌++◌, length, OnOk, OnErr, IfOk, IfErr, None, Some, unwrap_or};
+ghost use Rattle.std.specs.Prelude.{◌≡◌, ◌+◌, ◌<◌, ◌≤◌, ◌||◌, max, List, [], ◌∷◌, ◌++◌, length, OnOk, OnErr, IfOk, IfErr, None, unwrap_or, min, reverse, option_copied, slice_get, if◌then◌else◌};
+ghost use Rattle.room_maps.specs.Mirror.{IsMirrored};
 ghost use Rattle.journal.specs.Config.{config_refusal, empty_base};
-ghost use Rattle.journal.specs.Journal.{moment, moment_at};
-ghost use Rattle.journal.specs.Membership.{sockets, rooms};
-ghost use Rattle.journal.specs.Sessions.{sessions};
-ghost use Rattle.journal.specs.Log.{log};
+ghost use Rattle.journal.specs.Journal.{moment_at};
 ghost use Rattle.journal.specs.Totals as counted;
-ghost use Rattle.journal.specs.Totals.{is_past, is_spent};
-ghost use Rattle.journal.specs.Refusals.{or_spent};
+ghost use Rattle.journal.specs.Totals.{is_past};
 ghost use Rattle.journal.specs.Legal.{IsLegal, IsSound};
 ghost use Rattle.journal.specs.Fields.{CanCount};
 ghost use Rattle.journal.specs.Plain.{PlainBroadcast};
 ghost use Rattle.journal.specs.Broadcast.{RightCast};
+ghost use Rattle.journal.specs.Membership.{place_of, is_space, is_connected, sid_of, rooms};
+ghost use Rattle.journal.specs.Outboxes.{total_size};
 ghost use Rattle.journal.specs.declared.step.Step.{Step};
 ghost use Rattle.journal.specs.declared.step.What.{What};
-ghost use Rattle.continuity.specs.Truly.{HearsWhatIsDue};
 ghost use Rattle.hub_state.specs.Changes.{OfEach};
 ghost use Rattle.hub_state.specs.Counting.{counts_after};
+ghost use Rattle.hub_state.specs.Words.{fresh_log, spent_by, AllHear, opened, when_open, waits, logs, saves};
 
 mod aim;
 mod cast;
-mod close;
+mod clients;
 mod connect;
 mod deliver;
 mod dismiss;
 mod end;
-mod event;
-mod gather;
-mod look;
-mod members;
 mod missed;
 mod note_departed;
-mod open;
 mod park;
 mod recover;
 mod rooms;
 mod seal;
-mod sweep;
 
 use crate::departed::Departed;
 use continuity::heard_is_due;
@@ -45,9 +38,10 @@ use hub_parts::{Client, Limits, Seats, Steps};
 use journal::{Base, Config, Counts, HubError, Step, Totals, What};
 use recovery::{PacketLog, Pid, SavedTable};
 use room_maps::Rooms;
-use std::alloc::Global;
+use std::alloc::{AllocError, Global};
 use std::collections::{BTreeMap, BTreeSet};
 use std::marker::Model;
+use terms::{Entry, Room, Sid};
 
 /// What a hub holds. In a contract it is its base, its limits and its journal, the newest step
 /// first: all else is what these say.
@@ -106,17 +100,9 @@ pub(crate) struct Records {
     counts: Counts,
 }
 
-/// What a command adds to the counts beside itself, in entries.
-#[derive(Clone, Copy)]
-pub(crate) struct Added {
-    pub(crate) placed: u64,
-    pub(crate) dropped: u64,
-    pub(crate) taken: u64,
-    pub(crate) discarded: u64,
-}
-
-/// Nothing.
-pub(crate) const NONE: Added = Added {
+/// No counts: a command that adds to none but that of the commands.
+pub(crate) const NONE: Counts = Counts {
+    commands: 0,
     placed: 0,
     dropped: 0,
     taken: 0,
@@ -124,9 +110,9 @@ pub(crate) const NONE: Added = Added {
 };
 
 impl Records {
-    /// Adds a step, for which there is room, and counts one more command, with what it adds. A
-    /// moment before the last counts as the last.
-    fn add(&mut self, now: u64, what: What, added: Added)
+    /// Adds a step, for which there is room, and counts one more command, with what it adds beside
+    /// itself. A moment before the last counts as the last.
+    fn add(&mut self, now: u64, what: What, added: Counts)
         requires room { 0 < self.old.steps.room }
         requires counted { CanCount self.old.counts
             added.placed added.dropped added.taken added.discarded }
@@ -141,16 +127,13 @@ impl Records {
         self.counts.dropped += added.dropped;
         self.counts.taken += added.taken;
         self.counts.discarded += added.discarded;
-        self.steps.push(Step {
-            at: self.last,
-            what,
-        });
+        let at = self.last;
+        self.steps.push(Step { at, what });
     }
 
     /// Makes room for a step, and adds it. Refused for `Memory`.
-    fn write(&mut self, now: u64, what: What, added: Added) -> Result<(), HubError>
-        requires { CanCount self.old.counts
-            added.placed added.dropped added.taken added.discarded }
+    fn write(&mut self, now: u64, what: What, added: Counts) -> Result<(), HubError>
+        requires { CanCount self.old.counts added.placed added.dropped added.taken added.discarded }
         ensures last { OnOk result (self.new.last ≡ max now self.old.last) }
         ensures steps { let step : Step = record { at = max now self.old.last; what = what }
             in OnOk result (self.new.steps.steps ≡ step ∷ self.old.steps.steps) }
@@ -166,28 +149,12 @@ impl Records {
 }
 
 /// An empty log, as the limits say.
-fn empty_log(alloc: Global, config: &Config) -> Result<PacketLog, HubError>
+fn empty_log(alloc: Global, config: &Config) -> Result<PacketLog, AllocError>
     requires log { 1 ≤ config.now.log }
     requires first { 1 ≤ config.now.first_offset }
-    ensures ok { IfOk result (λ log. log ≡ record {
-      limit = config.now.log;
-      next = Some config.now.first_offset;
-      last = 0;
-      entries = [];
-    }) }
-    ensures memory { IfErr result (λ e. e ≡ HubError.Memory) }
+    ensures ok { IfOk result (λ log. log ≡ fresh_log config.now) }
 {
-    match PacketLog::new(alloc, config.log, config.first_offset) {
-        Ok(log) => Ok(log),
-        Err(_) => Err(HubError::Memory),
-    }
-}
-
-/// A table of saved sessions with none yet, as the limits say.
-fn empty_table(alloc: Global, config: &Config) -> SavedTable
-    ensures { result ≡ record { limit = config.now.saved; sessions = [] } }
-{
-    SavedTable::new(alloc, config.saved)
+    PacketLog::new(alloc, config.log, config.first_offset).map_err(|_| AllocError)
 }
 
 /// The state of a new hub.
@@ -232,31 +199,19 @@ impl State {
     /// A hub with an empty base and an empty log.
     fn begin(alloc: Global, limits: Limits, log: PacketLog) -> State
         requires few { length limits.spaces ≤ 65536 }
-        requires log { log ≡ record {
-          limit = limits.log;
-          next = Some limits.first_offset;
-          last = 0;
-          entries = [];
-        } }
+        requires log { log ≡ fresh_log limits }
         ensures { result
             ≡ record { base = empty_base limits.first_offset; limits = limits; journal = [] } }
     {
         let config = limits.config();
         let base = empty_base(alloc, config);
-        let saved = empty_table(alloc, config);
+        let saved = SavedTable::new(alloc, config.saved);
         let rooms = Rooms::new(alloc);
         rooms.kept_facts();
-        let counts = Counts {
-            commands: 0,
-            placed: 0,
-            dropped: 0,
-            taken: 0,
-            discarded: 0,
-        };
         let records = Records {
             steps: Steps::new(alloc),
             last: 0,
-            counts,
+            counts: NONE,
         };
         State {
             limits,
@@ -273,16 +228,17 @@ impl State {
     }
 
     /// What holds of every hub: its journal is legal, each of its broadcasts reached whom it was
-    /// for, its state is sound, and each connected session, where it was true to what it heard, has
-    /// heard just what is due to it. It has no effect.
+    /// for, its state is sound, and each connected session has heard just the journal's logged
+    /// broadcasts that are due to it, none missing, none twice and in order, where its client
+    /// always named truly what it got last, its rooms stayed the same from that broadcast to the
+    /// loss, and no full outbox dropped one for it. It has no effect.
     pub fn facts(&self)
         ensures legal { IsLegal self.now.base self.now.limits self.now.journal }
         ensures casts { (later before : List Step) (step : Step) (b : PlainBroadcast)
             → self.now.journal ≡ later ++ step ∷ before → step.what ≡ What.Cast b
             → RightCast self.now.base self.now.limits before step b }
         ensures sound { IsSound self.now.base self.now.limits self.now.journal }
-        ensures continuity { (p : ℕ)
-            → HearsWhatIsDue self.now.base self.now.limits self.now.journal p }
+        ensures continuity { AllHear self.now }
     {
         // The type's invariant is known once a field is read.
         let _fields = &self.base;
@@ -314,8 +270,7 @@ impl State {
 
     /// Spent, where a step that puts and drops so many can't be counted.
     pub(crate) fn count_refusal(&self, puts: u64, drops: u64) -> Option<HubError>
-        ensures { OfEach self.now puts drops (λ what. result
-            ≡ or_spent None (is_spent self.now.base self.now.limits self.now.journal what)) }
+        ensures { OfEach self.now puts drops (λ what. result ≡ spent_by self.now what) }
     {
         // The type's invariant is known once a field is read.
         let _fields = &self.base;
@@ -323,6 +278,122 @@ impl State {
             Some(HubError::Spent)
         } else {
             None
+        }
+    }
+
+    /// The state from which the journal begins.
+    pub fn base(&self) -> &Base
+        ensures { result.now ≡ self.now.base }
+    {
+        &self.base
+    }
+
+    /// The steps since the base, the oldest first.
+    pub fn steps(&self) -> &[Step]
+        ensures { result.now ≡ reverse self.now.journal }
+    {
+        self.records.steps.as_slice()
+    }
+
+    /// How many bytes the entries of the journal's broadcasts and messages have together, each
+    /// step's counted for itself. It stays at the greatest u64.
+    pub fn held(&self) -> u64
+        ensures { result ≡ min (counted.held self.now.journal) u64.MAX }
+    {
+        self.records.steps.held()
+    }
+
+    /// How many broadcasts the log has.
+    pub fn log_len(&self) -> usize
+        ensures { result ≡ length (logs self.now) }
+    {
+        self.log.len()
+    }
+
+    /// How many sessions are saved, outdated ones among them.
+    pub fn saved_len(&self) -> usize
+        ensures { result ≡ length (saves self.now) }
+    {
+        self.saved.len()
+    }
+
+    /// Whether the hub has a namespace with this name. It takes the logarithm of the namespaces.
+    pub fn has_space(&self, space: &str) -> bool
+        ensures { result ≡ is_space self.now.limits (place_of self.now.limits space.now) }
+    {
+        self.place_of(space).is_ok()
+    }
+
+    /// How many bytes may wait for each client.
+    pub fn most_bytes(&self) -> usize
+        ensures { result ≡ self.now.limits.bytes }
+    {
+        self.limits.config().bytes
+    }
+
+    /// The two maps of rooms themselves: the rooms of each connected socket, and the sockets of
+    /// each room. They mirror each other, each socket is in its own room, and no room is empty
+    /// (Socket.IO server documentation, "Rooms").
+    pub fn mirrors(
+        &self,
+    ) -> (
+        &BTreeMap<Sid, BTreeSet<Room>>,
+        &BTreeMap<Room, BTreeSet<Sid>>,
+    )
+        ensures { IsMirrored (rooms self.now.base self.now.journal) result.0.now result.1.now }
+    {
+        self.rooms.mirrors()
+    }
+
+    /// Whether the client is open.
+    pub fn is_open(&self, client: u128) -> bool
+        ensures { result ≡ opened self.now client }
+    {
+        self.clients.contains_key(&client)
+    }
+
+    /// Whether a socket with this session id is connected.
+    pub fn is_connected(&self, sid: Sid) -> bool
+        ensures { result ≡ is_connected sid_of self.now.base self.now.journal sid }
+    {
+        self.seats.contains_key(sid)
+    }
+
+    /// How many entries wait for a client, or `None` where it isn't open.
+    pub fn waiting(&self, client: u128) -> Option<usize>
+        ensures { result ≡ when_open self.now client (length (waits self.now client)) }
+    {
+        Some(self.clients.get(&client)?.outbox.len())
+    }
+
+    /// How many bytes the entries that wait for a client have together, or `None` where it isn't
+    /// open.
+    pub fn waiting_bytes(&self, client: u128) -> Option<usize>
+        ensures { result ≡ when_open self.now client (total_size (waits self.now client)) }
+    {
+        Some(self.clients.get(&client)?.outbox.used())
+    }
+
+    /// An entry that waits for a client, counted from the oldest, or `None` where there is none.
+    pub fn front(&self, client: u128, index: usize) -> Option<&Entry>
+        ensures { option_copied result ≡ (if opened self.now client
+            then slice_get (waits self.now client) index else None) }
+    {
+        self.clients.get(&client)?.outbox.get(index)
+    }
+
+    /// The counts of the whole history.
+    pub fn totals(&self) -> Totals
+        ensures { result ≡ counted.totals self.now.base self.now.limits self.now.journal }
+    {
+        let counts = &self.records.counts;
+        Totals {
+            commands: counts.commands,
+            placed: counts.placed,
+            dropped: counts.dropped,
+            taken: counts.taken,
+            discarded: counts.discarded,
+            waiting: counts.placed - counts.taken - counts.discarded,
         }
     }
 }

@@ -1,6 +1,6 @@
 //! How a socket ended.
 
-/// Who ended a socket by itself.
+/// Who ended a socket alone, not with others.
 #[derive(Clone, Copy, Debug, PartialEq, Eq)]
 pub enum Side {
     /// Its client did: it left its namespace.
@@ -16,7 +16,7 @@ pub enum Ending {
     Saved,
     /// Its client was closed.
     Closed,
-    /// It was ended by itself, by its client or by the server.
+    /// It was ended alone, by its client or by the server.
     Alone(Side),
     /// It was ended with others of its namespace.
     Together,

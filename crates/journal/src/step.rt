@@ -38,7 +38,7 @@ pub enum What {
     Took(u128, usize, usize),
     /// A client was lost, and its sockets' sessions were saved.
     Parked(u128),
-    /// A socket was ended by itself, by its client or by the server.
+    /// A socket was ended alone, by its client or by the server.
     Ended(Sid, Side),
     /// Many sockets were told so and ended.
     AllEnded(Dismissal),

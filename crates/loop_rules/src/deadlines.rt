@@ -55,10 +55,7 @@ pub enum Overdue {
 fn is_stuck(stalled: Option<u64>) -> bool
     ensures { result ≡ is_stuck stalled }
 {
-    match stalled {
-        Some(time) => time >= STALL,
-        None => false,
-    }
+    matches!(stalled, Some(time) if time >= STALL)
 }
 
 /// What is to be done with a connection that has been so long at this part, and whose bytes to be

@@ -17,7 +17,7 @@ mod turns;
 pub use deadlines::{Overdue, Part, find_overdue};
 pub use frames::left_after_message;
 pub use ids::{LOOPS, loop_of, marked};
-pub use looks::{Found, Look, LookState, Pause};
+pub use looks::{Found, LookState, Pause};
 pub use mailbox::{Mail, Mailbox};
 pub use notes::Notes;
 pub use owners::{dealt_to, owner_of};

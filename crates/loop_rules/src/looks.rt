@@ -6,9 +6,9 @@ ghost use Rattle.loop_rules.specs.Looks.{NeverRests};
 ghost use Rattle.loop_rules.specs.Turns.{left_after, verdict_for};
 
 use crate::turns::{Turn, Verdict};
-use std::marker::Model;
 
-/// How a connection stands to what comes for it.
+/// How a connection stands to what comes for it. From something that came until it looked again it
+/// never rests.
 #[derive(Clone, Copy, Debug, PartialEq, Eq)]
 pub enum LookState {
     /// It has looked at all that came, and rests until something comes.
@@ -55,23 +55,6 @@ pub enum Pause {
     Early,
 }
 
-/// How a connection stands to what comes for it. From something that came until it looked again it
-/// never rests.
-#[derive(Clone, Copy, Debug)]
-pub struct Look {
-    state: LookState,
-}
-
-impl Model for Look {
-    ghost use Rattle.loop_rules.specs.declared.looks.LookState.{LookState};
-
-    ghost Value = { LookState };
-
-    ghost view = { λ l. l.state };
-
-    ghost inverse = { λ s. record { state = s } };
-}
-
 /// Whether a look is over that has found a stream dry, or not.
 fn has_looked(dry: bool, found: Found) -> bool
     ensures { result ≡ looks.has_looked dry found }
@@ -88,10 +71,10 @@ impl LookState {
     fn is_dry(self) -> bool
         ensures { result ≡ looks.is_dry self }
     {
-        match self {
-            LookState::Looks { dry } | LookState::Stirred { dry } => dry,
-            _ => false,
-        }
+        matches!(
+            self,
+            LookState::Looks { dry: true } | LookState::Stirred { dry: true }
+        )
     }
 
     /// Whether it looks, and nothing came since it began.
@@ -176,32 +159,16 @@ impl LookState {
 }
 
 #[tactic(auto, using(crate::proofs::LookLemmas::never_called, crate::proofs::LookLemmas::never_begun))]
-impl Look {
-    /// Nothing came yet.
-    pub fn new() -> Look
-        ensures { result ≡ looks.first }
-    {
-        Look {
-            state: LookState::Rests,
-        }
-    }
-
-    /// How it stands.
-    pub fn state(self) -> LookState
-        ensures { result ≡ self }
-    {
-        self.state
-    }
-
+impl LookState {
     /// Something came for it. Answers whether it is to be put into the queue.
     pub fn call(&mut self) -> bool
         ensures queue { result ≡ looks.is_to_queue self.old }
         ensures state { self.new ≡ looks.called self.old }
         ensures law { NeverRests self.old self.new }
     {
-        let old = self.state;
-        self.state = old.called();
-        self.state.is_queued() && !old.is_queued()
+        let old = *self;
+        *self = old.called();
+        self.is_queued() && !old.is_queued()
     }
 
     /// Its turn begins, and with it a look, unless one is under way.
@@ -209,7 +176,7 @@ impl Look {
         ensures state { self.new ≡ looks.begun self.old }
         ensures law { NeverRests self.old self.new }
     {
-        self.state = self.state.begun();
+        *self = self.begun();
     }
 
     /// An event was answered. Answers what follows, where it has too much unsent or not.
@@ -219,8 +186,8 @@ impl Look {
         ensures state { self.new ≡ looks.followed self.old found result }
         ensures law { NeverRests self.old self.new }
     {
-        let verdict = turn.next(self.state.may_rest(found), full);
-        self.state = self.state.followed(found, verdict);
+        let verdict = turn.next(self.may_rest(found), full);
+        *self = self.followed(found, verdict);
         verdict
     }
 
@@ -230,7 +197,7 @@ impl Look {
         ensures state { self.new ≡ looks.paused self.old pause }
         ensures law { NeverRests self.old self.new }
     {
-        self.state = self.state.paused(pause);
-        self.state.is_queued()
+        *self = self.paused(pause);
+        self.is_queued()
     }
 }

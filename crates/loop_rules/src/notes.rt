@@ -23,10 +23,8 @@ impl Notes {
         for _loop in 0..loops {
             lists.push(Vec::new(alloc))?;
         }
-        Ok(Notes {
-            lists,
-            everyone: false,
-        })
+        let everyone = false;
+        Ok(Notes { lists, everyone })
     }
 
     /// Notes a client of this loop. Where there is no memory for it, or no such loop, everybody is

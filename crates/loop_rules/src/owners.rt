@@ -12,9 +12,7 @@ pub fn owner_of(target: Target, loops: usize, own: usize) -> usize
     ensures { result ≡ owner_among loops own target }
 {
     match target {
-        Target::Poll(client) => loop_of(client, loops),
-        Target::Post(client) => loop_of(client, loops),
-        Target::ProbeSocket(client) => loop_of(client, loops),
+        Target::Poll(id) | Target::Post(id) | Target::ProbeSocket(id) => loop_of(id, loops),
         _ => own,
     }
 }

@@ -22,10 +22,9 @@ pub struct Roster {
 impl Roster {
     /// There is no connection yet.
     pub fn new(alloc: Global) -> Roster {
-        Roster {
-            rota: Rota::new(alloc),
-            takers: Takers::new(alloc),
-        }
+        let rota = Rota::new(alloc);
+        let takers = Takers::new(alloc);
+        Roster { rota, takers }
     }
 
     /// Something was put for a client of this loop: the connection to which that goes is called.

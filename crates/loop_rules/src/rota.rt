@@ -6,7 +6,7 @@ ghost use Rattle.loop_rules.specs.Looks.{is_queued};
 ghost use Rattle.loop_rules.specs.Rotas as rotas;
 ghost use Rattle.loop_rules.specs.Rotas.{IsQuiet, has_turn, look_of, will_look};
 
-use crate::looks::{Found, Look, LookState, Pause};
+use crate::looks::{Found, LookState, Pause};
 use crate::turns::{Turn, Verdict};
 use std::alloc::Global;
 use std::collections::VecDeque;
@@ -17,7 +17,7 @@ use std::marker::Model;
 /// at all; and there is room for all, so that no wake needs memory.
 #[derive(Drop)]
 pub struct Rota {
-    looks: Vec<Look>,
+    looks: Vec<LookState>,
     /// Those that have their turn in this turn of the loop.
     ready: VecDeque<usize>,
     /// Those that have more to do in the loop's next turn.
@@ -79,10 +79,7 @@ impl Rota {
     pub fn look(&self, key: usize) -> LookState
         ensures { result ≡ look_of self.now.looks key }
     {
-        match self.looks.get(key) {
-            Some(look) => look.state(),
-            None => LookState::Rests,
-        }
+        self.looks.get(key).copied().unwrap_or(LookState::Rests)
     }
 
     /// Makes a place for a connection with this key, which is at most one above all others. Answers
@@ -108,15 +105,15 @@ impl Rota {
         if !make_room(&mut self.ready, most) || !make_room(&mut self.again, most) {
             return false;
         }
-        self.looks.push(Look::new()).is_ok()
+        self.looks.push(LookState::Rests).is_ok()
     }
 
     /// The connection with this key is gone. If the key stands in the queue, it stays there.
     pub fn dismiss(&mut self, key: usize)
         ensures { self.new ≡ rotas.dismissed_at key self.old }
     {
-        if key < self.looks.len() && !self.looks[key].state().is_queued() {
-            self.looks[key] = Look::new();
+        if key < self.looks.len() && !self.looks[key].is_queued() {
+            self.looks[key] = LookState::Rests;
         }
     }
 
@@ -160,22 +157,20 @@ impl Rota {
     }
 
     /// How the connection stands whose turn it is, if this is its key.
-    fn turn_of(&self, key: usize) -> Option<Look>
+    fn turn_of(&self, key: usize) -> Option<LookState>
         ensures { result ≡ rotas.turn_of (look_of self.now.looks key) }
     {
-        match self.looks.get(key) {
-            Some(look) if look.state().has_turn() => Some(*look),
-            _ => None,
-        }
+        let look = self.look(key);
+        look.has_turn().then_some(look)
     }
 
     /// The connection whose turn it is stands so from now on.
-    fn leave(&mut self, key: usize, look: Look)
+    fn leave(&mut self, key: usize, look: LookState)
         requires { has_turn (look_of self.old.looks key) ≡ true }
         ensures { self.new ≡ rotas.left_so key look self.old }
     {
         self.looks[key] = look;
-        if look.state().is_queued() {
+        if look.is_queued() {
             self.again.push_back_reserved(key);
         }
     }

@@ -37,10 +37,7 @@ impl Takers {
     pub fn is_taker(&self, client: u128, key: usize) -> bool
         ensures { result ≡ is_taker (taker_of self.now client) key }
     {
-        match self.of(client) {
-            Some(taker) => taker == key,
-            None => false,
-        }
+        matches!(self.of(client), Some(taker) if taker == key)
     }
 
     /// Whether there was no memory to list one.

@@ -1,9 +1,7 @@
 //! Clocks, lines and books of questions.
 
 use crate::play::{Part, play};
-use ack_book::{AckBook, AckError};
-use connection::Line;
-use session_clock::{Clock, ClockError, ClockState, Due, Timing, Transport};
+use connection::{AckBook, AckError, Clock, ClockError, ClockState, Due, Line, Timing, Transport};
 use sio_wire::{SioError, SioPacket};
 use std::alloc::Global;
 use terms::Sid;

@@ -1,29 +1,22 @@
 //! The pace of lone noop packets, by which a client that polls is told that nothing waits. One that
 //! probes a WebSocket is told so at once, and asks at once again.
 
-ghost use Rattle.std.specs.Prelude.{◌≡◌, codes};
+ghost use Rattle.std.specs.Prelude.{◌≡◌};
 ghost use Rattle.peers.specs.Noops as noops;
 
-use events::{CoreError, Outcome};
+use events::{Answered, Outcome};
 
 /// How long a client that was told so isn't told so anew, in milliseconds.
 pub const PACE: u64 = 100;
 
 /// A lone noop packet.
-pub(crate) fn noop() -> &'static str
-    ensures { result.now ≡ codes "6" }
-{
-    "6"
-}
+pub(crate) const NOOP: &str = "6";
 
 /// Whether an answer tells its client so, by a lone noop packet that was taken.
-pub fn is_noop(got: &Result<Outcome, CoreError>) -> bool
+pub fn is_noop(got: &Answered) -> bool
     ensures { result ≡ noops.is_noop got.now }
 {
-    match got {
-        Ok(Outcome::Payload(text)) => text.as_str() == noop(),
-        _ => false,
-    }
+    matches!(got, Ok(Outcome::Payload(text)) if text.as_str() == NOOP)
 }
 
 /// Whether a client that was told so at a moment was told so just now.

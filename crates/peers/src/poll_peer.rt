@@ -3,15 +3,13 @@
 ghost use Rattle.std.specs.Prelude.{◌≡◌, option_map, string_bytes};
 ghost use Rattle.peers.specs.Polling.{client_of, given_up, is_idle};
 ghost use Rattle.peers.specs.declared.poll_stage.PollStage.TheVariants as stage;
-ghost use Rattle.peers.specs.Polled.{Writes};
-ghost use Rattle.peers.specs.Replies.{plain_reply};
 
 use crate::moments::{Moments, pause_if};
 use crate::noops::is_noop;
-use crate::poll_stage::{PollStage, after, given_up, next_of};
+use crate::poll_stage::PollStage;
 use crate::replies::{Reply, reply_to};
 use crate::requests::PollRequest;
-use events::{CoreError, Event, Outcome, Peer, PeerFault};
+use events::{Answered, Event, Peer, PeerFault};
 use http_edge::{EdgeError, Wire, write_response};
 use std::alloc::Global;
 use std::marker::Model;
@@ -111,7 +109,7 @@ impl<W, M> PollPeer<W, M> {
         ensures { self.new ≡ record self.old { stage = given_up self.old.stage } }
     {
         let stage = mem::replace(&mut self.stage, PollStage::Opening);
-        self.stage = given_up(stage);
+        self.stage = stage.given_up();
     }
 
     /// The wire.
@@ -157,7 +155,7 @@ impl<W: Wire, M: Moments> Peer for PollPeer<W, M> {
     fn next(&mut self) -> Result<Option<(Event, u64)>, PeerFault> {
         pause_if(&mut self.moments, self.stage.is_idle());
         let stage = mem::replace(&mut self.stage, PollStage::Opening);
-        let (next, event) = next_of(stage, self.most);
+        let (next, event) = stage.next(self.most);
         self.stage = next;
         let Some(event) = event else {
             return Ok(None);
@@ -165,31 +163,18 @@ impl<W: Wire, M: Moments> Peer for PollPeer<W, M> {
         Ok(Some((event, self.moments.now())))
     }
 
-    fn answer(&mut self, got: &Result<Outcome, CoreError>) -> Result<(), PeerFault> {
+    fn answer(&mut self, got: &Answered) -> Result<(), PeerFault> {
         let reply = reply_to(&self.stage, got);
         let stage = mem::replace(&mut self.stage, PollStage::Opening);
-        self.stage = after(stage, got);
-        let Some(reply) = reply else {
+        self.stage = stage.after(got);
+        let Some(Reply { status, body }) = reply else {
             return Ok(());
         };
         pause_if(&mut self.moments, is_noop(got));
-        write_reply(self.alloc, &mut self.wire, &self.origin, &reply)
-    }
-}
-
-/// Writes an answer.
-fn write_reply<W: Wire>(
-    alloc: Global,
-    wire: &mut W,
-    origin: &Option<String>,
-    reply: &Reply<'_>,
-) -> Result<(), PeerFault>
-    ensures { Writes W.written W.is_broken (option_map string_bytes origin.now)
-        (plain_reply reply.now) wire.old result wire.new }
-{
-    match write_response(alloc, wire, reply.status, origin, reply.body) {
-        Ok(()) => Ok(()),
-        Err(EdgeError::Memory) => Err(PeerFault::Memory),
-        Err(_) => Err(PeerFault::Device),
+        match write_response(self.alloc, &mut self.wire, status, &self.origin, body) {
+            Ok(()) => Ok(()),
+            Err(EdgeError::Memory) => Err(PeerFault::Memory),
+            Err(_) => Err(PeerFault::Device),
+        }
     }
 }

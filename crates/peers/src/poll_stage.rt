@@ -4,7 +4,7 @@ ghost use Rattle.std.specs.Prelude.{◌≡◌};
 ghost use Rattle.peers.specs.Polling as polling;
 
 use crate::requests::PollRequest;
-use events::{CoreError, CoreFault, Event, Outcome};
+use events::{Answered, CoreFault, Event, Outcome};
 
 /// How often a GET that waits asks, at the most.
 const TAKES: u32 = 1_200;
@@ -30,62 +30,15 @@ pub(crate) enum PollStage {
     Ends { client: u128 },
     /// The GET is being ended.
     Ending { client: u128 },
-    /// It was answered, or has nobody to answer.
-    Over { client: Option<u128> },
+    /// It was answered, or has nobody to answer; its client, if it had one.
+    Over(Option<u128>),
 }
 
-/// The event of a request.
-fn first_of(request: PollRequest) -> (PollStage, Event)
-    ensures { result ≡ polling.first_of request }
-{
-    match request {
-        PollRequest::Open => (PollStage::Opening, Event::Opened { socket: false }),
-        PollRequest::Get { client } => (
-            PollStage::Beginning { client },
-            Event::PollBegin { client },
-        ),
-        PollRequest::Post { client, body } => (
-            PollStage::Posting { client },
-            Event::Post { client, body },
-        ),
-    }
-}
-
-/// A GET asks, and may ask so often again.
-fn asks(client: u128, left: u32, most: usize) -> (PollStage, Event)
-    ensures { result ≡ polling.asks most client left }
-{
-    let taking = PollStage::Taking { client, left };
-    (taking, Event::PollTake { client, most })
-}
-
-/// The next event, if there is one, and the stage from then on. A take has at most so many entries.
-pub(crate) fn next_of(stage: PollStage, most: usize) -> (PollStage, Option<Event>)
-    ensures { result ≡ polling.next_of most stage }
-{
-    match stage {
-        PollStage::First(request) => {
-            let (next, event) = first_of(request);
-            (next, Some(event))
-        }
-        PollStage::Begun { client } => {
-            let (next, event) = asks(client, TAKES - 1, most);
-            (next, Some(event))
-        }
-        PollStage::Waits { client, left } => {
-            let (next, event) = asks(client, left.saturating_sub(1), most);
-            (next, Some(event))
-        }
-        PollStage::Ends { client } => {
-            let event = Event::PollEnd { client };
-            (PollStage::Ending { client }, Some(event))
-        }
-        other => (other, None),
-    }
-}
+/// The next event, if there is one, and the stage from then on.
+type Step = (PollStage, Option<Event>);
 
 /// Whether a GET that was begun waits on, although its event was refused.
-fn waits_on(fault: CoreFault) -> bool
+pub(crate) fn waits_on(fault: CoreFault) -> bool
     ensures { result ≡ polling.waits_on fault }
 {
     matches!(
@@ -98,121 +51,117 @@ fn waits_on(fault: CoreFault) -> bool
     )
 }
 
-/// The stage of a GET that was begun, when its event was refused; this one where it waits on.
-fn after_refusal(client: u128, fault: CoreFault, on: PollStage) -> PollStage
-    ensures { result ≡ polling.after_refusal client fault on }
-{
-    if waits_on(fault) {
-        on
-    } else {
-        PollStage::Over {
-            client: Some(client),
+impl PollStage {
+    /// This event, and this stage from then on.
+    fn with(self, event: Event) -> Step
+        ensures { result ≡ polling.with_event (self, event) }
+    {
+        (self, Some(event))
+    }
+
+    /// A GET asks, and may ask so often again.
+    fn take(client: u128, left: u32, most: usize) -> Step
+        ensures { result ≡ polling.with_event (polling.asks most client left) }
+    {
+        Self::Taking { client, left }.with(Event::PollTake { client, most })
+    }
+
+    /// The next event, if there is one, and the stage from then on. A take has at most so many
+    /// entries.
+    pub(crate) fn next(self, most: usize) -> Step
+        ensures { result ≡ polling.next_of most self }
+    {
+        match self {
+            Self::First(PollRequest::Open) => Self::Opening.with(Event::Opened { socket: false }),
+            Self::First(PollRequest::Get { client }) => {
+                Self::Beginning { client }.with(Event::PollBegin { client })
+            }
+            Self::First(PollRequest::Post { client, body }) => {
+                Self::Posting { client }.with(Event::Post { client, body })
+            }
+            Self::Begun { client } => Self::take(client, TAKES - 1, most),
+            Self::Waits { client, left } => Self::take(client, left.saturating_sub(1), most),
+            Self::Ends { client } => Self::Ending { client }.with(Event::PollEnd { client }),
+            other => (other, None),
         }
     }
-}
 
-/// The stage of a GET that found nothing, and may ask so often again.
-fn waits(client: u128, left: u32) -> PollStage
-    ensures { result ≡ polling.waits client left }
-{
-    if left == 0 {
-        PollStage::Ends { client }
-    } else {
-        PollStage::Waits { client, left }
+    /// The stage of a GET that was begun, when its event was refused; this one where it waits on.
+    fn refused(client: u128, fault: CoreFault, on: Self) -> Self
+        ensures { result ≡ polling.after_refusal client fault on }
+    {
+        if waits_on(fault) {
+            on
+        } else {
+            Self::Over(Some(client))
+        }
     }
-}
 
-/// The stage once the event got this answer.
-pub(crate) fn after(stage: PollStage, got: &Result<Outcome, CoreError>) -> PollStage
-    ensures { result ≡ polling.after stage got.now }
-{
-    match stage {
-        PollStage::Opening => PollStage::Over {
-            client: opened_client(got),
-        },
-        PollStage::Posting { client } => PollStage::Over {
-            client: Some(client),
-        },
-        PollStage::Beginning { client } => after_begin(client, got),
-        PollStage::Taking { client, left } => after_take(client, left, got),
-        PollStage::Ending { client } => after_end(client, got),
-        other => other,
+    /// The stage of a GET that found nothing, and may ask so often again.
+    fn wait(client: u128, left: u32) -> Self
+        ensures { result ≡ polling.waits client left }
+    {
+        if left == 0 {
+            Self::Ends { client }
+        } else {
+            Self::Waits { client, left }
+        }
     }
-}
 
-/// The client that was opened.
-fn opened_client(got: &Result<Outcome, CoreError>) -> Option<u128>
-    ensures { result ≡ polling.opened_client got.now }
-{
-    match got {
-        Ok(Outcome::Opened(opening)) => Some(opening.client),
-        _ => None,
+    /// The stage once the event got this answer.
+    pub(crate) fn after(self, got: &Answered) -> Self
+        ensures { result ≡ polling.after self got.now }
+    {
+        match self {
+            Self::Opening => match got {
+                Ok(Outcome::Opened(opening)) => Self::Over(Some(opening.client)),
+                _ => Self::Over(None),
+            },
+            Self::Posting { client } => Self::Over(Some(client)),
+            Self::Beginning { client } => match got {
+                Ok(Outcome::Begun) => Self::Begun { client },
+                _ => Self::Over(Some(client)),
+            },
+            Self::Taking { client, left } => match got {
+                Ok(Outcome::Nothing) => Self::wait(client, left),
+                Ok(_) => Self::Over(Some(client)),
+                Err(error) => Self::refused(client, error.fault, Self::wait(client, left)),
+            },
+            Self::Ending { client } => match got {
+                Ok(_) => Self::Over(Some(client)),
+                Err(error) => Self::refused(client, error.fault, Self::Ends { client }),
+            },
+            other => other,
+        }
     }
-}
 
-fn after_begin(client: u128, got: &Result<Outcome, CoreError>) -> PollStage
-    ensures { result ≡ polling.after_begin client got.now }
-{
-    match got {
-        Ok(Outcome::Begun) => PollStage::Begun { client },
-        _ => PollStage::Over {
-            client: Some(client),
-        },
+    /// A GET that waits, or asks, asks no more.
+    pub(crate) fn given_up(self) -> Self
+        ensures { result ≡ polling.given_up self }
+    {
+        match self {
+            Self::Begun { client } | Self::Waits { client, .. } => Self::Ends { client },
+            Self::Taking { client, .. } => Self::Taking { client, left: 0 },
+            other => other,
+        }
     }
-}
 
-fn after_take(client: u128, left: u32, got: &Result<Outcome, CoreError>) -> PollStage
-    ensures { result ≡ polling.after_take client left got.now }
-{
-    match got {
-        Ok(Outcome::Nothing) => waits(client, left),
-        Ok(_) => PollStage::Over {
-            client: Some(client),
-        },
-        Err(error) => after_refusal(client, error.fault, waits(client, left)),
-    }
-}
-
-fn after_end(client: u128, got: &Result<Outcome, CoreError>) -> PollStage
-    ensures { result ≡ polling.after_end client got.now }
-{
-    match got {
-        Ok(_) => PollStage::Over {
-            client: Some(client),
-        },
-        Err(error) => after_refusal(client, error.fault, PollStage::Ends { client }),
-    }
-}
-
-/// A GET that waits, or asks, asks no more.
-pub(crate) fn given_up(stage: PollStage) -> PollStage
-    ensures { result ≡ polling.given_up stage }
-{
-    match stage {
-        PollStage::Begun { client } => PollStage::Ends { client },
-        PollStage::Waits { client, left: _ } => PollStage::Ends { client },
-        PollStage::Taking { client, left: _ } => PollStage::Taking { client, left: 0 },
-        other => other,
-    }
-}
-
-impl PollStage {
     /// Whose request it is, once that is known.
     pub(crate) fn client(&self) -> Option<u128>
         ensures { result ≡ polling.client_of self.now }
     {
         match self {
-            PollStage::First(PollRequest::Open) | PollStage::Opening => None,
-            PollStage::First(PollRequest::Get { client })
-            | PollStage::First(PollRequest::Post { client, .. })
-            | PollStage::Posting { client }
-            | PollStage::Beginning { client }
-            | PollStage::Begun { client }
-            | PollStage::Waits { client, .. }
-            | PollStage::Taking { client, .. }
-            | PollStage::Ends { client }
-            | PollStage::Ending { client } => Some(*client),
-            PollStage::Over { client } => *client,
+            Self::First(PollRequest::Open) | Self::Opening => None,
+            Self::First(PollRequest::Get { client })
+            | Self::First(PollRequest::Post { client, .. })
+            | Self::Posting { client }
+            | Self::Beginning { client }
+            | Self::Begun { client }
+            | Self::Waits { client, .. }
+            | Self::Taking { client, .. }
+            | Self::Ends { client }
+            | Self::Ending { client } => Some(*client),
+            Self::Over(client) => *client,
         }
     }
 
@@ -220,6 +169,6 @@ impl PollStage {
     pub(crate) fn is_idle(&self) -> bool
         ensures { result ≡ polling.is_idle self.now }
     {
-        matches!(self, PollStage::Waits { .. })
+        matches!(self, Self::Waits { .. })
     }
 }

@@ -2,11 +2,11 @@
 
 ghost use Rattle.std.specs.Prelude.{◌≡◌, [], option_map};
 ghost use Rattle.peers.specs.Replies as replies;
-ghost use Rattle.peers.specs.Replies.{answer_to, is_unread, plain_reply};
+ghost use Rattle.peers.specs.Replies.{answer_to, plain_reply};
 
-use crate::noops::noop;
-use crate::poll_stage::PollStage;
-use events::{Cause, CoreError, CoreFault, Done, Outcome};
+use crate::noops::NOOP;
+use crate::poll_stage::{PollStage, waits_on};
+use events::{Answered, Cause, CoreFault, Done, Outcome};
 use http_edge::{EdgeError, Refusal, Status, Target, refusal_body};
 
 /// An answer over HTTP.
@@ -22,14 +22,11 @@ pub fn reply_to_fault(fault: EdgeError) -> Option<Reply<'static>>
 {
     match fault {
         EdgeError::Memory => Some(empty(Status::Unavailable)),
-        EdgeError::Device => None,
-        EdgeError::EarlyEnd => None,
-        EdgeError::BadHead => Some(refused(Refusal::BadRequest)),
-        EdgeError::HeadTooLong => Some(refused(Refusal::BadRequest)),
+        EdgeError::Device | EdgeError::EarlyEnd | EdgeError::TurnsSpent => None,
         EdgeError::BodyTooLong => Some(empty(Status::TooLarge)),
-        EdgeError::NoLength => Some(refused(Refusal::BadRequest)),
-        EdgeError::NotUtf8 => Some(refused(Refusal::BadRequest)),
-        EdgeError::TurnsSpent => None,
+        EdgeError::BadHead | EdgeError::HeadTooLong | EdgeError::NoLength | EdgeError::NotUtf8 => {
+            Some(refused(Refusal::BadRequest))
+        }
     }
 }
 
@@ -54,19 +51,16 @@ fn empty(status: Status) -> Reply<'static>
 fn refused(refusal: Refusal) -> Reply<'static>
     ensures { plain_reply result ≡ replies.refused refusal }
 {
-    Reply {
-        status: Status::BadRequest,
-        body: refusal_body(refusal),
-    }
+    let status = Status::BadRequest;
+    let body = refusal_body(refusal);
+    Reply { status, body }
 }
 
 fn success(body: &str) -> Reply<'_>
     ensures { plain_reply result ≡ replies.success body.now }
 {
-    Reply {
-        status: Status::Success,
-        body,
-    }
+    let status = Status::Success;
+    Reply { status, body }
 }
 
 /// The answer where an event was refused.
@@ -76,11 +70,7 @@ fn reply_to_refusal(fault: CoreFault) -> Option<Reply<'static>>
     match fault {
         CoreFault::UnknownClient => Some(refused(Refusal::UnknownSession)),
         CoreFault::WrongTransport => Some(refused(Refusal::BadRequest)),
-        CoreFault::Memory => Some(empty(Status::Unavailable)),
-        CoreFault::TooManyClients => Some(empty(Status::Unavailable)),
-        CoreFault::IdTaken => Some(empty(Status::Unavailable)),
-        CoreFault::Spent => Some(empty(Status::Unavailable)),
-        CoreFault::BadEffect => Some(empty(Status::Unavailable)),
+        fault if waits_on(fault) => Some(empty(Status::Unavailable)),
         _ => None,
     }
 }
@@ -96,25 +86,15 @@ fn reply_to_begun(fault: CoreFault) -> Option<Reply<'static>>
     }
 }
 
-/// Whether the payload wasn't read for which a client was closed, if it was.
-fn is_unread(done: &Done) -> bool
-    ensures { result ≡ is_unread done.now }
-{
-    let misread = matches!(
-        done.closed,
-        Some(Cause::Empty | Cause::BadType | Cause::BadBase64)
-    );
-    done.packets == 0 && misread
-}
-
-/// The answer to a POST.
+/// The answer to a POST: it is refused where its client was closed since nothing of it was read.
 fn reply_to_post(done: &Done) -> Reply<'static>
     ensures { plain_reply result ≡ replies.of_post done.now }
 {
-    if is_unread(done) {
-        refused(Refusal::BadRequest)
-    } else {
-        success("ok")
+    match done.closed {
+        Some(Cause::Empty | Cause::BadType | Cause::BadBase64) if done.packets == 0 => {
+            refused(Refusal::BadRequest)
+        }
+        _ => success("ok"),
     }
 }
 
@@ -129,42 +109,22 @@ fn reply_to_begin(done: &Done) -> Option<Reply<'static>>
 }
 
 /// What is answered over HTTP to a peer at this stage, when its event got this answer.
-pub(crate) fn reply_to<'g>(
-    stage: &PollStage,
-    got: &'g Result<Outcome, CoreError>,
-) -> Option<Reply<'g>>
+pub(crate) fn reply_to<'g>(stage: &PollStage, got: &'g Answered) -> Option<Reply<'g>>
     ensures { option_map plain_reply result ≡ answer_to stage.now got.now }
 {
-    match stage {
-        PollStage::First(_)
-        | PollStage::Begun { .. }
-        | PollStage::Waits { .. }
-        | PollStage::Ends { .. }
-        | PollStage::Over { .. } => None,
-        PollStage::Opening => match got {
-            Ok(Outcome::Opened(opening)) => Some(success(opening.text.as_str())),
-            Ok(_) => None,
-            Err(error) => reply_to_refusal(error.fault),
-        },
-        PollStage::Posting { .. } => match got {
-            Ok(Outcome::Done(done)) => Some(reply_to_post(done)),
-            Ok(_) => None,
-            Err(error) => reply_to_refusal(error.fault),
-        },
-        PollStage::Beginning { .. } => match got {
-            Ok(Outcome::Done(done)) => reply_to_begin(done),
-            Ok(_) => None,
-            Err(error) => reply_to_refusal(error.fault),
-        },
-        PollStage::Taking { .. } => match got {
-            Ok(Outcome::Payload(text)) => Some(success(text.as_str())),
-            Ok(_) => None,
-            Err(error) => reply_to_begun(error.fault),
-        },
-        PollStage::Ending { .. } => match got {
-            Ok(Outcome::Done(_)) => Some(success(noop())),
-            Ok(_) => None,
-            Err(error) => reply_to_begun(error.fault),
-        },
+    match (stage, got) {
+        (PollStage::Opening, Ok(Outcome::Opened(opening))) => Some(success(opening.text.as_str())),
+        (PollStage::Posting { .. }, Ok(Outcome::Done(done))) => Some(reply_to_post(done)),
+        (PollStage::Beginning { .. }, Ok(Outcome::Done(done))) => reply_to_begin(done),
+        (PollStage::Taking { .. }, Ok(Outcome::Payload(text))) => Some(success(text.as_str())),
+        (PollStage::Ending { .. }, Ok(Outcome::Done(_))) => Some(success(NOOP)),
+        (
+            PollStage::Opening | PollStage::Posting { .. } | PollStage::Beginning { .. },
+            Err(error),
+        ) => reply_to_refusal(error.fault),
+        (PollStage::Taking { .. } | PollStage::Ending { .. }, Err(error)) => {
+            reply_to_begun(error.fault)
+        }
+        _ => None,
     }
 }

@@ -1,10 +1,9 @@
-//! What a request asks of the core.
+//! What a request asks of the core, and what the core answers.
 
 ghost use Rattle.std.specs.Prelude.{◌≡◌, string_bytes};
 ghost use Rattle.peers.specs.Replies.{poll_request, socket_request};
 
 use http_edge::Target;
-use std::alloc::Global;
 use terms::Text;
 
 /// What a request asks for that isn't to become a WebSocket.

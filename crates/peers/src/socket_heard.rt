@@ -4,90 +4,17 @@ ghost use Rattle.std.specs.Prelude.{◌≡◌};
 ghost use Rattle.peers.specs.Heard as heard;
 
 use crate::socket_stage::{Phase, SocketStage};
-use events::{CoreError, CoreFault, Outcome, PeerFault, WsFrame};
+use events::{Answered, CoreFault, Outcome, PeerFault, WsFrame};
 
 /// Whether there is no such client.
-fn is_gone(got: &Result<Outcome, CoreError>) -> bool
+fn is_gone(got: &Answered) -> bool
     ensures { result ≡ heard.is_gone got.now }
 {
-    match got {
-        Err(error) => matches!(error.fault, CoreFault::UnknownClient),
-        Ok(_) => false,
-    }
-}
-
-fn over(client: u128) -> SocketStage
-    ensures { result ≡ heard.over client }
-{
-    SocketStage::Over {
-        client: Some(client),
-    }
-}
-
-fn after_opening(got: &Result<Outcome, CoreError>) -> SocketStage
-    ensures { result ≡ heard.after_opening got.now }
-{
-    match got {
-        Ok(Outcome::Opened(opening)) => SocketStage::Reads {
-            client: opening.client,
-            phase: Phase::Speaks,
-            idle: false,
-        },
-        _ => SocketStage::Over { client: None },
-    }
-}
-
-fn after_probe(client: u128, got: &Result<Outcome, CoreError>) -> SocketStage
-    ensures { result ≡ heard.after_probe client got.now }
-{
-    match got {
-        Ok(Outcome::Probed(_)) => SocketStage::Reads {
-            client,
-            phase: Phase::Probes,
-            idle: false,
-        },
-        _ => over(client),
-    }
-}
-
-fn after_upgrade(client: u128, got: &Result<Outcome, CoreError>) -> SocketStage
-    ensures { result ≡ heard.after_upgrade client got.now }
-{
-    match got {
-        Ok(Outcome::Done(_)) => SocketStage::Reads {
-            client,
-            phase: Phase::Speaks,
-            idle: false,
-        },
-        _ => over(client),
-    }
-}
-
-fn after_frame(client: u128, got: &Result<Outcome, CoreError>) -> SocketStage
-    ensures { result ≡ heard.after_frame client got.now }
-{
-    if is_gone(got) {
-        over(client)
-    } else {
-        SocketStage::Takes { client }
-    }
-}
-
-fn after_take(client: u128, idle: bool, got: &Result<Outcome, CoreError>) -> SocketStage
-    ensures { result ≡ heard.after_take client idle got.now }
-{
-    match got {
-        Ok(Outcome::Frames(_)) => SocketStage::Ticks {
-            client,
-            idle: false,
-        },
-        _ if is_gone(got) => over(client),
-        _ => SocketStage::Ticks { client, idle },
-    }
+    matches!(got, Err(error) if matches!(error.fault, CoreFault::UnknownClient))
 }
 
 /// Whether nothing is due to a client that is there.
-fn is_quiet(got: &Result<Outcome, CoreError>) -> bool
+fn is_quiet(got: &Answered) -> bool
     ensures { result ≡ heard.is_quiet got.now }
 {
     match got {
@@ -96,49 +23,44 @@ fn is_quiet(got: &Result<Outcome, CoreError>) -> bool
     }
 }
 
-/// Whether the event was refused.
-fn is_refused(got: &Result<Outcome, CoreError>) -> bool
-    ensures { result ≡ heard.is_refused got.now }
+fn after_tick(client: u128, at: Phase, idle: bool, got: &Answered) -> SocketStage
+    ensures { result ≡ heard.after_tick client at idle got.now }
 {
-    got.is_err()
-}
-
-fn after_tick(
-    client: u128,
-    phase: Phase,
-    idle: bool,
-    got: &Result<Outcome, CoreError>,
-) -> SocketStage
-    ensures { result ≡ heard.after_tick client phase idle got.now }
-{
-    match phase {
-        _ if is_gone(got) => over(client),
-        Phase::Knocks if is_refused(got) => over(client),
-        Phase::Probes if is_refused(got) => SocketStage::Loses { client },
-        _ => SocketStage::Reads {
-            client,
-            phase,
-            idle: idle && is_quiet(got),
-        },
+    let idle = idle && is_quiet(got);
+    match at {
+        _ if is_gone(got) => SocketStage::Over(Some(client)),
+        Phase::Knocks if got.is_err() => SocketStage::Over(Some(client)),
+        Phase::Probes if got.is_err() => SocketStage::Loses { client },
+        _ => SocketStage::Reads { client, at, idle },
     }
 }
 
 /// The stage once the event got this answer.
-pub(crate) fn after(stage: SocketStage, got: &Result<Outcome, CoreError>) -> SocketStage
+pub(crate) fn after(stage: SocketStage, got: &Answered) -> SocketStage
     ensures { result ≡ heard.after stage got.now }
 {
+    let over = SocketStage::Over(stage.client());
     match stage {
-        SocketStage::Opening => after_opening(got),
-        SocketStage::Probing { client } => after_probe(client, got),
-        SocketStage::Upgrading { client } => after_upgrade(client, got),
-        SocketStage::Framed { client } => after_frame(client, got),
-        SocketStage::Taking { client, idle } => after_take(client, idle, got),
-        SocketStage::Ticking {
-            client,
-            phase,
-            idle,
-        } => after_tick(client, phase, idle, got),
-        SocketStage::Losing { client } => over(client),
+        SocketStage::Opening => match got {
+            Ok(Outcome::Opened(opening)) => SocketStage::begin(opening.client, Phase::Speaks),
+            _ => over,
+        },
+        SocketStage::Probing { client } => match got {
+            Ok(Outcome::Probed(_)) => SocketStage::begin(client, Phase::Probes),
+            _ => over,
+        },
+        SocketStage::Upgrading { client } => match got {
+            Ok(Outcome::Done(_)) => SocketStage::begin(client, Phase::Speaks),
+            _ => over,
+        },
+        SocketStage::Framed { client } if !is_gone(got) => SocketStage::Takes { client },
+        SocketStage::Taking { client, idle } if !is_gone(got) => {
+            let idle = idle && !matches!(got, Ok(Outcome::Frames(_)));
+            SocketStage::Ticks { client, idle }
+        }
+        SocketStage::Framed { .. } | SocketStage::Taking { .. } | SocketStage::Losing { .. } =>
+            over,
+        SocketStage::Ticking { client, at, idle } => after_tick(client, at, idle, got),
         other => other,
     }
 }
@@ -151,19 +73,13 @@ pub(crate) enum Sending<'g> {
     Frames(&'g [WsFrame]),
 }
 
-pub(crate) fn to_send<'g>(stage: SocketStage, got: &'g Result<Outcome, CoreError>) -> Sending<'g>
+pub(crate) fn to_send<'g>(stage: SocketStage, got: &'g Answered) -> Sending<'g>
     ensures { heard.frames_of result ≡ heard.to_send stage got.now }
 {
     match (stage, got) {
-        (SocketStage::Opening, Ok(Outcome::Opened(opening))) => {
-            Sending::Text(opening.text.as_str())
-        }
-        (SocketStage::Probing { client: _ }, Ok(Outcome::Probed(text))) => {
-            Sending::Text(text.as_str())
-        }
-        (SocketStage::Taking { client: _, idle: _ }, Ok(Outcome::Frames(frames))) => {
-            Sending::Frames(frames.as_slice())
-        }
+        (SocketStage::Opening, Ok(Outcome::Opened(opened))) => Sending::Text(opened.text.as_str()),
+        (SocketStage::Probing { .. }, Ok(Outcome::Probed(text))) => Sending::Text(text.as_str()),
+        (SocketStage::Taking { .. }, Ok(Outcome::Frames(list))) => Sending::Frames(list.as_slice()),
         _ => Sending::Nothing,
     }
 }
@@ -175,12 +91,9 @@ pub(crate) fn unsent(stage: SocketStage, fault: PeerFault) -> (SocketStage, Resu
     match stage {
         SocketStage::Reads {
             client,
-            phase: Phase::Probes,
-            idle: _,
+            at: Phase::Probes,
+            ..
         } => (SocketStage::Loses { client }, Ok(())),
-        other => {
-            let client = other.client();
-            (SocketStage::Over { client }, Err(fault))
-        }
+        other => (SocketStage::Over(other.client()), Err(fault)),
     }
 }

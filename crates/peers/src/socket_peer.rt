@@ -11,8 +11,8 @@ use crate::incoming::read_incoming;
 use crate::moments::Moments;
 use crate::requests::SocketRequest;
 use crate::socket_heard::{Sending, after, to_send, unsent};
-use crate::socket_stage::{Incoming, SocketStage, first_stage, next_of};
-use events::{CoreError, Event, Outcome, Peer, PeerFault, WsFrame};
+use crate::socket_stage::{Incoming, SocketStage};
+use events::{Answered, Event, Peer, PeerFault, WsFrame};
 use std::alloc::Global;
 use std::io::{Read, Write};
 use std::marker::Model;
@@ -63,7 +63,7 @@ impl<S: Drop, M> SocketPeer<S, M> {
             alloc,
             socket,
             moments,
-            stage: first_stage(request),
+            stage: SocketStage::first(request),
         }
     }
 
@@ -149,16 +149,15 @@ impl<S: Read + Write + Drop, M: Moments> Peer for SocketPeer<S, M> {
         } else {
             Incoming::Nothing
         };
-        let (stage, event) = next_of(self.stage, incoming);
+        let (stage, event) = self.stage.next(incoming);
         self.stage = stage;
-        match event {
-            Ok(Some(event)) => Ok(Some((event, self.moments.now()))),
-            Ok(None) => Ok(None),
-            Err(fault) => Err(fault),
+        match event? {
+            Some(event) => Ok(Some((event, self.moments.now()))),
+            None => Ok(None),
         }
     }
 
-    fn answer(&mut self, got: &Result<Outcome, CoreError>) -> Result<(), PeerFault> {
+    fn answer(&mut self, got: &Answered) -> Result<(), PeerFault> {
         let sent = send(self.alloc, &mut self.socket, to_send(self.stage, got));
         let stage = after(self.stage, got);
         let (stage, heard) = match sent {

@@ -1,14 +1,12 @@
 //! How far a WebSocket has come.
 
-ghost use Rattle.std.specs.Prelude.{◌≡◌};
-ghost use Rattle.events.specs.declared.event.Event.TheVariants as event;
+ghost use Rattle.std.specs.Prelude.{◌≡◌, false};
 ghost use Rattle.peers.specs.declared.socket_stage.SocketStage.TheVariants as stages;
 ghost use Rattle.peers.specs.Turning as turning;
 ghost use Rattle.peers.specs.Turning.{with_event, with_fault, without_fault};
 
 use crate::requests::SocketRequest;
 use events::{Event, PeerFault, WsFrame};
-use std::alloc::Global;
 
 /// The most entries of one take of a WebSocket.
 pub const FRAMES_PER_TAKE: usize = 64;
@@ -51,69 +49,27 @@ pub(crate) enum SocketStage {
     /// It is being opened.
     Opening,
     /// A turn begins by a read; it says whether the turn before was idle.
-    Reads {
-        client: u128,
-        phase: Phase,
-        idle: bool,
-    },
+    Reads { client: u128, at: Phase, idle: bool },
     /// The client is said to probe.
-    Probing {
-        client: u128,
-    },
+    Probing { client: u128 },
     /// The client is said to come over.
-    Upgrading {
-        client: u128,
-    },
+    Upgrading { client: u128 },
     /// A frame was handed in.
-    Framed {
-        client: u128,
-    },
+    Framed { client: u128 },
     /// What waits is to be taken, after a frame.
-    Takes {
-        client: u128,
-    },
+    Takes { client: u128 },
     /// What waits is being taken.
-    Taking {
-        client: u128,
-        idle: bool,
-    },
+    Taking { client: u128, idle: bool },
     /// It is to be asked what is due.
-    Ticks {
-        client: u128,
-        idle: bool,
-    },
+    Ticks { client: u128, idle: bool },
     /// It is being asked what is due.
-    Ticking {
-        client: u128,
-        phase: Phase,
-        idle: bool,
-    },
+    Ticking { client: u128, at: Phase, idle: bool },
     /// The probe failed, which is to be said.
-    Loses {
-        client: u128,
-    },
+    Loses { client: u128 },
     /// The probe is said to have failed.
-    Losing {
-        client: u128,
-    },
-    /// It is served no more.
-    Over {
-        client: Option<u128>,
-    },
-}
-
-/// The stage at first.
-pub(crate) fn first_stage(request: SocketRequest) -> SocketStage
-    ensures { result ≡ turning.first_stage request }
-{
-    match request {
-        SocketRequest::Open => SocketStage::Opens,
-        SocketRequest::Probe { client } => SocketStage::Reads {
-            client,
-            phase: Phase::Knocks,
-            idle: false,
-        },
-    }
+    Losing { client: u128 },
+    /// It is served no more; its client, if it had one.
+    Over(Option<u128>),
 }
 
 /// Whether a read brought nothing to be worked on, and then whether it was nothing at all.
@@ -131,148 +87,119 @@ fn rests(incoming: &Incoming) -> Option<bool>
 fn says(incoming: &Incoming, word: &str) -> bool
     ensures { result ≡ turning.says word.now incoming.now }
 {
-    match incoming {
-        Incoming::Frame(WsFrame::Text(text)) => text.as_str() == word,
-        _ => false,
-    }
+    matches!(incoming, Incoming::Frame(WsFrame::Text(text)) if text.as_str() == word)
 }
 
 /// The stage from then on, and the next event, if there is one.
 type Step = (SocketStage, Result<Option<Event>, PeerFault>);
 
-fn ticks(client: u128, phase: Phase, idle: bool) -> Step
-    ensures { result ≡ without_fault (with_event (turning.ticks client phase idle)) }
-{
-    let stage = SocketStage::Ticking {
-        client,
-        phase,
-        idle,
-    };
-    (stage, Ok(Some(Event::Tick { client })))
-}
-
-fn takes(client: u128, idle: bool) -> Step
-    ensures { result ≡ without_fault (with_event (turning.takes client idle)) }
-{
-    let event = Event::FrameTake {
-        client,
-        most: FRAMES_PER_TAKE,
-    };
-    (SocketStage::Taking { client, idle }, Ok(Some(event)))
-}
-
-/// What follows a read before the client has said that it probes.
-fn knocks(client: u128, incoming: &Incoming) -> Step
-    ensures { result ≡ without_fault (turning.knocks client incoming.now) }
-{
-    match rests(incoming) {
-        Some(idle) => ticks(client, Phase::Knocks, idle),
-        None if says(incoming, PROBE) => {
-            let event = Event::Probe { client };
-            (SocketStage::Probing { client }, Ok(Some(event)))
-        }
-        None => {
-            let client = Some(client);
-            (SocketStage::Over { client }, Ok(None))
-        }
-    }
-}
-
-/// What follows a read while the client probes.
-fn probes(client: u128, incoming: &Incoming) -> Step
-    ensures { result ≡ without_fault (with_event (turning.probes client incoming.now)) }
-{
-    match rests(incoming) {
-        Some(idle) => ticks(client, Phase::Probes, idle),
-        None if says(incoming, UPGRADE) => {
-            let event = Event::Upgraded { client };
-            (SocketStage::Upgrading { client }, Ok(Some(event)))
-        }
-        None => loses(client),
-    }
-}
-
-/// The probe is said to have failed.
-fn loses(client: u128) -> Step
-    ensures { result ≡ without_fault (with_event (stages.Losing client, event.ProbeLost client)) }
-{
-    let event = Event::ProbeLost { client };
-    (SocketStage::Losing { client }, Ok(Some(event)))
-}
-
-/// What follows a read of a client that speaks over the WebSocket.
-fn speaks(client: u128, incoming: Incoming) -> Step
-    ensures { result ≡ with_fault (turning.speaks client incoming) }
-{
-    match incoming {
-        Incoming::Nothing => takes(client, true),
-        Incoming::Control => takes(client, false),
-        Incoming::Frame(frame) => {
-            let event = Event::Frame { client, frame };
-            (SocketStage::Framed { client }, Ok(Some(event)))
-        }
-        Incoming::Gone(fault) => {
-            let client = Some(client);
-            (SocketStage::Over { client }, Err(fault))
-        }
-    }
-}
-
-/// What follows a read.
-fn after_read(client: u128, phase: Phase, incoming: Incoming) -> Step
-    ensures { result ≡ turning.after_read client phase incoming }
-{
-    match phase {
-        Phase::Knocks => knocks(client, &incoming),
-        Phase::Probes => probes(client, &incoming),
-        Phase::Speaks => speaks(client, incoming),
-    }
-}
-
-/// The next event, if there is one, and the stage from then on. What was read counts where the stage
-/// reads.
-pub(crate) fn next_of(stage: SocketStage, incoming: Incoming) -> Step
-    ensures { result ≡ turning.next_of stage incoming }
-{
-    match stage {
-        SocketStage::Opens => {
-            let event = Event::Opened { socket: true };
-            (SocketStage::Opening, Ok(Some(event)))
-        }
-        SocketStage::Reads { client, phase, .. } => after_read(client, phase, incoming),
-        SocketStage::Takes { client } => takes(client, false),
-        SocketStage::Ticks { client, idle } => ticks(client, Phase::Speaks, idle),
-        SocketStage::Loses { client } => loses(client),
-        other => (other, Ok(None)),
-    }
-}
-
 impl SocketStage {
+    /// The stage at first.
+    pub(crate) fn first(request: SocketRequest) -> Self
+        ensures { result ≡ turning.first_stage request }
+    {
+        match request {
+            SocketRequest::Open => Self::Opens,
+            SocketRequest::Probe { client } => Self::begin(client, Phase::Knocks),
+        }
+    }
+
+    /// The first turn of a client that has come so far.
+    pub(crate) fn begin(client: u128, at: Phase) -> Self
+        ensures { result ≡ stages.Reads client at false }
+    {
+        let idle = false;
+        Self::Reads { client, at, idle }
+    }
+
+    /// This event, and this stage from then on.
+    fn with(self, event: Event) -> Step
+        ensures { result ≡ without_fault (with_event (self, event)) }
+    {
+        (self, Ok(Some(event)))
+    }
+
+    fn tick(client: u128, at: Phase, idle: bool) -> Step
+        ensures { result ≡ without_fault (with_event (turning.ticks client at idle)) }
+    {
+        Self::Ticking { client, at, idle }.with(Event::Tick { client })
+    }
+
+    fn take(client: u128, idle: bool) -> Step
+        ensures { result ≡ without_fault (with_event (turning.takes client idle)) }
+    {
+        let most = FRAMES_PER_TAKE;
+        Self::Taking { client, idle }.with(Event::FrameTake { client, most })
+    }
+
+    /// What follows a read of a client that speaks over the WebSocket.
+    fn spoken(client: u128, incoming: Incoming) -> Step
+        ensures { result ≡ with_fault (turning.speaks client incoming) }
+    {
+        match incoming {
+            Incoming::Nothing => Self::take(client, true),
+            Incoming::Control => Self::take(client, false),
+            Incoming::Frame(frame) => Self::Framed { client }.with(Event::Frame { client, frame }),
+            Incoming::Gone(fault) => (Self::Over(Some(client)), Err(fault)),
+        }
+    }
+
+    /// What follows a read.
+    fn after_read(client: u128, at: Phase, incoming: Incoming) -> Step
+        ensures { result ≡ turning.after_read client at incoming }
+    {
+        if matches!(at, Phase::Speaks) {
+            return Self::spoken(client, incoming);
+        }
+        if let Some(idle) = rests(&incoming) {
+            return Self::tick(client, at, idle);
+        }
+        match at {
+            Phase::Knocks if says(&incoming, PROBE) => {
+                Self::Probing { client }.with(Event::Probe { client })
+            }
+            Phase::Knocks => (Self::Over(Some(client)), Ok(None)),
+            _ if says(&incoming, UPGRADE) => {
+                Self::Upgrading { client }.with(Event::Upgraded { client })
+            }
+            _ => Self::Losing { client }.with(Event::ProbeLost { client }),
+        }
+    }
+
+    /// The next event, if there is one, and the stage from then on. What was read counts where the
+    /// stage reads.
+    pub(crate) fn next(self, incoming: Incoming) -> Step
+        ensures { result ≡ turning.next_of self incoming }
+    {
+        match self {
+            Self::Opens => Self::Opening.with(Event::Opened { socket: true }),
+            Self::Reads { client, at, .. } => Self::after_read(client, at, incoming),
+            Self::Takes { client } => Self::take(client, false),
+            Self::Ticks { client, idle } => Self::tick(client, Phase::Speaks, idle),
+            Self::Loses { client } => Self::Losing { client }.with(Event::ProbeLost { client }),
+            other => (other, Ok(None)),
+        }
+    }
+
     /// Whether the next event is found by a read.
     pub(crate) fn reads(self) -> bool
         ensures { result ≡ turning.reads self }
     {
-        matches!(self, SocketStage::Reads { .. })
+        matches!(self, Self::Reads { .. })
     }
 
     /// Whether the last turn brought nothing.
     pub(crate) fn is_idle(self) -> bool
         ensures { result ≡ turning.is_idle self }
     {
-        match self {
-            SocketStage::Reads { idle, .. } => idle,
-            _ => false,
-        }
+        matches!(self, Self::Reads { idle: true, .. })
     }
 
     /// Whether what waits is being taken, after a read that brought nothing at all.
     pub(crate) fn has_read_nothing(self) -> bool
         ensures { result ≡ turning.has_read_nothing self }
     {
-        match self {
-            SocketStage::Taking { idle, .. } => idle,
-            _ => false,
-        }
+        matches!(self, Self::Taking { idle: true, .. })
     }
 
     /// Whose WebSocket it is, once that is known.
@@ -280,18 +207,18 @@ impl SocketStage {
         ensures { result ≡ turning.client_of self }
     {
         match self {
-            SocketStage::Opens | SocketStage::Opening => None,
-            SocketStage::Reads { client, .. }
-            | SocketStage::Probing { client }
-            | SocketStage::Upgrading { client }
-            | SocketStage::Framed { client }
-            | SocketStage::Takes { client }
-            | SocketStage::Taking { client, .. }
-            | SocketStage::Ticks { client, .. }
-            | SocketStage::Ticking { client, .. }
-            | SocketStage::Loses { client }
-            | SocketStage::Losing { client } => Some(client),
-            SocketStage::Over { client } => client,
+            Self::Opens | Self::Opening => None,
+            Self::Reads { client, .. }
+            | Self::Probing { client }
+            | Self::Upgrading { client }
+            | Self::Framed { client }
+            | Self::Takes { client }
+            | Self::Taking { client, .. }
+            | Self::Ticks { client, .. }
+            | Self::Ticking { client, .. }
+            | Self::Loses { client }
+            | Self::Losing { client } => Some(client),
+            Self::Over(client) => client,
         }
     }
 }

@@ -1,12 +1,12 @@
-//! Ids that count from 1.
+//! Ids that count.
 
 ghost use Rattle.std.specs.Prelude.{◌≡◌};
 
 use events::IdSource;
 use std::marker::Model;
 
-/// Gives the numbers from 1 on, each once, but for the greatest u128, at which it stays. In a
-/// contract it is the number that comes next.
+/// Gives the numbers from its first one on, each once, but for the greatest u128, at which it
+/// stays. In a contract it is the number that comes next.
 #[derive(Debug, Drop)]
 pub struct Counter {
     next: u128,
@@ -21,11 +21,18 @@ impl Model for Counter {
 }
 
 impl Counter {
-    /// A counter that has given nothing.
+    /// A counter that has given nothing, and begins at 1.
     pub fn new() -> Counter
         ensures { result ≡ 1 }
     {
-        Counter { next: 1 }
+        Counter::starting_at(1)
+    }
+
+    /// One that begins at this number.
+    pub fn starting_at(first: u128) -> Counter
+        ensures { result ≡ first }
+    {
+        Counter { next: first }
     }
 }
 

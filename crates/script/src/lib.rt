@@ -3,7 +3,6 @@
 #![tactic(auto)]
 
 mod faults;
-mod ledgers;
 mod notices;
 mod play;
 mod printing;

@@ -7,9 +7,9 @@ ghost use Rattle.hex.specs.declared.error.FromHexError.TheVariants.{OutOfMemory}
 ghost use Rattle.script.specs.Events.{notice_of, take_of, IsEventOf};
 
 use crate::script_line::{Notice, ScriptLine};
+use connection::Transport;
 use events::{Event, WsFrame};
 use hex::FromHexError;
-use session_clock::Transport;
 use std::alloc::{AllocError, Global};
 use terms::{Bytes, Text};
 
@@ -32,13 +32,10 @@ pub(crate) fn event_of(
             let frame = WsFrame::Text(Text::copy_of(alloc, rest)?);
             Ok(Some(Event::Frame { client, frame }))
         }
-        ScriptLine::Bytes(_, hex) => match bytes_of(alloc, hex)? {
-            Some(bytes) => {
-                let frame = WsFrame::Bytes(bytes);
-                Ok(Some(Event::Frame { client, frame }))
-            }
-            None => Ok(None),
-        },
+        ScriptLine::Bytes(_, hex) => {
+            let frame = bytes_of(alloc, hex)?.map(WsFrame::Bytes);
+            Ok(frame.map(|frame| Event::Frame { client, frame }))
+        }
         ScriptLine::Notice(notice, _) => Ok(Some(notice_of(notice, client))),
         ScriptLine::Take(_, most) => Ok(Some(take_of(transport, client, most))),
         _ => Ok(None),

@@ -11,8 +11,8 @@ use crate::notices::event_of;
 use crate::printing::{Answer, Posted, frame_lines, id_list, is_read};
 use crate::script_line::{ScriptLine, name_in};
 use dispatch::Core;
-use events::{App, Cause, CoreError, CoreFault, Done, Event, Outcome};
-use hub::Pass;
+use events::{Answered, App, Cause, CoreFault, Done, Event, Outcome};
+use hub_totals::Pass;
 use journal::HubError;
 use relay::Counter;
 use std::alloc::{AllocError, Global};
@@ -20,9 +20,13 @@ use std::collections::BTreeMap;
 use std::sync::ledger::Ledger;
 use terms::Room;
 
+/// The answer to a line, or the fault that ends the run.
+type Reply<'a> = Result<Answer<'a>, RunError>;
+
 /// A server under way, and the clients that the names stand for.
 #[derive(Drop)]
 pub(crate) struct Play<C: Ledger, T: Ledger> {
+    alloc: Global,
     core: Core<C, T>,
     pass: Pass<C, T>,
     ids: Counter,
@@ -36,6 +40,7 @@ impl<C: Ledger, T: Ledger> Play<C, T> {
         ensures { server_of result ≡ new_server core }
     {
         Play {
+            alloc,
             core,
             pass,
             ids: Counter::new(),
@@ -47,7 +52,6 @@ impl<C: Ledger, T: Ledger> Play<C, T> {
     /// Does what a line asks for. A limit can't be set any more.
     pub(crate) fn answer<'a, A: App>(
         &mut self,
-        alloc: Global,
         app: &A,
         line: ScriptLine<'a>,
     ) -> Result<Option<Answer<'a>>, RunError>
@@ -63,41 +67,31 @@ impl<C: Ledger, T: Ledger> Play<C, T> {
                 Ok(None)
             }
             ScriptLine::Nothing => Ok(None),
-            asking => Ok(Some(self.reply(alloc, app, asking)?)),
+            asking => Ok(Some(self.reply(app, asking)?)),
         }
     }
 
     /// Does what a line asks for that always has an answer. Any other line is bad.
-    fn reply<'a, A: App>(
-        &mut self,
-        alloc: Global,
-        app: &A,
-        line: ScriptLine<'a>,
-    ) -> Result<Answer<'a>, RunError>
+    fn reply<'a, A: App>(&mut self, app: &A, line: ScriptLine<'a>) -> Reply<'a>
         ensures bad { line.entry ≡ ScriptLine.Bad → result ≡ Ok Answer.BadLine }
         ensures replies { IfOk result (λ answer. Replies (A.policy app.now)
             line.entry (server_of self.old) (answer_text answer) (server_of self.new)) }
         ensures err { IsOkUnless result Memory }
     {
         match line {
-            ScriptLine::Open(name) => self.open(alloc, app, name, false),
-            ScriptLine::OpenSocket(name) => self.open(alloc, app, name, true),
-            ScriptLine::Members(space, room) => self.members(alloc, space, room),
+            ScriptLine::Open(name) => self.open(app, name, false),
+            ScriptLine::OpenSocket(name) => self.open(app, name, true),
+            ScriptLine::Members(space, room) => self.members(space, room),
             ScriptLine::Totals => Ok(Answer::Totals(self.core.hub().state().totals())),
-            ScriptLine::Seal => self.seal(alloc),
-            ScriptLine::Sweep => self.tell(alloc, app, "", &Event::Sweep),
-            other => self.reply_for_client(alloc, app, other),
+            ScriptLine::Seal => self.seal(),
+            ScriptLine::Sweep => self.tell(app, "", &Event::Sweep),
+            other => self.reply_for_client(app, other),
         }
     }
 
     /// Does what a line asks for of the client that it names. Any other line is bad, and so is one
     /// whose name stands for no client.
-    fn reply_for_client<'a, A: App>(
-        &mut self,
-        alloc: Global,
-        app: &A,
-        line: ScriptLine<'a>,
-    ) -> Result<Answer<'a>, RunError>
+    fn reply_for_client<'a, A: App>(&mut self, app: &A, line: ScriptLine<'a>) -> Reply<'a>
         ensures bad { IsOfNone line.entry (get_by_text self.old.clients)
             → result ≡ Ok Answer.BadLine }
         ensures replies { IfOk result (λ answer.
@@ -111,24 +105,19 @@ impl<C: Ledger, T: Ledger> Play<C, T> {
         let Some(client) = self.clients.get(name).copied() else {
             return Ok(Answer::BadLine);
         };
-        match event_of(alloc, line, client, self.core.transport(client))? {
-            Some(event) => self.tell(alloc, app, name, &event),
+        match event_of(self.alloc, line, client, self.core.transport(client))? {
+            Some(event) => self.tell(app, name, &event),
             None => Ok(Answer::BadLine),
         }
     }
 
     /// What becomes of an event, or why it is refused. Want of memory ends the run.
-    fn apply<A: App>(
-        &mut self,
-        alloc: Global,
-        app: &A,
-        event: &Event,
-    ) -> Result<Result<Outcome, CoreError>, RunError>
+    fn apply<A: App>(&mut self, app: &A, event: &Event) -> Result<Answered, RunError>
         ensures happens { IfOk result (λ answer. Happens (A.policy app.now)
             (server_of self.old) event.now answer (server_of self.new)) }
         ensures err { IsOkUnless result Memory }
     {
-        let core = &mut self.core;
+        let (alloc, core) = (self.alloc, &mut self.core);
         match core.apply(alloc, &mut self.pass, app, event, self.now, &mut self.ids) {
             Err(error) if error.fault == CoreFault::Memory => Err(RunError::Memory),
             answer => Ok(answer),
@@ -136,70 +125,53 @@ impl<C: Ledger, T: Ledger> Play<C, T> {
     }
 
     /// What the client of this name is answered at an event.
-    fn tell<'a, A: App>(
-        &mut self,
-        alloc: Global,
-        app: &A,
-        name: &'a str,
-        event: &Event,
-    ) -> Result<Answer<'a>, RunError>
+    fn tell<'a, A: App>(&mut self, app: &A, name: &'a str, event: &Event) -> Reply<'a>
         ensures asks { IfOk result (λ answer.
             Asks (A.policy app.now) name.entry.now event.now
             (server_of self.old) (answer_text answer) (server_of self.new)) }
         ensures err { IsOkUnless result Memory }
     {
-        let answer = self.apply(alloc, app, event)?;
-        Ok(answer_to(alloc, name, event, answer)?)
+        let answer = self.apply(app, event)?;
+        Ok(answer_to(self.alloc, name, event, answer)?)
     }
 
     /// Opens a client, for which the name stands from now on.
-    fn open<'a, A: App>(
-        &mut self,
-        alloc: Global,
-        app: &A,
-        name: &'a str,
-        socket: bool,
-    ) -> Result<Answer<'a>, RunError>
+    fn open<'a, A: App>(&mut self, app: &A, name: &'a str, socket: bool) -> Reply<'a>
         ensures opens { IfOk result (λ answer. Opens (A.policy app.now)
             name.entry.now socket (server_of self.old) (answer_text answer) (server_of self.new)) }
         ensures err { IsOkUnless result Memory }
     {
         let event = Event::Opened { socket };
-        let answer = self.apply(alloc, app, &event)?;
-        self.call_opened(alloc, name, &answer)?;
-        Ok(answer_to(alloc, name, &event, answer)?)
+        let answer = self.apply(app, &event)?;
+        self.call_opened(name, &answer)?;
+        Ok(answer_to(self.alloc, name, &event, answer)?)
     }
 
     /// From now on the name stands for the client that was opened, if one was.
-    fn call_opened(
-        &mut self,
-        alloc: Global,
-        name: &str,
-        answer: &Result<Outcome, CoreError>,
-    ) -> Result<(), RunError>
+    fn call_opened(&mut self, name: &str, answer: &Answered) -> Result<(), RunError>
         ensures names { OnOk result
             (NamesOpened name.now answer.now (server_of self.old) (server_of self.new)) }
         ensures err { IsOkUnless result Memory }
     {
         match answer {
-            Ok(Outcome::Opened(opening)) => self.call(alloc, name, opening.client),
+            Ok(Outcome::Opened(opening)) => self.call(name, opening.client),
             _ => Ok(()),
         }
     }
 
     /// From now on the name stands for this client.
-    fn call(&mut self, alloc: Global, name: &str, client: u128) -> Result<(), RunError>
+    fn call(&mut self, name: &str, client: u128) -> Result<(), RunError>
         ensures names { OnOk result
             (Names name.now client (server_of self.old) (server_of self.new)) }
         ensures err { IsOkUnless result Memory }
     {
-        let key = String::from_str(alloc, name)?;
+        let key = String::from_str(self.alloc, name)?;
         self.clients.insert(key, client)?;
         Ok(())
     }
 
     /// The sockets of a namespace that are in a room, whose name has at most 64 bytes.
-    fn members(&self, alloc: Global, space: &str, room: &str) -> Result<Answer<'static>, RunError>
+    fn members(&self, space: &str, room: &str) -> Reply<'static>
         ensures long { 64 < length room.now → result ≡ Ok Answer.BadLine }
         ensures asks { IfOk result (λ answer.
             AsksMembers space.now room.now (server_of self.entry.now) (answer_text answer)) }
@@ -208,21 +180,21 @@ impl<C: Ledger, T: Ledger> Play<C, T> {
         let Some(room) = Room::read(room) else {
             return Ok(Answer::BadLine);
         };
-        match self.core.hub().state().members(alloc, space, room) {
+        match self.core.hub().state().members(self.alloc, space, room) {
             Ok(sids) if sids.is_empty() => Ok(Answer::Members(None)),
-            Ok(sids) => Ok(Answer::Members(Some(id_list(alloc, &sids)?))),
+            Ok(sids) => Ok(Answer::Members(Some(id_list(self.alloc, &sids)?))),
             Err(HubError::UnknownNamespace) => Ok(Answer::UnknownNamespace),
             Err(_) => Err(RunError::Memory),
         }
     }
 
     /// Ends an epoch.
-    fn seal(&mut self, alloc: Global) -> Result<Answer<'static>, RunError>
+    fn seal(&mut self) -> Reply<'static>
         ensures seals { IfOk result (λ answer.
             Seals (server_of self.old) (answer_text answer) (server_of self.new)) }
         ensures err { IsOkUnless result Memory }
     {
-        match self.core.seal(alloc) {
+        match self.core.seal(self.alloc) {
             Ok(epoch) => Ok(Answer::Sealed(epoch.steps.len())),
             Err(_) => Err(RunError::Memory),
         }
@@ -234,7 +206,7 @@ fn answer_to<'a>(
     alloc: Global,
     name: &'a str,
     event: &Event,
-    answer: Result<Outcome, CoreError>,
+    answer: Answered,
 ) -> Result<Answer<'a>, AllocError>
     ensures { IfOk result (λ said. answer_text said ≡ told name.entry.now event.now answer) }
 {
@@ -244,18 +216,13 @@ fn answer_to<'a>(
         Ok(Outcome::Begun) => Ok(Answer::Ok),
         Ok(Outcome::Payload(text)) => Ok(Answer::Taken(name, Some(text))),
         Ok(Outcome::Frames(frames)) => {
-            let lines = frame_lines(alloc, name, frames.as_slice())?;
-            Ok(Answer::Frames(lines))
+            Ok(Answer::Frames(frame_lines(alloc, name, frames.as_slice())?))
         }
         Ok(Outcome::Nothing) => Ok(Answer::Taken(name, None)),
         Ok(Outcome::Probed(text)) => Ok(Answer::Probed(name, text)),
         Ok(Outcome::Lost { saved: true, .. }) => Ok(Answer::Ok),
         Ok(Outcome::Lost { saved: false, .. }) => Ok(Answer::NotSaved),
-        Ok(Outcome::Ticked { ping, done }) => Ok(Answer::Ticked {
-            name,
-            ping,
-            closed: done.closed,
-        }),
+        Ok(Outcome::Ticked { ping, done }) => Ok(Answer::Ticked(name, ping, done.closed)),
         Ok(Outcome::Swept(swept)) => Ok(Answer::Swept(swept)),
         Err(error) => Ok(Answer::Refused(error.fault)),
     }

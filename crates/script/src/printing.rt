@@ -1,9 +1,7 @@
 //! What a script line prints.
 
-ghost use Rattle.std.specs.Prelude.{◌≡◌, ◌∷◌, ◌++◌, Some, IfOk, OnOk, if◌then◌else◌, codes, string_bytes};
-ghost use Rattle.terms.specs.Ids.{id_digits};
-ghost use Rattle.script.specs.ScriptLine.{SPACE};
-ghost use Rattle.script.specs.Printing.{cause_name, fault_name, reason_name, ignored_text, ids_text, frame_text, more_text, frames_text, is_unread, is_read, posted_of};
+ghost use Rattle.std.specs.Prelude.{◌≡◌, ◌++◌, Some, IfOk, OnOk, string_bytes};
+ghost use Rattle.script.specs.Printing.{cause_name, fault_name, reason_name, ids_text, frame_text, frames_text, is_read, posted_of};
 
 use events::{Cause, CoreFault, Done, WsFrame};
 use journal::{Swept, Totals};
@@ -29,12 +27,8 @@ pub enum Answer<'a> {
     Frames(Text),
     /// The client of this name probes; it was sent this text.
     Probed(&'a str, Text),
-    /// A ping is due to the client of this name or not, and why it was given up, where it was.
-    Ticked {
-        name: &'a str,
-        ping: bool,
-        closed: Option<Cause>,
-    },
+    /// Whether a ping is due to the client of this name, and why it was given up, where it was.
+    Ticked(&'a str, bool, Option<Cause>),
     /// The client is gone, and its sessions have no place.
     NotSaved,
     /// The ids of sockets, with a space before each, or `None` where there are none.
@@ -85,17 +79,11 @@ impl Posted {
 pub(crate) fn is_read(done: &Done) -> bool
     ensures { result ≡ is_read done.now }
 {
-    done.packets != 0 || !is_unread(done.closed)
-}
-
-/// Whether the client was closed for what no payload is.
-fn is_unread(closed: Option<Cause>) -> bool
-    ensures { result ≡ is_unread closed }
-{
-    matches!(
-        closed,
-        Some(Cause::Empty | Cause::BadType | Cause::BadBase64)
-    )
+    done.packets != 0
+        || !matches!(
+            done.closed,
+            Some(Cause::Empty | Cause::BadType | Cause::BadBase64)
+        )
 }
 
 /// The ids of sockets, each after a space.
@@ -104,19 +92,10 @@ pub(crate) fn id_list(alloc: Global, sids: &[Sid]) -> Result<Text, AllocError>
 {
     let mut list = String::new(alloc);
     for sid in sids {
-        push_id(&mut list, *sid)?;
+        list.push_str(" ")?;
+        list.push_str(ascii_text(&id_text(sid.number())))?;
     }
     Ok(Text::from_string(list))
-}
-
-/// Adds a space and an id.
-fn push_id(list: &mut String, sid: Sid) -> Result<(), AllocError>
-    ensures { OnOk result
-        (string_bytes list.new ≡ string_bytes list.old ++ SPACE ∷ id_digits sid) }
-{
-    list.push_str(" ")?;
-    list.push_str(ascii_text(&id_text(sid.number())))?;
-    Ok(())
 }
 
 /// The frames for the client of this name, each in a line of its own.
@@ -128,25 +107,11 @@ pub(crate) fn frame_lines(alloc: Global, name: &str, frames: &[WsFrame]) -> Resu
         return Ok(Text::from_string(lines));
     };
     push_frame(alloc, &mut lines, name, first)?;
-    push_more(alloc, &mut lines, name, rest)?;
-    Ok(Text::from_string(lines))
-}
-
-/// Adds the lines of more frames.
-fn push_more(
-    alloc: Global,
-    lines: &mut String,
-    name: &str,
-    frames: &[WsFrame],
-) -> Result<(), AllocError>
-    ensures { OnOk result
-        (string_bytes lines.new ≡ string_bytes lines.old ++ more_text name.now frames.now) }
-{
-    for frame in frames {
+    for frame in rest {
         lines.push_str("\n")?;
-        push_frame(alloc, lines, name, frame)?;
+        push_frame(alloc, &mut lines, name, frame)?;
     }
-    Ok(())
+    Ok(Text::from_string(lines))
 }
 
 /// Adds the line of a frame.
@@ -187,17 +152,17 @@ impl fmt::Display for Answer<'_> {
             Answer::Closed(cause) => write!(f, "closed: {}", cause_name(*cause)),
             Answer::Taken(name, None) => write!(f, "{name} -"),
             Answer::Frames(lines) => f.write_str(lines.as_str()),
-            Answer::Ticked { name, ping, closed } => { write!(f, "{name} {}", Due(*ping, *closed)) }
+            Answer::Ticked(name, _, Some(cause)) => {
+                write!(f, "{name} closed: {}", cause_name(*cause))
+            }
+            Answer::Ticked(name, true, None) => write!(f, "{name} ping"),
+            Answer::Ticked(name, false, None) => write!(f, "{name} nothing"),
             Answer::NotSaved => f.write_str("ok, not saved: SavedFull"),
             Answer::Members(Some(ids)) => write!(f, "members{}", ids.as_str()),
             Answer::Members(None) => f.write_str("members -"),
             Answer::Totals(totals) => write!(f, "{}", Counted(*totals)),
             Answer::Sealed(steps) => write!(f, "sealed {steps}"),
-            Answer::Swept(swept) => {
-                let log = swept.log;
-                let saved = swept.saved;
-                write!(f, "swept log {log}, saved {saved}")
-            }
+            Answer::Swept(swept) => write!(f, "swept log {}, saved {}", swept.log, swept.saved),
             Answer::Refused(fault) => write!(f, "refused: {}", fault_name(*fault)),
             Answer::UnknownNamespace => f.write_str("refused: UnknownNamespace"),
             Answer::BadLine => f.write_str("bad line"),
@@ -228,146 +193,50 @@ impl fmt::Display for Counted {
     }
 }
 
-/// Whether a ping is due, and why the client was given up, as it is printed of a tick.
-#[derive(Clone, Copy)]
-struct Due(bool, Option<Cause>);
-
-impl fmt::Display for Due {
-    ghost use Rattle.script.specs.Printing.{due_text};
-
-    ghost output = { λ due. Some (due_text due.0 due.1) };
-
-    fn fmt<W: fmt::Write>(&self, f: &mut fmt::Formatter<W>) -> fmt::Result {
-        match (self.1, self.0) {
-            (Some(cause), _) => write!(f, "closed: {}", cause_name(cause)),
-            (None, true) => f.write_str("ping"),
-            (None, false) => f.write_str("nothing"),
-        }
-    }
-}
-
 impl fmt::Display for Posted {
     ghost use Rattle.script.specs.Printing.{posted_text};
 
     ghost output = { λ posted. Some (posted_text posted) };
 
     fn fmt<W: fmt::Write>(&self, f: &mut fmt::Formatter<W>) -> fmt::Result {
-        let read = verdict(self.read);
-        let ignored = ignored_text(self.ignored);
-        write!(
-            f,
-            "{read}{}{ignored}{}",
-            Skipped(self.skipped),
-            Closed(self.closed)
-        )
-    }
-}
-
-/// Why an effect was skipped, as it is printed of a payload.
-#[derive(Clone, Copy)]
-struct Skipped(Option<RoomError>);
-
-impl fmt::Display for Skipped {
-    ghost use Rattle.script.specs.Printing.{skipped_text};
-
-    ghost output = { λ skipped. Some (skipped_text skipped.0) };
-
-    fn fmt<W: fmt::Write>(&self, f: &mut fmt::Formatter<W>) -> fmt::Result {
-        match self.0 {
-            Some(reason) => write!(f, ", skipped: {}", reason_name(reason)),
-            None => Ok(()),
+        f.write_str(if self.read { "ok" } else { "400" })?;
+        if let Some(reason) = self.skipped {
+            write!(f, ", skipped: {}", reason_name(reason))?;
         }
-    }
-}
-
-/// Why the client was closed, as it is printed of a payload.
-#[derive(Clone, Copy)]
-struct Closed(Option<Cause>);
-
-impl fmt::Display for Closed {
-    ghost use Rattle.script.specs.Printing.{closed_text};
-
-    ghost output = { λ closed. Some (closed_text closed.0) };
-
-    fn fmt<W: fmt::Write>(&self, f: &mut fmt::Formatter<W>) -> fmt::Result {
-        match self.0 {
-            Some(cause) => write!(f, ", closed: {}", cause_name(cause)),
-            None => Ok(()),
+        if self.ignored {
+            f.write_str(", ignored")?;
         }
+        if let Some(cause) = self.closed {
+            write!(f, ", closed: {}", cause_name(cause))?;
+        }
+        Ok(())
     }
 }
 
-/// That an answer came to no open question, as it is printed of a payload.
-fn ignored_text(ignored: bool) -> &'static str
-    ensures { result.now ≡ ignored_text ignored }
-{
-    if ignored { ", ignored" } else { "" }
-}
-
-/// Whether a payload was read, in a word.
-fn verdict(read: bool) -> &'static str
-    ensures { result.now ≡ (if read then codes "ok" else codes "400") }
-{
-    if read { "ok" } else { "400" }
+/// The name of the variant that a value is, of an enum with just these.
+macro_rules! name {
+    ($value:ident, $type:ident: $($variant:ident)*) => {
+        match $value { $($type::$variant => stringify!($variant)),* }
+    };
 }
 
 fn cause_name(cause: Cause) -> &'static str
     ensures { result.now ≡ cause_name cause }
 {
-    match cause {
-        Cause::Empty => "Empty",
-        Cause::BadType => "BadType",
-        Cause::BadBase64 => "BadBase64",
-        Cause::BadKind => "BadKind",
-        Cause::BadCount => "BadCount",
-        Cause::BadId => "BadId",
-        Cause::BadJson => "BadJson",
-        Cause::BadShape => "BadShape",
-        Cause::Reserved => "Reserved",
-        Cause::BadPlaceholder => "BadPlaceholder",
-        Cause::TooMany => "TooMany",
-        Cause::TextAwaitingBinary => "TextAwaitingBinary",
-        Cause::BinaryUnawaited => "BinaryUnawaited",
-        Cause::NotJoined => "NotJoined",
-        Cause::AlreadyConnected => "AlreadyConnected",
-        Cause::PingFromClient => "PingFromClient",
-        Cause::ClientClosed => "ClientClosed",
-        Cause::DoubleGet => "DoubleGet",
-        Cause::TooLong => "TooLong",
-        Cause::PingTimeout => "PingTimeout",
-        Cause::ConnectTimeout => "ConnectTimeout",
-        Cause::OutboxFull => "OutboxFull",
-    }
+    name!(cause, Cause: Empty BadType BadBase64 BadKind BadCount BadId BadJson BadShape Reserved
+        BadPlaceholder TooMany TextAwaitingBinary BinaryUnawaited NotJoined AlreadyConnected
+        PingFromClient ClientClosed DoubleGet TooLong PingTimeout ConnectTimeout OutboxFull)
 }
 
 fn fault_name(fault: CoreFault) -> &'static str
     ensures { result.now ≡ fault_name fault }
 {
-    match fault {
-        CoreFault::Memory => "Memory",
-        CoreFault::UnknownClient => "UnknownClient",
-        CoreFault::WrongTransport => "WrongTransport",
-        CoreFault::AlreadyProbing => "AlreadyProbing",
-        CoreFault::AlreadyUpgraded => "AlreadyUpgraded",
-        CoreFault::NotProbing => "NotProbing",
-        CoreFault::TooManyClients => "TooManyClients",
-        CoreFault::IdTaken => "IdTaken",
-        CoreFault::Spent => "Spent",
-        CoreFault::BadEffect => "BadEffect",
-        CoreFault::BadConfig => "BadConfig",
-    }
+    name!(fault, CoreFault: Memory UnknownClient WrongTransport AlreadyProbing AlreadyUpgraded
+        NotProbing TooManyClients IdTaken Spent BadEffect BadConfig)
 }
 
 fn reason_name(reason: RoomError) -> &'static str
     ensures { result.now ≡ reason_name reason }
 {
-    match reason {
-        RoomError::Memory => "Memory",
-        RoomError::UnknownSocket => "UnknownSocket",
-        RoomError::AlreadyIn => "AlreadyIn",
-        RoomError::NotIn => "NotIn",
-        RoomError::OwnRoom => "OwnRoom",
-        RoomError::TooManyRooms => "TooManyRooms",
-        RoomError::SidTaken => "SidTaken",
-    }
+    name!(reason, RoomError: Memory UnknownSocket AlreadyIn NotIn OwnRoom TooManyRooms SidTaken)
 }

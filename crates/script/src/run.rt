@@ -4,20 +4,18 @@ ghost use Rattle.std.specs.Prelude.{◌≡◌, ◌≢◌, ◌<◌, [], ◌∷◌
 ghost use Rattle.std.specs.Io.KnownBytes.{Appends, Keeps, IsAtEnd};
 ghost use Rattle.script.specs.declared.faults.RunError.TheVariants.{Memory, Reading, Writing};
 ghost use Rattle.script.specs.Printing.{answer_text};
-ghost use Rattle.script.specs.Setup.{USUAL};
-ghost use Rattle.script.specs.Script.{Setting, Over, stage_of, Sets, Begins, PlaysOn, Answers, printed, IsAnswered, IsUnended, WritesLine, WritesOn, Gives};
+ghost use Rattle.script.specs.Script.{stage_of, Sets, Begins, PlaysOn, Answers, printed, IsAnswered, IsUnended, WritesLine, WritesOn, Gives};
 
 use crate::faults::RunError;
-use crate::ledgers::Ledgers;
 use crate::play::Play;
 use crate::printing::Answer;
 use crate::script_line::{Key, ScriptLine, read_line};
-use crate::setup::Setup;
+use crate::setup::{Ledgers, Setup};
 use events::{App, CoreFault};
 use std::alloc::Global;
 use std::io;
 use std::io::{BufWriter, ErrorKind, Read, Write};
-use std::marker::Brand;
+use std::marker::{Brand, PhantomData};
 use std::mem::replace;
 use std::process::ExitCode;
 use std::sync::ledger::{Blank, Ledger};
@@ -35,9 +33,7 @@ pub fn play_script<R: Input + Print + AllocGlobal, A: App>(
     app: &A,
 ) -> Result<ExitCode, RunError> {
     let mut reader = rt.reader();
-    let Ok(mut writer) = BufWriter::new(rt.alloc(), io::writer(rt)) else {
-        return Err(RunError::Memory);
-    };
+    let mut writer = BufWriter::new(rt.alloc(), io::writer(rt)).map_err(|_| RunError::Memory)?;
     run_script(rt.alloc(), app, &mut reader, &mut writer)?;
     Ok(ExitCode::SUCCESS)
 }
@@ -65,6 +61,7 @@ pub fn run_script<A: App, R: Read, W: Write>(
     served
 }
 
+/// Reads to the end of the input, and answers each line.
 fn serve<C: Ledger, T: Ledger, A: App, R: Read, W: Write>(
     alloc: Global,
     app: &A,
@@ -80,23 +77,13 @@ fn serve<C: Ledger, T: Ledger, A: App, R: Read, W: Write>(
     ensures answered { OnOk result (IsAnswered (A.policy app.now)
         (R.remaining reader.old) (W.contents writer.old) (W.contents writer.new)) }
 {
-    let mut run: Run<C, T> = Run::Setting(Setup::usual(), Ledgers::new(commands, taken));
-    answer_all(alloc, app, &mut run, reader, writer)
-}
-
-/// Reads to the end of the input, and answers each line.
-fn answer_all<C: Ledger, T: Ledger, A: App, R: Read, W: Write>(
-    alloc: Global,
-    app: &A,
-    run: &mut Run<C, T>,
-    reader: &mut R,
-    writer: &mut W,
-) -> Result<(), RunError>
-    ensures end { OnOk result (IsAtEnd (R.remaining reader.new)) }
-    ensures answered { OnOk result (stage_of run.old ≡ Setting USUAL
-        → IsAnswered (A.policy app.now)
-        (R.remaining reader.old) (W.contents writer.old) (W.contents writer.new)) }
-{
+    let ledgers = Ledgers {
+        alloc,
+        commands,
+        taken,
+        of: PhantomData,
+    };
+    let mut run: Run<C, T> = Run::Setting(Setup::usual(), ledgers);
     let mut line = Vec::new(alloc);
     let mut buffer = [0u8; READ_SIZE];
     for _ in 0..u64::MAX {
@@ -105,11 +92,11 @@ fn answer_all<C: Ledger, T: Ledger, A: App, R: Read, W: Write>(
             continue;
         };
         if bytes.is_empty() {
-            answer_line(alloc, app, run, &mut line, writer)?;
+            answer_line(app, &mut run, &mut line, writer)?;
             flush(writer)?;
             return Ok(());
         }
-        answer_lines(alloc, app, run, &mut line, bytes, writer)?;
+        answer_lines(app, &mut run, &mut line, bytes, writer)?;
     }
     Err(RunError::Reading)
 }
@@ -135,16 +122,12 @@ fn flush<W: Write>(writer: &mut W) -> Result<(), RunError>
     ensures kept { Keeps (W.contents writer.old) (W.contents writer.new) }
     ensures err { IsOkUnless result Writing }
 {
-    match writer.flush() {
-        Ok(()) => Ok(()),
-        Err(_) => Err(RunError::Writing),
-    }
+    writer.flush().map_err(|_| RunError::Writing)
 }
 
 /// Answers each line that these bytes end, the first of them begun by `line`, and leaves in `line`
 /// what they begin.
 fn answer_lines<C: Ledger, T: Ledger, A: App, W: Write>(
-    alloc: Global,
     app: &A,
     run: &mut Run<C, T>,
     line: &mut Vec<u8>,
@@ -159,14 +142,13 @@ fn answer_lines<C: Ledger, T: Ledger, A: App, W: Write>(
     ensures err { IfErr result (λ fault. fault ≢ Reading) }
 {
     for byte in bytes {
-        answer_byte(alloc, app, run, line, *byte, writer)?;
+        answer_byte(app, run, line, *byte, writer)?;
     }
     Ok(())
 }
 
 /// One byte more: an LF ends the line, which is answered, and any other belongs to it.
 fn answer_byte<C: Ledger, T: Ledger, A: App, W: Write>(
-    alloc: Global,
     app: &A,
     run: &mut Run<C, T>,
     line: &mut Vec<u8>,
@@ -181,7 +163,7 @@ fn answer_byte<C: Ledger, T: Ledger, A: App, W: Write>(
     ensures err { IfErr result (λ fault. fault ≢ Reading) }
 {
     if byte == b'\n' {
-        return answer_line(alloc, app, run, line, writer);
+        return answer_line(app, run, line, writer);
     }
     line.push(byte)?;
     Ok(())
@@ -189,7 +171,6 @@ fn answer_byte<C: Ledger, T: Ledger, A: App, W: Write>(
 
 /// Answers a whole line and empties it for the next.
 fn answer_line<C: Ledger, T: Ledger, A: App, W: Write>(
-    alloc: Global,
     app: &A,
     run: &mut Run<C, T>,
     line: &mut Vec<u8>,
@@ -201,7 +182,7 @@ fn answer_line<C: Ledger, T: Ledger, A: App, W: Write>(
         (stage_of run.old) (stage_of run.new)) }
     ensures err { IfErr result (λ fault. fault ≢ Reading) }
 {
-    print_any(writer, run.answer(alloc, app, read_line(line.as_slice()))?)?;
+    print_any(writer, run.answer(app, read_line(line.as_slice()))?)?;
     line.clear();
     Ok(())
 }
@@ -212,12 +193,9 @@ fn print_any<W: Write>(writer: &mut W, answer: Option<Answer<'_>>) -> Result<(),
         (printed (option_map answer_text answer.entry))) }
     ensures err { IsOkUnless result Writing }
 {
-    let Some(answer) = answer else {
-        return Ok(());
-    };
-    match writeln!(writer, "{answer}") {
-        Ok(()) => Ok(()),
-        Err(_) => Err(RunError::Writing),
+    match answer {
+        Some(answer) => writeln!(writer, "{answer}").map_err(|_| RunError::Writing),
+        None => Ok(()),
     }
 }
 
@@ -236,7 +214,6 @@ impl<C: Ledger, T: Ledger> Run<C, T> {
     /// Does what a line asks for. A blank line or a comment has no answer.
     fn answer<'a, A: App>(
         &mut self,
-        alloc: Global,
         app: &A,
         line: ScriptLine<'a>,
     ) -> Result<Option<Answer<'a>>, RunError>
@@ -248,9 +225,9 @@ impl<C: Ledger, T: Ledger> Run<C, T> {
         match line {
             ScriptLine::Nothing => Ok(None),
             ScriptLine::Config(key, number) => Ok(self.set(key, number)),
-            _ => match self.begin(alloc)? {
+            _ => match self.begin()? {
                 Some(fault) => Ok(Some(Answer::Refused(fault))),
-                None => self.play(alloc, app, line),
+                None => self.play(app, line),
             },
         }
     }
@@ -271,47 +248,28 @@ impl<C: Ledger, T: Ledger> Run<C, T> {
     }
 
     /// Makes the server at the first line that isn't about its limits, unless it is refused.
-    fn begin(&mut self, alloc: Global) -> Result<Option<CoreFault>, RunError>
+    fn begin(&mut self) -> Result<Option<CoreFault>, RunError>
         ensures begins { IfOk result (λ fault.
             Begins (stage_of self.old) fault (stage_of self.new)) }
         ensures err { IsOkUnless result Memory }
     {
         match replace(self, Run::Over) {
-            Run::Setting(setup, ledgers) => self.make(alloc, setup, ledgers),
-            begun => {
-                *self = begun;
-                Ok(None)
+            Run::Setting(setup, ledgers) => {
+                let alloc = ledgers.alloc;
+                match setup.server(ledgers) {
+                    Ok((core, pass)) => *self = Run::Playing(Play::new(alloc, core, pass)),
+                    Err(error) if error.fault == CoreFault::Memory => return Err(RunError::Memory),
+                    Err(error) => return Ok(Some(error.fault)),
+                }
             }
+            begun => *self = begun,
         }
-    }
-
-    /// Makes the server, unless it is refused.
-    fn make(
-        &mut self,
-        alloc: Global,
-        setup: Setup,
-        ledgers: Ledgers<C, T>,
-    ) -> Result<Option<CoreFault>, RunError>
-        ensures begins { IfOk result (λ fault. stage_of self.old ≡ Over
-            → Begins (Setting setup) fault (stage_of self.new)) }
-        ensures err { IsOkUnless result Memory }
-    {
-        match setup.server(alloc, ledgers.commands, ledgers.taken) {
-            Ok((core, pass)) => {
-                *self = Run::Playing(Play::new(alloc, core, pass));
-                Ok(None)
-            }
-            Err(error) => match error.fault {
-                CoreFault::Memory => Err(RunError::Memory),
-                fault => Ok(Some(fault)),
-            },
-        }
+        Ok(None)
     }
 
     /// Plays a line, where there is a server.
     fn play<'a, A: App>(
         &mut self,
-        alloc: Global,
         app: &A,
         line: ScriptLine<'a>,
     ) -> Result<Option<Answer<'a>>, RunError>
@@ -320,7 +278,7 @@ impl<C: Ledger, T: Ledger> Run<C, T> {
         ensures err { IsOkUnless result Memory }
     {
         match self {
-            Run::Playing(play) => play.answer(alloc, app, line),
+            Run::Playing(play) => play.answer(app, line),
             Run::Setting(..) | Run::Over => Ok(None),
         }
     }

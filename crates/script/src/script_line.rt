@@ -135,16 +135,10 @@ fn read_client_line(text: &str) -> Option<ScriptLine<'_>>
     ensures some { IfSome result (λ line. Spells text.now line) }
     ensures none { IfNone result (IsNoClientLine text.now) }
 {
-    if let Some(line) = read_open(text) {
-        return Some(line);
-    }
-    if let Some(line) = read_take(text) {
-        return Some(line);
-    }
-    if let Some(line) = read_notice(text) {
-        return Some(line);
-    }
-    read_sending(text)
+    read_open(text)
+        .or_else(|| read_take(text))
+        .or_else(|| read_notice(text))
+        .or_else(|| read_sending(text))
 }
 
 /// A line that opens a client.

@@ -9,10 +9,11 @@ ghost use Rattle.script.specs.Setup.{USUAL, with_limit, limits_of, new_core};
 use crate::script_line::Key;
 use dispatch::Core;
 use events::{CoreError, CoreFault};
-use hub::Pass;
+use hub_totals::Pass;
 use journal::Config;
 use settings::{NUMBERS, TIMING, usual_spaces};
 use std::alloc::{AllocError, Global};
+use std::marker::PhantomData;
 use std::sync::ledger::{Blank, Ledger};
 
 /// The limits of a server, of which a script may set each.
@@ -25,6 +26,18 @@ pub(crate) struct Setup {
     saved: usize,
     keep: u64,
     first_offset: u64,
+}
+
+/// What a server that isn't made yet is given: two ledgers, each cut into 65,536 parts.
+#[derive(Drop)]
+pub(crate) struct Ledgers<C: Ledger, T: Ledger> {
+    pub(crate) alloc: Global,
+    pub(crate) commands: Blank,
+    pub(crate) taken: Blank,
+    pub(crate) of: PhantomData<(C, T)>,
+    ghost commands_of: { (commands.name ≡ C.name)
+        × (commands.parts ≡ C.parts) × (commands.parts ≡ 65536) },
+    ghost taken_of: { (taken.name ≡ T.name) × (taken.parts ≡ T.parts) × (taken.parts ≡ 65536) },
 }
 
 impl Setup {
@@ -78,22 +91,17 @@ impl Setup {
     /// A server with these limits, and its pass. Refused as `BadConfig`, then for `Memory`.
     pub(crate) fn server<C: Ledger, T: Ledger>(
         self,
-        alloc: Global,
-        commands: Blank,
-        taken: Blank,
+        ledgers: Ledgers<C, T>,
     ) -> Result<(Core<C, T>, Pass<C, T>), CoreError>
-        requires commands { (commands.name ≡ C.name)
-            × (commands.parts ≡ C.parts) × (commands.parts ≡ 65536) }
-        requires taken { (taken.name ≡ T.name)
-            × (taken.parts ≡ T.parts) × (taken.parts ≡ 65536) }
         ensures core { IfOk result (λ made. made.0 ≡ new_core self) }
         ensures allowed { OnOk result (config_refusal (limits_of self) ≡ None) }
         ensures refused { IfErr result (λ e. (e.fault ≡ fault.Memory)
             ⊎ (e.fault ≡ fault_of_config (config_refusal (limits_of self)))) }
     {
-        match self.config(alloc) {
-            Ok(config) => Core::new(alloc, config, TIMING, NUMBERS, commands, taken),
-            Err(_) => Err(CoreFault::Memory.at_once()),
-        }
+        let Ok(config) = self.config(ledgers.alloc) else {
+            return Err(CoreFault::Memory.at_once());
+        };
+        let (commands, taken) = (ledgers.commands, ledgers.taken);
+        Core::new(ledgers.alloc, config, TIMING, NUMBERS, commands, taken)
     }
 }

@@ -31,7 +31,6 @@ impl<R: Eprint> Log for ErrorLog<R> {
     }
 
     fn totals(&self, totals: Totals) {
-        let line = Answer::Totals(totals);
-        let _ = eprintln!(self.rt; "{line}");
+        let _ = eprintln!(self.rt; "{}", Answer::Totals(totals));
     }
 }

@@ -14,20 +14,14 @@ pub fn end_with<R: Eprint, E: Display + Drop>(
     name: &str,
     done: Result<ExitCode, E>,
 ) -> ExitCode {
-    match done {
-        Ok(code) => code,
-        Err(fault) => {
-            // Where standard error fails too, the status alone tells of the fault.
-            let _ = eprintln!(rt; "{name}: {fault}");
-            ExitCode::FAILURE
-        }
-    }
+    done.unwrap_or_else(|fault| {
+        // Where standard error fails too, the status alone tells of the fault.
+        let _ = eprintln!(rt; "{name}: {fault}");
+        ExitCode::FAILURE
+    })
 }
 
 /// How many threads serve where nobody says how many.
 pub fn processors(rt: &impl Threads) -> usize {
-    match thread::available_parallelism(rt) {
-        Ok(number) => number.get().min(MOST_WORKERS),
-        Err(_) => 1,
-    }
+    thread::available_parallelism(rt).map_or(1, |number| number.get().min(MOST_WORKERS))
 }

@@ -57,21 +57,15 @@ pub fn listen<R: Net + Print + Eprint + AllocGlobal + Copy + Drop + Sync>(
 }
 
 /// Serves an app until the server is to end, tells what it did, and answers the program's status.
-pub fn serve<
-    R: Threads
-        + Wait
-        + Clock
-        + RandomSource
-        + Print
-        + Eprint
-        + AllocGlobal
-        + Copy
-        + Drop
-        + Sync
-        + Send
-        + 'static,
-    A: App + Sync,
->(rt: &R, server: Listening<R>, app: &A) -> Result<ExitCode, ServeFault> {
+pub fn serve<R, A: App + Sync>(
+    rt: &R,
+    server: Listening<R>,
+    app: &A,
+) -> Result<ExitCode, ServeFault>
+where
+    R: Threads + Wait + Clock + RandomSource + Print + Eprint + AllocGlobal,
+    R: Copy + Drop + Sync + Send + 'static,
+{
     let report = server.run(rt, rt.alloc(), app).map_err(ServeFault::Server)?;
     tell_report(rt, &report).map_err(|_| ServeFault::Writing)?;
     Ok(ExitCode::SUCCESS)
@@ -82,9 +76,8 @@ pub fn wait_for_end<R: Wait + Clock + Input>(rt: &R, shared: &Arc<Shared>) {
     let mut reader = rt.reader();
     let mut piece = [0; 512];
     for _ in 0..u64::MAX {
-        match reader.read(&mut piece) {
-            Ok(0) | Err(_) => break,
-            Ok(_) => {}
+        if matches!(reader.read(&mut piece), Ok(0) | Err(_)) {
+            break;
         }
     }
     shared.stop(rt, Duration::from_millis(GRACE));
@@ -92,8 +85,7 @@ pub fn wait_for_end<R: Wait + Clock + Input>(rt: &R, shared: &Arc<Shared>) {
 
 /// Tells what the server did, and then what each worker did of it.
 fn tell_report<R: Print>(rt: &R, report: &Report) -> io::Result<()> {
-    let totals = Answer::Totals(report.totals);
-    println!(rt; "{totals}")?;
+    println!(rt; "{}", Answer::Totals(report.totals))?;
     for (number, worker) in report.workers.iter().enumerate() {
         let (commands, taken) = (worker.commands, worker.taken);
         println!(rt; "worker {number}: commands {commands}, taken {taken}")?;

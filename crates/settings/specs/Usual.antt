@@ -1,6 +1,6 @@
 -- What a server goes by where nothing else is said.
 use Rattle.std.specs.Prelude.{ℕ, List, [], ◌∷◌, codes}
-use Rattle.session_clock.specs.declared.timing.Timing.{Timing}
+use Rattle.connection.specs.declared.timing.Timing.{Timing}
 use Rattle.journal.specs.Plain.{Limits}
 
 -- pings each 25 s, 20 s for the answer, 45 s to join a namespace

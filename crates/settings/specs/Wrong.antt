@@ -1,7 +1,7 @@
 -- Which settings allow no server.
 use Rattle.std.specs.Prelude.{◌==◌, Bool, ◌||◌, [], ◌∷◌, Option, nat_lt}
 use Rattle.terms.specs.Refusal.{first_refusal}
-use Rattle.session_clock.specs.declared.timing.Timing.{Timing}
+use Rattle.connection.specs.declared.timing.Timing.{Timing}
 use Rattle.journal.specs.Config.{is_bad_config}
 use Rattle.settings.specs.declared.wrong.Setting.{Setting}
 use Rattle.settings.specs.declared.wrong.Setting.TheVariants as setting

@@ -6,10 +6,10 @@ ghost use Rattle.settings.specs.Wrong.{wrong_setting};
 
 use crate::usual::{MOST_BYTES, TIMING, usual_hub};
 use crate::wrong::{Setting, has_no_time};
+use connection::Timing;
 use eio_wire::Numbers;
 use journal::Config;
 use page::Page;
-use session_clock::Timing;
 use std::alloc::{AllocError, Global};
 
 /// The most loops: with the keeper as many workers as an id can tell.

@@ -3,9 +3,9 @@
 ghost use Rattle.std.specs.Prelude.{◌≡◌, IfOk};
 ghost use Rattle.settings.specs.Usual as usual;
 
+use connection::Timing;
 use eio_wire::Numbers;
 use journal::Config;
-use session_clock::Timing;
 use std::alloc::{AllocError, Global};
 use terms::Text;
 

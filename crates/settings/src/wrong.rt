@@ -3,7 +3,7 @@
 ghost use Rattle.std.specs.Prelude.{◌≡◌};
 ghost use Rattle.settings.specs.Wrong as rules;
 
-use session_clock::Timing;
+use connection::Timing;
 use std::fmt;
 
 /// A setting that can be wrong.

@@ -3,9 +3,8 @@
 ghost use Rattle.std.specs.Prelude.{IsTrue};
 ghost use Rattle.loop_rules.specs.Rotas.{IsQuiet};
 
-use crate::stage::Stage;
 use crate::tcp_connection::{Connection, Mode, Sent};
-use events::{CoreError, Outcome, Telling};
+use events::Answered;
 use loop_rules::{LookState, Overdue, Part, Roster, Turn, Verdict};
 use mio::Token;
 use mio::event::Event;
@@ -137,13 +136,7 @@ impl<R: Clock + Drop> Connections<R> {
     }
 
     /// An event of a connection was answered in its turn. Answers what follows.
-    pub fn follow(
-        &mut self,
-        key: usize,
-        turn: &mut Turn,
-        got: &Result<Outcome, CoreError>,
-        now: u64,
-    ) -> Verdict {
+    pub fn follow(&mut self, key: usize, turn: &mut Turn, got: &Answered, now: u64) -> Verdict {
         let Some(connection) = self.get_mut(key) else {
             return Verdict::Rests;
         };
@@ -159,31 +152,22 @@ impl<R: Clock + Drop> Connections<R> {
 
     /// It may have bytes to send.
     pub fn note_unsent(&mut self, key: usize) {
-        let Some(connection) = self.slots.get_mut(key) else {
-            return;
-        };
-        if connection.unsent {
-            return;
+        if let Some(connection) = self.slots.get_mut(key) {
+            connection.unsent = connection.unsent || self.unsent.push(key).is_ok();
+            self.overlooked |= !connection.unsent;
         }
-        connection.unsent = self.unsent.push(key).is_ok();
-        self.overlooked |= !connection.unsent;
     }
 
     /// Whether a connection brought all that it read, and its stream has no more, as far as is known.
     pub fn has_brought_all(&mut self, key: usize) -> bool {
-        match self.get_mut(key) {
-            Some(connection) => connection.has_brought_all(),
-            None => false,
-        }
+        self.get_mut(key).is_some_and(Connection::has_brought_all)
     }
 
     /// What a connection has to send goes out at the end of the loop's turn, or at once where that is
     /// much. Answers whether it is over.
     pub fn send_soon(&mut self, key: usize, now: u64) -> bool {
-        let Some(connection) = self.get_mut(key) else {
-            return false;
-        };
-        if connection.bytes_unsent() >= MUCH_UNSENT {
+        let unsent = self.get_mut(key).map_or(0, Connection::bytes_unsent);
+        if unsent >= MUCH_UNSENT {
             return self.send(key, now);
         }
         self.note_unsent(key);
@@ -206,18 +190,12 @@ impl<R: Clock + Drop> Connections<R> {
         };
         match connection.send(now) {
             Sent::Nothing => {}
-            Sent::Fits => self.resume(key),
-            Sent::Queue => self.roster.rota.call(key),
+            // It may be served again, if it waits for that.
+            Sent::Fits if self.roster.rota.look(key) != LookState::Full => {}
+            Sent::Fits | Sent::Queue => self.roster.rota.call(key),
             Sent::Remove => return true,
         }
         false
-    }
-
-    /// So many bytes of a connection have gone that it may be served: it is queued, if it waits for that.
-    fn resume(&mut self, key: usize) {
-        if self.roster.rota.look(key) == LookState::Full {
-            self.roster.rota.call(key);
-        }
     }
 
     /// A stream is ready: its connection is queued, or its bytes are to be sent.
@@ -226,21 +204,15 @@ impl<R: Clock + Drop> Connections<R> {
             return;
         };
         if event.is_readable() {
-            self.note_readable(key, event.is_read_closed());
+            let connection = self.get_mut(key);
+            if let Some(stream) = connection.and_then(|connection| connection.stage.stream()) {
+                stream.note_readable(event.is_read_closed());
+            }
+            self.roster.rota.call(key);
         }
         if event.is_writable() {
             self.note_unsent(key);
         }
-    }
-
-    /// A stream can be read, and the other side has sent its last byte, or not.
-    fn note_readable(&mut self, key: usize, ended: bool) {
-        if let Some(connection) = self.get_mut(key) {
-            if let Some(stream) = connection.stage.stream() {
-                stream.note_readable(ended);
-            }
-        }
-        self.roster.rota.call(key);
     }
 
     /// Whose connection it is, once that is known.
@@ -250,20 +222,7 @@ impl<R: Clock + Drop> Connections<R> {
 
     /// Whether the connection is a WebSocket.
     pub fn is_socket(&self, key: usize) -> bool {
-        match self.slots.get(key) {
-            Some(connection) => connection.stage.is_socket(),
-            None => false,
-        }
-    }
-
-    /// Where the client of a connection is lost: the core was told so, and answered this.
-    pub fn hear_loss(
-        &mut self,
-        key: usize,
-        got: &Result<Outcome, CoreError>,
-        now: u64,
-    ) -> Option<Telling> {
-        self.get_mut(key)?.hear_loss(got, now)
+        self.slots.get(key).is_some_and(|own| own.stage.is_socket())
     }
 
     /// Queues the connection with this token, if it is still there.
@@ -278,21 +237,15 @@ impl<R: Clock + Drop> Connections<R> {
         let Some(connection) = self.slots.get(key) else {
             return Part::Ends;
         };
+        let (stage, takers) = (&connection.stage, &self.roster.takers);
+        let speaks = |client| !stage.is_socket() || takers.is_taker(client, key);
         match connection.mode {
             Mode::Gathers => Part::Request,
             Mode::Loses(_) | Mode::Closes if !cutting => Part::Sends,
             Mode::Loses(_) | Mode::Closes | Mode::Lingers => Part::Ends,
-            Mode::Serves if connection.stage.is_waiting() => Part::Waits,
-            Mode::Serves if self.knocks(&connection.stage, key) => Part::Knocks,
-            Mode::Serves => Part::Served,
-        }
-    }
-
-    /// Whether it is a WebSocket over which its client does not speak yet.
-    fn knocks(&self, stage: &Stage<R>, key: usize) -> bool {
-        match stage.client() {
-            Some(client) => stage.is_socket() && !self.roster.takers.is_taker(client, key),
-            None => false,
+            Mode::Serves if stage.is_waiting() => Part::Waits,
+            Mode::Serves if stage.client().is_none_or(speaks) => Part::Served,
+            Mode::Serves => Part::Knocks,
         }
     }
 
@@ -303,13 +256,10 @@ impl<R: Clock + Drop> Connections<R> {
         let Some(connection) = self.get_mut(key) else {
             return false;
         };
-        match connection.keep_deadline(part, cutting, now) {
-            Overdue::Nothing => false,
-            Overdue::Close => true,
-            _ => {
-                self.roster.rota.call(key);
-                false
-            }
+        let overdue = connection.keep_deadline(part, cutting, now);
+        if !matches!(overdue, Overdue::Nothing | Overdue::Close) {
+            self.roster.rota.call(key);
         }
+        overdue == Overdue::Close
     }
 }

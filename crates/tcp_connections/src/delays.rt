@@ -6,21 +6,14 @@ use peers::{is_recent, served_from};
 use std::alloc::Global;
 use std::collections::{HashMap, VecDeque};
 
-/// A connection that is served from a moment on.
-#[derive(Drop)]
-struct Delay {
-    from: u64,
-    token: Token,
-}
-
 /// GETs that are served a little later: those of clients that were told just so that nothing waits,
 /// since such a client asks at once again.
 #[derive(Drop)]
 pub struct Delays {
     /// When a client was last told so, by a lone noop packet.
     noops: HashMap<u128, u64>,
-    /// Those that wait, in the order of their moments.
-    waiting: VecDeque<Delay>,
+    /// Those that wait, each after its moment, in the order of these.
+    waiting: VecDeque<(u64, Token)>,
 }
 
 impl Delays {
@@ -53,12 +46,12 @@ impl Delays {
 
     /// A connection waits until this moment. Answers whether there was memory for it.
     pub fn delay(&mut self, from: u64, token: Token) -> bool {
-        self.waiting.push_back(Delay { from, token }).is_ok()
+        self.waiting.push_back((from, token)).is_ok()
     }
 
     /// The moment of the first one that waits.
     pub fn first(&self) -> Option<u64> {
-        Some(self.waiting.front()?.from)
+        Some(self.waiting.front()?.0)
     }
 
     /// The first one, if its moment has come. It waits no more.
@@ -66,6 +59,6 @@ impl Delays {
         if self.first()? > now {
             return None;
         }
-        Some(self.waiting.pop_front()?.token)
+        Some(self.waiting.pop_front()?.1)
     }
 }

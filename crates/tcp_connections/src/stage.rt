@@ -1,18 +1,20 @@
 //! Who serves a connection.
 
 use crate::watch::Watch;
-use events::{CoreError, Event, Outcome, Peer, PeerFault};
-use http_edge::{EdgeError, Gathered, OnStream, Replay, Request, Status, Target, write_response};
+use events::{Answered, Event, Peer, PeerFault};
+use http_edge::{EdgeError, Gathered, OnStream, Replay, Request, Target, write_response};
+use loop_rules::Pause;
 use page::Page;
 use peers::{
     PollPeer, PollRequest, Reply, SocketPeer, SocketRequest, accept_socket, reply_to_fault,
     reply_to_target,
 };
 use std::alloc::Global;
+use std::io::ErrorKind;
 use std::rt::Clock;
 use std::sync::Arc;
 use std::{io, mem};
-use tcp_streams::{Download, Rules, Stream, asks_for_file};
+use tcp_streams::{Download, Reading, Rules, Stream, asks_for_file, read_request};
 
 type Poller<R> = PollPeer<OnStream<Stream>, Watch<R>>;
 
@@ -69,10 +71,7 @@ impl<R: Clock + Drop> Stage<R> {
 
     /// Whether it is a GET that waits.
     pub fn is_waiting(&self) -> bool {
-        match self {
-            Stage::Polling(peer) => peer.is_idle(),
-            _ => false,
-        }
+        matches!(self, Stage::Polling(peer) if peer.is_idle())
     }
 
     /// Whether it has nothing to do until something comes for it.
@@ -86,15 +85,12 @@ impl<R: Clock + Drop> Stage<R> {
 
     /// Whether a WebSocket takes what waits after a read that brought nothing at all.
     pub fn has_read_nothing(&self) -> bool {
-        match self {
-            Stage::Speaking(peer) => peer.has_read_nothing(),
-            _ => false,
-        }
+        matches!(self, Stage::Speaking(peer) if peer.has_read_nothing())
     }
 
-    /// Whether somebody serves it.
-    pub fn is_served(&self) -> bool {
-        matches!(self, Stage::Polling(_) | Stage::Speaking(_))
+    /// Whether a file has pieces that are not written yet.
+    pub fn has_more(&self) -> bool {
+        matches!(self, Stage::Downloading { download, .. } if !download.is_over())
     }
 
     /// A GET that waits asks no more.
@@ -122,7 +118,7 @@ impl<R: Clock + Drop> Stage<R> {
     }
 
     /// Hears the answer to an event, and tells whether it could.
-    pub fn answer(&mut self, got: &Result<Outcome, CoreError>) -> bool {
+    pub fn answer(&mut self, got: &Answered) -> bool {
         match self {
             Stage::Polling(peer) => peer.answer(got).is_ok(),
             Stage::Speaking(peer) => peer.answer(got).is_ok(),
@@ -130,109 +126,68 @@ impl<R: Clock + Drop> Stage<R> {
         }
     }
 
-    /// Where all was sent, the next piece of a file is written.
-    pub fn write_more(&mut self) -> io::Result<()> {
-        match self {
-            Stage::Downloading { stream, download } if stream.unsent() == 0 => {
-                download.write_piece(stream)
+    /// Sends what is unsent, and the next piece of a file where nothing is. Answers how many bytes went.
+    pub fn send(&mut self) -> io::Result<usize> {
+        if let Stage::Downloading { stream, download } = self {
+            if stream.unsent() == 0 {
+                download.write_piece(stream)?;
             }
-            _ => Ok(()),
         }
+        self.stream().ok_or(ErrorKind::NotConnected)?.send()
     }
 
-    /// Whether a file has pieces that are not written yet.
-    pub fn has_more(&self) -> bool {
+    /// Reads what has come of the request.
+    pub fn read(&mut self, alloc: Global) -> Result<Reading, EdgeError> {
         match self {
-            Stage::Downloading { download, .. } => !download.is_over(),
-            _ => false,
+            Stage::Gathering { stream, gathered } => read_request(alloc, stream, gathered),
+            _ => Ok(Reading::Pauses(Pause::Done)),
+        }
+    }
+
+    /// Answers by this, if by anything, which pages of this origin may read. Nobody serves it then.
+    pub fn reply(&mut self, alloc: Global, origin: &Option<String>, reply: Option<Reply<'_>>) {
+        if let (Some(stream), Some(reply)) = (self.take_stream(), reply) {
+            let mut wire = OnStream::new(stream);
+            if write_response(alloc, &mut wire, reply.status, origin, reply.body).is_ok() {
+                *self = Stage::Answered(wire.into_stream());
+            }
+        }
+    }
+
+    /// Answers by a file, of which the head and a first piece are written.
+    fn download(&mut self, alloc: Global, page: Arc<Page>, request: Box<Request>) {
+        if let Some(mut stream) = self.take_stream() {
+            if let Ok(download) = Download::begin(alloc, &mut stream, page, request) {
+                *self = Stage::Downloading { stream, download };
+            }
+        }
+    }
+
+    /// Has a request served, or answers it.
+    pub fn serve(
+        &mut self,
+        alloc: Global,
+        request: Box<Request>,
+        target: Target,
+        watch: Watch<R>,
+        rules: &Rules,
+    ) {
+        if matches!(target, Target::NotFound) && asks_for_file(&rules.page, &request) {
+            match Arc::try_clone(&rules.page) {
+                Ok(page) => self.download(alloc, page, request),
+                Err(_) => self.reply(alloc, &None, reply_to_fault(EdgeError::Memory)),
+            }
+        } else if let Some(reply) = reply_to_target(target) {
+            self.reply(alloc, &request.origin, Some(reply));
+        } else if let Some(stream) = self.take_stream() {
+            let stage = serving(alloc, stream, request, target, watch, rules.poll_entries);
+            *self = stage.unwrap_or(Stage::Gone);
         }
     }
 }
 
-/// The answer where no request was read, if there is somebody to be answered.
-pub fn answered_fault<R>(alloc: Global, stream: Stream, fault: EdgeError) -> Stage<R> {
-    match reply_to_fault(fault) {
-        Some(reply) => answered(alloc, stream, &None, &reply),
-        None => Stage::Gone,
-    }
-}
-
-/// The answer that is a text, which pages of this origin may read.
-pub fn told<R>(alloc: Global, stream: Stream, origin: &Option<String>, text: &str) -> Stage<R> {
-    let status = Status::Success;
-    let reply = Reply { status, body: text };
-    answered(alloc, stream, origin, &reply)
-}
-
-/// An answer that isn't a peer's.
-fn answered<R>(
-    alloc: Global,
-    stream: Stream,
-    origin: &Option<String>,
-    reply: &Reply<'_>,
-) -> Stage<R> {
-    let mut wire = OnStream::new(stream);
-    match write_response(alloc, &mut wire, reply.status, origin, reply.body) {
-        Ok(()) => Stage::Answered(wire.into_stream()),
-        Err(_) => Stage::Gone,
-    }
-}
-
-/// The answer that is a file, of which the head and a first piece are written.
-fn downloading<R>(
-    alloc: Global,
-    stream: Stream,
-    page: &Arc<Page>,
-    request: Box<Request>,
-) -> Stage<R> {
-    let Ok(page) = Arc::try_clone(page) else {
-        return answered_fault(alloc, stream, EdgeError::Memory);
-    };
-    let mut stream = stream;
-    match Download::begin(alloc, &mut stream, page, request) {
-        Ok(download) => Stage::Downloading { stream, download },
-        Err(_) => Stage::Gone,
-    }
-}
-
-/// Who serves a request, or what answers it.
-pub fn stage_for<R: Clock + Drop>(
-    alloc: Global,
-    stream: Stream,
-    request: Box<Request>,
-    target: Target,
-    watch: Watch<R>,
-    rules: &Rules,
-) -> Stage<R> {
-    if matches!(target, Target::NotFound) && asks_for_file(&rules.page, &request) {
-        return downloading(alloc, stream, &rules.page, request);
-    }
-    if let Some(reply) = reply_to_target(target) {
-        return answered(alloc, stream, &request.origin, &reply);
-    }
-    let served = match SocketRequest::of(target) {
-        Some(wanted) => speaking(alloc, stream, request, wanted, watch),
-        None => polling(alloc, stream, request, target, watch, rules.poll_entries),
-    };
-    served.unwrap_or(Stage::Gone)
-}
-
-/// A WebSocket, if its request could be accepted.
-fn speaking<R: Clock + Drop>(
-    alloc: Global,
-    stream: Stream,
-    request: Box<Request>,
-    wanted: SocketRequest,
-    watch: Watch<R>,
-) -> Option<Stage<R>> {
-    let Request { head, rest, .. } = Box::into_inner(request);
-    let socket = accept_socket(alloc, stream, head, rest)?;
-    let peer = SocketPeer::new(alloc, socket, watch, wanted);
-    Some(Stage::Speaking(Box::new(alloc, peer).ok()?))
-}
-
-/// A request over HTTP, if a peer serves it. A payload has at most so many entries.
-fn polling<R: Clock + Drop>(
+/// Who serves a request, if somebody can. A payload over HTTP has at most so many entries.
+fn serving<R: Clock + Drop>(
     alloc: Global,
     stream: Stream,
     request: Box<Request>,
@@ -240,9 +195,14 @@ fn polling<R: Clock + Drop>(
     watch: Watch<R>,
     most: usize,
 ) -> Option<Stage<R>> {
-    let Request { body, origin, .. } = Box::into_inner(request);
-    let wanted = PollRequest::of(target, body)?;
+    let request = Box::into_inner(request);
+    if let Some(wanted) = SocketRequest::of(target) {
+        let socket = accept_socket(alloc, stream, request.head, request.rest)?;
+        let peer = SocketPeer::new(alloc, socket, watch, wanted);
+        return Some(Stage::Speaking(Box::new(alloc, peer).ok()?));
+    }
+    let wanted = PollRequest::of(target, request.body)?;
     let wire = OnStream::new(stream);
-    let peer = PollPeer::new(alloc, wire, watch, wanted, most, origin);
+    let peer = PollPeer::new(alloc, wire, watch, wanted, most, request.origin);
     Some(Stage::Polling(Box::new(alloc, peer).ok()?))
 }

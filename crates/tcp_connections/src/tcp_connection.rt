@@ -1,16 +1,16 @@
 //! One connection.
 
 use crate::progress::Progress;
-use crate::stage::{Stage, answered_fault, stage_for, told};
+use crate::stage::Stage;
 use crate::watch::Watch;
-use events::{CoreError, Event, Loss, Outcome, Telling};
-use http_edge::{EdgeError, Gathered, Request, Target};
+use events::{Answered, Event, Loss, Telling};
+use http_edge::{Gathered, Request, Target};
 use loop_rules::{Found, Overdue, Part, Pause, find_overdue};
 use mio::Token;
 use std::alloc::Global;
 use std::net::Shutdown;
 use std::rt::Clock;
-use tcp_streams::{Drained, Reading, Rules, Stream, drain, read_request};
+use tcp_streams::{Rules, Stream, drain};
 
 /// A connection with more bytes unsent than this is not served until they have gone.
 const MOST_UNSENT: usize = 65_536;
@@ -77,12 +77,8 @@ pub enum Sent {
 
 impl<R: Clock + Drop> Connection<R> {
     /// Its request is coming. None where there is no memory for it.
-    pub fn new(
-        alloc: Global,
-        stream: Stream,
-        token: Token,
-        now: u64,
-    ) -> Option<Box<Connection<R>>> {
+    pub fn new(alloc: Global, stream: Stream, token: Token, now: u64) -> Option<Box<Self>> {
+        let gathered = Gathered::new(alloc);
         let connection = Connection {
             token,
             unsent: false,
@@ -92,20 +88,14 @@ impl<R: Clock + Drop> Connection<R> {
             moved: now,
             not_before: 0,
             progress: Progress::new(0),
-            stage: Stage::Gathering {
-                stream,
-                gathered: Gathered::new(alloc),
-            },
+            stage: Stage::Gathering { stream, gathered },
         };
         Box::new(alloc, connection).ok()
     }
 
     /// How many of its bytes wait to be sent.
     pub fn bytes_unsent(&mut self) -> usize {
-        match self.stage.stream() {
-            Some(stream) => stream.unsent(),
-            None => 0,
-        }
+        self.stage.stream().map_or(0, |stream| stream.unsent())
     }
 
     /// Whether so much is unsent that it is not to be served.
@@ -119,7 +109,8 @@ impl<R: Clock + Drop> Connection<R> {
         let overdue = if cutting && !matches!(part, Part::Ends) {
             Overdue::Fail
         } else {
-            find_overdue(part, now.saturating_sub(self.since), self.stalled(now))
+            let stalled = (self.bytes_unsent() > 0).then_some(now.saturating_sub(self.moved));
+            find_overdue(part, now.saturating_sub(self.since), stalled)
         };
         match overdue {
             Overdue::GiveUp => self.stage.give_up(),
@@ -131,30 +122,6 @@ impl<R: Clock + Drop> Connection<R> {
             Overdue::Nothing | Overdue::Close | Overdue::Look => {}
         }
         overdue
-    }
-
-    /// Reads what has come of the request.
-    pub fn read(&mut self, alloc: Global) -> Reading {
-        match &mut self.stage {
-            Stage::Gathering { stream, gathered } => read_request(alloc, stream, gathered),
-            _ => Reading::Waits,
-        }
-    }
-
-    /// Answers where no request was read. It ends then.
-    pub fn refuse(&mut self, alloc: Global, fault: EdgeError, now: u64) {
-        if let Some(stream) = self.stage.take_stream() {
-            self.stage = answered_fault(alloc, stream, fault);
-        }
-        self.end(now);
-    }
-
-    /// Answers with a text, which pages of this origin may read. It ends then.
-    pub fn tell(&mut self, alloc: Global, origin: &Option<String>, text: &str, now: u64) {
-        if let Some(stream) = self.stage.take_stream() {
-            self.stage = told(alloc, stream, origin, text);
-        }
-        self.end(now);
     }
 
     /// Begins to serve a request. It ends where nobody serves that.
@@ -170,12 +137,12 @@ impl<R: Clock + Drop> Connection<R> {
         self.progress = Progress::new(request.rest.len());
         self.mode = Mode::Serves;
         self.since = now;
-        if let Some(mut stream) = self.stage.take_stream() {
+        if let Some(stream) = self.stage.stream() {
             // The head, and the rest with it.
             let _ = stream.take_read();
-            self.stage = stage_for(alloc, stream, request, target, watch, rules);
         }
-        if !self.stage.is_served() {
+        self.stage.serve(alloc, request, target, watch, rules);
+        if !matches!(self.stage, Stage::Polling(_) | Stage::Speaking(_)) {
             self.end(now);
         }
     }
@@ -188,7 +155,7 @@ impl<R: Clock + Drop> Connection<R> {
         if self.not_before > now {
             return Next::Pauses(Pause::Early);
         }
-        if self.stage.is_waiting() && matches!(self.drain(), Drained::Ended) {
+        if self.stage.is_waiting() && self.drain().is_none() {
             self.fail(now);
             return Next::Fails;
         }
@@ -207,10 +174,7 @@ impl<R: Clock + Drop> Connection<R> {
 
     /// Brings an event, unless what it asks was asked just so.
     fn bring(&mut self, event: Event, moment: u64) -> Next {
-        let read = match self.stage.stream() {
-            Some(stream) => stream.take_read(),
-            None => 0,
-        };
+        let read = self.stage.stream().map_or(0, |stream| stream.take_read());
         self.progress.note_read(read, &event);
         let dry = self.stage.has_read_nothing() || self.has_brought_all();
         if self.progress.asks_again(&event, dry, moment) {
@@ -223,27 +187,21 @@ impl<R: Clock + Drop> Connection<R> {
     /// Whether it brought all that it read, and its stream has no more, as far as is known.
     pub fn has_brought_all(&mut self) -> bool {
         self.progress.has_brought_all()
-            && match self.stage.stream() {
-                Some(stream) => stream.is_drained(),
-                None => true,
-            }
+            && self.stage.stream().is_none_or(|stream| stream.is_drained())
     }
 
     /// Hears the answer to its event, and tells what that says of its look. It fails where it could not.
-    pub fn hear(&mut self, got: &Result<Outcome, CoreError>, now: u64) -> Option<Found> {
+    pub fn hear(&mut self, got: &Answered, now: u64) -> Option<Found> {
         if !self.stage.answer(got) {
             self.fail(now);
             return None;
         }
-        if self.stage.is_idle() {
-            Some(Found::Idle)
-        } else {
-            Some(self.progress.found(got))
-        }
+        let (is_idle, found) = (self.stage.is_idle(), self.progress.found(got));
+        Some(if is_idle { Found::Idle } else { found })
     }
 
     /// It is served no more, and ends once its bytes have gone.
-    fn end(&mut self, now: u64) {
+    pub fn end(&mut self, now: u64) {
         self.mode = Mode::Closes;
         self.since = now;
     }
@@ -257,56 +215,35 @@ impl<R: Clock + Drop> Connection<R> {
         };
     }
 
-    /// Where its client is lost: the core was told so, and answered this. Where that was the last time, it
-    /// ends once its bytes have gone.
-    pub fn hear_loss(&mut self, got: &Result<Outcome, CoreError>, now: u64) -> Option<Telling> {
+    /// Where its client is lost: the core was told so, and answered this. Where it refused, it is told
+    /// again in the loop's next turn; else the connection ends once its bytes have gone.
+    pub fn hear_loss(&mut self, got: &Answered, now: u64) -> Option<Pause> {
         let Mode::Loses(loss) = &mut self.mode else {
             return None;
         };
-        let telling = loss.hears(got);
-        if telling == Telling::Over {
-            self.told = true;
-            self.end(now);
+        if loss.hears(got) == Telling::Again {
+            return Some(Pause::More);
         }
-        Some(telling)
+        self.told = true;
+        self.end(now);
+        Some(Pause::Done)
     }
 
     /// Sends what is unsent.
     pub fn send(&mut self, now: u64) -> Sent {
-        if self.stage.write_more().is_err() {
+        let Ok(count) = self.stage.send() else {
             return self.after_failure(now);
-        }
-        let Some(stream) = self.stage.stream() else {
-            return Sent::Remove;
         };
-        match stream.send() {
-            Ok(count) => {
-                let left = stream.unsent();
-                if count > 0 || left == 0 {
-                    self.moved = now;
-                }
-                self.after_send(left, now)
-            }
-            Err(_) => self.after_failure(now),
+        let left = self.bytes_unsent();
+        if count > 0 || left == 0 {
+            self.moved = now;
         }
-    }
-
-    fn after_send(&mut self, left: usize, now: u64) -> Sent {
-        if self.stage.has_more() {
-            // The next piece has its turn after those of others.
-            return if left == 0 {
-                Sent::Queue
-            } else {
-                Sent::Nothing
-            };
-        }
-        if left == 0 && matches!(self.mode, Mode::Closes) {
-            return self.part(now);
-        }
-        if left <= MOST_UNSENT {
-            Sent::Fits
-        } else {
-            Sent::Nothing
+        match left {
+            // The next piece of a file has its turn after those of others.
+            0 if self.stage.has_more() => Sent::Queue,
+            0 if matches!(self.mode, Mode::Closes) => self.part(now),
+            0..=MOST_UNSENT if !self.stage.has_more() => Sent::Fits,
+            _ => Sent::Nothing,
         }
     }
 
@@ -318,12 +255,10 @@ impl<R: Clock + Drop> Connection<R> {
             return Sent::Remove;
         }
         self.mode = Mode::Lingers;
-        match self.stage.stream() {
-            Some(stream) => match stream.get_mut().shutdown(Shutdown::Write) {
-                Ok(()) => Sent::Queue,
-                Err(_) => Sent::Remove,
-            },
-            None => Sent::Remove,
+        let stream = self.stage.stream();
+        match stream.map(|stream| stream.get_mut().shutdown(Shutdown::Write)) {
+            Some(Ok(())) => Sent::Queue,
+            _ => Sent::Remove,
         }
     }
 
@@ -349,16 +284,8 @@ impl<R: Clock + Drop> Connection<R> {
         }
     }
 
-    /// For how long none of its bytes to be sent has gone, if there are any.
-    fn stalled(&mut self, now: u64) -> Option<u64> {
-        (self.bytes_unsent() > 0).then_some(now.saturating_sub(self.moved))
-    }
-
-    /// Reads and forgets what comes.
-    pub fn drain(&mut self) -> Drained {
-        match self.stage.stream() {
-            Some(stream) => drain(stream),
-            None => Drained::Ended,
-        }
+    /// Reads and forgets what comes. None where it has ended.
+    pub fn drain(&mut self) -> Option<Pause> {
+        drain(self.stage.stream()?)
     }
 }

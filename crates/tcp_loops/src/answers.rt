@@ -1,8 +1,8 @@
 //! What a loop does with the answers to its connections' events.
 
 use crate::event_loop::EventLoop;
-use events::{Cause, CoreError, CoreFault, Done, Outcome, Telling};
-use loop_rules::{Pause, Verdict};
+use events::{Answered, Cause, CoreError, CoreFault, Done, Outcome};
+use loop_rules::Verdict;
 use metrics::Reason;
 use peers::is_noop;
 use std::rt::Clock;
@@ -11,30 +11,25 @@ use tcp_streams::Log;
 
 impl<R: Wait + Clock + Copy + Drop, L: Log> EventLoop<'_, R, L> {
     /// A connection's event was answered.
-    pub(crate) fn hear(&mut self, key: usize, got: &Result<Outcome, CoreError>) {
+    pub(crate) fn hear(&mut self, key: usize, got: &Answered) {
         let now = self.base.now();
-        // Where the core refused to hear of a loss, it is told again in the loop's next turn.
-        match self.connections.hear_loss(key, got, now) {
-            Some(Telling::Again) => self.hear_loss(key, got, Pause::More),
-            Some(Telling::Over) => self.hear_loss(key, got, Pause::Done),
+        let connection = self.connections.get_mut(key);
+        match connection.and_then(|connection| connection.hear_loss(got, now)) {
+            Some(pause) => {
+                self.note(key, got);
+                self.rest(key, pause);
+            }
             None => self.follow(key, got, now),
         }
     }
 
-    /// The core was told that a client is lost.
-    fn hear_loss(&mut self, key: usize, got: &Result<Outcome, CoreError>, pause: Pause) {
-        self.note(key, got);
-        self.rest(key, pause);
-    }
-
     /// An event of a connection that is served was answered.
-    fn follow(&mut self, key: usize, got: &Result<Outcome, CoreError>, now: u64) {
+    fn follow(&mut self, key: usize, got: &Answered, now: u64) {
         if let Err(error) = got {
             self.base.note_refused(Reason::of_core(error.fault));
         }
-        let verdict = self
-            .connections
-            .follow(key, &mut self.current.turn, got, now);
+        let turn = &mut self.current.turn;
+        let verdict = self.connections.follow(key, turn, got, now);
         let has_brought_all = self.connections.has_brought_all(key);
         self.note(key, got);
         if has_brought_all && matches!(got, Ok(Outcome::Done(_))) {
@@ -57,7 +52,7 @@ impl<R: Wait + Clock + Copy + Drop, L: Log> EventLoop<'_, R, L> {
     }
 
     /// Notes whom the answer to an event of a connection concerns.
-    fn note(&mut self, key: usize, got: &Result<Outcome, CoreError>) {
+    fn note(&mut self, key: usize, got: &Answered) {
         let Some(client) = self.connections.client(key) else {
             return;
         };
@@ -109,12 +104,9 @@ impl<R: Wait + Clock + Copy + Drop, L: Log> EventLoop<'_, R, L> {
 
     /// Those for whom something was put are woken.
     fn tell_others(&mut self, done: &Done) {
-        self.connections.roster.tell_lists(
-            self.base.number,
-            self.base.rules.loops,
-            done.clients.lists(),
-            &mut self.notes,
-        );
+        let (own, loops) = (self.base.number, self.base.rules.loops);
+        let roster = &mut self.connections.roster;
+        roster.tell_lists(own, loops, done.clients.lists(), &mut self.notes);
     }
 
     /// An event of a client was worked on.
@@ -122,7 +114,8 @@ impl<R: Wait + Clock + Copy + Drop, L: Log> EventLoop<'_, R, L> {
         self.tell_others(done);
         if self.current.comes_over {
             self.connections.settle(client, key);
-            self.base.note_upgraded(client);
+            let base = &self.base;
+            base.shared.lives.note_upgraded(&base.rt, client);
         }
         if done.closed.is_some() {
             self.note_end(client, done.closed);

@@ -1,15 +1,15 @@
 //! What a worker goes by.
 
 use events::Cause;
-use loop_rules::{Mail, Notes};
-use metrics::{CoreCounts, Reason};
+use loop_rules::Notes;
+use metrics::Reason;
 use peers::Moments;
 use std::alloc::{AllocError, Global};
 use std::rt::Clock;
 use std::sync::{Arc, Wait};
 use std::time::{Duration, Instant};
 use tcp_connections::Watch;
-use tcp_streams::{Handed, Inbox, Log, Rules, ServerFault, Shared, starting};
+use tcp_streams::{Ended, Handed, Inbox, Log, Rules, ServerFault, Shared, starting};
 
 /// What a worker goes by: through it a loop, or the keeper, speaks to the others.
 pub struct Base<'a, R, L> {
@@ -79,16 +79,6 @@ impl<'a, R: Clock + Copy, L> Base<'a, R, L> {
 }
 
 impl<R: Wait + Clock, L: Log> Base<'_, R, L> {
-    /// The worker has begun.
-    pub fn note_begun(&self) {
-        self.shared.note_begun(&self.rt);
-    }
-
-    /// The loop has ended.
-    pub fn note_ended(&self) {
-        self.shared.note_loop_ended(&self.rt);
-    }
-
     /// A connection was closed.
     pub fn note_closed(&self) {
         self.shared.note_closed(&self.rt);
@@ -96,37 +86,23 @@ impl<R: Wait + Clock, L: Log> Base<'_, R, L> {
 
     /// The loop was given a connection.
     pub fn note_connection(&self) {
-        self.shared.tallies().note_connection(&self.rt, self.number);
-    }
-
-    /// A request came whole to the loop.
-    pub fn note_request(&self) {
-        self.shared.tallies().note_request(&self.rt, self.number);
+        self.shared.tallies.note_connection(&self.rt, self.number);
     }
 
     /// Something was refused.
     pub fn note_refused(&self, reason: Reason) {
-        self.shared.tallies().note_refused(&self.rt, reason);
+        self.shared.tallies.note_refused(&self.rt, reason);
     }
 
-    /// The core's counts are these.
-    pub fn note_core(&self, counts: CoreCounts) {
-        self.shared.tallies().note_core(&self.rt, counts);
+    /// What others hand to the loop.
+    pub fn inbox(&self) -> Option<&Inbox> {
+        self.shared.inboxes.get(self.number)
     }
 
-    /// What was counted, as text.
-    pub fn counts_text(&self) -> Result<String, AllocError> {
-        self.shared.tallies().text(&self.rt, self.alloc)
-    }
-
-    /// Whether nothing is open, and nothing more will be.
-    pub fn is_over(&self) -> bool {
-        self.shared.is_over(&self.rt)
-    }
-
-    /// Whether what is still open is to end.
-    pub fn is_cutting(&self) -> bool {
-        self.shared.is_cutting(&self.rt)
+    /// Hands a request to another loop, and tells whether it was taken.
+    pub fn hand(&self, owner: usize, handed: Handed) -> bool {
+        let inbox = self.shared.inboxes.get(owner);
+        inbox.is_some_and(|inbox| inbox.hand(&self.rt, handed))
     }
 
     /// Waits until no loop is at work, but no longer than so, and tells whether none is.
@@ -134,37 +110,17 @@ impl<R: Wait + Clock, L: Log> Base<'_, R, L> {
         self.shared.wait_for_loops(&self.rt, most)
     }
 
-    /// Whether nothing was handed in, so that the loop may sleep until its bell is rung.
-    pub fn falls_asleep(&self) -> bool {
-        match self.shared.inboxes().get(self.number) {
-            Some(inbox) => inbox.falls_asleep(&self.rt),
-            None => true,
-        }
-    }
-
-    /// Takes all that was handed in, into a mail that is empty.
-    pub fn take(&self, mail: &mut Mail<Handed>) {
-        if let Some(inbox) = self.shared.inboxes().get(self.number) {
-            inbox.take(&self.rt, mail);
-        }
-    }
-
-    /// Hands a request to another loop, and tells whether it was taken.
-    pub fn hand(&self, owner: usize, handed: Handed) -> bool {
-        match self.shared.inboxes().get(owner) {
-            Some(inbox) => inbox.hand(&self.rt, handed),
-            None => false,
-        }
-    }
-
     /// Tells each loop of its clients that were noted.
     pub fn send(&self, notes: &mut Notes) {
-        let inboxes = self.shared.inboxes();
-        for (inbox, list) in inboxes.iter().zip(notes.lists.iter_mut()) {
+        let inboxes = self.shared.inboxes.iter();
+        for (inbox, list) in inboxes.zip(notes.lists.iter_mut()) {
             if notes.everyone {
                 inbox.wake_everyone(&self.rt);
             }
-            tell(&self.rt, inbox, list);
+            if !list.is_empty() {
+                inbox.wake(&self.rt, list.as_slice());
+                list.clear();
+            }
         }
         notes.everyone = false;
     }
@@ -172,29 +128,19 @@ impl<R: Wait + Clock, L: Log> Base<'_, R, L> {
     /// A client was opened.
     pub fn note_opened(&mut self, client: u128, socket: bool) {
         let now = self.watch.now();
-        self.shared
-            .lives()
-            .note_opened(&self.rt, client, socket, now);
-    }
-
-    /// A client has come over to its WebSocket.
-    pub fn note_upgraded(&self, client: u128) {
-        self.shared.lives().note_upgraded(&self.rt, client);
+        self.shared.lives.note_opened(&self.rt, client, socket, now);
     }
 
     /// A client has ended, of which the log is told.
     pub fn note_end(&mut self, client: u128, cause: Option<Cause>) {
         let now = self.watch.now();
-        self.shared
-            .lives()
-            .end(&self.rt, self.log, client, cause, now);
-    }
-}
-
-/// Tells a loop of its clients, if there are any.
-fn tell(rt: &impl Wait, inbox: &Inbox, list: &mut Vec<u128>) {
-    if !list.is_empty() {
-        inbox.wake(rt, list.as_slice());
-        list.clear();
+        if let Some((since, socket)) = self.shared.lives.remove(&self.rt, client) {
+            self.log.client_ended(&Ended {
+                client,
+                socket,
+                cause,
+                lived: now.saturating_sub(since),
+            });
+        }
     }
 }

@@ -57,21 +57,12 @@ fn workers_for<'a, R: Wait + Clock + Copy + Drop, L: Log, K: KeptCore>(
 ) -> Result<Vec<Worker<'a, R, L, K>>, ServerFault> {
     let mut workers = Vec::new(base.alloc);
     for own in ears {
-        add_loop(base, own, &mut workers)?;
+        let own = EventLoop::new(base.of_worker(workers.len())?, own)?;
+        workers.push(Worker::Serves(own))?;
     }
     let keeper = Keeper::new(base.of_worker(workers.len())?, core)?;
     workers.push(Worker::Keeps(keeper))?;
     Ok(workers)
-}
-
-/// Adds a loop that waits with these ears. Its number is how many there are before it.
-fn add_loop<'a, R: Wait + Clock + Copy + Drop, L: Log, K: Drop>(
-    base: &Base<'a, R, L>,
-    ears: Ears,
-    workers: &mut Vec<Worker<'a, R, L, K>>,
-) -> Result<(), ServerFault> {
-    let own = EventLoop::new(base.of_worker(workers.len())?, ears)?;
-    Ok(workers.push(Worker::Serves(own))?)
 }
 
 /// A source of ids for each worker, which begins where the system says.
@@ -93,13 +84,10 @@ fn sources<R: RandomSource>(
 /// Accepts in a thread of its own.
 fn start_accepting<R: Threads + Wait + Clock + Copy + Drop + Send + 'static, L>(
     base: &Base<'_, R, L>,
-    acceptor: Box<Acceptor>,
+    mut acceptor: Box<Acceptor>,
 ) -> Result<JoinHandle<()>, ServerFault> {
     let shared = Arc::try_clone(&base.shared)?;
     let handle = base.rt;
-    let mut acceptor = acceptor;
-    match thread::spawn(&base.rt, move || acceptor.accept_all(&handle, &shared)) {
-        Ok(accepting) => Ok(accepting),
-        Err(_) => Err(ServerFault::Starting),
-    }
+    let accepting = thread::spawn(&base.rt, move || acceptor.accept_all(&handle, &shared));
+    accepting.map_err(|_| ServerFault::Starting)
 }

@@ -2,7 +2,7 @@
 
 use crate::base::Base;
 use crossbeam_channel::Receiver;
-use events::{CoreError, Event, Outcome, Peer, PeerFault};
+use events::{Answered, Event, Peer, PeerFault};
 use loop_rules::{Mail, Notes, Pause, Turn};
 use mio::net::TcpStream;
 use mio::{Events, Interest, Poll};
@@ -11,8 +11,8 @@ use std::mem;
 use std::rt::Clock;
 use std::sync::Wait;
 use std::time::Duration;
-use tcp_connections::{Connections, Delays, Mode, Next};
-use tcp_streams::{Buffered, Drained, Ears, Handed, Log, ServerFault, Stream};
+use tcp_connections::{Connection, Connections, Delays, Mode, Next};
+use tcp_streams::{Buffered, Ears, Handed, Inbox, Log, ServerFault, Stream};
 
 /// How many reports of streams one wait takes.
 const EVENTS: usize = 256;
@@ -77,17 +77,13 @@ impl<R: Drop, L> Drop for EventLoop<'_, R, L> {
 
 impl<R: Wait + Clock + Copy + Drop, L: Log> Peer for EventLoop<'_, R, L> {
     fn next(&mut self) -> Result<Option<(Event, u64)>, PeerFault> {
-        if !self.begun {
-            self.begun = true;
-            self.base.note_begun();
+        if !mem::replace(&mut self.begun, true) {
+            let base = &self.base;
+            base.shared.note_begun(&base.rt);
         }
         for _ in 0..u64::MAX {
-            let brought = match self.current.key {
-                Some(key) => self.step(key),
-                None => None,
-            };
-            if brought.is_some() {
-                return Ok(brought);
+            if let Some(brought) = self.current.key.and_then(|key| self.step(key)) {
+                return Ok(Some(brought));
             }
             if self.current.key.is_none() && !self.pick() {
                 break;
@@ -97,11 +93,12 @@ impl<R: Wait + Clock + Copy + Drop, L: Log> Peer for EventLoop<'_, R, L> {
         for key in 0..self.connections.keys_below() {
             self.close(key);
         }
-        self.base.note_ended();
+        let base = &self.base;
+        base.shared.note_loop_ended(&base.rt);
         Ok(None)
     }
 
-    fn answer(&mut self, got: &Result<Outcome, CoreError>) -> Result<(), PeerFault> {
+    fn answer(&mut self, got: &Answered) -> Result<(), PeerFault> {
         if let Some(key) = self.current.key {
             self.hear(key, got);
         }
@@ -114,16 +111,14 @@ impl<'a, R: Wait + Clock + Copy + Drop, L: Log> EventLoop<'a, R, L> {
     pub fn new(base: Base<'a, R, L>, ears: Ears) -> Result<EventLoop<'a, R, L>, ServerFault> {
         let Ears { poll, streams } = ears;
         let alloc = base.alloc;
-        let notes = Notes::new(alloc, base.rules.loops)?;
-        let events = Events::with_capacity(alloc, EVENTS)?;
         Ok(EventLoop {
+            notes: Notes::new(alloc, base.rules.loops)?,
             base,
             poll,
             streams,
-            events,
+            events: Events::with_capacity(alloc, EVENTS)?,
             connections: Connections::new(alloc),
             mail: Mail::new(alloc),
-            notes,
             delays: Delays::new(alloc),
             current: Current {
                 key: None,
@@ -150,7 +145,8 @@ impl<'a, R: Wait + Clock + Copy + Drop, L: Log> EventLoop<'a, R, L> {
         self.connections.roster.rota.begin_turn();
         self.base.send(&mut self.notes);
         self.send_all();
-        if self.connections.len() == 0 && self.base.is_over() {
+        let base = &self.base;
+        if self.connections.len() == 0 && base.shared.is_over(&base.rt) {
             return false;
         }
         self.current.left = TURNS;
@@ -187,20 +183,21 @@ impl<'a, R: Wait + Clock + Copy + Drop, L: Log> EventLoop<'a, R, L> {
 
     /// The time until something is due: none where something is to be done, or was handed in.
     fn time_to_sleep(&mut self) -> u64 {
-        if !self.connections.is_quiet() || !self.base.falls_asleep() {
+        let base = &self.base;
+        let sleeps = |inbox: &Inbox| inbox.falls_asleep(&base.rt);
+        if !self.connections.is_quiet() || !base.inbox().is_none_or(sleeps) {
             return 0;
         }
-        let now = self.base.now();
-        let due = match self.delays.first() {
-            Some(moment) => self.beat.min(moment),
-            None => self.beat,
-        };
-        due.saturating_sub(now).min(BEAT)
+        let due = self.delays.first().unwrap_or(self.beat).min(self.beat);
+        due.saturating_sub(self.base.now()).min(BEAT)
     }
 
     /// Takes in what was handed in, and does what is due.
     fn take_in(&mut self) {
-        self.base.take(&mut self.mail);
+        let base = &self.base;
+        if let Some(inbox) = base.inbox() {
+            inbox.take(&base.rt, &mut self.mail);
+        }
         self.add_streams();
         self.adopt_handed();
         for client in self.mail.woken.drain(..) {
@@ -232,7 +229,10 @@ impl<'a, R: Wait + Clock + Copy + Drop, L: Log> EventLoop<'a, R, L> {
             let Ok(stream) = self.streams.try_recv(&self.base.rt) else {
                 return;
             };
-            if self.add_new(stream).is_none() {
+            self.base.note_connection();
+            let alloc = self.base.alloc;
+            let stream = Box::new(alloc, Buffered::new(alloc, stream)).ok();
+            if stream.and_then(|stream| self.add(stream)).is_none() {
                 self.base.note_closed();
             }
         }
@@ -244,49 +244,31 @@ impl<'a, R: Wait + Clock + Copy + Drop, L: Log> EventLoop<'a, R, L> {
             let Some(handed) = self.mail.handed.pop() else {
                 return;
             };
-            if self.adopt(handed).is_none() {
-                self.base.note_closed();
+            match self.add(handed.stream) {
+                Some(key) => {
+                    self.serve(key, handed.request, handed.target);
+                    self.connections.roster.rota.call(key);
+                }
+                None => self.base.note_closed(),
             }
         }
     }
 
-    /// Adds a stream of which nothing was read yet.
-    fn add_new(&mut self, stream: TcpStream) -> Option<usize> {
-        let alloc = self.base.alloc;
-        self.base.note_connection();
-        self.add(Box::new(alloc, Buffered::new(alloc, stream)).ok()?)
-    }
-
-    /// Takes over a request that another loop handed on.
-    fn adopt(&mut self, handed: Handed) -> Option<usize> {
-        let Handed {
-            stream,
-            request,
-            target,
-        } = handed;
-        let key = self.add(stream)?;
-        self.serve(key, request, target);
-        self.connections.roster.rota.call(key);
-        Some(key)
-    }
-
     /// Adds a stream, and has its readiness told. None where that fails: then it is closed.
-    fn add(&mut self, stream: Stream) -> Option<usize> {
+    fn add(&mut self, mut stream: Stream) -> Option<usize> {
         let now = self.base.now();
-        let mut stream = stream;
         let token = self.connections.next_token();
         let interests = Interest::READABLE | Interest::WRITABLE;
-        self.poll
-            .registry()
-            .register(stream.get_mut(), token, interests)
-            .ok()?;
+        let registry = self.poll.registry();
+        registry.register(stream.get_mut(), token, interests).ok()?;
         self.connections.add(self.base.alloc, stream, token, now)
     }
 
     /// Looks at what each connection has come to.
     fn keep_deadlines(&mut self, now: u64) {
         self.delays.forget_old(now);
-        let cutting = self.base.is_cutting();
+        let base = &self.base;
+        let cutting = base.shared.is_cutting(&base.rt);
         for key in 0..self.connections.keys_below() {
             if self.connections.keep_deadline(key, cutting, now) {
                 self.close(key);
@@ -327,17 +309,10 @@ impl<'a, R: Wait + Clock + Copy + Drop, L: Log> EventLoop<'a, R, L> {
 
     /// Reads and forgets what comes of a connection that has ended.
     fn linger(&mut self, key: usize) {
-        let drained = match self.connections.get_mut(key) {
-            Some(connection) => connection.drain(),
-            None => Drained::Ended,
-        };
-        match drained {
-            Drained::Waits => self.pause(key, Pause::Done),
-            Drained::GoesOn => self.pause(key, Pause::More),
-            Drained::Ended => {
-                self.pause(key, Pause::Done);
-                self.close(key);
-            }
+        let drained = self.connections.get_mut(key).and_then(Connection::drain);
+        self.pause(key, drained.unwrap_or(Pause::Done));
+        if drained.is_none() {
+            self.close(key);
         }
     }
 

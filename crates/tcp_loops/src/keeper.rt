@@ -1,7 +1,7 @@
 //! The keeper: a peer that brings what the passing of time brings, for all clients.
 
 use crate::base::Base;
-use events::{CoreError, CoreFault, Done, Event, Outcome, Peer, PeerFault};
+use events::{Answered, CoreError, CoreFault, Done, Event, Outcome, Peer, PeerFault};
 use loop_rules::{Notes, loop_of};
 use metrics::CoreCounts;
 use std::alloc::Global;
@@ -50,15 +50,13 @@ pub struct Keeper<'a, R, L, K> {
 impl<'a, R: Wait + Clock + Copy, L: Log, K: KeptCore> Keeper<'a, R, L, K> {
     /// The first round is to come.
     pub(crate) fn new(base: Base<'a, R, L>, core: K) -> Result<Keeper<'a, R, L, K>, ServerFault> {
-        let notes = Notes::new(base.alloc, base.rules.loops)?;
-        let clients = Vec::new(base.alloc).into_iter();
         Ok(Keeper {
+            notes: Notes::new(base.alloc, base.rules.loops)?,
+            clients: Vec::new(base.alloc).into_iter(),
             base,
             core,
-            clients,
             client: 0,
             sweeps: false,
-            notes,
             report: 0,
             begun: false,
         })
@@ -84,7 +82,8 @@ impl<'a, R: Wait + Clock + Copy, L: Log, K: KeptCore> Keeper<'a, R, L, K> {
         }
         let counts = self.core.counts(&self.base.rt);
         if asked {
-            self.base.note_core(counts);
+            let base = &self.base;
+            base.shared.tallies.note_core(&base.rt, counts);
         }
         if due {
             self.base.log.totals(counts.totals);
@@ -153,9 +152,9 @@ impl<'a, R: Wait + Clock + Copy, L: Log, K: KeptCore> Keeper<'a, R, L, K> {
 
 impl<R: Wait + Clock + Copy, L: Log, K: KeptCore> Peer for Keeper<'_, R, L, K> {
     fn next(&mut self) -> Result<Option<(Event, u64)>, PeerFault> {
-        if !self.begun {
-            self.begun = true;
-            self.base.note_begun();
+        if !mem::replace(&mut self.begun, true) {
+            let base = &self.base;
+            base.shared.note_begun(&base.rt);
         }
         for _ in 0..u64::MAX {
             if let Some(event) = self.next_of_round() {
@@ -168,7 +167,7 @@ impl<R: Wait + Clock + Copy, L: Log, K: KeptCore> Peer for Keeper<'_, R, L, K> {
         Ok(None)
     }
 
-    fn answer(&mut self, got: &Result<Outcome, CoreError>) -> Result<(), PeerFault> {
+    fn answer(&mut self, got: &Answered) -> Result<(), PeerFault> {
         match got {
             Ok(Outcome::Ticked { ping, done }) => self.note_tick(*ping, done),
             // What was put before the fault isn't told, nor whether the client was given up.

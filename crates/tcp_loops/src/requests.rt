@@ -1,25 +1,24 @@
 //! What a loop does with the requests of its connections.
 
 use crate::event_loop::EventLoop;
-use http_edge::{EdgeError, Request, Target, direct};
+use http_edge::{EdgeError, Request, Status, Target, direct};
 use loop_rules::{Pause, owner_of};
 use metrics::Reason;
+use peers::{Reply, reply_to_fault};
 use std::rt::Clock;
 use std::sync::Wait;
-use tcp_streams::{Handed, Log, Reading, Stream, asks_for_file};
+use tcp_streams::{Handed, Log, Reading, asks_for_file};
 
 impl<R: Wait + Clock + Copy + Drop, L: Log> EventLoop<'_, R, L> {
     /// Reads what has come of a request, and begins to serve it once it is whole.
     pub(crate) fn gather(&mut self, key: usize, now: u64) {
-        let reading = match self.connections.get_mut(key) {
-            Some(connection) => connection.read(self.base.alloc),
-            None => Reading::Waits,
+        let Some(connection) = self.connections.get_mut(key) else {
+            return self.pause(key, Pause::Done);
         };
-        match reading {
-            Reading::Waits => self.pause(key, Pause::Done),
-            Reading::GoesOn => self.pause(key, Pause::More),
-            Reading::Failed(fault) => self.refuse(key, fault, now),
-            Reading::Whole(request) => self.direct(key, request, now),
+        match connection.stage.read(self.base.alloc) {
+            Ok(Reading::Pauses(pause)) => self.pause(key, pause),
+            Ok(Reading::Whole(request)) => self.direct(key, request, now),
+            Err(fault) => self.refuse(key, fault, now),
         }
     }
 
@@ -28,8 +27,14 @@ impl<R: Wait + Clock + Copy + Drop, L: Log> EventLoop<'_, R, L> {
         if let Some(reason) = Reason::of_edge(fault) {
             self.base.note_refused(reason);
         }
+        self.reply(key, &None, reply_to_fault(fault), now);
+    }
+
+    /// Answers by this, if by anything, which pages of this origin may read. The connection ends then.
+    fn reply(&mut self, key: usize, origin: &Option<String>, reply: Option<Reply<'_>>, now: u64) {
         if let Some(connection) = self.connections.get_mut(key) {
-            connection.refuse(self.base.alloc, fault, now);
+            connection.stage.reply(self.base.alloc, origin, reply);
+            connection.end(now);
         }
         self.pause(key, Pause::Done);
         self.connections.note_unsent(key);
@@ -51,35 +56,45 @@ impl<R: Wait + Clock + Copy + Drop, L: Log> EventLoop<'_, R, L> {
 
     /// Counts a request, and why it isn't served where it isn't.
     fn count(&self, request: &Request, target: Target) {
-        self.base.note_request();
+        let base = &self.base;
+        base.shared.tallies.note_request(&base.rt, base.number);
         match Reason::of_target(target) {
-            Some(reason) if !asks_for_file(&self.base.rules.page, request) => {
-                self.base.note_refused(reason)
-            }
+            Some(reason) if !asks_for_file(&base.rules.page, request) => base.note_refused(reason),
             _ => {}
         }
     }
 
     /// Answers a request by what was counted.
     fn tell(&mut self, key: usize, request: &Request, now: u64) {
-        let Ok(text) = self.base.counts_text() else {
+        let base = &self.base;
+        let Ok(text) = base.shared.tallies.text(&base.rt, base.alloc) else {
             return self.refuse(key, EdgeError::Memory, now);
         };
-        if let Some(connection) = self.connections.get_mut(key) {
-            connection.tell(self.base.alloc, &request.origin, text.as_str(), now);
-        }
-        self.pause(key, Pause::Done);
-        self.connections.note_unsent(key);
+        let (status, body) = (Status::Success, text.as_str());
+        let reply = Some(Reply { status, body });
+        self.reply(key, &request.origin, reply, now);
     }
 
-    /// Serves a request, or hands it to the loop that has its client.
+    /// Serves a request, or hands it with its stream to the loop that has its client.
     fn assign(&mut self, key: usize, request: Box<Request>, target: Target) {
         let owner = owner_of(target, self.base.rules.loops, self.base.number);
         if owner == self.base.number {
-            self.serve(key, request, target);
-        } else {
-            self.hand_on(key, owner, request, target);
+            return self.serve(key, request, target);
         }
+        self.pause(key, Pause::Done);
+        if let Some(mut stream) = self.connections.take_stream(key) {
+            // The loop hears no more of it.
+            let _ = self.poll.registry().deregister(stream.get_mut());
+            let handed = Handed {
+                stream,
+                request,
+                target,
+            };
+            if self.base.hand(owner, handed) {
+                return;
+            }
+        }
+        self.base.note_closed();
     }
 
     /// Begins to serve a request. A GET of a client that was told just so that nothing waits is served
@@ -96,31 +111,5 @@ impl<R: Wait + Clock + Copy + Drop, L: Log> EventLoop<'_, R, L> {
             connection.not_before = from;
         }
         self.connections.note_unsent(key);
-    }
-
-    /// Hands a request to another loop, with its stream.
-    fn hand_on(&mut self, key: usize, owner: usize, request: Box<Request>, target: Target) {
-        let given = match self.take_stream(key) {
-            Some(stream) => self.base.hand(
-                owner,
-                Handed {
-                    stream,
-                    request,
-                    target,
-                },
-            ),
-            None => false,
-        };
-        if !given {
-            self.base.note_closed();
-        }
-    }
-
-    /// Takes a connection out, of whose stream the loop hears no more.
-    fn take_stream(&mut self, key: usize) -> Option<Stream> {
-        self.pause(key, Pause::Done);
-        let mut stream = self.connections.take_stream(key)?;
-        let _ = self.poll.registry().deregister(stream.get_mut());
-        Some(stream)
     }
 }

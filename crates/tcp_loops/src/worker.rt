@@ -2,7 +2,7 @@
 
 use crate::event_loop::EventLoop;
 use crate::keeper::{Keeper, KeptCore};
-use events::{CoreError, Event, Outcome, Peer, PeerFault};
+use events::{Answered, Event, Peer, PeerFault};
 use std::rt::Clock;
 use std::sync::Wait;
 use tcp_streams::Log;
@@ -17,8 +17,7 @@ pub enum Worker<'a, R, L, K> {
 impl<R: Drop, L, K: Drop> Drop for Worker<'_, R, L, K> {
     fn drop(self) {
         match self {
-            Worker::Serves(_) => {}
-            Worker::Keeps(_) => {}
+            Worker::Serves(_) | Worker::Keeps(_) => {}
         }
     }
 }
@@ -31,7 +30,7 @@ impl<R: Wait + Clock + Copy + Drop, L: Log, K: KeptCore> Peer for Worker<'_, R, 
         }
     }
 
-    fn answer(&mut self, got: &Result<Outcome, CoreError>) -> Result<(), PeerFault> {
+    fn answer(&mut self, got: &Answered) -> Result<(), PeerFault> {
         match self {
             Worker::Serves(own) => own.answer(got),
             Worker::Keeps(keeper) => keeper.answer(got),

@@ -7,8 +7,8 @@ ghost use Rattle.tcp_streams.specs.declared.fault.ServerFault.TheVariants.{BadSe
 use crate::watched_core::WatchedCore;
 use dispatch::Core;
 use events::{App, CoreError, CoreFault, IdSource, Peer};
-use hub::Pass;
-use hub_gate::{Locked, Pool, Report, ServeError, Turnstile, serve_peers};
+use hub_gate::{Locked, Open, Pool, Report, ServeError, serve_peers};
+use hub_totals::Pass;
 use settings::{Setting, Settings};
 use std::alloc::Global;
 use std::marker::Brand;
@@ -118,7 +118,8 @@ impl<L: Log + Sync + Drop> Server<L> {
     }
 }
 
-/// Serves over a new core, whose ledgers have no other.
+/// Serves over a new core, whose ledgers have no other: accepts, and serves by a loop with each of
+/// these ears and by the keeper, until all have ended.
 fn run_in<
     C: Ledger + Send + Sync,
     T: Ledger + Send + Sync,
@@ -143,32 +144,8 @@ fn run_in<
         r.totals.taken ≡ sum_by (λ w. w.taken) r.workers.items) }
 {
     let (locked, mut pass, looks) = lock_core::<C, T>(base.alloc, making, commands, taken)?;
-    serve_over(base, &locked, &mut pass, looks, app, acceptor, ears)
-}
-
-/// Accepts, and serves by a loop with each of these ears and by the keeper, until all have ended.
-fn serve_over<
-    C: Ledger + Send + Sync,
-    T: Ledger + Send + Sync,
-    R: Threads + Wait + Clock + RandomSource + Copy + Drop + Sync + Send + 'static,
-    L: Log + Sync,
-    A: App + Sync,
->(
-    base: &Base<'_, R, L>,
-    locked: &Locked<C, T>,
-    pass: &mut Pass<C, T>,
-    looks: Pass<C, T>,
-    app: &A,
-    acceptor: Box<Acceptor>,
-    ears: Vec<Ears>,
-) -> Result<Report, ServerFault>
-    ensures commands { IfOk result (λ r. r.totals.commands
-        ≡ pass.old.commands + sum_by (λ w. w.commands) r.workers.items) }
-    ensures taken { IfOk result (λ r. r.totals.taken
-        ≡ pass.old.taken + sum_by (λ w. w.taken) r.workers.items) }
-{
     let core = WatchedCore {
-        locked,
+        locked: &*locked,
         pass: looks,
     };
     let Crew {
@@ -179,12 +156,12 @@ fn serve_over<
     let pool = Pool {
         rt: &base.rt,
         alloc: base.alloc,
-        locked,
+        locked: &*locked,
         app,
         gate: &Open,
         turns: u64::MAX,
     };
-    let served = serve_pool(&pool, pass, workers, ids);
+    let served = serve_pool(&pool, &mut pass, workers, ids);
     base.shared.stop_accepting(&base.rt);
     accepting.join(&base.rt);
     served
@@ -219,16 +196,6 @@ fn serve_pool<
     }
 }
 
-/// A gate that lets all pass.
-#[derive(Drop)]
-struct Open;
-
-impl Turnstile for Open {
-    fn before(&self, _worker: usize, _turn: u64) {}
-
-    fn after(&self, _worker: usize, _turn: u64) {}
-}
-
 /// A core without clients under its lock, its pass, and one more, with which it is looked at.
 fn lock_core<C: Ledger, T: Ledger>(
     alloc: Global,
@@ -245,9 +212,7 @@ fn lock_core<C: Ledger, T: Ledger>(
     let (hub, timing) = (making.hub, making.timing);
     let made = Core::new(alloc, hub, timing, making.numbers, commands, taken);
     let (mut core, pass) = made.map_err(refused)?;
-    let Ok(looks) = core.new_pass() else {
-        return Err(ServerFault::Starting);
-    };
+    let looks = core.new_pass().map_err(|_| ServerFault::Starting)?;
     Ok((Box::new(alloc, Locked::new(core))?, pass, looks))
 }
 

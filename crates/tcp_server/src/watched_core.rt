@@ -1,8 +1,8 @@
 //! The core, as its keeper sees it.
 
 use events::CoreError;
-use hub::Pass;
 use hub_gate::Locked;
+use hub_totals::Pass;
 use metrics::{CoreCounts, Sizes};
 use std::alloc::Global;
 use std::sync::Wait;

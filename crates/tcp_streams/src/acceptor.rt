@@ -1,17 +1,18 @@
 //! Who accepts connections.
 
-use crate::fault::{ServerFault, starting};
+use crate::fault::{ServerFault, listening, starting};
+use crate::inbox::poll_with_bell;
 use crate::shared::Shared;
 use http_edge::{OnStream, Status, write_response};
 use loop_rules::dealt_to;
 use metrics::Reason;
 use mio::net::{TcpListener, TcpStream};
-use mio::{Events, Interest, Poll, Token};
+use mio::{Events, Interest, Poll, Token, Waker};
 use settings::Settings;
 use std::alloc::Global;
 use std::collections::VecDeque;
 use std::io::ErrorKind;
-use std::net::Shutdown;
+use std::net::{Net, Shutdown, ToSocketAddrs};
 use std::rt::Clock;
 use std::sync::Wait;
 use std::time::Duration;
@@ -74,52 +75,60 @@ impl Drop for Acceptor {
     }
 }
 
-/// How many connections may be open at a time: one that waits and one that brings for each client, and
-/// some for those that come.
-fn most_connections(clients: usize) -> u64 {
-    (clients as u64).saturating_mul(2).max(LEAST_CONNECTIONS)
+/// Listens at the settings' port. Answers at which, who accepts there, and the bell that wakes it.
+pub fn acceptor_for<R: Net>(
+    rt: &R,
+    alloc: Global,
+    settings: &Settings,
+) -> Result<(u16, Box<Acceptor>, Waker), ServerFault> {
+    let mut listener = listen_at(rt, settings.host.as_str(), settings.port)?;
+    let port = listener.local_addr().map_err(listening)?.port();
+    let (poll, bell) = poll_with_bell(rt)?;
+    poll.registry()
+        .register(&mut listener, LISTENER, Interest::READABLE)
+        .map_err(starting)?;
+    let acceptor = Acceptor {
+        alloc,
+        poll,
+        listener,
+        events: Events::with_capacity(alloc, EVENTS)?,
+        left: settings.connections,
+        // One that waits and one that brings for each client, and some for those that come.
+        most: (settings.hub.clients as u64)
+            .saturating_mul(2)
+            .max(LEAST_CONNECTIONS),
+        together: settings.together,
+        refused: VecDeque::new(alloc),
+        given: 0,
+    };
+    Ok((port, Box::new(alloc, acceptor)?, bell))
+}
+
+/// Listens at the first address of the host that can be bound.
+fn listen_at<R: Net>(rt: &R, host: &str, port: u16) -> Result<TcpListener, ServerFault> {
+    let addresses = (host, port).to_socket_addrs(rt).map_err(listening)?;
+    let mut refused = ServerFault::Listening;
+    for address in addresses {
+        match TcpListener::bind(rt, address) {
+            Ok(listener) => return Ok(listener),
+            Err(error) => refused = listening(error),
+        }
+    }
+    Err(refused)
 }
 
 impl Acceptor {
-    /// Accepts from this listener, whose calls do not wait.
-    pub fn new(
-        alloc: Global,
-        poll: Poll,
-        listener: TcpListener,
-        settings: &Settings,
-    ) -> Result<Box<Acceptor>, ServerFault> {
-        let mut listener = listener;
-        poll.registry()
-            .register(&mut listener, LISTENER, Interest::READABLE)
-            .map_err(starting)?;
-        let events = Events::with_capacity(alloc, EVENTS)?;
-        let acceptor = Acceptor {
-            alloc,
-            poll,
-            listener,
-            events,
-            left: settings.connections,
-            most: most_connections(settings.hub.clients),
-            together: settings.together,
-            refused: VecDeque::new(alloc),
-            given: 0,
-        };
-        Ok(Box::new(alloc, acceptor)?)
-    }
-
     /// Accepts connections until the server is to end, or had as many as it was to have.
     pub fn accept_all<R: Wait + Clock>(&mut self, rt: &R, shared: &Shared) {
-        if !shared.wait_for_workers(rt, Duration::from_millis(START)) {
-            shared.note_closing(rt);
-            return;
-        }
-        for _ in 0..u64::MAX {
-            if self.left == Some(0) || shared.is_closing(rt) {
-                break;
-            }
-            match self.listener.accept() {
-                Ok((stream, _)) => self.give(rt, shared, stream),
-                Err(error) => self.wait(error.kind()),
+        if shared.wait_for_workers(rt, Duration::from_millis(START)) {
+            for _ in 0..u64::MAX {
+                if self.left == Some(0) || shared.is_closing(rt) {
+                    break;
+                }
+                match self.listener.accept() {
+                    Ok((stream, _)) => self.give(rt, shared, stream),
+                    Err(error) => self.wait(error.kind()),
+                }
             }
         }
         shared.note_closing(rt);
@@ -156,24 +165,17 @@ impl Acceptor {
 
     /// Gives a connection to the loop whose turn it is.
     fn give<R: Wait + Clock>(&mut self, rt: &R, shared: &Shared, stream: TcpStream) {
-        if let Some(left) = &mut self.left {
-            *left = left.saturating_sub(1);
-        }
+        self.left = self.left.map(|left| left.saturating_sub(1));
         // Without it a small answer may wait for the acknowledgement of the one before.
         let _ = stream.set_nodelay(true);
         if !shared.note_accepted(rt, self.most) {
-            shared.tallies().note_refused(rt, Reason::NoPlace);
-            self.turn_away(stream);
-            return;
+            shared.tallies.note_refused(rt, Reason::NoPlace);
+            return self.turn_away(stream);
         }
-        let inboxes = shared.inboxes();
-        let place = dealt_to(self.given, self.together, inboxes.len());
+        let place = dealt_to(self.given, self.together, shared.inboxes.len());
         self.given = self.given.wrapping_add(1);
-        let given = match inboxes.get(place) {
-            Some(inbox) => inbox.give(rt, stream),
-            None => false,
-        };
-        if !given {
+        let inbox = shared.inboxes.get(place);
+        if !inbox.is_some_and(|inbox| inbox.give(rt, stream)) {
             shared.note_closed(rt);
         }
     }

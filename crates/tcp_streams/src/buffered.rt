@@ -16,7 +16,6 @@ pub type Stream = Box<Buffered<TcpStream>>;
 /// Reads from a stream whose reads do not wait, and keeps what is written until `send`.
 #[derive(Drop)]
 pub struct Buffered<S> {
-    alloc: Global,
     stream: S,
     // The stream has no byte until it is reported ready again.
     drained: bool,
@@ -35,7 +34,6 @@ impl<S> Buffered<S> {
     /// Nothing was read or written yet.
     pub fn new(alloc: Global, stream: S) -> Buffered<S> {
         Buffered {
-            alloc,
             stream,
             drained: false,
             ended: false,
@@ -49,9 +47,7 @@ impl<S> Buffered<S> {
     /// The stream was reported readable, and whether its other side has sent its last byte.
     pub fn note_readable(&mut self, ended: bool) {
         self.drained = false;
-        if ended {
-            self.ended = true;
-        }
+        self.ended |= ended;
     }
 
     /// Whether it has no byte to be read, as far as is known.
@@ -83,7 +79,7 @@ impl<S> Buffered<S> {
     fn forget(&mut self) {
         self.sent = 0;
         if self.output.capacity() > KEPT {
-            self.output = Vec::new(self.alloc);
+            self.output = Vec::new(*self.output.allocator());
         } else {
             self.output.clear();
         }
@@ -123,16 +119,12 @@ impl<S: Read> Read for Buffered<S> {
         }
         match self.stream.read(buf) {
             Ok(count) => {
-                if count < buf.len() && !self.ended {
-                    self.drained = true;
-                }
+                self.drained = count < buf.len() && !self.ended;
                 self.read = self.read.saturating_add(count);
                 Ok(count)
             }
             Err(error) => {
-                if error.kind() == ErrorKind::WouldBlock {
-                    self.drained = true;
-                }
+                self.drained = error.kind() == ErrorKind::WouldBlock;
                 Err(error)
             }
         }
@@ -141,11 +133,8 @@ impl<S: Read> Read for Buffered<S> {
 
 impl<S> Write for Buffered<S> {
     fn write(&mut self, buf: &[u8]) -> io::Result<usize> {
-        if self.cut {
-            return Ok(buf.len());
-        }
-        if self.output.extend_from_slice(buf).is_err() {
-            return Err(io::Error::from(ErrorKind::OutOfMemory));
+        if !self.cut {
+            self.output.extend_from_slice(buf)?;
         }
         Ok(buf.len())
     }

@@ -2,7 +2,7 @@
 
 use crate::buffered::Buffered;
 use http_edge::Request;
-use page::{File, Page};
+use page::Page;
 use std::alloc::Global;
 use std::io;
 use std::io::{ErrorKind, Write};
@@ -39,7 +39,10 @@ impl Download {
         request: Box<Request>,
     ) -> io::Result<Download> {
         let file = page.look_up(request.path.as_str());
-        write_head(alloc, stream, file, &request.origin)?;
+        let head = file
+            .ok_or(ErrorKind::NotFound)?
+            .head(alloc, &request.origin)?;
+        let _ = stream.write(head.as_str().as_bytes())?;
         let Request { method, path, .. } = Box::into_inner(request);
         let mut download = Download {
             page,
@@ -73,19 +76,4 @@ impl Download {
         self.over = end == bytes.len();
         Ok(())
     }
-}
-
-/// Writes the head of the answer that a file is.
-fn write_head<S>(
-    alloc: Global,
-    stream: &mut Buffered<S>,
-    file: Option<&File>,
-    origin: &Option<String>,
-) -> io::Result<()> {
-    let Some(file) = file else {
-        return Err(io::Error::from(ErrorKind::NotFound));
-    };
-    let head = file.head(alloc, origin)?;
-    let _ = stream.write(head.as_str().as_bytes())?;
-    Ok(())
 }

@@ -1,18 +1,20 @@
-//! What others hand to a loop.
+//! What a loop waits with, and what others hand to it.
 
 use crate::buffered::Stream;
+use crate::fault::{ServerFault, starting};
 use crossbeam_channel::{Receiver, Sender, bounded};
 use http_edge::{Request, Target};
 use loop_rules::{Mail, Mailbox};
 use mio::net::TcpStream;
 use mio::{Poll, Token, Waker};
-use std::alloc::{AllocError, Global};
+use std::alloc::Global;
+use std::net::Net;
 use std::rt::Clock;
 use std::sync::{Mutex, Wait};
 use std::time::Duration;
 
 /// The token of the bell of who waits.
-pub const BELL: Token = Token(usize::MAX);
+const BELL: Token = Token(usize::MAX);
 
 /// How many new connections may wait for a loop.
 const STREAMS: usize = 256;
@@ -45,17 +47,49 @@ pub struct Ears {
     pub streams: Receiver<TcpStream>,
 }
 
-impl Inbox {
-    /// Nothing was handed in. The waker is that of the loop's poll. The receiver is the loop's, to
-    /// which new connections come.
-    pub fn new(alloc: Global, waker: Waker) -> Result<(Inbox, Receiver<TcpStream>), AllocError> {
-        let (streams, receiver) = bounded(alloc, STREAMS)?;
-        let inbox = Inbox {
-            streams,
+/// A poll, and the bell that ends its waiting.
+pub(crate) fn poll_with_bell<R: Net>(rt: &R) -> Result<(Poll, Waker), ServerFault> {
+    let poll = Poll::new(rt).map_err(starting)?;
+    let bell = Waker::new(poll.registry(), BELL).map_err(starting)?;
+    Ok((poll, bell))
+}
+
+/// What each loop waits with, and its inbox, into which nothing was handed yet.
+pub fn ears_for<R: Net>(
+    rt: &R,
+    alloc: Global,
+    workers: usize,
+) -> Result<(Vec<Ears>, Vec<Inbox>), ServerFault> {
+    let mut ears = Vec::new(alloc);
+    let mut inboxes = Vec::new(alloc);
+    for _worker in 0..workers {
+        let (poll, waker) = poll_with_bell(rt)?;
+        let (sender, streams) = bounded(alloc, STREAMS)?;
+        inboxes.push(Inbox {
+            streams: sender,
             mailbox: Mutex::new(Mailbox::new(alloc)),
             waker,
+        })?;
+        ears.push(Ears { poll, streams })?;
+    }
+    Ok((ears, inboxes))
+}
+
+impl Inbox {
+    /// Puts something into the mailbox, and rings the bell of a loop that slept.
+    fn put<T, F: FnOnce(&mut Mailbox<Handed>) -> T>(&self, rt: &impl Wait, put: F) -> T
+        requires { F.IsAlwaysCallable put }
+    {
+        let (done, slept) = {
+            let mut mailbox = self.mailbox.lock(rt);
+            let slept = mailbox.rouse();
+            (put(&mut *mailbox), slept)
         };
-        Ok((inbox, receiver))
+        if slept {
+            // A bell that can't be rung is heard at the next beat.
+            let _ = self.waker.wake();
+        }
+        done
     }
 
     /// Hands a new connection in, and tells whether it got a place while it waited; else it is
@@ -64,61 +98,34 @@ impl Inbox {
     pub fn give<R: Wait + Clock>(&self, rt: &R, stream: TcpStream) -> bool {
         let most = Duration::from_millis(PATIENCE);
         let given = self.streams.send_timeout(rt, stream, most).is_ok();
-        let slept = self.mailbox.lock(rt).rouse();
-        self.ring_if(slept);
+        self.put(rt, |_| {});
         given
     }
 
     /// Hands a request over, and tells whether there was memory for it; else it is closed.
     pub fn hand(&self, rt: &impl Wait, handed: Handed) -> bool {
-        let (given, slept) = {
-            let mut mailbox = self.mailbox.lock(rt);
-            let slept = mailbox.rouse();
-            (mailbox.hand(handed), slept)
-        };
-        self.ring_if(slept);
-        given
+        self.put(rt, |mailbox| mailbox.hand(handed))
     }
 
     /// Tells that something was put for these clients. Where there is no memory for them, all
     /// connections are to be looked at.
     pub fn wake(&self, rt: &impl Wait, clients: &[u128]) {
-        let slept = {
-            let mut mailbox = self.mailbox.lock(rt);
-            let slept = mailbox.rouse();
-            mailbox.wake(clients);
-            slept
-        };
-        self.ring_if(slept);
+        self.put(rt, |mailbox| mailbox.wake(clients));
     }
 
     /// All connections are to be looked at.
     pub fn wake_everyone(&self, rt: &impl Wait) {
-        let slept = {
-            let mut mailbox = self.mailbox.lock(rt);
-            let slept = mailbox.rouse();
-            mailbox.wake_everyone();
-            slept
-        };
-        self.ring_if(slept);
+        self.put(rt, |mailbox| mailbox.wake_everyone());
     }
 
     /// Whether nothing was handed in, so that the loop may sleep until its bell is rung.
     pub fn falls_asleep(&self, rt: &impl Wait) -> bool {
         let mut mailbox = self.mailbox.lock(rt);
-        let has_no_stream = self.streams.is_empty();
-        mailbox.fall_asleep(has_no_stream)
+        mailbox.fall_asleep(self.streams.is_empty())
     }
 
     /// Takes all that was handed in, into a mail that is empty.
     pub fn take(&self, rt: &impl Wait, mail: &mut Mail<Handed>) {
         self.mailbox.lock(rt).take(mail);
-    }
-
-    fn ring_if(&self, slept: bool) {
-        if slept {
-            // A bell that can't be rung is heard at the next beat.
-            let _ = self.waker.wake();
-        }
     }
 }

@@ -2,7 +2,7 @@
 
 use events::Cause;
 use journal::Totals;
-use std::alloc::{AllocError, Global};
+use std::alloc::Global;
 use std::collections::HashMap;
 use std::sync::{Mutex, Wait};
 
@@ -30,69 +30,34 @@ pub struct Ended {
     pub lived: u64,
 }
 
-/// A client that is there.
+/// The clients that are there, if somebody hears of them: since when, and whether over a WebSocket.
 #[derive(Drop)]
-struct Life {
-    since: u64,
-    socket: bool,
-}
-
-/// The clients that are there, if somebody hears of them.
-#[derive(Drop)]
-pub struct Lives {
-    kept: bool,
-    entries: Mutex<HashMap<u128, Life>>,
-}
+pub struct Lives(Option<Mutex<HashMap<u128, (u64, bool)>>>);
 
 impl Lives {
     /// None yet.
     pub fn new(alloc: Global, kept: bool) -> Lives {
-        Lives {
-            kept,
-            entries: Mutex::new(HashMap::new(alloc)),
-        }
+        Lives(kept.then(|| Mutex::new(HashMap::new(alloc))))
     }
 
     /// A client was opened at this moment. Where there is no memory for it, nothing is told of it.
     pub fn note_opened(&self, rt: &impl Wait, client: u128, socket: bool, now: u64) {
-        if self.kept {
-            let life = Life { since: now, socket };
-            let _ = self.entries.lock(rt).insert(client, life);
+        if let Some(lives) = &self.0 {
+            let _ = lives.lock(rt).insert(client, (now, socket));
         }
     }
 
     /// A client has come over to its WebSocket.
     pub fn note_upgraded(&self, rt: &impl Wait, client: u128) {
-        if !self.kept {
-            return;
-        }
-        let mut entries = self.entries.lock(rt);
-        match entries.get_mut(&client) {
-            Some(life) => life.socket = true,
-            None => {}
+        if let Some(lives) = &self.0 {
+            if let Some((_, socket)) = lives.lock(rt).get_mut(&client) {
+                *socket = true;
+            }
         }
     }
 
-    /// A client has ended at this moment, of which the log is told.
-    pub fn end<R: Wait, L: Log>(
-        &self,
-        rt: &R,
-        log: &L,
-        client: u128,
-        cause: Option<Cause>,
-        now: u64,
-    ) {
-        if !self.kept {
-            return;
-        }
-        let ended = self.entries.lock(rt).remove(&client);
-        if let Some(life) = ended {
-            log.client_ended(&Ended {
-                client,
-                socket: life.socket,
-                cause,
-                lived: now.saturating_sub(life.since),
-            });
-        }
+    /// A client has ended. Answers since when it was there and whether over a WebSocket, if it is kept.
+    pub fn remove(&self, rt: &impl Wait, client: u128) -> Option<(u64, bool)> {
+        self.0.as_ref()?.lock(rt).remove(&client)
     }
 }

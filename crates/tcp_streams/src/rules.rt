@@ -2,11 +2,11 @@
 
 ghost use Rattle.std.specs.Prelude.{◌<◌};
 
+use connection::Timing;
 use eio_wire::Numbers;
 use http_edge::Request;
 use journal::Config;
 use page::Page;
-use session_clock::Timing;
 use settings::Settings;
 use std::alloc::{AllocError, Global};
 use std::sync::Arc;
@@ -40,12 +40,8 @@ pub struct Making {
 impl Rules {
     /// Whether a request asks for the counts.
     pub fn asks_for_counts(&self, request: &Request) -> bool {
-        match &self.metrics {
-            Some(path) => {
-                request.method.as_str() == "GET" && request.path.as_str() == path.as_str()
-            }
-            None => false,
-        }
+        let path = self.metrics.as_ref().map(String::as_str);
+        request.method.as_str() == "GET" && path == Some(request.path.as_str())
     }
 }
 
@@ -56,32 +52,19 @@ pub fn rules_and_making(
 ) -> Result<(Arc<Rules>, Box<Making>), AllocError>
     requires { 0 < settings.workers }
 {
-    let numbers = settings.numbers();
-    let Settings {
-        workers,
-        hub,
-        timing,
-        poll_entries,
-        origins,
-        page,
-        metrics,
-        report,
-        ..
-    } = settings;
     let making = Making {
-        hub,
-        timing,
-        numbers,
+        numbers: settings.numbers(),
+        hub: settings.hub,
+        timing: settings.timing,
     };
     let making = Box::new(alloc, making)?;
-    let page = Arc::new(alloc, page)?;
     let rules = Rules {
-        loops: workers,
-        poll_entries,
-        origins,
-        page,
-        metrics,
-        report,
+        loops: settings.workers,
+        poll_entries: settings.poll_entries,
+        origins: settings.origins,
+        page: Arc::new(alloc, settings.page)?,
+        metrics: settings.metrics,
+        report: settings.report,
     };
     Ok((Arc::new(alloc, rules)?, making))
 }

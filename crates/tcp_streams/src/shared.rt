@@ -12,10 +12,13 @@ use std::time::Duration;
 
 /// What all threads of a server share, beside the core.
 pub struct Shared {
-    inboxes: Vec<Inbox>,
+    /// What others hand to each loop.
+    pub inboxes: Vec<Inbox>,
     acceptor: Waker,
-    lives: Lives,
-    tallies: Tallies,
+    /// The clients that are there, if somebody hears of them.
+    pub lives: Lives,
+    /// What is counted.
+    pub tallies: Tallies,
     standing: Mutex<Standing>,
     changed: Condvar,
 }
@@ -71,31 +74,15 @@ impl Shared {
             closing: false,
             cutting: false,
         };
-        let tallies = Tallies::new(alloc, inboxes.len())?;
         let shared = Shared {
+            tallies: Tallies::new(alloc, inboxes.len())?,
             inboxes,
             acceptor,
             lives: Lives::new(alloc, hears_clients),
-            tallies,
             standing: Mutex::new(standing),
             changed: Condvar::new(),
         };
         Ok(Arc::new(alloc, shared)?)
-    }
-
-    /// What others hand to each loop.
-    pub fn inboxes(&self) -> &[Inbox] {
-        self.inboxes.as_slice()
-    }
-
-    /// The clients that are there, if somebody hears of them.
-    pub fn lives(&self) -> &Lives {
-        &self.lives
-    }
-
-    /// What is counted.
-    pub fn tallies(&self) -> &Tallies {
-        &self.tallies
     }
 
     /// A connection was accepted. Answers whether it has a place among so many.
@@ -168,10 +155,9 @@ impl Shared {
     pub fn wait_for_workers<R: Wait + Clock>(&self, rt: &R, most: Duration) -> bool {
         let workers = self.inboxes.len().saturating_add(1);
         let guard = self.standing.lock(rt);
-        let (guard, _) = self
-            .changed
-            .wait_timeout_while(rt, guard, most, |standing| standing.begun < workers);
-        guard.begun >= workers
+        let waits = |standing: &mut Standing| standing.begun < workers;
+        let (_, ended) = self.changed.wait_timeout_while(rt, guard, most, waits);
+        !ended.timed_out()
     }
 
     /// A loop has ended.
@@ -184,10 +170,9 @@ impl Shared {
     /// Waits until no loop is at work, but no longer than so, and tells whether none is.
     pub fn wait_for_loops<R: Wait + Clock>(&self, rt: &R, most: Duration) -> bool {
         let guard = self.standing.lock(rt);
-        let (guard, _) = self
-            .changed
-            .wait_timeout_while(rt, guard, most, |standing| standing.loops > 0);
-        guard.loops == 0
+        let waits = |standing: &mut Standing| standing.loops > 0;
+        let (_, ended) = self.changed.wait_timeout_while(rt, guard, most, waits);
+        !ended.timed_out()
     }
 
     /// Has each loop look at all of its connections.

@@ -26,9 +26,7 @@ const NONE: CoreCounts = CoreCounts {
 
 /// What the threads of a server count while it runs, and what the keeper last told of the core.
 #[derive(Drop)]
-pub struct Tallies {
-    metrics: Mutex<Metrics>,
-}
+pub struct Tallies(Mutex<Metrics>);
 
 impl Tallies {
     /// Nothing was counted yet.
@@ -45,33 +43,30 @@ impl Tallies {
         for reason in REASONS {
             refused.push(Refusals { reason, count: 0 })?;
         }
-        let metrics = Metrics {
+        Ok(Tallies(Mutex::new(Metrics {
             core: NONE,
             loops: of_loops,
             refused,
-        };
-        Ok(Tallies {
-            metrics: Mutex::new(metrics),
-        })
+        })))
     }
 
     /// A loop was given a connection.
     pub fn note_connection(&self, rt: &impl Wait, number: usize) {
-        if let Some(it) = self.metrics.lock(rt).loops.get_mut(number) {
+        if let Some(it) = self.0.lock(rt).loops.get_mut(number) {
             it.connections = it.connections.saturating_add(1);
         }
     }
 
     /// A request came whole to a loop.
     pub fn note_request(&self, rt: &impl Wait, number: usize) {
-        if let Some(it) = self.metrics.lock(rt).loops.get_mut(number) {
+        if let Some(it) = self.0.lock(rt).loops.get_mut(number) {
             it.requests = it.requests.saturating_add(1);
         }
     }
 
     /// Something was refused.
     pub fn note_refused(&self, rt: &impl Wait, reason: Reason) {
-        for it in self.metrics.lock(rt).refused.iter_mut() {
+        for it in self.0.lock(rt).refused.iter_mut() {
             if it.reason == reason {
                 it.count = it.count.saturating_add(1);
             }
@@ -80,11 +75,11 @@ impl Tallies {
 
     /// The core's counts are these.
     pub fn note_core(&self, rt: &impl Wait, counts: CoreCounts) {
-        self.metrics.lock(rt).core = counts;
+        self.0.lock(rt).core = counts;
     }
 
     /// All of them as text.
     pub fn text(&self, rt: &impl Wait, alloc: Global) -> Result<String, AllocError> {
-        self.metrics.lock(rt).text(alloc)
+        self.0.lock(rt).text(alloc)
     }
 }

@@ -4,11 +4,11 @@
 use crate::fault::Fault;
 use crate::rows::{BATCH, Counted, Deed, Measured, NOW, Row};
 use dispatch::Core;
-use events::{CoreError, Event, Outcome, Peer, PeerFault};
-use hub::Pass;
-use hub_gate::{Locked, Pool, Turnstile, serve_peers};
+use events::{Answered, Event, Outcome, Peer, PeerFault};
+use hub_gate::{Locked, Open, Pool, serve_peers};
+use hub_totals::Pass;
 use journal::Totals;
-use relay::RelayApp;
+use relay::{Counter, RelayApp};
 use std::alloc::Global;
 use std::rt::Clock;
 use std::sync::ledger::Ledger;
@@ -16,7 +16,6 @@ use std::sync::{Mutex, Wait};
 use std::thread::Threads;
 use std::time::Instant;
 use terms::Text;
-use usual_core::Ids;
 
 /// What the clients of each band say: they join its room, and speak to it.
 static BANDS: [[&str; 2]; 4] = [
@@ -76,7 +75,7 @@ impl<'a, R: Clock + Wait + AllocGlobal> Peer for Band<'a, R> {
         Ok(Some((event, NOW)))
     }
 
-    fn answer(&mut self, got: &Result<Outcome, CoreError>) -> Result<(), PeerFault> {
+    fn answer(&mut self, got: &Answered) -> Result<(), PeerFault> {
         match got {
             Ok(Outcome::Opened(opening)) if self.first == 0 => self.first = opening.client,
             Ok(Outcome::Nothing) | Err(_) => return Err(PeerFault::Ended),
@@ -147,7 +146,7 @@ fn play_alone<C: Ledger, T: Ledger, P: Peer + Drop>(
     pass: Pass<C, T>,
     bands: Vec<P>,
 ) -> Result<Totals, Fault> {
-    let (mut core, mut pass, mut ids) = (core, pass, Ids { next: 1 });
+    let (mut core, mut pass, mut ids) = (core, pass, Counter::new());
     let mut bands = bands.into_iter();
     let mut band = bands.next();
     for _turn in 0..u64::MAX {
@@ -163,16 +162,6 @@ fn play_alone<C: Ledger, T: Ledger, P: Peer + Drop>(
     Ok(core.hub().state().totals())
 }
 
-/// A gate that lets all pass.
-#[derive(Clone, Copy)]
-struct Open;
-
-impl Turnstile for Open {
-    fn before(&self, _worker: usize, _turn: u64) {}
-
-    fn after(&self, _worker: usize, _turn: u64) {}
-}
-
 /// Has the bands played by so many workers, of which each has a thread.
 fn play_pool<C: Ledger + Send + Sync, T: Ledger + Send + Sync>(
     rt: &(impl Threads + Wait + Sync + AllocGlobal),
@@ -185,8 +174,7 @@ fn play_pool<C: Ledger + Send + Sync, T: Ledger + Send + Sync>(
     let (locked, mut ids) = (Box::new(alloc, Locked::new(core))?, Vec::new(alloc));
     // Their sources lie further apart than all clients draw.
     for worker in 0..workers {
-        let next = u128::from(worker) * 1_000 + 1;
-        ids.push(Ids { next })?;
+        ids.push(Counter::starting_at(u128::from(worker) * 1_000 + 1))?;
     }
     let pool = Pool {
         rt,

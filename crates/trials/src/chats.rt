@@ -4,7 +4,7 @@ ghost use Rattle.std.specs.Prelude.{◌≡◌};
 
 use crate::player::Player;
 use crate::words::Words;
-use hub::Hub;
+use hub_totals::Hub;
 use journal::HubError;
 use script::RunError;
 use std::alloc::Global;

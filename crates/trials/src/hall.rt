@@ -2,13 +2,13 @@
 //! private id are the client's own number, where nothing else is said.
 
 use crate::fault::Fault;
-use crate::rows::{Counted, Deed, MISSPELLED, Measured, NOW, Row, memory};
+use crate::rows::{Counted, Deed, MISSPELLED, Measured, NOW, Row};
 use http_edge::Gathered;
-use hub::{Hub, Pass};
+use hub_totals::{Hub, Pass};
 use journal::{Cast, HubError};
 use recovery::Pid;
 use std::alloc::Global;
-use std::rt::{Clock, Files};
+use std::rt::Clock;
 use std::sync::ledger::Ledger;
 use std::time::Instant;
 use terms::{Attachments, Room, Sid, Text};
@@ -37,7 +37,7 @@ struct Hall<C: Ledger, T: Ledger> {
 }
 
 /// Plays the row over this hub.
-pub fn play_hub<C: Ledger, T: Ledger, R: Clock + Files + AllocGlobal>(
+pub fn play_hub<C: Ledger, T: Ledger, R: Clock + AllocGlobal>(
     rt: &R,
     row: &Row<'_>,
     hub: Hub<C, T>,
@@ -45,16 +45,13 @@ pub fn play_hub<C: Ledger, T: Ledger, R: Clock + Files + AllocGlobal>(
 ) -> Measured {
     let (clients, deeds) = (row.sizes.sockets, row.deeds(rt.alloc())?);
     let mut hall = Box::new(rt.alloc(), Hall { hub, pass, clients })?;
-    let (mut counted, before) = (Counted::default(), memory(rt).unwrap_or(0));
+    let mut counted = Counted::default();
     for deed in &deeds {
         let start = Instant::now(rt)?;
         let number = hall.repeat(rt.alloc(), deed)?;
         if deed.timed {
             counted.add(number, start.elapsed(rt)?);
         }
-    }
-    if row.counted == "bytes" {
-        counted.number = memory(rt).unwrap_or(0).saturating_sub(before);
     }
     Ok((counted, hall.hub.state().totals()))
 }

@@ -1,7 +1,7 @@
 //! Tries the server by cases from standard input: scripts, each below a line `--- NAME`, behind a
-//! line `=== chats` chats with hubs, parted by blank lines, and behind a line `=== rows` rows of
-//! deeds, one a line. `trials` prints what they print, and of rows the counts, which are the same
-//! each time. `trials SOCKETS CASTS` plays the rows alone, for so many sockets and casts, and
+//! line `=== chats` chats with hubs, parted by blank lines, behind a line `=== requests` requests
+//! over HTTP, one a line, and behind a line `=== rows` rows of deeds, one a line. `trials` prints
+//! what they print, and of rows the counts, which are the same each time. `trials SOCKETS CASTS` plays the rows alone, for so many sockets and casts, and
 //! prints what is counted a second.
 //!
 //! A script is played to a server of the demonstration app, which here wants what can't be done of
@@ -21,6 +21,7 @@ mod hall;
 mod measures;
 mod player;
 mod printing;
+mod requests;
 mod rows;
 mod scripts;
 mod variants;
@@ -33,15 +34,17 @@ use script::RunError;
 use std::env;
 use std::io::{self, BufWriter, Read, Write};
 use std::process::ExitCode;
-use std::rt::{Clock, Env, Files};
+use std::rt::{Clock, Env};
 use std::sync::Wait;
 use std::thread::Threads;
 
 /// How many bytes of cases there is room for at once.
 const USUAL_LENGTH: usize = 1_000_000;
 
-/// The lines behind which chats and rows stand.
+/// The lines behind which chats, requests and rows stand.
 const CHATS: &[u8] = b"=== chats\n";
+
+const REQUESTS: &[u8] = b"=== requests\n";
 
 const ROWS: &[u8] = b"=== rows\n";
 
@@ -57,7 +60,7 @@ fn main(rt: HostRuntime) -> ExitCode {
 }
 
 /// Does what the arguments ask for, which are read once more where memory for them was refused.
-fn play<R: Env + Input + Clock + Files + Threads + Wait + Sync + Print + AllocGlobal>(
+fn play<R: Env + Input + Clock + Threads + Wait + Sync + Print + AllocGlobal>(
     rt: &R,
 ) -> Result<(), Fault> {
     let sizes = sizes(rt).or_else(|_| sizes(rt))?;
@@ -105,11 +108,12 @@ fn input<R: Input + AllocGlobal>(rt: &R) -> Result<Vec<u8>, RunError> {
     Ok(input)
 }
 
-/// Plays scripts and chats. Memory that was refused is asked for once more.
+/// Plays scripts, chats and requests. Memory that was refused is asked for once more.
 fn play_cases<R: Print + AllocGlobal>(rt: &R, cases: &[u8]) -> Result<(), RunError> {
     let mut writer = BufWriter::new(rt.alloc(), io::writer(rt))
         .or_else(|_| BufWriter::new(rt.alloc(), io::writer(rt)))
         .map_err(|_| RunError::Memory)?;
+    let (cases, requests) = parted(cases, REQUESTS);
     let (scripts, chats) = parted(cases, CHATS);
     if !scripts.is_empty() {
         scripts::play_all(rt.alloc(), scripts, &mut writer)?;
@@ -117,6 +121,10 @@ fn play_cases<R: Print + AllocGlobal>(rt: &R, cases: &[u8]) -> Result<(), RunErr
     if let Some(chats) = chats {
         writer.write_all(CHATS).map_err(|_| RunError::Writing)?;
         chats::play_all(rt.alloc(), chats, &mut writer)?;
+    }
+    if let Some(requests) = requests {
+        writer.write_all(REQUESTS).map_err(|_| RunError::Writing)?;
+        requests::play_all(rt.alloc(), requests, &mut writer)?;
     }
     writer.flush().map_err(|_| RunError::Writing)
 }

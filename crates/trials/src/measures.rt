@@ -7,11 +7,11 @@ use crate::fault::Fault;
 use crate::hall::{CAPACITY, FEW, play_hub};
 use crate::rows::{Counted, MISSPELLED, Measured, Row, Sizes};
 use dispatch::Core;
-use hub::Hub;
+use hub_totals::Hub;
 use journal::Totals;
 use std::io;
 use std::marker::Brand;
-use std::rt::{Clock, Files};
+use std::rt::Clock;
 use std::sync::Wait;
 use std::sync::ledger::{Blank, Ledger};
 use std::thread::Threads;
@@ -24,9 +24,9 @@ const SMALL: Sizes = Sizes {
     casts: 10,
 };
 
-/// Prints what the rows cost with these sizes, or without any the counts of all but those of memory
-/// and requests. 300 sockets are each opened, connected and taken of the answer to CONNECT, which
-/// are 900 commands, and 300 are placed and taken; the rest follows from the deeds:
+/// Prints what the rows cost with these sizes, or without any the counts of all but those of
+/// requests. 300 clients with a socket are 600 commands, and 300 wait. Elsewhere they are taken of
+/// the answer to CONNECT too, which makes 900; the rest follows from the deeds:
 /// - a room of M: M joins, 10 casts and M takes; 10 M are placed and taken;
 /// - all 16 of a namespace: 16 attaches and takes, 10 casts and 16 takes; 16 and 160;
 /// - joins and leaves: 600; of a room: 256 joins, and 20 commands; a seal: 64 casts, which wait;
@@ -38,7 +38,7 @@ const SMALL: Sizes = Sizes {
 ///   are opened, recovered and taken of 65 each; the first 300 are discarded;
 /// - posts: 16 joins, 10 casts and 15 takes; 150. Takes: 16 joins, 64 casts and 15 takes; 960;
 /// - bands: 64 clients open, connect, take and join; 40 casts and 60 takes; 64 and 600.
-pub fn play_all<R: Clock + Files + Threads + Wait + Sync + Print + AllocGlobal>(
+pub fn play_all<R: Clock + Threads + Wait + Sync + Print + AllocGlobal>(
     rt: &R,
     rows: &[u8],
     sizes: Option<Sizes>,
@@ -46,7 +46,7 @@ pub fn play_all<R: Clock + Files + Threads + Wait + Sync + Print + AllocGlobal>(
     let rows = str::from_utf8(rows).map_err(|_| MISSPELLED)?;
     for line in rows.lines() {
         let row = Row::read(sizes.unwrap_or(SMALL), line).ok_or(MISSPELLED)?;
-        if sizes.is_some() || !matches!(row.counted, "bytes" | "requests") {
+        if sizes.is_some() || row.counted != "requests" {
             measure(rt, &row, sizes.is_none())?;
         }
     }
@@ -54,7 +54,7 @@ pub fn play_all<R: Clock + Files + Threads + Wait + Sync + Print + AllocGlobal>(
 }
 
 /// Plays the row over a new hub or a new core, and prints its counts or its figure.
-fn measure<R: Clock + Files + Threads + Wait + Sync + Print + AllocGlobal>(
+fn measure<R: Clock + Threads + Wait + Sync + Print + AllocGlobal>(
     rt: &R,
     row: &Row<'_>,
     counts: bool,
@@ -77,7 +77,7 @@ fn measure<R: Clock + Files + Threads + Wait + Sync + Print + AllocGlobal>(
 fn measure_in<
     C: Ledger + Send + Sync,
     T: Ledger + Send + Sync,
-    R: Clock + Files + Threads + Wait + Sync + AllocGlobal,
+    R: Clock + Threads + Wait + Sync + AllocGlobal,
 >(rt: &R, row: &Row<'_>, commands: Blank, taken: Blank) -> Measured
     requires commands { (commands.name ≡ C.name)
         × (commands.parts ≡ C.parts) × (commands.parts ≡ 65536) }
@@ -105,10 +105,6 @@ fn print_counts(rt: &impl Print, row: &Row<'_>, number: u64, totals: &Totals) ->
 /// Prints how many there were in a second while the clock ran, or for turns all the while.
 fn print_figure(rt: &impl Print, row: &Row<'_>, all: &Counted, whole: Duration) -> io::Result<()> {
     let (name, what, number) = (row.name, row.counted, u128::from(all.number));
-    if what == "bytes" {
-        let each = number / u128::from(row.sizes.sockets.max(1));
-        return println!(rt; "{name}: {each} bytes an open client with a socket");
-    }
     let took = if what == "turns" { whole } else { all.time };
     let rate = number * 1_000_000_000 / took.as_nanos().max(1);
     let mean = all.time.as_nanos() / number.max(1);

@@ -2,7 +2,7 @@
 
 use crate::printing::{see, write_entries, write_sids, write_totals};
 use crate::words::Words;
-use hub::{Hub, Pass};
+use hub_totals::{Hub, Pass};
 use journal::{HubError, Totals};
 use std::alloc::Global;
 use std::mem::{replace, swap};

@@ -3,14 +3,11 @@
 //! A row's line has its name, what is counted, how many rounds are played, what is there first, a
 //! round, and who plays it: nobody named is a hub, `band` the first band alone, and a number all
 //! bands, by so many workers, or without a lock where it is 0. Each deed is done for all sockets,
-//! or as often as stands behind it, and by the clock where it is marked so. Memory comes first,
-//! while the process has had no other hub.
+//! or as often as stands behind it, and by the clock where it is marked so.
 
 use crate::fault::Fault;
 use journal::Totals;
 use std::alloc::Global;
-use std::fs;
-use std::rt::Files;
 use std::time::Duration;
 
 /// How many casts are made before the members take what waits for them.
@@ -117,11 +114,3 @@ impl Counted {
 
 /// What was counted of a row, and what the hub counted.
 pub type Measured = Result<(Counted, Totals), Fault>;
-
-/// The bytes of memory that the process has touched and still holds, in whole pages of 4 KB, or
-/// `None` where the system doesn't tell.
-pub fn memory<R: Files + AllocGlobal>(rt: &R) -> Option<u64> {
-    let counts = fs::read_to_string(rt, "/proc/self/statm").ok()?;
-    let pages = counts.as_str().split_whitespace().nth(1)?;
-    pages.parse::<u64>().ok()?.checked_mul(4_096)
-}

@@ -1,10 +1,8 @@
 //! The usual settings of a server, and a new core with its pass and its ids.
 #![tactic(auto)]
 
-mod ids;
 mod run;
 mod settings;
 
-pub use ids::Ids;
 pub use run::{OnLocked, OnServer, Server, on_new_locked, on_new_server};
 pub use settings::{Limits, NUMBERS, PARTS, Settings, TIMING};

@@ -2,13 +2,13 @@
 
 ghost use Rattle.std.specs.Prelude.{◌≡◌};
 
-use crate::ids::Ids;
 use crate::settings::{PARTS, Settings};
 use dispatch::Core;
-use events::{App, CoreError, CoreFault, Event, Outcome};
-use hub::Pass;
+use events::{Answered, App, CoreError, CoreFault, Event};
 use hub_gate::Locked;
+use hub_totals::Pass;
 use journal::Totals;
+use relay::Counter;
 use std::alloc::Global;
 use std::marker::Brand;
 use std::sync::ledger::{Blank, Ledger};
@@ -18,18 +18,12 @@ use std::sync::ledger::{Blank, Ledger};
 pub struct Server<C: Ledger, T: Ledger> {
     pub core: Core<C, T>,
     pub pass: Pass<C, T>,
-    pub ids: Ids,
+    pub ids: Counter,
 }
 
 impl<C: Ledger, T: Ledger> Server<C, T> {
     /// What the core answers to an event.
-    pub fn apply<A: App>(
-        &mut self,
-        alloc: Global,
-        app: &A,
-        event: &Event,
-        now: u64,
-    ) -> Result<Outcome, CoreError> {
+    pub fn apply<A: App>(&mut self, alloc: Global, app: &A, event: &Event, now: u64) -> Answered {
         let Server { core, pass, ids } = self;
         core.apply(alloc, pass, app, event, now, ids)
     }
@@ -134,6 +128,6 @@ fn new_server<C: Ledger, T: Ledger>(
         return Err(CoreFault::Memory.at_once());
     };
     let (core, pass) = Core::new(alloc, config, timing, numbers, commands, taken)?;
-    let ids = Ids { next: 1 };
+    let ids = Counter::new();
     Box::new(alloc, Server { core, pass, ids }).map_err(|_| CoreFault::Memory.at_once())
 }

@@ -1,8 +1,8 @@
 //! What a server is made with.
 
+use connection::Timing;
 use eio_wire::Numbers;
 use journal::Config;
-use session_clock::Timing;
 use std::alloc::{AllocError, Global};
 use terms::Text;
 

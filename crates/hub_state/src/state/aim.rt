@@ -1,7 +1,7 @@
 //! For whom an entry is: the sockets of a namespace that are in one of the rooms and in no excepted
 //! one, and their clients (Socket.IO server documentation, "Rooms" and "Adapter").
 
-ghost use Rattle.std.specs.Prelude.{◌≡◌, ◌&&◌, not, ◌++◌, filter, IfOk, IfErr, OnOk};
+ghost use Rattle.std.specs.Prelude.{◌≡◌, ◌&&◌, not, ◌++◌, filter, IfOk, OnOk};
 ghost use Rattle.std.specs.List.{flat_map, list_any};
 ghost use Rattle.std.specs.Ordering.{nat_cmp};
 ghost use Rattle.std.specs.BTreeMap.{get};
@@ -9,16 +9,16 @@ ghost use Rattle.std.specs.Arc.{arc_value};
 ghost use Rattle.terms.specs.Listing.{ListsRising};
 ghost use Rattle.room_maps.specs.Membership.{is_in};
 ghost use Rattle.room_maps.specs.Addressed.{is_addressed};
-ghost use Rattle.journal.specs.Membership as membership;
 ghost use Rattle.journal.specs.Membership.{is_in_space};
-ghost use Rattle.journal.specs.Casting.{in_space, is_here, ListsInside, is_full_in, message_for, missing_of, Tells};
+ghost use Rattle.journal.specs.Casting.{in_space, is_here, ListsInside, is_full_in, message_for, missing_of};
 ghost use Rattle.journal.specs.Casting as casting;
+ghost use Rattle.hub_state.specs.Words.{rooms_now, aimed, TellsNow};
 
 use crate::state::State;
 use hub_parts::{Client, Seats};
-use journal::{Broadcast, HubError, Message, Socket};
+use journal::{Broadcast, Message, Socket};
 use room_maps::Rooms;
-use std::alloc::Global;
+use std::alloc::{AllocError, Global};
 use std::collections::BTreeMap;
 use std::sync::Arc;
 use terms::{Entry, Room, Sid};
@@ -29,10 +29,9 @@ fn add_socket(
     seats: &Seats,
     sid: Sid,
     space: u16,
-) -> Result<(), HubError>
+) -> Result<(), AllocError>
     ensures ok { OnOk result (sockets.new.items
         ≡ sockets.old.items ++ in_space space (get nat_cmp seats.now sid)) }
-    ensures memory { IfErr result (λ e. e ≡ HubError.Memory) }
 {
     if let Some(socket) = seats.get(sid) {
         if socket.space == space {
@@ -48,10 +47,9 @@ pub(crate) fn sockets_in(
     seats: &Seats,
     sids: &[Sid],
     space: u16,
-) -> Result<Vec<Socket>, HubError>
+) -> Result<Vec<Socket>, AllocError>
     ensures ok { IfOk result (λ sockets. sockets.items
         ≡ flat_map (λ s. in_space space (get nat_cmp seats.now s)) sids.now) }
-    ensures memory { IfErr result (λ e. e ≡ HubError.Memory) }
 {
     let mut sockets = Vec::new(alloc);
     for sid in sids {
@@ -82,11 +80,10 @@ fn everybody_but(
     inside: &Rooms,
     space: u16,
     excepted: &[Room],
-) -> Result<Vec<Sid>, HubError>
+) -> Result<Vec<Sid>, AllocError>
     ensures ok { IfOk result (λ sids. ListsRising nat_cmp (λ s.
         is_here space (get nat_cmp seats.now s)
         && not (list_any (is_in inside.now s) excepted.now)) sids.items) }
-    ensures memory { IfErr result (λ e. e ≡ HubError.Memory) }
 {
     let mut sids = seats.sids_in(alloc, space)?;
     retain_outside(&mut sids, inside, excepted);
@@ -94,7 +91,7 @@ fn everybody_but(
 }
 
 /// Whether the client's outbox has no place for the entry.
-fn is_full(clients: &BTreeMap<u128, Client>, client: u128, entry: &Entry) -> bool
+pub(crate) fn is_full(clients: &BTreeMap<u128, Client>, client: u128, entry: &Entry) -> bool
     ensures { result ≡ is_full_in (get nat_cmp clients.now) entry.now client }
 {
     match clients.get(&client) {
@@ -111,12 +108,11 @@ fn address(
     clients: &BTreeMap<u128, Client>,
     socket: &Socket,
     entry: &Arc<Entry>,
-) -> Result<(), HubError>
+) -> Result<(), AllocError>
     ensures told { OnOk result (messages.new.items ≡ messages.old.items
         ++ message_for (get nat_cmp clients.now) (arc_value entry.now) socket.now.client) }
     ensures missing { OnOk result (missing.new.items ≡ missing.old.items
         ++ missing_of (get nat_cmp clients.now) (arc_value entry.now) socket.now) }
-    ensures memory { IfErr result (λ e. e ≡ HubError.Memory) }
 {
     let client = socket.client;
     if is_full(clients, client, entry) {
@@ -135,12 +131,11 @@ pub(crate) fn messages_for(
     clients: &BTreeMap<u128, Client>,
     sockets: &[Socket],
     entry: &Arc<Entry>,
-) -> Result<(Vec<Message>, Vec<Sid>), HubError>
+) -> Result<(Vec<Message>, Vec<Sid>), AllocError>
     ensures told { IfOk result (λ both. both.0.items
         ≡ casting.messages_for (get nat_cmp clients.now) (arc_value entry.now) sockets.now) }
     ensures missing { IfOk result (λ both. both.1.items
         ≡ casting.missing (get nat_cmp clients.now) (arc_value entry.now) sockets.now) }
-    ensures memory { IfErr result (λ e. e ≡ HubError.Memory) }
 {
     let (mut messages, mut missing) = (Vec::new(alloc), Vec::new(alloc));
     for socket in sockets {
@@ -158,18 +153,17 @@ impl State {
         space: u16,
         rooms: &[Room],
         excepted: &[Room],
-    ) -> Result<Vec<Sid>, HubError>
-        ensures ok { let inside = membership.rooms self.now.base self.now.journal
-            in IfOk result (λ sids. ListsInside (is_in_space self.now.base self.now.journal space)
-            (is_addressed inside rooms.now excepted.now) sids.items) }
-        ensures memory { IfErr result (λ e. e ≡ HubError.Memory) }
+    ) -> Result<Vec<Sid>, AllocError>
+        ensures ok { let h = self.now in IfOk result (λ sids.
+            ListsInside (is_in_space h.base h.journal space)
+            (is_addressed (rooms_now h) rooms.now excepted.now) sids.items) }
     {
         if rooms.is_empty() {
             return everybody_but(alloc, &self.seats, &self.rooms, space, excepted);
         }
         match self.rooms.addressees(alloc, rooms, excepted) {
             Ok(sids) => Ok(sids),
-            Err(_) => Err(HubError::Memory),
+            Err(_) => Err(AllocError),
         }
     }
 
@@ -182,18 +176,10 @@ impl State {
         excepted: Vec<Room>,
         offset: Option<u64>,
         entry: Arc<Entry>,
-    ) -> Result<(Broadcast, Vec<Message>), HubError>
-        ensures broadcast { IfOk result (λ both. both.0 ≡ record {
-          space = space;
-          rooms = rooms.items;
-          excepted = excepted.items;
-          offset = offset;
-          entry = arc_value entry;
-          dropped = both.0.dropped;
-        }) }
-        ensures tells { IfOk result (λ both.
-            Tells self.now.base self.now.limits self.now.journal both.0 both.1.items) }
-        ensures memory { IfErr result (λ e. e ≡ HubError.Memory) }
+    ) -> Result<(Broadcast, Vec<Message>), AllocError>
+        ensures broadcast { IfOk result (λ both. both.0
+            ≡ aimed space rooms.items excepted.items offset (arc_value entry) both.0.dropped) }
+        ensures tells { IfOk result (λ both. TellsNow self.now both.0 both.1.items) }
     {
         let sids = self.listeners(alloc, space, &rooms, &excepted)?;
         let sockets = sockets_in(alloc, &self.seats, &sids, space)?;

@@ -1,32 +1,36 @@
-//! Broadcasts are put into the outboxes of those whom they are for (Socket.IO server
-//! documentation, "Rooms" and "Adapter").
+//! Events are put into the outboxes of those whom they are for (Socket.IO server documentation,
+//! "Rooms" and "Adapter"; Socket.IO protocol 5, "Sending and receiving data").
 
-ghost use Rattle.std.specs.Prelude.{◌≡◌, ◌≤◌, ℕ, true, false, map, nat_eq, None, Some, Err, IfSome, IfOk, IfErr};
-ghost use Rattle.std.specs.List.{IsDistinct, AllByRecursion};
-ghost use Rattle.std.specs.Option.{option_map};
+ghost use Rattle.std.specs.Prelude.{◌≡◌, ◌≤◌, ℕ, true, false, map, nat_eq, None, Some, IfSome, IfOk, IfErr, ◌==◌, [], length, get_or, if◌then◌else◌};
+ghost use Rattle.std.specs.List.{IsDistinct, AllByRecursion, list_any};
+ghost use Rattle.std.specs.Option.{option_map, option_map_or};
 ghost use Rattle.std.specs.Ordering.{nat_cmp};
 ghost use Rattle.std.specs.BTreeMap.{get};
+ghost use Rattle.std.specs.Arc.{arc_value};
+ghost use Rattle.sio_wire.specs.Header.{Plain};
+ghost use Rattle.sio_wire.specs.Offset.{is_bracket, payload_with_offset};
+ghost use Rattle.sio_wire.specs.declared.kind.Kind.{Kind};
 ghost use Rattle.journal.specs.Outboxes.{entries_for};
 ghost use Rattle.journal.specs.Membership.{place_of};
-ghost use Rattle.journal.specs.Casting.{is_full_in, receiver_of, pair_of, with_entries, with_logged, Tells, IsEvent, refusal_of, offset_of, has_no_offset, IsCastOf, IsCastError, CastDoes};
+ghost use Rattle.journal.specs.Casting.{is_full_in, receiver_of, pair_of, with_entries, with_logged, IsEvent, refusal_of, offset_of, has_no_offset, IsCastOf, IsCastError, CastDoes};
 ghost use Rattle.journal.specs.Log.{logged, next};
 ghost use Rattle.journal.specs.Journal.{moment_at};
-ghost use Rattle.journal.specs.Totals.{is_spent};
-ghost use Rattle.journal.specs.Refusals.{or_spent};
+ghost use Rattle.journal.specs.Broadcast.{event_header};
 ghost use Rattle.journal.specs.declared.step.What.{What};
-ghost use Rattle.continuity.specs.Truly.{HearsWhatIsDue};
 ghost use Rattle.hub_state.specs.Changes.{MakesStep};
 ghost use Rattle.hub_state.specs.Sending.{done_of, IsCounted};
+ghost use Rattle.hub_state.specs.Words.{spent_by, TellsNow, AllHear};
 
 use crate::state::deliver::put_entry;
-use crate::state::event::has_bracket;
-use crate::state::{Added, NONE, State};
+use crate::state::{NONE, State};
 use hub_parts::Client;
-use journal::{Broadcast, Cast, CastDone, HubError, Message, What};
+use journal::{Broadcast, Cast, CastDone, Counts, HubError, Message, What};
 use recovery::{Logged, PacketLog};
-use std::alloc::Global;
+use sio_wire::{Header, Kind, with_offset, write_header};
+use std::alloc::{AllocError, Global};
 use std::collections::BTreeMap;
 use std::sync::Arc;
+use terms::{Attachments, Entry, Text};
 
 /// Puts each message into its client's outbox, which has a place for it. No two of them are for
 /// one client.
@@ -44,10 +48,8 @@ pub(crate) fn put_messages(clients: &mut BTreeMap<u128, Client>, messages: Vec<M
 }
 
 /// The broadcast as the log has it, where it has an offset.
-fn log_entry(alloc: Global, at: u64, broadcast: &Broadcast) -> Result<Option<Logged>, HubError>
-    ensures ok { let b = broadcast.now
-        in IfOk result (λ entry. entry ≡ option_map (logged at b) b.offset) }
-    ensures memory { IfErr result (λ e. e ≡ HubError.Memory) }
+fn log_entry(alloc: Global, at: u64, broadcast: &Broadcast) -> Result<Option<Logged>, AllocError>
+    ensures ok { let b = broadcast.now in IfOk result (λ e. e ≡ option_map (logged at b) b.offset) }
 {
     let Some(offset) = broadcast.offset else {
         return Ok(None);
@@ -81,9 +83,8 @@ fn push_logged(log: &mut PacketLog, entry: Option<Logged>)
 }
 
 /// The clients that the messages are for.
-pub(crate) fn receivers(alloc: Global, messages: &[Message]) -> Result<Vec<u128>, HubError>
+pub(crate) fn receivers(alloc: Global, messages: &[Message]) -> Result<Vec<u128>, AllocError>
     ensures ok { IfOk result (λ clients. clients.items ≡ map receiver_of messages.now) }
-    ensures memory { IfErr result (λ e. e ≡ HubError.Memory) }
 {
     let mut clients = Vec::with_capacity(alloc, messages.len())?;
     for message in messages {
@@ -93,9 +94,12 @@ pub(crate) fn receivers(alloc: Global, messages: &[Message]) -> Result<Vec<u128>
 }
 
 /// What comes of a broadcast with these messages.
-fn outcome(alloc: Global, broadcast: &Broadcast, messages: &[Message]) -> Result<CastDone, HubError>
+fn outcome(
+    alloc: Global,
+    broadcast: &Broadcast,
+    messages: &[Message],
+) -> Result<CastDone, AllocError>
     ensures ok { IfOk result (λ done. done ≡ done_of broadcast.now messages.now) }
-    ensures memory { IfErr result (λ e. e ≡ HubError.Memory) }
 {
     Ok(CastDone {
         offset: broadcast.offset,
@@ -103,6 +107,76 @@ fn outcome(alloc: Global, broadcast: &Broadcast, messages: &[Message]) -> Result
         dropped: broadcast.dropped.len() as u64,
         clients: receivers(alloc, messages)?,
     })
+}
+
+/// Whether the text has a `]`.
+pub(crate) fn has_bracket(text: &str) -> bool
+    ensures { result ≡ list_any is_bracket text.now }
+{
+    text.as_bytes().contains(&b']')
+}
+
+/// The payload with the offset as its last element, where there is one.
+fn payload_of(alloc: Global, payload: Text, offset: Option<u64>) -> Result<Text, AllocError>
+    ensures ok { IfOk result (λ t. t ≡ option_map_or (payload_with_offset payload) offset payload) }
+{
+    let Some(offset) = offset else {
+        return Ok(payload);
+    };
+    match with_offset(alloc, payload.as_str(), offset) {
+        Ok(text) => Ok(Text::from_string(text)),
+        Err(_) => Err(AllocError),
+    }
+}
+
+/// An event, or a binary one where there are attachments.
+fn kind_of(attachments: usize) -> Kind
+    ensures { result ≡ (if attachments == 0 then Kind.Event else Kind.BinaryEvent) }
+{
+    if attachments == 0 {
+        Kind::Event
+    } else {
+        Kind::BinaryEvent
+    }
+}
+
+/// The header of an event for the namespace with this name.
+fn header_of(
+    alloc: Global,
+    name: &str,
+    payload: Text,
+    attachments: usize,
+    offset: Option<u64>,
+) -> Result<Header, AllocError>
+    requires { attachments ≤ 32 }
+    ensures ok { IfOk result (λ h. h ≡ event_header name.now payload attachments offset) }
+{
+    let payload = payload_of(alloc, payload, offset)?;
+    Ok(Header {
+        kind: kind_of(attachments),
+        space: Text::copy_of(alloc, name)?,
+        id: None,
+        payload,
+        count: attachments as u32,
+    })
+}
+
+/// The text of an event for the namespace with this name.
+fn event_text(
+    alloc: Global,
+    name: &str,
+    payload: Text,
+    attachments: usize,
+    offset: Option<u64>,
+) -> Result<Text, AllocError>
+    requires { attachments ≤ 32 }
+    ensures ok { IfOk result (λ t. Plain (event_header name.now payload attachments offset) t) }
+{
+    let header = header_of(alloc, name, payload, attachments, offset)?;
+    match write_header(alloc, &header) {
+        Ok(text) => Ok(Text::from_string(text)),
+        Err(_) => Err(AllocError),
+    }
 }
 
 impl State {
@@ -141,15 +215,14 @@ impl State {
     ) -> Result<CastDone, HubError>
         requires event { IsEvent self.old.limits broadcast }
         requires counted { IsCounted self.old broadcast }
-        requires tells { let h = self.old
-            in Tells h.base h.limits h.journal broadcast messages.items }
+        requires tells { TellsNow self.old broadcast messages.items }
         requires logged { entry
             ≡ option_map (logged (moment_at self.old now) broadcast) broadcast.offset }
         ensures does { MakesStep self.old self.new now (What.Cast broadcast) result }
         ensures done { IfOk result (λ done. done ≡ done_of broadcast messages.items) }
     {
         let done = outcome(alloc, &broadcast, &messages)?;
-        let added = Added {
+        let added = Counts {
             placed: done.placed,
             dropped: done.dropped,
             ..NONE
@@ -162,9 +235,8 @@ impl State {
 
     /// Spent, where a broadcast with these messages can't be counted.
     fn send_refusal(&self, broadcast: &Broadcast, messages: &[Message]) -> Option<HubError>
-        requires { Tells self.now.base self.now.limits self.now.journal broadcast.now messages.now }
-        ensures { let what = What.Cast broadcast.now in result
-            ≡ or_spent None (is_spent self.now.base self.now.limits self.now.journal what) }
+        requires { TellsNow self.now broadcast.now messages.now }
+        ensures { result ≡ spent_by self.now (What.Cast broadcast.now) }
     {
         self.count_refusal(messages.len() as u64, broadcast.dropped.len() as u64)
     }
@@ -194,14 +266,12 @@ impl State {
         place: u16,
         offset: Option<u64>,
         cast: Cast,
-    ) -> Result<(Broadcast, Vec<Message>), HubError>
+    ) -> Result<(Broadcast, Vec<Message>), AllocError>
         requires place { place ≡ place_of self.now.limits cast.space }
         requires offset { offset ≡ offset_of self.now cast.logged }
         requires accepted { refusal_of self.now cast ≡ None }
         ensures asked { IfOk result (λ both. IsCastOf self.now cast both.0) }
-        ensures tells { IfOk result (λ both.
-            Tells self.now.base self.now.limits self.now.journal both.0 both.1.items) }
-        ensures memory { IfErr result (λ e. e ≡ HubError.Memory) }
+        ensures tells { IfOk result (λ both. TellsNow self.now both.0 both.1.items) }
     {
         let Cast {
             space: _,
@@ -220,12 +290,11 @@ impl State {
         ensures asked { IfOk result (λ both. IsCastOf self.now cast both.0) }
         ensures accepted { IfOk result (λ _. refusal_of self.now cast ≡ None) }
         ensures numbered { IfOk result (λ _. has_no_offset self.now cast.logged ≡ false) }
-        ensures tells { IfOk result (λ both.
-            Tells self.now.base self.now.limits self.now.journal both.0 both.1.items) }
+        ensures tells { IfOk result (λ both. TellsNow self.now both.0 both.1.items) }
         ensures refused { IfErr result (IsCastError self.now cast (refusal_of self.now cast)) }
     {
         let (place, offset) = self.judge(&cast)?;
-        self.build(alloc, place, offset, cast)
+        Ok(self.build(alloc, place, offset, cast)?)
     }
 
     /// Makes, puts and logs the broadcast that a cast asks for.
@@ -250,17 +319,34 @@ impl State {
     /// namespace alone, each with the logarithm and the excepted rooms.
     ///
     /// After it, accepted or refused, each connected session has heard just the journal's logged
-    /// broadcasts that are due to it, none missing, none twice and in order, where its client
-    /// always named truly what it got last, its rooms stayed the same from that broadcast to the
-    /// loss, and no full outbox dropped one for it.
+    /// broadcasts that are due to it, as `facts` says.
     pub fn cast(&mut self, alloc: Global, cast: Cast, now: u64) -> Result<CastDone, HubError>
         ensures does { CastDoes self.old self.new now cast result }
-        ensures continuity { (p : ℕ)
-            → HearsWhatIsDue self.new.base self.new.limits self.new.journal p }
+        ensures continuity { AllHear self.new }
     {
         let done = self.make_and_send(alloc, cast, now);
         // The prover needs what holds of every hub.
         self.facts();
         done
+    }
+
+    /// What is sent.
+    pub(crate) fn event(
+        &self,
+        alloc: Global,
+        place: usize,
+        payload: Text,
+        attachments: Attachments,
+        offset: Option<u64>,
+    ) -> Result<Arc<Entry>, AllocError>
+        requires { length attachments ≤ 32 }
+        ensures text { let name = get_or self.now.limits.spaces place []
+            in IfOk result (λ entry. Plain
+            (event_header name payload (length attachments) offset) (arc_value entry).text) }
+        ensures attachments { IfOk result (λ entry. (arc_value entry).attachments ≡ attachments) }
+    {
+        let name = self.name_at(place);
+        let text = event_text(alloc, name, payload, attachments.len(), offset)?;
+        Ok(Arc::new(alloc, Entry { text, attachments })?)
     }
 }

@@ -1,6 +1,6 @@
 //! Sockets are connected (Socket.IO protocol 5, "Connection to a namespace").
 
-ghost use Rattle.std.specs.Prelude.{◌≡◌, ℕ, ◌+◌, ◌≤◌, ◌==◌, ◌||◌, true, false, [], length, OnOk, OnErr, IfOk, IfErr, None, Some, nat_le, nat_lt, get_or, if◌then◌else◌};
+ghost use Rattle.std.specs.Prelude.{◌≡◌, ℕ, ◌+◌, ◌≤◌, ◌||◌, true, false, [], length, OnOk, OnErr, IfOk, IfErr, None, Some, nat_le, nat_lt, get_or};
 ghost use Rattle.std.specs.Option.{option_map};
 ghost use Rattle.std.specs.Ordering.{nat_cmp};
 ghost use Rattle.std.specs.BTreeMap.{get};
@@ -8,9 +8,9 @@ ghost use Rattle.std.specs.Arc.{arc_value};
 ghost use Rattle.room_maps.specs.Membership as room_maps;
 ghost use Rattle.terms.specs.Entry.{entry_size};
 ghost use Rattle.sio_wire.specs.ConnectAnswer as connect_answer;
-ghost use Rattle.journal.specs.Membership.{place_of, is_space, is_open, is_connected, pid_of, sid_of, socket_of};
-ghost use Rattle.journal.specs.Sessions.{sessions, is_sid_saved, is_pid_saved};
-ghost use Rattle.journal.specs.Outboxes.{answer, waiting, total_size, is_full};
+ghost use Rattle.journal.specs.Membership.{place_of, is_space, is_connected, pid_of, sid_of, socket_of};
+ghost use Rattle.journal.specs.Sessions.{is_sid_saved, is_pid_saved};
+ghost use Rattle.journal.specs.Outboxes.{answer, total_size, is_full};
 ghost use Rattle.journal.specs.Outboxes as outboxes;
 ghost use Rattle.journal.specs.Refusals.{is_taken};
 ghost use Rattle.journal.specs.Command.{Does};
@@ -19,18 +19,19 @@ ghost use Rattle.journal.specs.declared.socket.Socket.{Socket};
 ghost use Rattle.journal.specs.declared.step.What.{What};
 ghost use Rattle.hub_parts.specs.Seats.{SameSeats, WithSeat, WithoutSeat};
 ghost use Rattle.hub_state.specs.Changes.{ChangesClient, SameClients, SamePids, WithPid, WithoutPid, IsNew, IsAlone, refusal_now, MakesStep};
+ghost use Rattle.hub_state.specs.Words.{opened, waits, saves, plain_entry, socket_for, answer_at};
 
-use crate::state::deliver::put_entry;
-use crate::state::{Added, NONE, State};
+use crate::state::deliver::{put_entry, shared_text};
+use crate::state::{NONE, State};
 use hub_parts::{Client, Seats};
-use journal::{HubError, Socket, What};
+use journal::{Counts, HubError, Socket, What};
 use recovery::Pid;
 use room_maps::Rooms;
 use sio_wire::connected_text;
-use std::alloc::Global;
+use std::alloc::{AllocError, Global};
 use std::collections::{BTreeMap, BTreeSet};
 use std::sync::Arc;
-use terms::{Attachments, Entry, Room, Sid, Text};
+use terms::{Entry, Room, Sid, Text};
 
 /// How many bytes the answer to a CONNECT to this namespace has.
 fn answer_size(name: &str) -> usize
@@ -40,50 +41,37 @@ fn answer_size(name: &str) -> usize
 }
 
 /// The answer to a CONNECT to this namespace, which outboxes may share.
-fn answer_to(alloc: Global, name: &str, sid: Sid, pid: Pid) -> Result<Arc<Entry>, HubError>
-    ensures ok { IfOk result (λ entry. arc_value entry ≡ record {
-      text = connect_answer.connected_text name.now sid pid;
-      attachments = [];
-    }) }
-    ensures memory { IfErr result (λ e. e ≡ HubError.Memory) }
+fn answer_to(alloc: Global, name: &str, sid: Sid, pid: Pid) -> Result<Arc<Entry>, AllocError>
+    ensures ok { IfOk result (λ entry.
+        arc_value entry ≡ plain_entry (connect_answer.connected_text name.now sid pid)) }
 {
     match connected_text(alloc, name, sid.number(), pid.number()) {
-        Ok(text) => Ok(Arc::new(
-            alloc,
-            Entry {
-                text: Text::from_string(text),
-                attachments: Attachments::new(alloc),
-            },
-        )?),
-        Err(_) => Err(HubError::Memory),
+        Ok(text) => shared_text(alloc, text),
+        Err(_) => Err(AllocError),
     }
 }
 
 /// Makes a socket known by its private id.
-fn add_pid(pids: &mut BTreeSet<Pid>, pid: Pid) -> Result<(), HubError>
+fn add_pid(pids: &mut BTreeSet<Pid>, pid: Pid) -> Result<(), AllocError>
     ensures ok { OnOk result (WithPid pid pids.old pids.new) }
     ensures err { OnErr result (SamePids pids.old pids.new) }
-    ensures memory { IfErr result (λ e. e ≡ HubError.Memory) }
 {
-    match pids.insert(pid) {
-        Ok(_) => Ok(()),
-        Err(_) => Err(HubError::Memory),
-    }
+    pids.insert(pid)?;
+    Ok(())
 }
 
 /// Makes a socket known by both its ids, of which the session id is free.
-fn add_ids(seats: &mut Seats, pids: &mut BTreeSet<Pid>, socket: &Socket) -> Result<(), HubError>
+fn add_ids(seats: &mut Seats, pids: &mut BTreeSet<Pid>, socket: &Socket) -> Result<(), AllocError>
     requires free { get nat_cmp seats.old socket.now.sid ≡ None }
     ensures seats { OnOk result (WithSeat socket.now seats.old seats.new) }
     ensures pids { OnOk result (WithPid socket.now.pid pids.old pids.new) }
     ensures same_seats { OnErr result (SameSeats seats.old seats.new) }
     ensures same_pids { OnErr result (SamePids pids.old pids.new) }
-    ensures memory { IfErr result (λ e. e ≡ HubError.Memory) }
 {
     seats.insert(*socket)?;
     if add_pid(pids, socket.pid).is_err() {
         seats.remove(socket.sid);
-        return Err(HubError::Memory);
+        return Err(AllocError);
     }
     Ok(())
 }
@@ -105,7 +93,7 @@ fn enter(
     rooms: &mut Rooms,
     socket: &Socket,
     inside: &[Room],
-) -> Result<(), HubError>
+) -> Result<(), AllocError>
     requires { IsNew socket.now seats.old pids.old }
     ensures ids { OnOk result (WithSeat socket.now seats.old seats.new
         × WithPid socket.now.pid pids.old pids.new) }
@@ -114,29 +102,25 @@ fn enter(
     ensures agree { OnOk result (room_maps.AreConsistent rooms.new) }
     ensures unchanged { OnErr result (SameSeats seats.old seats.new × SamePids pids.old pids.new
         × (rooms.new ≡ rooms.old)) }
-    ensures memory { IfErr result (λ e. e ≡ HubError.Memory) }
 {
     add_ids(seats, pids, socket)?;
     if rooms.enter_all(alloc, socket.sid, inside).is_err() {
         drop_ids(seats, pids, socket.sid, socket.pid);
-        return Err(HubError::Memory);
+        return Err(AllocError);
     }
     rooms.kept_facts();
     Ok(())
 }
 
 /// Gives a client a socket more, where it has none at the socket's place.
-fn add_socket(clients: &mut BTreeMap<u128, Client>, socket: &Socket) -> Result<(), HubError>
+fn add_socket(clients: &mut BTreeMap<u128, Client>, socket: &Socket) -> Result<(), AllocError>
     requires { IsAlone socket.now clients.old }
     ensures ok { let k = socket.now
         in OnOk result (ChangesClient (plus_socket k) k.client clients.old clients.new) }
     ensures err { OnErr result (SameClients clients.old clients.new) }
-    ensures memory { IfErr result (λ e. e ≡ HubError.Memory) }
 {
     if let Some(known) = clients.get_mut(&socket.client) {
-        if known.sockets.push(*socket).is_err() {
-            return Err(HubError::Memory);
-        }
+        known.sockets.push(*socket)?;
     }
     Ok(())
 }
@@ -160,7 +144,7 @@ pub(crate) fn seat(
     rooms: &mut Rooms,
     socket: &Socket,
     inside: &[Room],
-) -> Result<(), HubError>
+) -> Result<(), AllocError>
     requires alone { IsAlone socket.now clients.old }
     requires new { IsNew socket.now seats.old pids.old }
     ensures ids { let k = socket.now
@@ -172,7 +156,6 @@ pub(crate) fn seat(
     ensures unchanged { OnErr result (SameClients clients.old clients.new
         × SameSeats seats.old seats.new × SamePids pids.old pids.new
         × (rooms.new ≡ rooms.old)) }
-    ensures memory { IfErr result (λ e. e ≡ HubError.Memory) }
 {
     add_socket(clients, socket)?;
     if let Err(refusal) = enter(alloc, seats, pids, rooms, socket, inside) {
@@ -240,16 +223,14 @@ impl State {
 
     /// Whether a saved session has this session id.
     fn is_sid_saved(&self, sid: Sid) -> bool
-        ensures { let h = self.now
-            in result ≡ is_sid_saved (sessions h.base h.limits h.journal) sid }
+        ensures { result ≡ is_sid_saved (saves self.now) sid }
     {
         self.saved.has_sid(sid)
     }
 
     /// Whether a saved session has this private id.
     fn is_pid_saved(&self, pid: Pid) -> bool
-        ensures { let h = self.now
-            in result ≡ is_pid_saved (sessions h.base h.limits h.journal) pid }
+        ensures { result ≡ is_pid_saved (saves self.now) pid }
     {
         self.saved.has_pid(pid)
     }
@@ -266,10 +247,9 @@ impl State {
 
     /// Whether an open client's outbox has no place for an entry of this many bytes.
     fn lacks(&self, client: u128, size: usize) -> bool
-        ensures { let waits = waiting self.now.base self.now.limits self.now.journal client
-            in is_open self.now.base self.now.journal client ≡ true
-            → result ≡ (nat_le self.now.limits.capacity (length waits)
-            || nat_lt self.now.limits.bytes (total_size waits + size)) }
+        ensures { let h = self.now in opened h client ≡ true
+            → result ≡ (nat_le h.limits.capacity (length (waits h client))
+            || nat_lt h.limits.bytes (total_size (waits h client) + size)) }
     {
         match self.clients.get(&client) {
             Some(known) => known.outbox.lacks(size),
@@ -289,8 +269,7 @@ impl State {
 
     /// How many bytes the answer to a CONNECT to the namespace at a place has.
     pub(crate) fn answer_size(&self, place: usize) -> usize
-        ensures { (client sid pid : ℕ) → result ≡ entry_size (answer self.now.limits
-            (record { client = client; space = place; sid = sid; pid = pid })) }
+        ensures { (c sid pid : ℕ) → result ≡ entry_size (answer_at self.now c place sid pid) }
     {
         answer_size(self.name_at(place))
     }
@@ -302,20 +281,17 @@ impl State {
         place: usize,
         sid: Sid,
         pid: Pid,
-    ) -> Result<Arc<Entry>, HubError>
-        ensures ok { IfOk result (λ entry. (client : ℕ) → arc_value entry
-            ≡ answer self.now.limits
-            (record { client = client; space = place; sid = sid; pid = pid })) }
-        ensures memory { IfErr result (λ e. e ≡ HubError.Memory) }
+    ) -> Result<Arc<Entry>, AllocError>
+        ensures ok { IfOk result (λ entry. (c : ℕ)
+            → arc_value entry ≡ answer_at self.now c place sid pid) }
     {
         answer_to(alloc, self.name_at(place), sid, pid)
     }
 
     /// Whether an open client's outbox has no place for the answer to a CONNECT.
     fn lacks_answer(&self, client: u128, place: usize) -> bool
-        ensures { let h = self.now in is_open h.base h.journal client ≡ true → (sid pid : ℕ)
-            → result ≡ is_full h.base h.limits h.journal client (answer h.limits
-            (record { client = client; space = place; sid = sid; pid = pid })) }
+        ensures { let h = self.now in opened h client ≡ true → (sid pid : ℕ) → result
+            ≡ is_full h.base h.limits h.journal client (answer_at h client place sid pid) }
     {
         let size = self.answer_size(place);
         self.lacks(client, size)
@@ -323,21 +299,10 @@ impl State {
 
     /// The socket that is to be connected, or why it can't be.
     fn attaching(&self, client: u128, space: &str, sid: Sid, pid: Pid) -> Result<Socket, HubError>
-        ensures socket { IfOk result (λ socket. socket ≡ record {
-          client = client;
-          space = place_of self.now.limits space.now;
-          sid = sid;
-          pid = pid;
-        }) }
-        ensures accepted { IfOk result (λ socket.
-            refusal_now self.now (What.Attached socket) ≡ None) }
-        ensures refused { let socket : Socket = record {
-          client = client;
-          space = place_of self.now.limits space.now;
-          sid = sid;
-          pid = pid;
-        }
-            in IfErr result (λ e. Some e ≡ refusal_now self.now (What.Attached socket)) }
+        ensures socket { IfOk result (λ k. k ≡ socket_for self.now client space.now sid pid) }
+        ensures accepted { IfOk result (λ k. refusal_now self.now (What.Attached k) ≡ None) }
+        ensures refused { let k = socket_for self.now client space.now sid pid
+            in IfErr result (λ e. Some e ≡ refusal_now self.now (What.Attached k)) }
     {
         if !self.is_open(client) {
             return Err(HubError::UnknownClient);
@@ -377,12 +342,7 @@ impl State {
         pid: Pid,
         now: u64,
     ) -> Result<(), HubError>
-        ensures { let socket : Socket = record {
-          client = client;
-          space = place_of self.old.limits space.now;
-          sid = sid;
-          pid = pid;
-        }
+        ensures { let socket = socket_for self.old client space.now sid pid
             in Does self.old self.new now (What.Attached socket) result }
     {
         let socket = self.attaching(client, space, sid, pid)?;
@@ -413,7 +373,7 @@ impl State {
             &[],
         )?;
         put_entry(&mut self.clients, socket.client, answer);
-        let added = Added { placed: 1, ..NONE };
+        let added = Counts { placed: 1, ..NONE };
         self.records.add(now, What::Attached(socket), added);
         Ok(())
     }

@@ -1,23 +1,24 @@
 //! Entries are put into clients' outboxes and handed out.
 
-ghost use Rattle.std.specs.Prelude.{◌≡◌, ◌≤◌, true, false, length, min, take, IfOk, IfErr, IfSome, IfNone, None, Some};
+ghost use Rattle.std.specs.Prelude.{◌≡◌, ◌≤◌, true, false, length, min, take, string_bytes, IfOk, IfErr, IfSome, IfNone, None, Some};
 ghost use Rattle.std.specs.Ordering.{nat_cmp};
 ghost use Rattle.std.specs.BTreeMap.{get};
 ghost use Rattle.std.specs.Arc.{arc_value};
-ghost use Rattle.journal.specs.Membership.{is_open};
-ghost use Rattle.journal.specs.Outboxes.{waiting, is_full, has_no_place};
+ghost use Rattle.journal.specs.Outboxes.{is_full, has_no_place};
 ghost use Rattle.journal.specs.Command.{Does};
 ghost use Rattle.journal.specs.Fields.{without_first, with_entry};
 ghost use Rattle.journal.specs.declared.step.What.{What};
 ghost use Rattle.hub_state.specs.Changes.{ChangesClient, refusal_now};
+ghost use Rattle.hub_state.specs.Words.{opened, waits, plain_entry, told, took};
 
-use crate::state::{Added, NONE, State};
+use crate::state::aim::is_full;
+use crate::state::{NONE, State};
 use hub_parts::Client;
-use journal::{HubError, Message, What};
-use std::alloc::Global;
+use journal::{Counts, HubError, Message, What};
+use std::alloc::{AllocError, Global};
 use std::collections::BTreeMap;
 use std::sync::Arc;
-use terms::Entry;
+use terms::{Attachments, Entry, Text};
 
 /// Takes the first entries of a client's outbox away.
 fn hand_out(clients: &mut BTreeMap<u128, Client>, client: u128, count: usize)
@@ -29,14 +30,22 @@ fn hand_out(clients: &mut BTreeMap<u128, Client>, client: u128, count: usize)
 }
 
 /// An entry that two may hold.
-fn share(alloc: Global, entry: Entry) -> Result<(Arc<Entry>, Arc<Entry>), HubError>
+fn share(alloc: Global, entry: Entry) -> Result<(Arc<Entry>, Arc<Entry>), AllocError>
     ensures first { IfOk result (λ both. arc_value both.0 ≡ entry) }
     ensures second { IfOk result (λ both. arc_value both.1 ≡ entry) }
-    ensures memory { IfErr result (λ e. e ≡ HubError.Memory) }
 {
     let first = Arc::new(alloc, entry)?;
     let second = Arc::try_clone(&first)?;
     Ok((first, second))
+}
+
+/// An entry of a text alone, which outboxes may share.
+pub(crate) fn shared_text(alloc: Global, text: String) -> Result<Arc<Entry>, AllocError>
+    ensures { IfOk result (λ entry. arc_value entry ≡ plain_entry (string_bytes text)) }
+{
+    let text = Text::from_string(text);
+    let attachments = Attachments::new(alloc);
+    Ok(Arc::new(alloc, Entry { text, attachments })?)
 }
 
 /// Puts an entry at the end of a client's outbox, which has a place for it.
@@ -53,18 +62,14 @@ pub(crate) fn put_entry(clients: &mut BTreeMap<u128, Client>, client: u128, entr
 impl State {
     /// Whether an open client's outbox has no place for an entry.
     fn is_full(&self, client: u128, entry: &Entry) -> bool
-        ensures { let h = self.now in is_open h.base h.journal client ≡ true
+        ensures { let h = self.now in opened h client ≡ true
             → result ≡ is_full h.base h.limits h.journal client entry.now }
     {
-        match self.clients.get(&client) {
-            Some(known) => known.outbox.has_no_place(entry),
-            None => false,
-        }
+        is_full(&self.clients, client, entry)
     }
 
     fn tell_refusal(&self, client: u128, entry: &Entry) -> Option<HubError>
-        ensures refusal { let what = What.Told (record { client = client; entry = entry.now })
-            in result ≡ refusal_now self.now what }
+        ensures refusal { result ≡ refusal_now self.now (told client entry.now) }
         ensures place { let h = self.now
             in IfNone result (is_full h.base h.limits h.journal client entry.now ≡ false) }
     {
@@ -86,15 +91,14 @@ impl State {
         entry: Entry,
         now: u64,
     ) -> Result<(), HubError>
-        ensures { let what = What.Told (record { client = client; entry = entry })
-            in Does self.old self.new now what result }
+        ensures { Does self.old self.new now (told client entry) result }
     {
         if let Some(refusal) = self.tell_refusal(client, &entry) {
             return Err(refusal);
         }
         let (entry, shared) = share(alloc, entry)?;
         let told = Message { client, entry };
-        let added = Added { placed: 1, ..NONE };
+        let added = Counts { placed: 1, ..NONE };
         self.records.write(now, What::Told(told), added)?;
         put_entry(&mut self.clients, client, shared);
         Ok(())
@@ -102,13 +106,11 @@ impl State {
 
     /// How many entries a `take` hands out, or why it is refused.
     fn takes(&self, client: u128, most: usize) -> Result<usize, HubError>
-        ensures number { let waits = waiting self.now.base self.now.limits self.now.journal client
-            in IfOk result (λ number. number ≡ min most (length waits)) }
-        ensures accepted { IfOk result (λ number.
-            refusal_now self.now (What.Took client most number) ≡ None) }
-        ensures refused { let waits = waiting self.now.base self.now.limits self.now.journal client
-            in IfErr result (λ e.
-            refusal_now self.now (What.Took client most (min most (length waits))) ≡ Some e) }
+        ensures number { IfOk result (λ n. n ≡ min most (length (waits self.now client))) }
+        ensures accepted { IfOk result (λ n.
+            refusal_now self.now (What.Took client most n) ≡ None) }
+        ensures refused { IfErr result (λ e.
+            refusal_now self.now (took self.now client most) ≡ Some e) }
     {
         self.facts();
         let Some(waits) = self.waiting(client) else {
@@ -122,15 +124,13 @@ impl State {
     }
 
     /// Copies of the first entries that wait for a client.
-    fn copies(&self, alloc: Global, client: u128, count: usize) -> Result<Vec<Entry>, HubError>
-        requires { let h = self.now in count ≤ length (waiting h.base h.limits h.journal client) }
-        ensures ok { let h = self.now
-            in IfOk result (λ entries. is_open h.base h.journal client ≡ true
-            → entries.items ≡ take count (waiting h.base h.limits h.journal client)) }
-        ensures memory { IfErr result (λ e. e ≡ HubError.Memory) }
+    fn copies(&self, alloc: Global, client: u128, count: usize) -> Result<Vec<Entry>, AllocError>
+        requires { count ≤ length (waits self.now client) }
+        ensures ok { IfOk result (λ entries. opened self.now client ≡ true
+            → entries.items ≡ take count (waits self.now client)) }
     {
         match self.clients.get(&client) {
-            Some(known) => Ok(known.outbox.copies(alloc, count)?),
+            Some(known) => known.outbox.copies(alloc, count),
             None => Ok(Vec::new(alloc)),
         }
     }
@@ -145,11 +145,8 @@ impl State {
         most: usize,
         now: u64,
     ) -> Result<Vec<Entry>, HubError>
-        ensures entries { let waits = waiting self.old.base self.old.limits self.old.journal client
-            in IfOk result (λ entries. entries.items ≡ take most waits) }
-        ensures does { let waits = waiting self.old.base self.old.limits self.old.journal client
-            in let what = What.Took client most (min most (length waits))
-            in Does self.old self.new now what result }
+        ensures entries { IfOk result (λ all. all.items ≡ take most (waits self.old client)) }
+        ensures does { Does self.old self.new now (took self.old client most) result }
     {
         let number = self.takes(client, most)?;
         let entries = self.copies(alloc, client, number)?;
@@ -168,19 +165,14 @@ impl State {
         most: usize,
         now: u64,
     ) -> Result<usize, HubError>
-        ensures number { let waits = waiting self.old.base self.old.limits self.old.journal client
-            in IfOk result (λ number. number ≡ min most (length waits)) }
-        ensures does { let waits = waiting self.old.base self.old.limits self.old.journal client
-            in let what = What.Took client most (min most (length waits))
-            in Does self.old self.new now what result }
+        ensures number { IfOk result (λ n. n ≡ min most (length (waits self.old client))) }
+        ensures does { Does self.old self.new now (took self.old client most) result }
     {
         let number = self.takes(client, most)?;
-        let added = Added {
-            taken: number as u64,
-            ..NONE
-        };
-        self.records
-            .write(now, What::Took(client, most, number), added)?;
+        let taken = number as u64;
+        let added = Counts { taken, ..NONE };
+        let what = What::Took(client, most, number);
+        self.records.write(now, what, added)?;
         hand_out(&mut self.clients, client, number);
         Ok(number)
     }

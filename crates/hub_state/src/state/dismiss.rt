@@ -1,7 +1,7 @@
 //! Many sockets of a namespace are ended (Socket.IO server documentation, "Server API":
 //! `disconnectSockets`).
 
-ghost use Rattle.std.specs.Prelude.{◌≡◌, ℕ, ◌==◌, true, false, [], map, nat_eq, IfOk, IfErr, None, if◌then◌else◌};
+ghost use Rattle.std.specs.Prelude.{◌≡◌, ℕ, ◌==◌, true, false, map, nat_eq, IfOk, if◌then◌else◌};
 ghost use Rattle.std.specs.List.{list_any, IsDistinct, AllByRecursion};
 ghost use Rattle.std.specs.Option.{option_map};
 ghost use Rattle.std.specs.Ordering.{nat_cmp};
@@ -14,63 +14,54 @@ ghost use Rattle.journal.specs.Membership.{place_of, sid_of, is_space, without_s
 ghost use Rattle.journal.specs.Outboxes as outboxes;
 ghost use Rattle.journal.specs.ManySockets.{dismissal};
 ghost use Rattle.journal.specs.Totals.{is_spent};
-ghost use Rattle.journal.specs.Refusals.{or_spent};
 ghost use Rattle.journal.specs.Legal.{EachTwo, AreApart};
 ghost use Rattle.journal.specs.Command.{Does};
 ghost use Rattle.journal.specs.Fields.{without_place};
 ghost use Rattle.journal.specs.Casting.{receiver_of};
-ghost use Rattle.journal.specs.Dismissing.{ListsMatching, Dismisses};
 ghost use Rattle.journal.specs.declared.socket.Socket.{Socket};
 ghost use Rattle.journal.specs.declared.step.What.{What};
 ghost use Rattle.hub_state.specs.Changes.{WithoutSeats, WithoutPids, MakesStep};
+ghost use Rattle.hub_state.specs.Words.{spent_by, plain_entry, DismissesNow, ListsMatches};
 
 use crate::state::aim::{messages_for, sockets_in};
 use crate::state::cast::{put_messages, receivers};
+use crate::state::deliver::shared_text;
 use crate::state::end::{drop_from, forget};
 use crate::state::note_departed::note;
-use crate::state::{Added, NONE, State};
+use crate::state::{NONE, State};
 use hub_parts::{Client, Seats};
-use journal::{Dismissal, Dismissed, HubError, Message, Socket, What};
+use journal::{Counts, Dismissal, Dismissed, HubError, Message, Socket, What};
 use recovery::Pid;
 use room_maps::Rooms;
 use sio_wire::disconnect_text;
-use std::alloc::Global;
+use std::alloc::{AllocError, Global};
 use std::collections::{BTreeMap, BTreeSet};
 use std::sync::Arc;
-use terms::{Attachments, Entry, Room, Sid, Text};
+use terms::{Entry, Room, Sid};
 
 /// What a client is told whose socket in the namespace with this name is ended.
-fn farewell_to(alloc: Global, name: &str) -> Result<Arc<Entry>, HubError>
-    ensures ok { IfOk result (λ entry. arc_value entry
-        ≡ record { text = disconnect.disconnect_text name.now; attachments = [] }) }
-    ensures memory { IfErr result (λ e. e ≡ HubError.Memory) }
+fn farewell_to(alloc: Global, name: &str) -> Result<Arc<Entry>, AllocError>
+    ensures ok { IfOk result (λ entry.
+        arc_value entry ≡ plain_entry (disconnect.disconnect_text name.now)) }
 {
     match disconnect_text(alloc, name) {
-        Ok(text) => Ok(Arc::new(
-            alloc,
-            Entry {
-                text: Text::from_string(text),
-                attachments: Attachments::new(alloc),
-            },
-        )?),
-        Err(_) => Err(HubError::Memory),
+        Ok(text) => shared_text(alloc, text),
+        Err(_) => Err(AllocError),
     }
 }
 
 /// The ids of the sockets, in the same order.
-fn ids_of(alloc: Global, sockets: &[Socket]) -> Result<Vec<Sid>, HubError>
+fn ids_of(alloc: Global, sockets: &[Socket]) -> Result<Vec<Sid>, AllocError>
     ensures ok { IfOk result (λ sids. sids.items ≡ map sid_of sockets.now) }
-    ensures memory { IfErr result (λ e. e ≡ HubError.Memory) }
 {
-    Ok(sockets.iter().map(|socket| socket.sid).collect(alloc)?)
+    sockets.iter().map(|socket| socket.sid).collect(alloc)
 }
 
 /// The clients that the messages are for, rising. No two messages are for one client.
-fn told_by(alloc: Global, messages: &[Message]) -> Result<Vec<u128>, HubError>
+fn told_by(alloc: Global, messages: &[Message]) -> Result<Vec<u128>, AllocError>
     requires { IsDistinct nat_eq (map receiver_of messages.now) }
     ensures ok { IfOk result (λ clients. ListsRising nat_cmp (λ c.
         list_any (λ d. d == c) (map receiver_of messages.now)) clients.items) }
-    ensures memory { IfErr result (λ e. e ≡ HubError.Memory) }
 {
     let mut clients = receivers(alloc, messages)?;
     clients.sort_unstable();
@@ -78,15 +69,13 @@ fn told_by(alloc: Global, messages: &[Message]) -> Result<Vec<u128>, HubError>
 }
 
 /// What is answered of a dismissal.
-fn answer_of(alloc: Global, dismissal: &Dismissal) -> Result<Dismissed, HubError>
+fn answer_of(alloc: Global, dismissal: &Dismissal) -> Result<Dismissed, AllocError>
     ensures ended { IfOk result (λ done. done.ended.items ≡ dismissal.now.ended) }
     ensures told { IfOk result (λ done. done.told.items ≡ dismissal.now.told) }
-    ensures memory { IfErr result (λ e. e ≡ HubError.Memory) }
 {
-    Ok(Dismissed {
-        ended: Vec::from_slice(alloc, &dismissal.ended)?,
-        told: Vec::from_slice(alloc, &dismissal.told)?,
-    })
+    let ended = Vec::from_slice(alloc, &dismissal.ended)?;
+    let told = Vec::from_slice(alloc, &dismissal.told)?;
+    Ok(Dismissed { ended, told })
 }
 
 /// Takes the sockets, which are in the namespace at this place, out of their clients' lists.
@@ -117,10 +106,8 @@ fn forget_each(seats: &mut Seats, pids: &mut BTreeSet<Pid>, rooms: &mut Rooms, s
 
 impl State {
     /// What a client is told whose socket in the namespace at a place is ended.
-    fn farewell(&self, alloc: Global, place: usize) -> Result<Arc<Entry>, HubError>
-        ensures ok { IfOk result (λ entry.
-            arc_value entry ≡ outboxes.farewell self.now.limits place) }
-        ensures memory { IfErr result (λ e. e ≡ HubError.Memory) }
+    fn farewell(&self, alloc: Global, place: usize) -> Result<Arc<Entry>, AllocError>
+        ensures ok { IfOk result (λ e. arc_value e ≡ outboxes.farewell self.now.limits place) }
     {
         farewell_to(alloc, self.name_at(place))
     }
@@ -133,10 +120,9 @@ impl State {
         space: u16,
         rooms: &[Room],
         excepted: &[Room],
-    ) -> Result<Vec<Socket>, HubError>
-        ensures ok { let h = self.now in IfOk result (λ sockets.
-            ListsMatching h.base h.journal space rooms.now excepted.now sockets.items) }
-        ensures memory { IfErr result (λ e. e ≡ HubError.Memory) }
+    ) -> Result<Vec<Socket>, AllocError>
+        ensures ok { IfOk result (λ sockets.
+            ListsMatches self.now space rooms.now excepted.now sockets.items) }
     {
         let sids = self.listeners(alloc, space, rooms, excepted)?;
         sockets_in(alloc, &self.seats, &sids, space)
@@ -149,12 +135,10 @@ impl State {
         space: u16,
         rooms: Vec<Room>,
         excepted: Vec<Room>,
-    ) -> Result<(Dismissal, Vec<Socket>, Vec<Message>), HubError>
+    ) -> Result<(Dismissal, Vec<Socket>, Vec<Message>), AllocError>
         ensures asked { IfOk result (λ plan.
             plan.0 ≡ dismissal self.now space rooms.items excepted.items) }
-        ensures makes { let h = self.now in IfOk result (λ plan.
-            Dismisses h.base h.limits h.journal plan.0 plan.1.items plan.2.items) }
-        ensures memory { IfErr result (λ e. e ≡ HubError.Memory) }
+        ensures makes { IfOk result (λ p. DismissesNow self.now p.0 p.1.items p.2.items) }
     {
         let sockets = self.matching_sockets(alloc, space, &rooms, &excepted)?;
         let entry = self.farewell(alloc, usize::from(space))?;
@@ -173,8 +157,7 @@ impl State {
 
     /// Spent, where a dismissal can't be counted.
     fn dismissal_refusal(&self, dismissal: &Dismissal) -> Option<HubError>
-        ensures { let what = What.AllEnded dismissal.now in result
-            ≡ or_spent None (is_spent self.now.base self.now.limits self.now.journal what) }
+        ensures { result ≡ spent_by self.now (What.AllEnded dismissal.now) }
     {
         self.count_refusal(dismissal.told.len() as u64, 0)
     }
@@ -189,17 +172,14 @@ impl State {
         now: u64,
     ) -> Result<(), HubError>
         requires known { is_space self.old.limits dismissal.space ≡ true }
-        requires makes { let h = self.old
-            in Dismisses h.base h.limits h.journal dismissal sockets.items messages.items }
+        requires makes { DismissesNow self.old dismissal sockets.items messages.items }
         requires unspent { let what = What.AllEnded dismissal
             in is_spent self.old.base self.old.limits self.old.journal what ≡ false }
         ensures { MakesStep self.old self.new now (What.AllEnded dismissal) result }
     {
         let place = usize::from(dismissal.space);
-        let added = Added {
-            placed: dismissal.told.len() as u64,
-            ..NONE
-        };
+        let placed = dismissal.told.len() as u64;
+        let added = Counts { placed, ..NONE };
         let what = What::AllEnded(dismissal);
         let ended = self.departed_by(alloc, &what)?;
         self.records.steps.reserve()?;

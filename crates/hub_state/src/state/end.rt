@@ -67,10 +67,7 @@ impl State {
     pub(crate) fn socket_with(&self, sid: Sid) -> Option<Socket>
         ensures { result ≡ socket_with sid_of self.now.base self.now.journal sid }
     {
-        match self.seats.get(sid) {
-            Some(socket) => Some(*socket),
-            None => None,
-        }
+        self.seats.get(sid).copied()
     }
 
     /// The socket that is to end, or why it can't be ended.
@@ -89,9 +86,9 @@ impl State {
         }
     }
 
-    /// Ends a socket: it leaves its client and all its rooms, and nothing is saved. Refused as
-    /// `UnknownSocket`, `Spent`, then for `Memory`. It takes the logarithm of the clients and
-    /// sockets, and each of the socket's rooms takes the logarithm of the sockets and of the rooms.
+    /// Ends a socket alone, by this side: it leaves its client and all its rooms, and nothing is
+    /// saved. Refused as `UnknownSocket`, `Spent`, then for `Memory`. It takes the logarithm of the
+    /// clients and sockets, and each of its rooms takes the logarithm of the sockets and rooms.
     pub fn end(&mut self, alloc: Global, sid: Sid, by: Side, now: u64) -> Result<(), HubError>
         ensures { Does self.old self.new now (What.Ended sid by) result }
     {

@@ -1,7 +1,7 @@
 //! What a session that comes back has missed (Socket.IO server documentation, "Connection state
 //! recovery").
 
-ghost use Rattle.std.specs.Prelude.{◌≡◌, ◌+◌, ◌≤◌, ◌||◌, true, [], ◌∷◌, ◌++◌, length, map, filter, nat_lt, OnOk, IfOk, IfErr, IfSome, IfNone};
+ghost use Rattle.std.specs.Prelude.{◌≡◌, ◌+◌, ◌≤◌, ◌||◌, true, [], ◌∷◌, ◌++◌, length, map, filter, nat_lt, OnOk, IfOk, IfSome, IfNone};
 ghost use Rattle.std.specs.Arc.{arc_value};
 ghost use Rattle.recovery.specs.Missed.{is_for};
 ghost use Rattle.journal.specs.Outboxes.{total_size};
@@ -9,9 +9,8 @@ ghost use Rattle.journal.specs.Recovery.{gets};
 ghost use Rattle.hub_state.specs.Returning.{gets_back};
 
 use hub_parts::room_after;
-use journal::HubError;
 use recovery::{Logged, Saved};
-use std::alloc::Global;
+use std::alloc::{AllocError, Global};
 use std::sync::Arc;
 use terms::{Entry, Room};
 
@@ -98,12 +97,11 @@ fn add_missed(
     rooms: &[Room],
     entries: &mut Vec<Arc<Entry>>,
     offsets: &mut Vec<u64>,
-) -> Result<(), HubError>
+) -> Result<(), AllocError>
     ensures entries { OnOk result (map arc_value entries.new.items
         ≡ map arc_value entries.old.items ++ gets space rooms.now broadcasts.now) }
     ensures offsets { OnOk result (offsets.new.items ≡ offsets.old.items
         ++ map (λ entry. entry.offset) (filter (is_for space rooms.now) broadcasts.now)) }
-    ensures memory { IfErr result (λ e. e ≡ HubError.Memory) }
 {
     for logged in broadcasts {
         if logged.is_for(space, rooms) {
@@ -121,7 +119,7 @@ pub(crate) fn put_missed(
     found: Found,
     rooms: &[Room],
     entries: &mut Vec<Arc<Entry>>,
-) -> Result<Vec<u64>, HubError>
+) -> Result<Vec<u64>, AllocError>
     ensures entries { let space = found.entry.session.now.space
         in let past = found.entry.front.now ++ found.entry.back.now in OnOk result
         (map arc_value entries.new.items
@@ -129,7 +127,6 @@ pub(crate) fn put_missed(
     ensures offsets { let space = found.entry.session.now.space
         in let past = found.entry.front.now ++ found.entry.back.now in IfOk result (λ offsets.
         offsets.items ≡ map (λ entry. entry.offset) (filter (is_for space rooms.now) past)) }
-    ensures memory { IfErr result (λ e. e ≡ HubError.Memory) }
 {
     let Found {
         session,

@@ -1,36 +1,35 @@
 //! Sockets that end are noted (Socket.IO server documentation, "Server API": the events
 //! `disconnecting` and `disconnect`).
 
-ghost use Rattle.std.specs.Prelude.{◌≡◌, ◌++◌, map, true, IfOk, IfErr, OnOk, OnErr};
+ghost use Rattle.std.specs.Prelude.{◌≡◌, ◌++◌, map, true, IfOk, OnOk, OnErr};
 ghost use Rattle.std.specs.List.{AllByRecursion};
 ghost use Rattle.journal.specs.Membership.{is_space, rooms, sockets_of};
 ghost use Rattle.journal.specs.Sessions.{rooms_rising};
 ghost use Rattle.hub_state.specs.Departing.{PlainDeparted, departing, departed_by, departed};
+ghost use Rattle.hub_state.specs.Words.{rooms_now};
 
 use crate::departed::Departed;
 use crate::state::State;
 use crate::state::aim::sockets_in;
 use hub_parts::Sockets;
-use journal::{Ending, HubError, Socket, What};
+use journal::{Ending, Socket, What};
 use room_maps::Rooms;
-use std::alloc::Global;
+use std::alloc::{AllocError, Global};
 use terms::{Room, Sid};
 
 /// The rooms that a socket is in, rising.
-pub(crate) fn rooms_in(rooms: &Rooms, alloc: Global, sid: Sid) -> Result<Vec<Room>, HubError>
+pub(crate) fn rooms_in(rooms: &Rooms, alloc: Global, sid: Sid) -> Result<Vec<Room>, AllocError>
     ensures rooms { IfOk result (λ inside. inside.items ≡ rooms_rising rooms.now sid) }
-    ensures memory { IfErr result (λ e. e ≡ HubError.Memory) }
 {
     match rooms.rooms_of(alloc, sid) {
         Ok(inside) => Ok(inside),
-        Err(_) => Err(HubError::Memory),
+        Err(_) => Err(AllocError),
     }
 }
 
 /// A client's sockets as a list.
-fn listed(alloc: Global, sockets: &Sockets) -> Result<Vec<Socket>, HubError>
+fn listed(alloc: Global, sockets: &Sockets) -> Result<Vec<Socket>, AllocError>
     ensures ok { IfOk result (λ list. list.items ≡ sockets.now) }
-    ensures memory { IfErr result (λ e. e ≡ HubError.Memory) }
 {
     let mut list = Vec::new(alloc);
     for socket in sockets.values() {
@@ -45,10 +44,8 @@ fn departing(
     alloc: Global,
     ending: Ending,
     sockets: &[Socket],
-) -> Result<Vec<Departed>, HubError>
-    ensures ok { IfOk result (λ list.
-        list.items ≡ map (departing ending rooms.now) sockets.now) }
-    ensures memory { IfErr result (λ e. e ≡ HubError.Memory) }
+) -> Result<Vec<Departed>, AllocError>
+    ensures ok { IfOk result (λ list. list.items ≡ map (departing ending rooms.now) sockets.now) }
 {
     let mut list = Vec::new(alloc);
     for socket in sockets {
@@ -63,16 +60,12 @@ fn departing(
 }
 
 /// Notes sockets that end.
-pub(crate) fn note(departed: &mut Vec<Departed>, ended: Vec<Departed>) -> Result<(), HubError>
+pub(crate) fn note(departed: &mut Vec<Departed>, ended: Vec<Departed>) -> Result<(), AllocError>
     ensures ok { OnOk result (departed.new.items ≡ departed.old.items ++ ended.items) }
     ensures unchanged { OnErr result (departed.new.items ≡ departed.old.items) }
-    ensures memory { IfErr result (λ e. e ≡ HubError.Memory) }
 {
     let mut ended = ended;
-    match departed.append(&mut ended) {
-        Ok(()) => Ok(()),
-        Err(_) => Err(HubError::Memory),
-    }
+    departed.append(&mut ended)
 }
 
 impl State {
@@ -92,10 +85,9 @@ impl State {
         alloc: Global,
         ending: Ending,
         client: u128,
-    ) -> Result<Vec<Departed>, HubError>
-        ensures ok { let h = self.now in IfOk result (λ list. list.items
-            ≡ map (departing ending (rooms h.base h.journal)) (sockets_of h.base h.journal client)) }
-        ensures memory { IfErr result (λ e. e ≡ HubError.Memory) }
+    ) -> Result<Vec<Departed>, AllocError>
+        ensures ok { let h = self.now in IfOk result (λ all.
+            all.items ≡ map (departing ending (rooms_now h)) (sockets_of h.base h.journal client)) }
     {
         let Some(known) = self.clients.get(&client) else {
             return Ok(Vec::new(alloc));
@@ -105,10 +97,13 @@ impl State {
     }
 
     /// The sockets that a step ends now.
-    pub(crate) fn departed_by(&self, alloc: Global, what: &What) -> Result<Vec<Departed>, HubError>
+    pub(crate) fn departed_by(
+        &self,
+        alloc: Global,
+        what: &What,
+    ) -> Result<Vec<Departed>, AllocError>
         ensures ok { IfOk result (λ list.
             list.items ≡ departed_by self.now.base self.now.journal what.now) }
-        ensures memory { IfErr result (λ e. e ≡ HubError.Memory) }
     {
         match what {
             What::Parked(client) => self.its_departed(alloc, Ending::Saved, *client),

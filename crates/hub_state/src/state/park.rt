@@ -1,33 +1,34 @@
-//! Clients are lost, and their sockets' sessions are saved (Socket.IO server documentation,
-//! "Connection state recovery").
+//! Clients are lost, and their sockets' sessions are saved; what is outdated is dropped (Socket.IO
+//! server documentation, "Connection state recovery").
 
-ghost use Rattle.std.specs.Prelude.{◌≡◌, ◌-◌, ◌<◌, length, OnOk, OnErr, IfOk, IfErr, None, Some, if◌then◌else◌};
+ghost use Rattle.std.specs.Prelude.{◌≡◌, ◌-◌, ◌<◌, length, OnOk, OnErr, IfOk, IfErr, ◌+◌, max};
 ghost use Rattle.std.specs.Ordering.{nat_cmp};
 ghost use Rattle.std.specs.BTreeMap.{get};
 ghost use Rattle.recovery.specs.SavedTable as table;
-ghost use Rattle.journal.specs.Membership.{is_open, sockets_of};
-ghost use Rattle.journal.specs.Sessions.{sessions};
+ghost use Rattle.recovery.specs.PacketLog.{swept};
+ghost use Rattle.recovery.specs.SavedTable.{table_swept};
+ghost use Rattle.journal.specs.Membership.{sockets_of};
 ghost use Rattle.journal.specs.Command.{Does};
 ghost use Rattle.journal.specs.Fields.{held_sockets};
 ghost use Rattle.journal.specs.Parking.{lost_in, HasNoneOf, with_lost, without_lost};
 ghost use Rattle.journal.specs.declared.step.What.{What};
 ghost use Rattle.hub_state.specs.Changes.{refusal_now};
+ghost use Rattle.hub_state.specs.Words.{when_open, saves, logs};
 
-use crate::state::close::forget_client;
+use crate::state::clients::forget_client;
 use crate::state::note_departed::{note, rooms_in};
 use crate::state::recover::take_session;
-use crate::state::{Added, NONE, State};
-use hub_parts::{Client, Sockets, Steps};
-use journal::{HubError, Socket, What};
-use recovery::{Saved, SavedTable};
+use crate::state::{NONE, State};
+use hub_parts::{Client, Limits, Sockets, Steps};
+use journal::{Counts, HubError, Socket, Swept, What};
+use recovery::{PacketLog, Saved, SavedTable};
 use room_maps::Rooms;
-use std::alloc::Global;
+use std::alloc::{AllocError, Global};
 use std::collections::BTreeMap;
 
 /// The session of a socket that is lost at a moment.
-fn lost_session(rooms: &Rooms, alloc: Global, socket: Socket, at: u64) -> Result<Saved, HubError>
+fn lost_session(rooms: &Rooms, alloc: Global, socket: Socket, at: u64) -> Result<Saved, AllocError>
     ensures session { IfOk result (λ session. session ≡ lost_in rooms.now at socket) }
-    ensures memory { IfErr result (λ e. e ≡ HubError.Memory) }
 {
     let inside = rooms_in(rooms, alloc, socket.sid)?;
     Ok(Saved {
@@ -46,16 +47,12 @@ fn save_one(
     alloc: Global,
     socket: Socket,
     at: u64,
-) -> Result<(), HubError>
+) -> Result<(), AllocError>
     ensures saved { OnOk result (saved.new ≡ table.saved saved.old (lost_in rooms.now at socket)) }
     ensures unchanged { OnErr result (saved.new ≡ saved.old) }
-    ensures memory { IfErr result (λ e. e ≡ HubError.Memory) }
 {
     let session = lost_session(rooms, alloc, socket, at)?;
-    match saved.save(alloc, session) {
-        Ok(()) => Ok(()),
-        Err(_) => Err(HubError::Memory),
-    }
+    saved.save(alloc, session).map_err(|_| AllocError)
 }
 
 /// Takes the sessions of sockets out of the table, as far as it has them.
@@ -75,11 +72,10 @@ fn save_all(
     alloc: Global,
     sockets: &Sockets,
     at: u64,
-) -> Result<(), HubError>
+) -> Result<(), AllocError>
     requires { HasNoneOf sockets.now saved.old }
     ensures saved { OnOk result (saved.new ≡ with_lost rooms.now at sockets.now saved.old) }
     ensures unchanged { OnErr result (saved.new ≡ saved.old) }
-    ensures memory { IfErr result (λ e. e ≡ HubError.Memory) }
 {
     for socket in sockets.values() {
         if let Err(refusal) = save_one(saved, rooms, alloc, *socket, at) {
@@ -110,27 +106,37 @@ fn save_client(
 {
     steps.reserve()?;
     match clients.get(&client) {
-        Some(known) => save_all(saved, rooms, alloc, &known.sockets, at),
+        Some(known) => Ok(save_all(saved, rooms, alloc, &known.sockets, at)?),
         None => Ok(()),
+    }
+}
+
+/// Drops what is outdated at a moment.
+fn drop_outdated(log: &mut PacketLog, saved: &mut SavedTable, limits: &Limits, at: u64) -> Swept
+    ensures log { log.new ≡ swept log.old limits.now.keep (max log.old.last at) }
+    ensures saved { saved.new ≡ table_swept saved.old limits.now.keep at }
+    ensures log_count { length log.new.entries + result.log ≡ length log.old.entries }
+    ensures saved_count { length saved.new.sessions + result.saved ≡ length saved.old.sessions }
+{
+    let keep = limits.config().keep;
+    Swept {
+        log: log.sweep(at, keep),
+        saved: saved.sweep(at, keep),
     }
 }
 
 impl State {
     /// How many sockets a client has, or `None` where it isn't open.
     fn socket_count(&self, client: u128) -> Option<usize>
-        ensures { let h = self.now in result ≡ (if is_open h.base h.journal client
-            then Some (length (sockets_of h.base h.journal client)) else None) }
+        ensures { let h = self.now
+            in result ≡ when_open h client (length (sockets_of h.base h.journal client)) }
     {
-        match self.clients.get(&client) {
-            Some(known) => Some(known.sockets.len()),
-            None => None,
-        }
+        Some(self.clients.get(&client)?.sockets.len())
     }
 
     /// How many more sessions may be saved.
     fn free_places(&self) -> usize
-        ensures { let h = self.now
-            in result ≡ h.limits.saved - length (sessions h.base h.limits h.journal) }
+        ensures { result ≡ self.now.limits.saved - length (saves self.now) }
     {
         self.limits.config().saved.saturating_sub(self.saved.len())
     }
@@ -184,11 +190,33 @@ impl State {
             client,
         );
         self.rooms.kept_facts();
-        let added = Added {
-            discarded: discards as u64,
-            ..NONE
-        };
+        let discarded = discards as u64;
+        let added = Counts { discarded, ..NONE };
         self.records.add(now, What::Parked(client), added);
         Ok(())
+    }
+
+    fn sweep_refusal(&self) -> Option<HubError>
+        ensures { result ≡ refusal_now self.now What.Swept }
+    {
+        self.count_refusal(0, 0)
+    }
+
+    /// Drops the entries of the log and the saved sessions that are older than the hub keeps them,
+    /// and says how many. Refused as `Spent`, then for `Memory`. Each that is dropped takes the
+    /// logarithm of the saved sessions, and it looks at one more of both.
+    pub fn sweep(&mut self, _alloc: Global, now: u64) -> Result<Swept, HubError>
+        ensures does { Does self.old self.new now What.Swept result }
+        ensures counts { IfOk result (λ dropped.
+            (length (logs self.old) ≡ length (logs self.new) + dropped.log)
+            × (length (saves self.old) ≡ length (saves self.new) + dropped.saved)) }
+    {
+        if let Some(refusal) = self.sweep_refusal() {
+            return Err(refusal);
+        }
+        let at = now.max(self.records.last);
+        self.records.write(now, What::Swept, NONE)?;
+        let swept = drop_outdated(&mut self.log, &mut self.saved, &self.limits, at);
+        Ok(swept)
     }
 }

@@ -8,26 +8,25 @@ ghost use Rattle.recovery.specs.PacketLog.{stands, later_than};
 ghost use Rattle.recovery.specs.SavedTable.{removed};
 ghost use Rattle.terms.specs.Entry.{entry_size};
 ghost use Rattle.journal.specs.Journal.{moment_at};
-ghost use Rattle.journal.specs.Membership.{place_of, is_open};
-ghost use Rattle.journal.specs.Sessions.{sessions, session_with};
-ghost use Rattle.journal.specs.Log.{log};
-ghost use Rattle.journal.specs.Outboxes.{answer, waiting, total_size};
+ghost use Rattle.journal.specs.Membership.{place_of};
+ghost use Rattle.journal.specs.Sessions.{session_with};
+ghost use Rattle.journal.specs.Outboxes.{waiting, total_size};
 ghost use Rattle.journal.specs.Recovery.{brought_back, with_entries};
 ghost use Rattle.journal.specs.Refusals.{have_no_place, recovered_entries};
 ghost use Rattle.journal.specs.Legal.{RightRecovery};
 ghost use Rattle.journal.specs.Command.{refusal, Does};
 ghost use Rattle.journal.specs.declared.step.What.{What};
-ghost use Rattle.continuity.specs.Truly.{HearsWhatIsDue};
 ghost use Rattle.hub_state.specs.Changes.{ChangesClient, MakesStep};
 ghost use Rattle.hub_state.specs.Returning.{return_of, return_refusal, recover_refusal_of, puts_again};
+ghost use Rattle.hub_state.specs.Words.{opened, waits, logs, saves, answer_at, AllHear};
 
 use crate::state::connect::seat;
 use crate::state::missed::{Found, put_missed};
-use crate::state::{Added, NONE, State};
+use crate::state::{NONE, State};
 use hub_parts::{Client, Outbox};
-use journal::{HubError, Recovery, RecoveryRefusal, Socket, What};
+use journal::{Counts, HubError, Recovery, RecoveryRefusal, Socket, What};
 use recovery::{Logged, Pid, Saved, SavedTable};
-use std::alloc::Global;
+use std::alloc::{AllocError, Global};
 use std::collections::BTreeMap;
 use std::sync::Arc;
 use terms::{Entry, Sid};
@@ -79,18 +78,16 @@ pub(crate) fn take_session(saved: &mut SavedTable, pid: Pid)
 impl State {
     /// The saved session with a private id, outdated or not.
     fn session(&self, pid: Pid) -> Option<&Saved>
-        ensures { let h = self.now
-            in option_copied result ≡ session_with pid (sessions h.base h.limits h.journal) }
+        ensures { option_copied result ≡ session_with pid (saves self.now) }
     {
         self.saved.look_up(pid)
     }
 
     /// The broadcasts of the log past this offset, in two pieces, or `None` where it isn't there.
     fn later(&self, offset: u64) -> Option<(&[Logged], &[Logged])>
-        ensures stands { let h = self.now
-            in is_some result ≡ stands offset (log h.base h.limits h.journal) }
-        ensures later { let h = self.now in IfSome result (λ pieces. pieces.0.now ++ pieces.1.now
-            ≡ later_than offset (log h.base h.limits h.journal)) }
+        ensures stands { is_some result ≡ stands offset (logs self.now) }
+        ensures later { IfSome result (λ pieces.
+            pieces.0.now ++ pieces.1.now ≡ later_than offset (logs self.now)) }
     {
         self.log.later(offset)
     }
@@ -98,14 +95,12 @@ impl State {
     /// The session with a private id, with what the log has past an offset, or why it can't come
     /// back at this moment.
     fn found(&self, pid: Pid, place: usize, offset: u64, at: u64) -> Result<Found<'_>, HubError>
-        ensures session { let h = self.now in IfOk result (λ found.
-            session_with pid (sessions h.base h.limits h.journal) ≡ Some found.session.now) }
-        ensures later { let h = self.now in IfOk result (λ found. found.front.now ++ found.back.now
-            ≡ later_than offset (log h.base h.limits h.journal)) }
-        ensures accepted { IfOk result (λ _.
-            return_refusal self.now pid place offset at ≡ None) }
-        ensures refused { IfErr result (λ refusal.
-            return_refusal self.now pid place offset at ≡ Some refusal) }
+        ensures session { IfOk result (λ found.
+            session_with pid (saves self.now) ≡ Some found.session.now) }
+        ensures later { IfOk result (λ found.
+            found.front.now ++ found.back.now ≡ later_than offset (logs self.now)) }
+        ensures accepted { IfOk result (λ _. return_refusal self.now pid place offset at ≡ None) }
+        ensures refused { IfErr result (λ e. return_refusal self.now pid place offset at ≡ Some e) }
     {
         let Some(session) = self.session(pid) else {
             return Err(HubError::NotRecoverable(RecoveryRefusal::UnknownPid));
@@ -130,19 +125,17 @@ impl State {
     /// How many entries and bytes there is room for in an open client's outbox beside the answer to
     /// a CONNECT, or `None` where there is none for the answer.
     fn room_beside_answer(&self, client: u128, place: usize) -> Option<(usize, usize)>
-        requires { is_open self.now.base self.now.journal client ≡ true }
-        ensures places { let waits = waiting self.now.base self.now.limits self.now.journal client
-            in IfSome result (λ room. room.0 + 1 + length waits ≡ self.now.limits.capacity) }
+        requires { opened self.now client ≡ true }
+        ensures places { let h = self.now in IfSome result (λ room.
+            room.0 + 1 + length (waits h client) ≡ h.limits.capacity) }
         ensures small { IfSome result (λ room. room.0 + 1 < 2 ^ 64) }
-        ensures bytes { let waits = waiting self.now.base self.now.limits self.now.journal client
-            in IfSome result (λ room. (c sid pid : ℕ) → let told = answer self.now.limits
-            (record { client = c; space = place; sid = sid; pid = pid })
-            in room.1 + entry_size told + total_size waits ≡ self.now.limits.bytes) }
-        ensures none { let waits = waiting self.now.base self.now.limits self.now.journal client
-            in IfNone result ((c sid pid : ℕ) → let told = answer self.now.limits
-            (record { client = c; space = place; sid = sid; pid = pid })
-            in (nat_lt self.now.limits.capacity (length waits + 1)
-            || nat_lt self.now.limits.bytes (total_size waits + entry_size told)) ≡ true) }
+        ensures bytes { let h = self.now in IfSome result (λ room. (c sid pid : ℕ)
+            → room.1 + entry_size (answer_at h c place sid pid) + total_size (waits h client)
+            ≡ h.limits.bytes) }
+        ensures none { let h = self.now in IfNone result ((c sid pid : ℕ)
+            → let size = entry_size (answer_at h c place sid pid)
+            in (nat_lt h.limits.capacity (length (waits h client) + 1)
+            || nat_lt h.limits.bytes (total_size (waits h client) + size)) ≡ true) }
     {
         let waits = self.waiting(client)?;
         let used = self.waiting_bytes(client)?;
@@ -156,17 +149,15 @@ impl State {
     /// How many entries the recovery of a session puts for an open client, or `None` where there
     /// is no place for all.
     fn put_count(&self, client: u128, found: Found, offset: u64) -> Option<u64>
-        requires open { is_open self.now.base self.now.journal client ≡ true }
-        requires later { let h = self.now in found.front.now ++ found.back.now
-            ≡ later_than offset (log h.base h.limits h.journal) }
+        requires open { opened self.now client ≡ true }
+        requires later { found.front.now ++ found.back.now ≡ later_than offset (logs self.now) }
         ensures count { IfSome result (λ puts.
             length (puts_again self.now client found.entry.session.now offset) ≡ puts) }
-        ensures place { let waits = waiting self.now.base self.now.limits self.now.journal client
-            in IfSome result (λ _. have_no_place self.now.limits waits
-            (puts_again self.now client found.entry.session.now offset) ≡ false) }
-        ensures none { let waits = waiting self.now.base self.now.limits self.now.journal client
-            in IfNone result (have_no_place self.now.limits waits
-            (puts_again self.now client found.entry.session.now offset) ≡ true) }
+        ensures place { let puts = puts_again self.now client found.entry.session.now offset
+            in IfSome result (λ _.
+            have_no_place self.now.limits (waits self.now client) puts ≡ false) }
+        ensures none { let puts = puts_again self.now client found.entry.session.now offset
+            in IfNone result (have_no_place self.now.limits (waits self.now client) puts ≡ true) }
     {
         // The prover needs that the log's offsets rise: so each names one of its entries.
         self.facts();
@@ -186,10 +177,10 @@ impl State {
         offset: u64,
         at: u64,
     ) -> Result<Found<'_>, HubError>
-        ensures session { let h = self.now in IfOk result (λ found.
-            session_with pid (sessions h.base h.limits h.journal) ≡ Some found.session.now) }
-        ensures later { let h = self.now in IfOk result (λ found. found.front.now ++ found.back.now
-            ≡ later_than offset (log h.base h.limits h.journal)) }
+        ensures session { IfOk result (λ found.
+            session_with pid (saves self.now) ≡ Some found.session.now) }
+        ensures later { IfOk result (λ found.
+            found.front.now ++ found.back.now ≡ later_than offset (logs self.now)) }
         ensures accepted { let place = place_of self.now.limits space.now in IfOk result (λ _.
             recover_refusal_of self.now client place pid offset at ≡ None) }
         ensures refused { let place = place_of self.now.limits space.now in IfErr result (λ e.
@@ -221,15 +212,12 @@ impl State {
         client: u128,
         found: Found,
         offset: u64,
-    ) -> Result<(Recovery, Vec<Arc<Entry>>), HubError>
-        requires { let h = self.now in found.front.now ++ found.back.now
-            ≡ later_than offset (log h.base h.limits h.journal) }
-        ensures recovery { let h = self.now in let s = found.entry.session.now
-            in IfOk result (λ both. both.0
-            ≡ brought_back client s.space s.pid offset (log h.base h.limits h.journal) s) }
+    ) -> Result<(Recovery, Vec<Arc<Entry>>), AllocError>
+        requires { found.front.now ++ found.back.now ≡ later_than offset (logs self.now) }
+        ensures recovery { let s = found.entry.session.now in IfOk result (λ both.
+            both.0 ≡ brought_back client s.space s.pid offset (logs self.now) s) }
         ensures puts { IfOk result (λ both. map arc_value both.1.items
             ≡ puts_again self.now client found.entry.session.now offset) }
-        ensures memory { IfErr result (λ e. e ≡ HubError.Memory) }
     {
         // The prover needs that the log's offsets rise: so each names one of its entries.
         self.facts();
@@ -271,7 +259,7 @@ impl State {
         ensures sid { IfOk result (λ sid. sid ≡ recovery.socket.sid) }
         ensures does { MakesStep self.old self.new now (What.Recovered recovery) result }
     {
-        let number = puts.len() as u64;
+        let placed = puts.len() as u64;
         let socket = recovery.socket;
         let (client, sid, pid) = (socket.client, socket.sid, socket.pid);
         self.records.steps.reserve()?;
@@ -286,10 +274,7 @@ impl State {
         )?;
         put_all(&mut self.clients, client, puts);
         take_session(&mut self.saved, pid);
-        let added = Added {
-            placed: number,
-            ..NONE
-        };
+        let added = Counts { placed, ..NONE };
         self.records.add(now, What::Recovered(recovery), added);
         Ok(sid)
     }
@@ -325,9 +310,7 @@ impl State {
     /// each of the session's rooms takes the logarithm of the sockets and of the rooms.
     ///
     /// After it, accepted or refused, each connected session, so also the one that came back, has
-    /// heard just the journal's logged broadcasts that are due to it, none missing, none twice and
-    /// in order, where its client always named truly what it got last, its rooms stayed the same
-    /// from that broadcast to the loss, and no full outbox dropped one for it.
+    /// heard just the journal's logged broadcasts that are due to it, as `facts` says.
     pub fn recover(
         &mut self,
         alloc: Global,
@@ -341,8 +324,7 @@ impl State {
             in IfOk result (λ sid. sid ≡ r.socket.sid) }
         ensures does { let r = return_of client space.now pid offset self.old
             in Does self.old self.new now (What.Recovered r) result }
-        ensures continuity { (p : ℕ)
-            → HearsWhatIsDue self.new.base self.new.limits self.new.journal p }
+        ensures continuity { AllHear self.new }
     {
         let back = self.come_back(alloc, client, space, pid, offset, now);
         // The prover needs what holds of every hub.

@@ -1,16 +1,26 @@
-//! Sockets join and leave rooms (Socket.IO server documentation, "Rooms").
+//! Sockets join and leave rooms, alone or all of a namespace that match (Socket.IO server
+//! documentation, "Rooms", and "Server API", `socketsJoin` and `socketsLeave`).
 
-ghost use Rattle.std.specs.Prelude.{◌≡◌, None};
+ghost use Rattle.std.specs.Prelude.{◌≡◌, None, ℕ, true, not, filter, IfOk, false, [], ◌∷◌, ◌++◌, OnOk, IfErr, Err, if◌then◌else◌};
+ghost use Rattle.std.specs.Ordering.{nat_cmp};
+ghost use Rattle.std.specs.BTreeMap.{get};
 ghost use Rattle.room_maps.specs.Membership as room_maps;
-ghost use Rattle.journal.specs.Membership.{rooms};
-ghost use Rattle.journal.specs.Command.{Does};
+ghost use Rattle.room_maps.specs.Membership.{is_in};
+ghost use Rattle.journal.specs.Membership.{rooms, place_of, is_space, sockets, sid_of, matches};
+ghost use Rattle.journal.specs.Command.{Does, refusal};
+ghost use Rattle.journal.specs.Journal.{moment_at};
+ghost use Rattle.journal.specs.ManySockets as many;
+ghost use Rattle.journal.specs.ManySockets.{ListsSockets, RightJoining, RightLeaving};
+ghost use Rattle.journal.specs.Casting.{is_here};
 ghost use Rattle.journal.specs.declared.step.What.{What};
-ghost use Rattle.hub_state.specs.Changes.{refusal_now};
+ghost use Rattle.hub_state.specs.Changes.{refusal_now, MakesStep};
+ghost use Rattle.hub_state.specs.Words.{ListsMembers};
 
 use crate::state::{NONE, State};
-use journal::{HubError, What};
+use hub_parts::Seats;
+use journal::{HubError, RoomChange, What};
 use room_maps::{RoomError, Rooms};
-use std::alloc::Global;
+use std::alloc::{AllocError, Global};
 use terms::{Room, Sid};
 
 /// Takes a socket out of a room that it may leave.
@@ -21,6 +31,50 @@ fn take_out(rooms: &mut Rooms, sid: Sid, room: Room)
 {
     let _left = rooms.leave(sid, room);
     rooms.kept_facts();
+}
+
+/// Keeps the sockets that aren't in the room.
+fn keep_outside(sids: &mut Vec<Sid>, inside: &Rooms, room: Room)
+    ensures { sids.new.items ≡ filter (λ s. not (is_in inside.now s room)) sids.old.items }
+{
+    sids.retain(|sid| !inside.is_in(*sid, room));
+}
+
+/// Keeps the sockets that are in the room.
+fn keep_inside(sids: &mut Vec<Sid>, inside: &Rooms, room: Room)
+    ensures { sids.new.items ≡ filter (λ s. is_in inside.now s room) sids.old.items }
+{
+    sids.retain(|sid| inside.is_in(*sid, room));
+}
+
+/// Adds the id of a socket, where this is in the namespace at a place.
+fn add_here(kept: &mut Vec<Sid>, seats: &Seats, sid: Sid, place: usize) -> Result<(), AllocError>
+    ensures ok { OnOk result (kept.new.items ≡ kept.old.items
+        ++ (if is_here place (get nat_cmp seats.now sid) then sid ∷ [] else [])) }
+{
+    if let Some(socket) = seats.get(sid) {
+        if usize::from(socket.space) == place {
+            kept.push(sid)?;
+        }
+    }
+    Ok(())
+}
+
+/// Those of the sockets with these ids that are in the namespace at a place, in the same order.
+pub(crate) fn keep_here(
+    alloc: Global,
+    seats: &Seats,
+    sids: &[Sid],
+    place: usize,
+) -> Result<Vec<Sid>, AllocError>
+    ensures ok { IfOk result (λ kept. kept.items
+        ≡ filter (λ s. is_here place (get nat_cmp seats.now s)) sids.now) }
+{
+    let mut kept = Vec::new(alloc);
+    for sid in sids {
+        add_here(&mut kept, seats, *sid, place)?;
+    }
+    Ok(kept)
 }
 
 impl State {
@@ -88,5 +142,224 @@ impl State {
         self.records.write(now, What::Left(sid, room), NONE)?;
         take_out(&mut self.rooms, sid, room);
         Ok(())
+    }
+
+    /// The connected sockets of the namespace at a place that are in one of the rooms, or where
+    /// none is named all, but for those in an excepted room. They rise by their ids.
+    pub(crate) fn matching(
+        &self,
+        alloc: Global,
+        space: u16,
+        rooms: &[Room],
+        excepted: &[Room],
+    ) -> Result<Vec<Sid>, AllocError>
+        ensures ok { let h = self.now in IfOk result (λ sids. ListsSockets sid_of
+            (matches h.base h.journal space rooms.now excepted.now)
+            (sockets h.base h.journal) sids.items) }
+    {
+        let sids = self.listeners(alloc, space, rooms, excepted)?;
+        keep_here(alloc, &self.seats, &sids, usize::from(space))
+    }
+
+    /// The change that is made where all that match join a room.
+    fn joining(
+        &self,
+        alloc: Global,
+        space: u16,
+        rooms: Vec<Room>,
+        excepted: Vec<Room>,
+        room: Room,
+    ) -> Result<RoomChange, AllocError>
+        ensures change { IfOk result (λ m.
+            m ≡ many.joining self.now space rooms.items excepted.items room) }
+        ensures right { IfOk result (λ m. RightJoining self.now.base self.now.journal m) }
+    {
+        let mut changed = self.matching(alloc, space, &rooms, &excepted)?;
+        keep_outside(&mut changed, &self.rooms, room);
+        Ok(RoomChange {
+            space,
+            rooms,
+            excepted,
+            room,
+            changed,
+        })
+    }
+
+    /// The change that is made where all that match leave a room.
+    fn leaving(
+        &self,
+        alloc: Global,
+        space: u16,
+        rooms: Vec<Room>,
+        excepted: Vec<Room>,
+        room: Room,
+    ) -> Result<RoomChange, AllocError>
+        ensures change { IfOk result (λ m.
+            m ≡ many.leaving self.now space rooms.items excepted.items room) }
+        ensures right { IfOk result (λ m. RightLeaving self.now.base self.now.journal m) }
+    {
+        let mut changed = self.matching(alloc, space, &rooms, &excepted)?;
+        keep_inside(&mut changed, &self.rooms, room);
+        Ok(RoomChange {
+            space,
+            rooms,
+            excepted,
+            room,
+            changed,
+        })
+    }
+
+    fn joining_refusal(&self, change: &RoomChange) -> Option<HubError>
+        requires known { is_space self.now.limits change.now.space ≡ true }
+        requires right { RightJoining self.now.base self.now.journal change.now }
+        ensures { (at : ℕ) → result ≡ refusal self.now at (What.AllJoined change.now) }
+    {
+        if let Some(refusal) = self.rooms.join_all_refusal(&change.changed, change.room) {
+            return Some(HubError::RoomRefused(refusal));
+        }
+        self.count_refusal(0, 0)
+    }
+
+    fn leaving_refusal(&self, change: &RoomChange) -> Option<HubError>
+        requires known { is_space self.now.limits change.now.space ≡ true }
+        requires right { RightLeaving self.now.base self.now.journal change.now }
+        ensures { (at : ℕ) → result ≡ refusal self.now at (What.AllLeft change.now) }
+    {
+        self.rooms.kept_facts();
+        if let Some(refusal) = self.rooms.leave_all_refusal(&change.changed, change.room) {
+            return Some(HubError::RoomRefused(refusal));
+        }
+        self.count_refusal(0, 0)
+    }
+
+    /// Makes a change that may be made: its sockets join the room.
+    fn join_all(
+        &mut self,
+        alloc: Global,
+        change: RoomChange,
+        now: u64,
+    ) -> Result<Vec<Sid>, HubError>
+        requires accepted { let at = moment_at self.old now
+            in None ≡ refusal self.old at (What.AllJoined change) }
+        requires known { is_space self.old.limits change.space ≡ true }
+        requires right { RightJoining self.old.base self.old.journal change }
+        ensures does { MakesStep self.old self.new now (What.AllJoined change) result }
+        ensures changed { IfOk result (λ sids. sids.items ≡ change.changed) }
+    {
+        self.records.steps.reserve()?;
+        let Ok(joined) = self.rooms.join_all(alloc, &change.changed, change.room) else {
+            return Err(HubError::Memory);
+        };
+        self.rooms.kept_facts();
+        self.records.add(now, What::AllJoined(change), NONE);
+        Ok(joined)
+    }
+
+    /// Makes a change that may be made: its sockets leave the room.
+    fn leave_all(
+        &mut self,
+        alloc: Global,
+        change: RoomChange,
+        now: u64,
+    ) -> Result<Vec<Sid>, HubError>
+        requires accepted { let at = moment_at self.old now
+            in None ≡ refusal self.old at (What.AllLeft change) }
+        requires known { is_space self.old.limits change.space ≡ true }
+        requires right { RightLeaving self.old.base self.old.journal change }
+        ensures does { MakesStep self.old self.new now (What.AllLeft change) result }
+        ensures changed { IfOk result (λ sids. sids.items ≡ change.changed) }
+    {
+        self.records.steps.reserve()?;
+        let Ok(left) = self.rooms.leave_all(alloc, &change.changed, change.room) else {
+            return Err(HubError::Memory);
+        };
+        self.rooms.kept_facts();
+        self.records.add(now, What::AllLeft(change), NONE);
+        Ok(left)
+    }
+
+    /// All sockets of a namespace that are in one of the rooms, or where none is named all, but for
+    /// those in an excepted room, join a room, or none does. It gives those that weren't in it,
+    /// rising. Refused as `UnknownNamespace`, then as `RoomRefused(TooManyRooms)` where one of them
+    /// that isn't in the room is in as many as it may be, then `Spent`; want of memory may come in
+    /// place of these two. It takes the logarithm of the namespaces, and walks the members of the
+    /// rooms in all namespaces, or where no room is named the sockets of its namespace alone, each
+    /// with the logarithm and the excepted rooms.
+    pub fn sockets_join(
+        &mut self,
+        alloc: Global,
+        space: &str,
+        rooms: Vec<Room>,
+        excepted: Vec<Room>,
+        room: Room,
+        now: u64,
+    ) -> Result<Vec<Sid>, HubError>
+        ensures changed { let place = place_of self.old.limits space.now
+            in let change = many.joining self.old place rooms.items excepted.items room
+            in IfOk result (λ sids. sids.items ≡ change.changed) }
+        ensures does { let place = place_of self.old.limits space.now
+            in let change = many.joining self.old place rooms.items excepted.items room
+            in Does self.old self.new now (What.AllJoined change) result }
+    {
+        let place = self.place_of(space)?;
+        let change = self.joining(alloc, place, rooms, excepted, room)?;
+        if let Some(refusal) = self.joining_refusal(&change) {
+            return Err(refusal);
+        }
+        self.join_all(alloc, change, now)
+    }
+
+    /// All sockets of a namespace that are in one of the rooms, or where none is named all, but for
+    /// those in an excepted room, leave a room, or none does. It gives those that were in it,
+    /// rising. Refused as `UnknownNamespace`, then as `RoomRefused(OwnRoom)` where the room is the
+    /// own one of one of them, then `Spent`; want of memory may come in place of these two. It
+    /// takes as much as `sockets_join`.
+    pub fn sockets_leave(
+        &mut self,
+        alloc: Global,
+        space: &str,
+        rooms: Vec<Room>,
+        excepted: Vec<Room>,
+        room: Room,
+        now: u64,
+    ) -> Result<Vec<Sid>, HubError>
+        ensures changed { let place = place_of self.old.limits space.now
+            in let change = many.leaving self.old place rooms.items excepted.items room
+            in IfOk result (λ sids. sids.items ≡ change.changed) }
+        ensures does { let place = place_of self.old.limits space.now
+            in let change = many.leaving self.old place rooms.items excepted.items room
+            in Does self.old self.new now (What.AllLeft change) result }
+    {
+        let place = self.place_of(space)?;
+        let change = self.leaving(alloc, place, rooms, excepted, room)?;
+        if let Some(refusal) = self.leaving_refusal(&change) {
+            return Err(refusal);
+        }
+        self.leave_all(alloc, change, now)
+    }
+
+    /// The sockets of a namespace that are in a room, rising.
+    fn members_at(&self, alloc: Global, place: usize, room: Room) -> Result<Vec<Sid>, AllocError>
+        ensures ok { IfOk result (λ sids. ListsMembers self.now place room sids.items) }
+    {
+        let Ok(sids) = self.rooms.members_of(alloc, room) else {
+            return Err(AllocError);
+        };
+        keep_here(alloc, &self.seats, &sids, place)
+    }
+
+    /// The connected sockets of a namespace that are in a room, rising by their ids. Refused as
+    /// `UnknownNamespace`, then for `Memory`. It takes the logarithm of the namespaces, and
+    /// walks the room's members of all namespaces, each with the logarithm.
+    pub fn members(&self, alloc: Global, space: &str, room: Room) -> Result<Vec<Sid>, HubError>
+        ensures members { let place = place_of self.now.limits space.now
+            in IfOk result (λ sids. ListsMembers self.now place room sids.items) }
+        ensures refused { is_space self.now.limits (place_of self.now.limits space.now) ≡ false
+            → result ≡ Err HubError.UnknownNamespace }
+        ensures memory { is_space self.now.limits (place_of self.now.limits space.now) ≡ true
+            → IfErr result (λ e. e ≡ HubError.Memory) }
+    {
+        let place = self.place_of(space)?;
+        Ok(self.members_at(alloc, usize::from(place), room)?)
     }
 }

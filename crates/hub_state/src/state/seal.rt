@@ -1,15 +1,13 @@
 //! The present state becomes the base.
 
-ghost use Rattle.std.specs.Prelude.{◌≡◌, map, IfOk, IfErr};
+ghost use Rattle.std.specs.Prelude.{◌≡◌, map, IfOk};
 ghost use Rattle.std.specs.Ordering.{nat_cmp};
 ghost use Rattle.std.specs.BTreeMap.{IsOrdered};
 ghost use Rattle.terms.specs.Listing.{ListsRising};
 ghost use Rattle.room_maps.specs.Membership.{pair_cmp, is_in};
-ghost use Rattle.recovery.specs.PacketLog.{IsRun, number_of};
-ghost use Rattle.journal.specs.Membership.{is_open, rooms};
-ghost use Rattle.journal.specs.Sessions.{sessions};
-ghost use Rattle.journal.specs.Log.{log, next};
+ghost use Rattle.journal.specs.Membership.{is_open};
 ghost use Rattle.journal.specs.Seal.{ids_of, client_of, base_of, base_client, LeadsTo, Seals};
+ghost use Rattle.hub_state.specs.Words.{rooms_now, logs, RunsOn, saves};
 
 use crate::state::State;
 use hub_parts::{Client, Sockets};
@@ -59,64 +57,47 @@ fn copy_clients(
 
 impl State {
     /// The open clients as a base has them, rising.
-    fn base_clients(&self, alloc: Global) -> Result<Vec<BaseClient>, HubError>
+    fn base_clients(&self, alloc: Global) -> Result<Vec<BaseClient>, AllocError>
         ensures open { let h = self.now in IfOk result (λ clients.
             ListsRising nat_cmp (is_open h.base h.journal) (map client_of clients.items)) }
         ensures are { let h = self.now in IfOk result (λ clients. clients.items
             ≡ map (base_client h.base h.limits h.journal) (map client_of clients.items)) }
-        ensures memory { IfErr result (λ e. e ≡ HubError.Memory) }
     {
-        match copy_clients(alloc, &self.clients) {
-            Ok(clients) => Ok(clients),
-            Err(AllocError) => Err(HubError::Memory),
-        }
+        let clients = copy_clients(alloc, &self.clients)?;
+        Ok(clients)
     }
 
     /// Each socket with each of its rooms, rising.
-    fn base_pairs(&self, alloc: Global) -> Result<Vec<(Sid, Room)>, HubError>
-        ensures pairs { let h = self.now in IfOk result (λ pairs. ListsRising pair_cmp
-            (λ pair. is_in (rooms h.base h.journal) pair.0 pair.1) pairs.items) }
-        ensures memory { IfErr result (λ e. e ≡ HubError.Memory) }
+    fn base_pairs(&self, alloc: Global) -> Result<Vec<(Sid, Room)>, AllocError>
+        ensures pairs { IfOk result (λ pairs. ListsRising pair_cmp
+            (λ pair. is_in (rooms_now self.now) pair.0 pair.1) pairs.items) }
     {
         match self.rooms.pairs(alloc) {
             Ok(pairs) => Ok(pairs),
-            Err(_) => Err(HubError::Memory),
+            Err(_) => Err(AllocError),
         }
     }
 
     /// The log, rising by offset. The entries are shared.
-    fn base_log(&self, alloc: Global) -> Result<Vec<Logged>, HubError>
-        ensures log { let h = self.now
-            in IfOk result (λ list. list.items ≡ log h.base h.limits h.journal) }
-        ensures run { let h = self.now
-            in IsRun (number_of (next h.base h.journal)) (log h.base h.limits h.journal) }
-        ensures memory { IfErr result (λ e. e ≡ HubError.Memory) }
+    fn base_log(&self, alloc: Global) -> Result<Vec<Logged>, AllocError>
+        ensures log { IfOk result (λ list. list.items ≡ logs self.now) }
+        ensures run { RunsOn self.now }
     {
-        match self.log.list(alloc) {
-            Ok(entries) => Ok(entries),
-            Err(_) => Err(HubError::Memory),
-        }
+        self.log.list(alloc).map_err(|_| AllocError)
     }
 
     /// The saved sessions, rising by private id.
-    fn base_sessions(&self, alloc: Global) -> Result<Vec<Saved>, HubError>
-        ensures sessions { let h = self.now
-            in IfOk result (λ list. list.items ≡ sessions h.base h.limits h.journal) }
-        ensures memory { IfErr result (λ e. e ≡ HubError.Memory) }
+    fn base_sessions(&self, alloc: Global) -> Result<Vec<Saved>, AllocError>
+        ensures sessions { IfOk result (λ list. list.items ≡ saves self.now) }
     {
-        match self.saved.list(alloc) {
-            Ok(sessions) => Ok(sessions),
-            Err(_) => Err(HubError::Memory),
-        }
+        self.saved.list(alloc).map_err(|_| AllocError)
     }
 
     /// The present state as a base.
-    fn present(&self, alloc: Global) -> Result<Base, HubError>
+    fn present(&self, alloc: Global) -> Result<Base, AllocError>
         ensures leads { IfOk result (λ base.
             LeadsTo self.now.base self.now.limits self.now.journal base) }
-        ensures run { let h = self.now in IfOk result (λ _.
-            IsRun (number_of (next h.base h.journal)) (log h.base h.limits h.journal)) }
-        ensures memory { IfErr result (λ e. e ≡ HubError.Memory) }
+        ensures run { IfOk result (λ _. RunsOn self.now) }
     {
         Ok(Base {
             at: self.records.last,

@@ -1,9 +1,9 @@
 //! Four workers and one book, and what one worker sees of another.
 
-use crate::cores::hall::{Hall, Open, is_set};
+use crate::cores::hall::{Hall, is_set};
 use crate::cores::talkers::{SAYS, talkers};
-use hub::Pass;
-use hub_gate::{Locked, Report, Turnstile};
+use hub_gate::{Locked, Open, Report, Turnstile};
+use hub_totals::Pass;
 use journal::{Step, What};
 use std::alloc::Global;
 use std::sync::atomic::{AtomicU64, Ordering};

@@ -1,6 +1,6 @@
 //! Events as lines of text, and as text what they are answered.
 
-use events::{CoreError, Done, Event, Outcome, WsFrame};
+use events::{Answered, Done, Event, Outcome, WsFrame};
 use std::alloc::{AllocError, Global};
 use terms::{Bytes, Text};
 
@@ -61,10 +61,7 @@ fn frame_of(alloc: Global, packet: &str) -> Result<WsFrame, AllocError> {
 }
 
 /// Writes what an event is answered, but for the text of an open packet.
-pub fn write_answer(
-    text: &mut String,
-    answer: &Result<Outcome, CoreError>,
-) -> Result<(), AllocError> {
+pub fn write_answer(text: &mut String, answer: &Answered) -> Result<(), AllocError> {
     match answer {
         Ok(Outcome::Opened(opening)) => write!(text, "opened {}", opening.client),
         Ok(Outcome::Done(done)) => write_done(text, done),

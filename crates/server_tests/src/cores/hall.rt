@@ -4,9 +4,9 @@ ghost use Rattle.std.specs.Prelude.{IfOk, vec_len, ◌≡◌};
 
 use dispatch::Core;
 use events::Peer;
-use hub::Pass;
 use hub_gate::{Locked, Pool, Report, ServeError, Turnstile, serve_peers};
-use relay::RelayApp;
+use hub_totals::Pass;
+use relay::{Counter, RelayApp};
 use std::alloc::{AllocError, Global};
 use std::sync::atomic::{AtomicU64, Ordering};
 use std::sync::ledger::Ledger;
@@ -14,7 +14,6 @@ use std::sync::{MutexGuard, Wait};
 use std::thread;
 use std::thread::Threads;
 use std::time::{Clock, Duration};
-use usual_core::Ids;
 
 /// A locked core at work, and the first pass.
 #[derive(Drop)]
@@ -26,13 +25,12 @@ pub struct Hall<'a, C: Ledger, T: Ledger, R> {
 }
 
 /// The ids of a worker, which are apart from those of others.
-pub fn ids_of(worker: u64) -> Ids {
-    let next = u128::from(worker).saturating_mul(20).saturating_add(1);
-    Ids { next }
+pub fn ids_of(worker: u64) -> Counter {
+    Counter::starting_at(u128::from(worker).saturating_mul(20).saturating_add(1))
 }
 
 /// The ids of so many workers.
-fn sources(alloc: Global, workers: u64) -> Result<Vec<Ids>, AllocError>
+fn sources(alloc: Global, workers: u64) -> Result<Vec<Counter>, AllocError>
     ensures { IfOk result (λ v. vec_len v ≡ workers) }
 {
     let mut all = Vec::new(alloc);
@@ -51,16 +49,6 @@ pub fn is_set<R: Clock>(rt: &R, flag: &AtomicU64) -> bool {
         thread::sleep(rt, Duration::from_micros(200));
     }
     false
-}
-
-/// A gate that lets all pass.
-#[derive(Drop)]
-pub struct Open;
-
-impl Turnstile for Open {
-    fn before(&self, _worker: usize, _turn: u64) {}
-
-    fn after(&self, _worker: usize, _turn: u64) {}
 }
 
 impl<'a, C: Ledger + Send + Sync, T: Ledger + Send + Sync, R: Threads + Wait + Clock + Sync> Hall<

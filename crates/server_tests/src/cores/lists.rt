@@ -6,9 +6,9 @@
 
 use crate::cores::event_lines::{Line, write_answer};
 use dispatch::Core;
-use events::{CoreError, Event, Outcome};
-use hub::Pass;
-use relay::RelayApp;
+use events::{Answered, Event};
+use hub_totals::Pass;
+use relay::{Counter, RelayApp};
 use std::alloc::{AllocError, Global};
 use std::sync::ledger::Ledger;
 use usual_core::{OnServer, Server, Settings, on_new_server};
@@ -115,7 +115,7 @@ fn events_of(alloc: Global, list: &'static str) -> Result<Vec<(Event, u64)>, All
 fn write_answers(
     text: &mut String,
     list: &'static str,
-    answers: &[Result<Outcome, CoreError>],
+    answers: &[Answered],
 ) -> Result<(), AllocError> {
     for (line, answer) in list.lines().filter_map(event_in).zip(answers.iter()) {
         write!(text, "\n{line} = ")?;
@@ -154,9 +154,9 @@ fn write_look<C: Ledger, T: Ledger>(
 
 /// A list as it is answered.
 #[derive(Clone, Copy)]
-struct Answered(&'static str);
+struct List(&'static str);
 
-impl OnServer for Answered {
+impl OnServer for List {
     type Found = Result<String, AllocError>;
 
     fn run<C: Ledger + Send + Sync, T: Ledger + Send + Sync>(
@@ -169,7 +169,7 @@ impl OnServer for Answered {
             // The first part has no id before it.
             let events = match part.split_once('\n') {
                 Some((id, events)) if !id.is_empty() => {
-                    server.ids.next = id.parse().unwrap_or(0);
+                    server.ids = Counter::starting_at(id.parse().unwrap_or(0));
                     write!(text, "\nnext {id}")?;
                     events
                 }
@@ -199,7 +199,7 @@ fn answer_all<C: Ledger, T: Ledger>(
 /// Whether a list is answered as it stands, in one of two runs: at most one allocation is refused.
 fn is_answered_so(alloc: Global, list: &'static str) -> bool {
     for _ in 0..2 {
-        if let Ok(Ok(text)) = on_new_server(alloc, &Settings::usual(3), Answered(list))
+        if let Ok(Ok(text)) = on_new_server(alloc, &Settings::usual(3), List(list))
             && text.split_whitespace().eq(list.split_whitespace())
         {
             return true;

@@ -1,9 +1,9 @@
 //! How often the core is told of a lost client.
 
-use events::{CoreError, CoreFault, Event, Loss, Outcome, Telling};
+use events::{Answered, CoreFault, Event, Loss, Outcome, Telling};
 
 /// The answers of a core that refuses so many times, and then accepts.
-fn answer(refusals: u64, tries: u64) -> Result<Outcome, CoreError> {
+fn answer(refusals: u64, tries: u64) -> Answered {
     if tries < refusals {
         Err(CoreFault::Memory.at_once())
     } else {

@@ -1,10 +1,10 @@
 //! Pools that are refused, peers that fail, and turns that are spent.
 
-use crate::cores::hall::{Hall, Open, ids_of};
+use crate::cores::hall::{Hall, ids_of};
 use crate::cores::talkers::{Failing, talkers};
 use events::{Event, Peer};
-use hub::{NotAll, Pass};
-use hub_gate::{Report, ServeError};
+use hub_gate::{Open, Report, ServeError};
+use hub_totals::{NotAll, Pass};
 use relay::RelayApp;
 use std::alloc::{AllocError, Global};
 use std::sync::Wait;

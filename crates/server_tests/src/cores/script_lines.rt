@@ -1,6 +1,6 @@
 //! Lines in pieces, and devices that fail.
 
-use crate::cores::devices::{Flushes, Paper, Tape};
+use crate::cores::devices::{Flushes, Tape};
 use crate::cores::expected::{expect_ended, expect_printed};
 use relay::RelayApp;
 use script::{RunError, run_script};

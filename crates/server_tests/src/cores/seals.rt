@@ -1,8 +1,8 @@
 //! Seals between the workers' events.
 
-use crate::cores::hall::{Hall, Open};
+use crate::cores::hall::Hall;
 use crate::cores::talkers::talkers;
-use hub_gate::Locked;
+use hub_gate::{Locked, Open};
 use std::alloc::Global;
 use std::sync::Wait;
 use std::sync::atomic::{AtomicU64, Ordering};

@@ -1,6 +1,6 @@
 //! Peers that play clients, each from its first event to its end.
 
-use events::{CoreError, Event, Outcome, Peer, PeerFault};
+use events::{Answered, Event, Outcome, Peer, PeerFault};
 use std::alloc::{AllocError, Global};
 use std::sync::atomic::{AtomicU64, Ordering};
 use terms::Text;
@@ -84,7 +84,7 @@ impl<'a> Peer for Talker<'a> {
         Ok(Some((event, 0)))
     }
 
-    fn answer(&mut self, got: &Result<Outcome, CoreError>) -> Result<(), PeerFault> {
+    fn answer(&mut self, got: &Answered) -> Result<(), PeerFault> {
         match got {
             Ok(Outcome::Opened(opening)) => self.client = opening.client,
             Ok(Outcome::Done(done)) if done.closed.is_none() => self.note_done(),
@@ -139,7 +139,7 @@ impl Peer for Failing {
         Err(PeerFault::Device)
     }
 
-    fn answer(&mut self, _got: &Result<Outcome, CoreError>) -> Result<(), PeerFault> {
+    fn answer(&mut self, _got: &Answered) -> Result<(), PeerFault> {
         Err(PeerFault::Device)
     }
 }

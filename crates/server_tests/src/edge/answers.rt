@@ -5,7 +5,7 @@ use events::CoreFault::{
     self, BadEffect, IdTaken, Memory, NotProbing, Spent, TooManyClients, UnknownClient,
     WrongTransport,
 };
-use events::{Cause, CoreError, Done, Opening, Outcome, Peer, PeerFault};
+use events::{Answered, Cause, Done, Opening, Outcome, Peer, PeerFault};
 use peers::{PollPeer, PollRequest};
 use std::alloc::{AllocError, Global};
 use terms::Text;
@@ -108,7 +108,7 @@ fn request(alloc: Global, asks: Asks) -> Result<PollRequest, AllocError> {
     })
 }
 
-fn answer(alloc: Global, given: Given) -> Result<Result<Outcome, CoreError>, AllocError> {
+fn answer(alloc: Global, given: Given) -> Result<Answered, AllocError> {
     Ok(match given {
         Opened => Ok(Outcome::Opened(Opening {
             client: 7,

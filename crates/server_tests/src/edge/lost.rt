@@ -1,16 +1,16 @@
 //! Requests that a worker serves, of which one can't be answered.
 
 use crate::edge::sheet::{Sheet, Still};
-use hub::Pass;
-use hub_gate::{Locked, Pool, Queue, Turnstile, WorkerCounts, run_worker};
+use hub_gate::{Locked, Open, Pool, Queue, WorkerCounts, run_worker};
+use hub_totals::Pass;
 use journal::Totals;
 use peers::{PollPeer, PollRequest};
-use relay::RelayApp;
+use relay::{Counter, RelayApp};
 use std::alloc::{AllocError, Global};
 use std::sync::Wait;
 use std::sync::ledger::Ledger;
 use terms::Text;
-use usual_core::{Ids, OnLocked, Settings, on_new_locked};
+use usual_core::{OnLocked, Settings, on_new_locked};
 
 type Asker = PollPeer<Sheet, Still>;
 
@@ -64,16 +64,6 @@ fn askers(alloc: Global) -> Result<Vec<Asker>, AllocError> {
     Ok(peers)
 }
 
-/// A gate at which nobody waits.
-#[derive(Clone, Copy, Debug)]
-struct Open;
-
-impl Turnstile for Open {
-    fn before(&self, _worker: usize, _turn: u64) {}
-
-    fn after(&self, _worker: usize, _turn: u64) {}
-}
-
 /// One worker serves these requests. Answers what it counts, and how many sessions are saved.
 #[derive(Drop)]
 struct Serves<'a, R: Wait> {
@@ -92,7 +82,7 @@ impl<'a, R: Wait> OnLocked for Serves<'a, R> {
     ) -> Option<(WorkerCounts, usize)> {
         let Serves { rt, peers } = self;
         let mut queue = Queue::new(peers);
-        let mut ids = Ids { next: 1 };
+        let mut ids = Counter::new();
         let pool = Pool {
             rt,
             alloc,

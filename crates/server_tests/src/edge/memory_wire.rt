@@ -90,8 +90,3 @@ pub fn read(alloc: Global, bytes: &[u8], step: usize, turns: u64) -> Result<Requ
         answer => answer,
     }
 }
-
-/// Why no request is read of these bytes.
-pub fn fault(alloc: Global, bytes: &[u8]) -> Option<EdgeError> {
-    read(alloc, bytes, 4_096, 1_000).err()
-}

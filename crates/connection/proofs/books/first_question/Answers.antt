@@ -1,5 +1,5 @@
 use Rattle.std.proofs.Common.{rules, sym, subst}
-use Rattle.ack_book.specs.Book.{LeadsTo}
+use Rattle.connection.specs.Book.{LeadsTo}
 use Rattle.connection.proofs.LineLemmas.{fresh-is}
 use Rattle.connection.proofs.books.first_question.Goals as goal
 

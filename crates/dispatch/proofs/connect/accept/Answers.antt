@@ -1,5 +1,5 @@
 use Rattle.std.proofs.Common.{inl, inr, ap, ◌∙◌, rules}
-use Rattle.effects.specs.declared.tally.Tally.{Tally}
+use Rattle.effects.specs.declared.scene.Tally.{Tally}
 use Rattle.effects.specs.Effects.{scene}
 use Rattle.effects.proofs.ActLemmas.{stands-seated}
 use Rattle.dispatch.proofs.ConnectLemmas.{does-all, seated-new}

@@ -1,5 +1,5 @@
 use Rattle.std.proofs.Common.{Bool, false, List, ℕ, inl, inr, refl, subst, Ok, Err, rules}
-use Rattle.effects.specs.declared.visit.Visit.{Visit}
+use Rattle.effects.specs.declared.scene.Visit.{Visit}
 use Rattle.effects.specs.Effects.{Scene}
 use Rattle.effects.specs.Scene.{seen}
 use Rattle.dispatch.specs.Packets.{stage, Returning, AsksApp}

@@ -1,7 +1,7 @@
 use Rattle.std.proofs.Common.{◌+◌, ℕ, length, take, refl, sym, ◌∙◌, ap, is_none, Option, Ok, Err, subst, rules}
 use Rattle.std.proofs.lemmas.Option.{slice_get_read}
 use Rattle.events.specs.declared.cause.Cause.{Cause}
-use Rattle.effects.specs.declared.visit.Visit.{Visit}
+use Rattle.effects.specs.declared.scene.Visit.{Visit}
 use Rattle.effects.specs.Scene.{seen}
 use Rattle.effects.proofs.RunsLemmas.{runs-none}
 use Rattle.dispatch.specs.Packets.{stage, HandlesInTurn, HandlesOrBreaks}

@@ -2,7 +2,7 @@ use Rattle.std.proofs.Common.{ℕ, ap, List, length, arith, sym, subst, rules}
 use Rattle.std.proofs.lemmas.List.{length_push}
 use Rattle.journal.proofs.CastLemmas.{split-more}
 use Rattle.events.specs.declared.app.Effect.{Effect}
-use Rattle.effects.specs.declared.visit.Visit.{Visit}
+use Rattle.effects.specs.declared.scene.Visit.{Visit}
 use Rattle.effects.specs.Effects.{ActsInTurn, Stops}
 use Rattle.effects.specs.Runs.{Runs}
 use Rattle.effects.specs.Scene.{seen}

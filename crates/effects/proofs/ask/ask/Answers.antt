@@ -1,6 +1,6 @@
 use Rattle.std.proofs.Common.{◌∙◌, ap, rules}
 use Rattle.journal.specs.Journal.{History}
-use Rattle.effects.specs.declared.tally.Tally.{Tally}
+use Rattle.effects.specs.declared.scene.Tally.{Tally}
 use Rattle.effects.specs.Effects.{scene}
 use Rattle.effects.specs.Scene.{seen}
 use Rattle.effects.proofs.AskLemmas.{asks-full, asks-open, asks-untold}

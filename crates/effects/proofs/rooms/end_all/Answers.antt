@@ -1,6 +1,6 @@
 use Rattle.std.proofs.Common.{ℕ, List, [], ◌∷◌, ◌++◌, ◌∙◌, ap, rules}
 use Rattle.events.specs.Selection.{PlainSelection}
-use Rattle.effects.specs.declared.tally.Tally.{Tally}
+use Rattle.effects.specs.declared.scene.Tally.{Tally}
 use Rattle.effects.specs.Effects.{scene, dismissed, is_among}
 use Rattle.events.specs.Plain.{told, one_more}
 use Rattle.effects.proofs.ActLemmas.{told-is}

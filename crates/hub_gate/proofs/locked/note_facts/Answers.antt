@@ -1,5 +1,5 @@
 use Rattle.std.proofs.Common.{◌∙◌, ap}
-use Rattle.hub.specs.Pass.{PlainHub}
+use Rattle.hub_totals.specs.Pass.{PlainHub}
 use Rattle.hub_gate.proofs.FactsLemmas.{kept-shown}
 use Rattle.hub_gate.proofs.locked.note_facts.Goals as goal
 

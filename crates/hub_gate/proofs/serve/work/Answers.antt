@@ -1,7 +1,7 @@
 use Rattle.std.proofs.Common.{◌∙◌, ap, sym, subst, length, map, min, arith}
 use Rattle.std.proofs.lemmas.List.{length-map}
 use Rattle.std.specs.List.{FoldsTo}
-use Rattle.hub.specs.Pass.{PlainPass}
+use Rattle.hub_totals.specs.Pass.{PlainPass}
 use Rattle.hub_gate.specs.Turns.{Desk, Handled, ServesAll, desk}
 use Rattle.hub_gate.proofs.PoolLemmas.{drained, is_new}
 use Rattle.hub_gate.proofs.serve.work.Goals as goal

@@ -5,10 +5,10 @@ use Rattle.tcp_server.proofs.server.run_in.Goals as goal
 
 pub returns-clause-commands : goal.returns-clause-commands
 returns-clause-commands g c =
-    from-none c.serve_over.result (λ r. r.totals.commands) (λ r. sum_by (λ w. w.commands) r.workers.items) _
-    (ap (λ p. p.commands) c.in_ok-locked.ensures.pass) c.serve_over.ensures.commands
+    from-none c.serve_pool-served.result (λ r. r.totals.commands) (λ r. sum_by (λ w. w.commands) r.workers.items) _
+    (ap (λ p. p.commands) c.in_ok-locked.ensures.pass) c.serve_pool-served.ensures.commands
 
 pub returns-clause-taken : goal.returns-clause-taken
 returns-clause-taken g c =
-    from-none c.serve_over.result (λ r. r.totals.taken) (λ r. sum_by (λ w. w.taken) r.workers.items) _
-    (ap (λ p. p.taken) c.in_ok-locked.ensures.pass) c.serve_over.ensures.taken
+    from-none c.serve_pool-served.result (λ r. r.totals.taken) (λ r. sum_by (λ w. w.taken) r.workers.items) _
+    (ap (λ p. p.taken) c.in_ok-locked.ensures.pass) c.serve_pool-served.ensures.taken

@@ -1,5 +1,5 @@
 use Rattle.std.proofs.Common.{◌≡◌, ap, sym, ◌∙◌}
-use Rattle.hub.specs.Pass.{PlainHub}
+use Rattle.hub_totals.specs.Pass.{PlainHub}
 use Rattle.dispatch.specs.Place.{PlainCore}
 use Rattle.dispatch.proofs.EventLaws.{Applied}
 use Rattle.dispatch.proofs.HearingLaws.{left-by}
@@ -13,7 +13,7 @@ left : (g : Over) (c : goal.After-catch_up g)
 left g c =
     left-by (g.A.App.policy c.args.app.now) c.args.now c.hub.inside.state c.apply_to-answer.new.state
     c.self.inside.lines.entries c.apply_to-answer.new.lines.entries (rw (← c.hub.view_is) at c.self.invariant.0) (g.I.IdSource.stream c.args.ids.now) (g.I.IdSource.stream c.apply_to-answer.new.ids)
-    c.apply_to-answer.result c.self.inside.handshake.timing c.self.inside.handshake.numbers c.args.event.now (rw (← c.hub.view_is) at c.self.invariant.1).names c.apply_to-answer.ensures
+    c.apply_to-answer.result c.self.inside.told.timing c.self.inside.told.numbers c.args.event.now (rw (← c.hub.view_is) at c.self.invariant.1).names c.apply_to-answer.ensures
 
 pub catch_up-requires-clause-grown : goal.catch_up-requires-clause-grown
 catch_up-requires-clause-grown g c =
@@ -21,7 +21,7 @@ catch_up-requires-clause-grown g c =
     let left =
     left-by (g.A.App.policy c.args.app.now) c.args.now c.hub.inside.state c.apply_to-answer.new.state
     c.self.inside.lines.entries c.apply_to-answer.new.lines.entries (rw (← c.hub.view_is) at c.self.invariant.0) (g.I.IdSource.stream c.args.ids.now) (g.I.IdSource.stream c.apply_to-answer.new.ids)
-    c.apply_to-answer.result c.self.inside.handshake.timing c.self.inside.handshake.numbers c.args.event.now (rw (← c.hub.view_is) at c.self.invariant.1).names c.apply_to-answer.ensures in
+    c.apply_to-answer.result c.self.inside.told.timing c.self.inside.told.numbers c.args.event.now (rw (← c.hub.view_is) at c.self.invariant.1).names c.apply_to-answer.ensures in
     grown some.0 c.hub.inside.state c.apply_to-answer.new.state (left.turns some.0 some.1) c.hub.inside.books.commands c.hub.inside.books.taken c.hub.invariant.0 c.hub.invariant.1
 
 pub invariant_of-self : goal.invariant_of-self

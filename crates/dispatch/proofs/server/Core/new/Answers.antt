@@ -1,5 +1,5 @@
 use Rattle.std.proofs.Common.{ap}
-use Rattle.hub.specs.Pass.{PlainHub}
+use Rattle.hub_totals.specs.Pass.{PlainHub}
 use Rattle.dispatch.proofs.HandedLemmas.{handed-fresh}
 use Rattle.dispatch.proofs.ServerLemmas.{agree-fresh, clean-fresh}
 use Rattle.dispatch.proofs.server.Core.new.Goals as goal

@@ -42,7 +42,7 @@ put_all-requires-clause-bytes c =
 pub add-requires-clause-counted : goal.add-requires-clause-counted
 add-requires-clause-counted c =
     let b = comes-back c.self.inside _ _ c.recovery.inside.socket _ c.args.now c.self.invariant c.self.view_is (ap (λ r. r.socket) c.recovery.view_is) c.requires.accepted c.requires.right c.requires.puts in
-    let number : c.len-number.result ≡ length c.args.puts.items = search rules in
+    let number : c.len-placed.result ≡ length c.args.puts.items = search rules in
     rw (number ∙ sym (length-map c.args.puts.items arc_value)) b.counts
 
 pub invariant_of-self-2 : goal.invariant_of-self-2
@@ -51,14 +51,14 @@ invariant_of-self-2 c =
     let hub = c.self.inside in
     let es = map arc_value c.args.puts.items in
     let b = comes-back c.self.inside _ _ c.recovery.inside.socket _ c.args.now c.self.invariant c.self.view_is (ap (λ r. r.socket) c.recovery.view_is) c.requires.accepted c.requires.right c.requires.puts in
-    let number : c.len-number.result ≡ length c.args.puts.items = search rules in
+    let number : c.len-placed.result ≡ length c.args.puts.items = search rules in
     let ids = c.in_ok-seat.ensures.ids in
     let entered = rw c.deref.ensures.value at c.in_ok-seat.ensures.rooms in
     let seats : (s : ℕ) → get nat_cmp c.seat.new.seats s ≡ (if r.socket.sid == s then Some r.socket else get nat_cmp hub.seats s) = rw (← c.recovery.view_is) ids.1 in
     let pids : (p : ℕ) → sorted.contains nat_cmp c.seat.new.pids p ≡ ((r.socket.pid == p) || sorted.contains nat_cmp hub.pids p) = rw (← c.recovery.view_is) ids.2 in
     let rooms : c.seat.new.rooms ≡ room_maps.with_socket_in hub.rooms r.socket.sid r.rooms = rw (← c.recovery.view_is) entered.0 in
     rw (c.add.ensures.steps, c.add.ensures.last, c.reserve.ensures.same, c.add.ensures.counts)
-    (plus (came-back hub r c.recovery.inside.socket es c.args.now c.len-number.result (get nat_cmp c.seat.new.clients) (get nat_cmp c.put_all.new.clients) (get nat_cmp c.seat.new.seats)
+    (plus (came-back hub r c.recovery.inside.socket es c.args.now c.len-placed.result (get nat_cmp c.seat.new.clients) (get nat_cmp c.put_all.new.clients) (get nat_cmp c.seat.new.seats)
     (sorted.contains nat_cmp c.seat.new.pids) c.seat.new.rooms c.take_session.new.saved c.self.invariant b (number ∙ sym (length-map c.args.puts.items arc_value))
     ids.0 c.put_all.ensures seats pids rooms entered.1 c.take_session.ensures)
     (none-departs _ _ _ _ c.self.invariant.4 refl))

@@ -37,8 +37,8 @@ pub add-requires-clause-counted : goal.add-requires-clause-counted
 add-requires-clause-counted c =
     let makes = rw (← c.self.view_is) at c.requires.makes in
     let room = rw (← c.self.view_is) at c.requires.unspent in
-    let told : length c.dismissal.inside.told.items ≡ c.len.result = search rules in
-    let number : length c.args.dismissal.told ≡ c.len.result = rw (← c.dismissal.view_is) told in
+    let told : length c.dismissal.inside.told.items ≡ c.len-placed.result = search rules in
+    let number : length c.args.dismissal.told ≡ c.len-placed.result = rw (← c.dismissal.view_is) told in
     rw (← number) (can_dismiss c.self.inside.base c.self.inside.limits c.self.inside.records.steps.steps c.self.invariant.2 c.args.dismissal c.args.sockets.items c.args.messages.items makes c.self.inside.records.counts c.self.invariant.3 room)
 
 pub invariant_of-self-2 : goal.invariant_of-self-2
@@ -46,8 +46,8 @@ invariant_of-self-2 c =
     let makes = rw (← c.self.view_is) at c.requires.makes in
     let room = rw (← c.self.view_is) at c.requires.unspent in
     let known = rw (← c.self.view_is) at c.requires.known in
-    let told : length c.dismissal.inside.told.items ≡ c.len.result = search rules in
-    let number : length c.args.dismissal.told ≡ c.len.result = rw (← c.dismissal.view_is) told in
+    let told : length c.dismissal.inside.told.items ≡ c.len-placed.result = search rules in
+    let number : length c.args.dismissal.told ≡ c.len-placed.result = rw (← c.dismissal.view_is) told in
     let place : c.from-place.result ≡ c.args.dismissal.space = rw (← c.dismissal.view_is) c.from-place.ensures in
     let drops : (q : ℕ) → get nat_cmp c.drop_all.new.clients q
     ≡ (if list_any (λ (k : Socket). k.client == q) c.args.sockets.items then option_map (without_place c.args.dismissal.space) (get nat_cmp c.put_messages.new.clients q) else get nat_cmp c.put_messages.new.clients q)

@@ -4,5 +4,5 @@ use Rattle.journal.proofs.DismissalLemmas.{farewell_is}
 use Rattle.journal.proofs.AimLemmas.{if_ok}
 use Rattle.hub_state.proofs.state.State.farewell.Goals as goal
 
-pub returns-clause-ok : goal.returns-clause-ok
-returns-clause-ok c = if_ok c.farewell_to.result (λ entry is. is ∙ ap (λ name. record { text = disconnect_text name; attachments = [] }) c.name_at.ensures ∙ farewell_is c.args.self.now.limits c.args.place) c.farewell_to.ensures.ok
+pub returns : goal.returns
+returns c = record { ok = if_ok c.farewell_to.result (λ entry is. is ∙ ap (λ name. record { text = disconnect_text name; attachments = [] }) c.name_at.ensures ∙ farewell_is c.args.self.now.limits c.args.place) c.farewell_to.ensures.ok }

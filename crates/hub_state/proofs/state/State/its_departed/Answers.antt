@@ -8,17 +8,17 @@ use Rattle.hub_state.specs.Departing.{departing}
 use Rattle.hub_state.proofs.DepartLemmas.{held-all}
 use Rattle.hub_state.proofs.state.State.its_departed.Goals as goal
 
-pub returns-in_default-clause-ok : goal.returns-in_default-clause-ok
-returns-in_default-clause-ok c =
+pub returns-in_default : goal.returns-in_default
+returns-in_default c =
     let hub = c.self.inside in
     let held = held-all hub.base hub.limits (get nat_cmp hub.clients) hub.records.steps.steps c.args.client c.self.invariant.0.clients c.self.invariant.2.of_open_clients in
     let none = sym c.get.ensures.value ∙ ap option_copied c.in_default.is in
-    rw (← c.self.view_is) (c.new.ensures.items ∙ ap (map (departing c.args.ending (rooms hub.base hub.records.steps.steps))) (ap held_sockets (sym none) ∙ held))
+    record { ok = rw (← c.self.view_is) (c.new.ensures.items ∙ ap (map (departing c.args.ending (rooms hub.base hub.records.steps.steps))) (ap held_sockets (sym none) ∙ held)) }
 
-pub returns-clause-ok : goal.returns-clause-ok
-returns-clause-ok c =
+pub returns : goal.returns
+returns c =
     let hub = c.self.inside in
     let held = held-all hub.base hub.limits (get nat_cmp hub.clients) hub.records.steps.steps c.args.client c.self.invariant.0.clients c.self.invariant.2.of_open_clients in
     let some = sym c.get.ensures.value ∙ ap option_copied c.in-Some.is in
     let all = c.deref.ensures.value ∙ c.in_ok-sockets.ensures.ok ∙ ap (λ k. k.sockets) c.known.view_is ∙ ap held_sockets (sym some) ∙ held in
-    rw (← c.self.view_is) (rw (all, c.self.invariant.0.rooms_are) at c.departing.ensures.ok)
+    record { ok = rw (← c.self.view_is) (rw (all, c.self.invariant.0.rooms_are) at c.departing.ensures.ok) }

@@ -6,12 +6,15 @@ use Rattle.journal.proofs.AimLemmas.{if_ok}
 use Rattle.journal.proofs.DismissalLemmas.{matching}
 use Rattle.hub_state.proofs.state.State.matching_sockets.Goals as goal
 
-pub returns-clause-ok : goal.returns-clause-ok
-returns-clause-ok c =
+pub returns : goal.returns
+returns c =
     let lists = rw (← c.self.view_is) at c.in_ok-sids.ensures.ok in
     let found = rw c.deref.ensures.value at c.sockets_in.ensures.ok in
-    rw (← c.self.view_is)
-    (if_ok c.sockets_in.result
-    (λ v is. subst (ListsMatching c.self.inside.base c.self.inside.records.steps.steps c.args.space c.args.rooms.now c.args.excepted.now) (sym is)
-    (matching c.self.inside.base c.self.inside.limits c.self.inside.records.steps.steps c.self.invariant.2 c.args.space c.args.rooms.now c.args.excepted.now (get nat_cmp c.self.inside.seats) c.self.invariant.0.seats c.in_ok-sids.sids.items lists))
-    found)
+    record {
+      ok =
+          rw (← c.self.view_is)
+          (if_ok c.sockets_in.result
+          (λ v is. subst (ListsMatching c.self.inside.base c.self.inside.records.steps.steps c.args.space c.args.rooms.now c.args.excepted.now) (sym is)
+          (matching c.self.inside.base c.self.inside.limits c.self.inside.records.steps.steps c.self.invariant.2 c.args.space c.args.rooms.now c.args.excepted.now (get nat_cmp c.self.inside.seats) c.self.invariant.0.seats c.in_ok-sids.sids.items lists))
+          found);
+    }

@@ -12,6 +12,5 @@ loop-sid-preserved c =
     gathered (λ s. in_space c.args.space (get nat_cmp c.args.seats.now s)) c.args.sids.now c.loop-sid.sid-index c.sid-item.result
     _ _ (omega arith) c.sid-item.is c.loop-sid.invariant c.in_ok-add_socket.ensures.ok
 
-pub returns-clause-ok : goal.returns-clause-ok
-returns-clause-ok c =
-    c.loop-sid.invariant ∙ ap (flat_map (λ s. in_space c.args.space (get nat_cmp c.args.seats.now s))) (take_all c.loop-sid.sid-index c.args.sids.now (omega arith))
+pub returns : goal.returns
+returns c = record { ok = c.loop-sid.invariant ∙ ap (flat_map (λ s. in_space c.args.space (get nat_cmp c.args.seats.now s))) (take_all c.loop-sid.sid-index c.args.sids.now (omega arith)) }

@@ -9,5 +9,5 @@ loop-message-preserved c =
     mapped receiver_of c.args.messages.now c.loop-message.message-index c.message-item.result _ _ (omega arith) c.message-item.is c.loop-message.invariant
     (c.in_ok-push.ensures.items ∙ ap (λ m. c.loop-message.clients.items ++ receiver_of m ∷ []) c.message.view_is)
 
-pub returns-clause-ok : goal.returns-clause-ok
-returns-clause-ok c = c.loop-message.invariant ∙ ap (map receiver_of) (take_all c.loop-message.message-index c.args.messages.now (omega arith))
+pub returns : goal.returns
+returns c = record { ok = c.loop-message.invariant ∙ ap (map receiver_of) (take_all c.loop-message.message-index c.args.messages.now (omega arith)) }

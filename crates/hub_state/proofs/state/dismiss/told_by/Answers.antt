@@ -3,7 +3,7 @@ use Rattle.std.specs.List.{IsDistinct}
 use Rattle.journal.proofs.DismissalLemmas.{sorted-once}
 use Rattle.hub_state.proofs.state.dismiss.told_by.Goals as goal
 
-pub returns-clause-ok : goal.returns-clause-ok
-returns-clause-ok c =
+pub returns : goal.returns
+returns c =
     let once : IsDistinct nat_eq c.in_ok-clients.clients.items = rw c.in_ok-clients.ensures.ok c.requires in
-    rw (← c.in_ok-clients.ensures.ok) (sorted-once c.in_ok-clients.clients.items _ once c.sort_unstable.ensures.permutation c.sort_unstable.ensures.sorted)
+    record { ok = rw (← c.in_ok-clients.ensures.ok) (sorted-once c.in_ok-clients.clients.items _ once c.sort_unstable.ensures.permutation c.sort_unstable.ensures.sorted) }

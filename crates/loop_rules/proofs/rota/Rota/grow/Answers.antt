@@ -5,13 +5,13 @@ use Rattle.loop_rules.proofs.rota.Rota.grow.Goals as goal
 
 pub returns-clause-same : goal.returns-clause-same
 returns-clause-same c k =
-    look_pushed (is_ok c.push.result) c.self.inside.looks.items c.push.new.self.items k (rw c.new.ensures at c.push.ensures.items)
+    look_pushed (is_ok c.push.result) c.self.inside.looks.items c.push.new.self.items k c.push.ensures.items
     ∙ ap (λ (w : Waiting). look_of w.looks k) c.self.view_is
 
 pub invariant_of-self-2 : goal.invariant_of-self-2
 invariant_of-self-2 c =
     grown (is_ok c.push.result) c.self.inside.looks.items c.push.new.self.items _ _ _ _ _ _ _ _ c.self.invariant
-    (rw c.new.ensures at c.push.ensures.items)
+    c.push.ensures.items
     (rw (c.make_room.ensures.same.0, c.make_room-else-not-make_room.ensures.same.0) refl)
     (omega (arith, c.make_room.ensures.same.1, c.make_room-else-not-make_room.ensures.same.1))
     (omega (arith, c.make_room.ensures.room (cc (c.if-not-make_room.false)), c.saturating_add-most.ensures, c.len.ensures))

@@ -24,5 +24,5 @@ invariant_of-self-else-is_queued c =
     let below : c.args.key < length c.self.inside.looks.items = turn_known c.self.inside.looks.items c.args.key turn in
     let out : is_queued (look_of c.self.inside.looks.items c.args.key) ≡ false =
     turn_isnt_queued (look_of c.self.inside.looks.items c.args.key) turn in
-    let isnt : is_queued c.args.look ≡ false = rw (← c.state.ensures, ← c.is_queued.ensures) c.if-is_queued.false in
+    let isnt : is_queued c.args.look ≡ false = rw (← c.is_queued.ensures) c.if-is_queued.false in
     marked c.self.inside.looks.items _ _ _ _ c.args.key c.args.look c.self.invariant below (isnt ∙ sym out)

@@ -1,3 +1,0 @@
-pub mod EntryLemmas
-pub mod QuestionLemmas
-pub mod HistoryLemmas

@@ -1,3 +1,0 @@
-pub mod Questions
-pub mod Contents
-pub mod Book

@@ -1,0 +1,116 @@
+//! Questions that wait for an acknowledgement (Socket.IO protocol 5, "Acknowledgement").
+
+ghost use Rattle.std.specs.Prelude.{◌≡◌, nat_le, length, count_by, [], None, Some, IfOk, IfErr, IfSome, OnOk, OnErr};
+ghost use Rattle.connection.specs.Questions.{Asked, Answered, Expired, next_id, open_questions, question_at};
+ghost use Rattle.connection.specs.Book.{LeadsTo, ForEachHistory, Advances, HasHistory, IsUnanswered, ask_refusal, answer_of};
+
+use crate::AckError;
+use std::alloc::Global;
+use std::collections::BTreeMap;
+use std::marker::Model;
+
+/// The greatest acknowledgement id: one has at most fifteen digits.
+const LAST_ID: u64 = 999_999_999_999_999;
+
+/// What the asker knows a question by, and the moment at which it runs out.
+#[derive(Clone, Copy)]
+struct Question {
+    tag: u64,
+    until: u64,
+}
+
+/// The questions to one client that wait for their acknowledgement, by their ids. Each gets the
+/// next id and a tag of the asker's, which its answer gives back. Moments are milliseconds of the
+/// caller's clock, each taken as it is handed in.
+///
+/// Contracts see the next id and the open questions, and speak of histories: the first id and the
+/// calls that lead to these contents. Every book has such a history.
+#[derive(Drop)]
+pub struct AckBook {
+    next: u64,
+    questions: BTreeMap<u64, Question>,
+}
+
+impl Model for AckBook {
+    ghost use Rattle.connection.specs.BookContents.{Contents};
+
+    ghost Value = { Contents };
+
+    ghost use Rattle.connection.specs.Book.{HasHistory};
+
+    ghost view = { λ b. record { next = b.next; questions = b.questions.entries } };
+
+    ghost invariant = { λ b.
+        HasHistory (record { next = b.next; questions = b.questions.entries }) };
+}
+
+impl AckBook {
+    /// A book with no question, whose first id is this one. It takes no memory.
+    pub fn new(alloc: Global, first: u64) -> AckBook
+        ensures { LeadsTo first [] result }
+    {
+        AckBook {
+            next: first,
+            questions: BTreeMap::new(alloc),
+        }
+    }
+
+    /// Asks a question that runs out at a moment, and answers its id. Refused, it used no id.
+    pub fn ask(&mut self, _alloc: Global, tag: u64, until: u64) -> Result<u64, AckError>
+        ensures refused { ForEachHistory self.old
+            (λ first h. IfSome (ask_refusal first h) (λ e. result ≡ Err e)) }
+        ensures memory_alone { ForEachHistory self.old
+            (λ first h. ask_refusal first h ≡ None → IfErr result (λ e. e ≡ AckError.Memory)) }
+        ensures id { IfOk result (λ id. ForEachHistory self.old (λ first h. id ≡ next_id first h)) }
+        ensures leads { OnOk result (Advances self.old (Asked tag until) self.new) }
+        ensures asked { IfOk result (λ id. ForEachHistory self.new
+            (λ first h. question_at first h id ≡ Some (record { tag = tag; until = until }))) }
+        ensures unchanged { OnErr result (self.new ≡ self.old) }
+    {
+        if self.next > LAST_ID {
+            return Err(AckError::Spent);
+        }
+        let id = self.next;
+        match self.questions.insert(id, Question { tag, until }) {
+            Ok(_) => {
+                self.next = id + 1;
+                Ok(id)
+            }
+            Err(_) => Err(AckError::Memory),
+        }
+    }
+
+    /// Takes the answer to a question: gives its tag and forgets its id.
+    pub fn answer(&mut self, id: u64) -> Result<u64, AckError>
+        ensures answer { ForEachHistory self.old
+            (λ first h. result ≡ answer_of (question_at first h id)) }
+        ensures once { OnOk result (ForEachHistory self.old (λ first h. IsUnanswered h id)) }
+        ensures leads { OnOk result (Advances self.old (Answered id) self.new) }
+        ensures unchanged { OnErr result (self.new ≡ self.old) }
+    {
+        let Some(question) = self.questions.remove(&id) else {
+            return Err(AckError::UnknownId);
+        };
+        Ok(question.tag)
+    }
+
+    /// Forgets each question that has run out at this moment, and counts them.
+    pub fn expire(&mut self, now: u64) -> usize
+        ensures counts { ForEachHistory self.old (λ first h. result
+            ≡ count_by (λ entry. nat_le entry.1.until now) (open_questions first h)) }
+        ensures leads { Advances self.old (Expired now) self.new }
+    {
+        let before = self.questions.len();
+        self.questions.retain(|_, question| question.until > now);
+        before - self.questions.len()
+    }
+
+    /// How many questions are open.
+    pub fn len(&self) -> usize
+        ensures counts { ForEachHistory self.now
+            (λ first h. result ≡ length (open_questions first h)) }
+        ensures reached { HasHistory self.now }
+    {
+        self.questions.len()
+    }
+}

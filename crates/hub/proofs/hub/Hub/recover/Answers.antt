@@ -1,4 +1,0 @@
-use Rattle.hub.proofs.hub.Hub.recover.Goals as goal
-
-pub returns-clause-sid : goal.returns-clause-sid
-returns-clause-sid g c = rw (← c.self.view_is) c.in_ok-sid.ensures.sid

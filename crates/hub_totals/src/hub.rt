@@ -1,0 +1,427 @@
+//! A hub that many threads use: each counts what it has had accepted in a pass of its own.
+#![tactic(auto, unfolding(journal::specs::Totals::commands, journal::specs::Totals::handed_out, journal::specs::Journal::total))]
+
+ghost use Rattle.std.specs.Prelude.{◌≡◌, ℕ, ◌+◌, None, IsOk, IfOk, IfErr, OnOk, unwrap_or, take, Result};
+ghost use Rattle.journal.specs.Config.{config_refusal};
+ghost use Rattle.journal.specs.ManySockets.{joining, leaving, dismissal};
+ghost use Rattle.journal.specs.Membership.{place_of};
+ghost use Rattle.journal.specs.Outboxes.{waiting};
+ghost use Rattle.journal.specs.Plain.{PlainCast, PlainCastDone};
+ghost use Rattle.journal.specs.Seal.{Seals};
+ghost use Rattle.journal.specs.declared.ending.Side.{Side};
+ghost use Rattle.journal.specs.declared.error.HubError.{HubError};
+ghost use Rattle.journal.specs.declared.socket.Socket.{Socket};
+ghost use Rattle.journal.specs.declared.step.What.{What};
+ghost use Rattle.journal.specs.declared.step.What.TheVariants.{Closed, Left, Opened, Parked};
+ghost use Rattle.continuity.specs.Truly.{HearsWhatIsDue};
+ghost use Rattle.hub_state.specs.Returning.{return_of};
+ghost use Rattle.hub_totals.specs.Pass.{handed, new_hub, new_pass, took, AtLeast, CastDoesCounted, DoesCounted, Drops, GivesPass, IsBlankOf, PlainHub, PlainPass, Rises, Settles};
+
+use crate::books::{Books, NotAll, Pass};
+use hub_state::State;
+use journal::{Cast, CastDone, Config, Dismissed, Epoch, HubError, Side, Swept, Totals};
+use recovery::Pid;
+use std::alloc::Global;
+use std::marker::Model;
+use std::sync::ledger::{Blank, Ledger};
+use terms::{Entry, Room, Sid};
+
+type Result<X, E = HubError> = std::result::Result<X, E>;
+
+/// A hub with its books. `C` is the ledger of the commands that it accepts, `T` that of the entries
+/// that it hands out; both are this hub's alone, so a pass at these types is a pass of this hub.
+///
+/// In a contract it is its history and the number of parts of each ledger that no pass was given.
+/// Each command is `State`'s, with the pass that counts it: where it is accepted, the history is
+/// one step longer and the pass has one command more, and a `take` also the entries that it handed
+/// out. Where it is refused, both are as before. So the pass rises as the hub's totals do
+/// (`counted_commands_rise`). A command takes no more time or memory than `State`'s.
+#[derive(Drop)]
+pub struct Hub<C: Ledger, T: Ledger> {
+    /// The clients, sockets, rooms, sessions and the log. Who changes it by its own commands, and
+    /// not by the hub's, counts them with `Books::catch_up` before the hub is used again.
+    pub state: State,
+    /// The totals of the commands and of the entries that were handed out, of which each pass has
+    /// its share. They are the state's: that is the type's invariant.
+    pub books: Books<C, T>,
+}
+
+impl<C: Ledger, T: Ledger> Model for Hub<C, T> {
+    ghost use Rattle.std.specs.Prelude.{◌≡◌};
+    ghost use Rattle.journal.specs.Totals as totals;
+    ghost use Rattle.journal.specs.Totals.{handed_out};
+    ghost use Rattle.hub_totals.specs.Pass.{PlainHub};
+
+    ghost Value = { PlainHub };
+
+    ghost view = { λ h. record { history = h.state; rest = h.books.rest } };
+
+    ghost invariant = { λ h. (h.books.commands ≡ totals.commands h.state.base h.state.journal)
+        × (h.books.taken ≡ handed_out h.state.base h.state.journal) };
+}
+
+impl<C: Ledger, T: Ledger> Hub<C, T> {
+    /// The state, of which all can be asked that a hub tells.
+    pub fn state(&self) -> &State
+        ensures { result.now ≡ self.now.history }
+    {
+        &self.state
+    }
+
+    /// A hub with no clients and an empty journal, and its first pass. Each blank is a ledger cut
+    /// into 65,536 parts, of which a pass takes one. Refused as `BadConfig`, then for `Memory`. It
+    /// compares each two of the namespaces, and copies their names once.
+    pub fn new(
+        alloc: Global,
+        config: Config,
+        commands: Blank,
+        taken: Blank,
+    ) -> Result<(Hub<C, T>, Pass<C, T>)>
+        requires commands { IsBlankOf C.name C.parts commands }
+        requires taken { IsBlankOf T.name T.parts taken }
+        ensures config { OnOk result (config_refusal config ≡ None) }
+        ensures hub { IfOk result (λ made. made.0 ≡ new_hub config) }
+        ensures pass { IfOk result (λ made. made.1 ≡ new_pass) }
+        ensures err { IfErr result (λ e. e ≡ unwrap_or (config_refusal config) HubError.Memory) }
+    {
+        let state = State::new(alloc, config)?;
+        let (books, pass) = Books::open(commands, taken);
+        Ok((Hub { state, books }, pass))
+    }
+
+    /// A pass that has counted nothing, for one more thread. Refused as `Spent` alone, after 65,534
+    /// of them.
+    pub fn new_pass(&mut self) -> Result<Pass<C, T>>
+        ensures gives { GivesPass self.old.rest result self.new.rest }
+        ensures kept { self.new.history ≡ self.old.history }
+    {
+        self.books.new_pass()
+    }
+
+    /// Changes nothing. It tells that the hub's counts are at least what the pass has counted.
+    pub fn audit(&mut self, pass: &mut Pass<C, T>)
+        ensures same { (self.new ≡ self.old) × (pass.new ≡ pass.old) }
+        ensures at_least { AtLeast self.old pass.old }
+    {
+        // The totals are u64s.
+        let _fits = self.state.totals();
+        self.books.audit(pass);
+    }
+
+    /// The hub's counts, where the pass has all of its commands and all that it handed out, and
+    /// else what the pass lacks. It lacks nothing where every other pass was absorbed. Changes
+    /// nothing.
+    pub fn settle(&mut self, pass: &mut Pass<C, T>) -> Result<Totals, NotAll>
+        ensures same { (self.new ≡ self.old) × (pass.new ≡ pass.old) }
+        ensures settles { Settles self.old pass.old result }
+        ensures whole { self.old.rest + pass.old.parts ≡ C.parts
+            → self.old.rest + pass.old.parts ≡ T.parts → IsOk result }
+    {
+        let totals = self.state.totals();
+        let lack = self.books.lacks(pass, &totals);
+        if lack.commands != 0 || lack.taken != 0 {
+            return Err(lack);
+        }
+        Ok(totals)
+    }
+
+    /// Opens a client. As `State::open`, counted in the pass.
+    pub fn open(
+        &mut self,
+        alloc: Global,
+        pass: &mut Pass<C, T>,
+        client: u128,
+        now: u64,
+    ) -> Result<()>
+        ensures does { DoesCounted self.old self.new pass.old pass.new now (Opened client) result }
+    {
+        self.state.open(alloc, client, now)?;
+        self.books.count(pass, &self.state, 0);
+        Ok(())
+    }
+
+    /// Connects a client's new socket to a namespace. As `State::attach`, counted in the pass.
+    pub fn attach(
+        &mut self,
+        alloc: Global,
+        pass: &mut Pass<C, T>,
+        client: u128,
+        space: &str,
+        sid: Sid,
+        pid: Pid,
+        now: u64,
+    ) -> Result<()>
+        ensures does { let place = place_of self.old.history.limits space.now in
+            let socket : Socket = record { client = client; space = place; sid = sid; pid = pid } in
+            DoesCounted self.old self.new pass.old pass.new now (What.Attached socket) result }
+    {
+        self.state.attach(alloc, client, space, sid, pid, now)?;
+        self.books.count(pass, &self.state, 0);
+        Ok(())
+    }
+
+    /// A socket joins a room. As `State::join`, counted in the pass.
+    pub fn join(
+        &mut self,
+        alloc: Global,
+        pass: &mut Pass<C, T>,
+        sid: Sid,
+        room: Room,
+        now: u64,
+    ) -> Result<()>
+        ensures does { DoesCounted self.old self.new pass.old pass.new now
+            (What.Joined sid room) result }
+    {
+        self.state.join(alloc, sid, room, now)?;
+        self.books.count(pass, &self.state, 0);
+        Ok(())
+    }
+
+    /// A socket leaves a room. As `State::leave`, counted in the pass.
+    pub fn leave(
+        &mut self,
+        alloc: Global,
+        pass: &mut Pass<C, T>,
+        sid: Sid,
+        room: Room,
+        now: u64,
+    ) -> Result<()>
+        ensures does { DoesCounted self.old self.new pass.old pass.new now (Left sid room) result }
+    {
+        self.state.leave(alloc, sid, room, now)?;
+        self.books.count(pass, &self.state, 0);
+        Ok(())
+    }
+
+    /// Ends a socket by the server. As `State::end`, counted in the pass.
+    pub fn end(&mut self, alloc: Global, pass: &mut Pass<C, T>, sid: Sid, now: u64) -> Result<()>
+        ensures does { DoesCounted self.old self.new pass.old pass.new now
+            (What.Ended sid Side.Server) result }
+    {
+        self.state.end(alloc, sid, Side::Server, now)?;
+        self.books.count(pass, &self.state, 0);
+        Ok(())
+    }
+
+    /// Closes a client. As `State::close`, counted in the pass.
+    pub fn close(
+        &mut self,
+        alloc: Global,
+        pass: &mut Pass<C, T>,
+        client: u128,
+        now: u64,
+    ) -> Result<()>
+        ensures does { DoesCounted self.old self.new pass.old pass.new now (Closed client) result }
+    {
+        self.state.close(alloc, client, now)?;
+        self.books.count(pass, &self.state, 0);
+        Ok(())
+    }
+
+    /// Puts an entry at the end of a client's outbox. As `State::tell`, counted in the pass.
+    pub fn tell(
+        &mut self,
+        alloc: Global,
+        pass: &mut Pass<C, T>,
+        client: u128,
+        entry: Entry,
+        now: u64,
+    ) -> Result<()>
+        ensures does { let what = What.Told (record { client = client; entry = entry }) in
+            DoesCounted self.old self.new pass.old pass.new now what result }
+    {
+        self.state.tell(alloc, client, entry, now)?;
+        self.books.count(pass, &self.state, 0);
+        Ok(())
+    }
+
+    /// Hands out the first entries that wait for a client. As `State::take`, counted in the pass.
+    pub fn take(
+        &mut self,
+        alloc: Global,
+        pass: &mut Pass<C, T>,
+        client: u128,
+        most: usize,
+        now: u64,
+    ) -> Result<Vec<Entry>>
+        ensures entries { let h = self.old.history in IfOk result (λ entries.
+            entries.items ≡ take most (waiting h.base h.limits h.journal client)) }
+        ensures does { let what = took self.old.history client most in
+            DoesCounted self.old self.new pass.old pass.new now what result }
+    {
+        let entries = self.state.take(alloc, client, most, now)?;
+        self.books.count(pass, &self.state, entries.len() as u64);
+        Ok(entries)
+    }
+
+    /// Takes away the first entries that wait. As `State::take_away`, counted in the pass.
+    pub fn take_away(
+        &mut self,
+        alloc: Global,
+        pass: &mut Pass<C, T>,
+        client: u128,
+        most: usize,
+        now: u64,
+    ) -> Result<usize>
+        ensures number { IfOk result (λ number. number ≡ handed self.old.history client most) }
+        ensures does { let what = took self.old.history client most in
+            DoesCounted self.old self.new pass.old pass.new now what result }
+    {
+        let number = self.state.take_away(alloc, client, most, now)?;
+        self.books.count(pass, &self.state, number as u64);
+        Ok(number)
+    }
+
+    /// Broadcasts an event to sockets of a namespace. As `State::cast`, counted in the pass.
+    pub fn cast(
+        &mut self,
+        alloc: Global,
+        pass: &mut Pass<C, T>,
+        cast: Cast,
+        now: u64,
+    ) -> Result<CastDone>
+        ensures does { CastDoesCounted self.old self.new pass.old pass.new now cast result }
+        ensures continuity { let g = self.new.history in
+            (p : ℕ) → HearsWhatIsDue g.base g.limits g.journal p }
+    {
+        let done = self.state.cast(alloc, cast, now)?;
+        self.books.count(pass, &self.state, 0);
+        Ok(done)
+    }
+
+    /// All sockets that match join a room. As `State::sockets_join`, counted in the pass.
+    pub fn sockets_join(
+        &mut self,
+        alloc: Global,
+        pass: &mut Pass<C, T>,
+        space: &str,
+        rooms: Vec<Room>,
+        excepted: Vec<Room>,
+        room: Room,
+        now: u64,
+    ) -> Result<Vec<Sid>>
+        ensures changed { let h = self.old.history in let place = place_of h.limits space.now in
+            IfOk result (λ s. s.items ≡ (joining h place rooms.items excepted.items room).changed) }
+        ensures does { let place = place_of self.old.history.limits space.now in
+            let change = joining self.old.history place rooms.items excepted.items room in
+            DoesCounted self.old self.new pass.old pass.new now (What.AllJoined change) result }
+    {
+        let state = &mut self.state;
+        let joined = state.sockets_join(alloc, space, rooms, excepted, room, now)?;
+        self.books.count(pass, &self.state, 0);
+        Ok(joined)
+    }
+
+    /// All sockets that match leave a room. As `State::sockets_leave`, counted in the pass.
+    pub fn sockets_leave(
+        &mut self,
+        alloc: Global,
+        pass: &mut Pass<C, T>,
+        space: &str,
+        rooms: Vec<Room>,
+        excepted: Vec<Room>,
+        room: Room,
+        now: u64,
+    ) -> Result<Vec<Sid>>
+        ensures changed { let h = self.old.history in let place = place_of h.limits space.now in
+            IfOk result (λ s. s.items ≡ (leaving h place rooms.items excepted.items room).changed) }
+        ensures does { let place = place_of self.old.history.limits space.now in
+            let change = leaving self.old.history place rooms.items excepted.items room in
+            DoesCounted self.old self.new pass.old pass.new now (What.AllLeft change) result }
+    {
+        let state = &mut self.state;
+        let left = state.sockets_leave(alloc, space, rooms, excepted, room, now)?;
+        self.books.count(pass, &self.state, 0);
+        Ok(left)
+    }
+
+    /// All sockets that match end. As `State::disconnect_sockets`, counted in the pass.
+    pub fn disconnect_sockets(
+        &mut self,
+        alloc: Global,
+        pass: &mut Pass<C, T>,
+        space: &str,
+        rooms: Vec<Room>,
+        excepted: Vec<Room>,
+        now: u64,
+    ) -> Result<Dismissed>
+        ensures done { let place = place_of self.old.history.limits space.now in
+            let all = dismissal self.old.history place rooms.items excepted.items in
+            IfOk result (λ done. (done.ended.items ≡ all.ended) × (done.told.items ≡ all.told)) }
+        ensures does { let place = place_of self.old.history.limits space.now in
+            let all = dismissal self.old.history place rooms.items excepted.items in
+            DoesCounted self.old self.new pass.old pass.new now (What.AllEnded all) result }
+    {
+        let state = &mut self.state;
+        let done = state.disconnect_sockets(alloc, space, rooms, excepted, now)?;
+        self.books.count(pass, &self.state, 0);
+        Ok(done)
+    }
+
+    /// Parks a client that was lost. As `State::park`, counted in the pass.
+    pub fn park(
+        &mut self,
+        alloc: Global,
+        pass: &mut Pass<C, T>,
+        client: u128,
+        now: u64,
+    ) -> Result<()>
+        ensures does { DoesCounted self.old self.new pass.old pass.new now (Parked client) result }
+    {
+        self.state.park(alloc, client, now)?;
+        self.books.count(pass, &self.state, 0);
+        Ok(())
+    }
+
+    /// Brings a saved session back at a client. As `State::recover`, counted in the pass.
+    pub fn recover(
+        &mut self,
+        alloc: Global,
+        pass: &mut Pass<C, T>,
+        client: u128,
+        space: &str,
+        pid: Pid,
+        offset: u64,
+        now: u64,
+    ) -> Result<Sid>
+        ensures sid { let back = return_of client space.now pid offset self.old.history in
+            IfOk result (λ sid. sid ≡ back.socket.sid) }
+        ensures does { let back = return_of client space.now pid offset self.old.history in
+            DoesCounted self.old self.new pass.old pass.new now (What.Recovered back) result }
+        ensures continuity { let g = self.new.history in
+            (p : ℕ) → HearsWhatIsDue g.base g.limits g.journal p }
+    {
+        let sid = self.state.recover(alloc, client, space, pid, offset, now)?;
+        self.books.count(pass, &self.state, 0);
+        Ok(sid)
+    }
+
+    /// Drops outdated log entries and sessions. As `State::sweep`, counted in the pass.
+    pub fn sweep(&mut self, alloc: Global, pass: &mut Pass<C, T>, now: u64) -> Result<Swept>
+        ensures does { DoesCounted self.old self.new pass.old pass.new now What.Swept result }
+        ensures counts { IfOk result (λ swept. Drops swept self.old.history self.new.history) }
+    {
+        let swept = self.state.sweep(alloc, now)?;
+        self.books.count(pass, &self.state, 0);
+        Ok(swept)
+    }
+
+    /// Makes the present state the base. As `State::seal`; it is no command, and in no pass.
+    pub fn seal(&mut self, alloc: Global) -> Result<Epoch>
+        ensures seals { Seals self.old.history result self.new.history }
+        ensures parts { self.new.rest ≡ self.old.rest }
+    {
+        self.state.seal(alloc)
+    }
+}
+
+/// A pass rises by as much as its hub's totals, by a command that was accepted and, as neither
+/// rises, by one that was refused.
+pub fn counted_commands_rise<X>()
+    ensures command { (before after : PlainHub) (old new : PlainPass) (now : ℕ) (what : What)
+        (result : Result X HubError)
+        → DoesCounted before after old new now what result → Rises before after old new }
+    ensures cast { (before after : PlainHub) (old new : PlainPass) (now : ℕ) (cast : PlainCast)
+        (result : Result PlainCastDone HubError)
+        → CastDoesCounted before after old new now cast result → Rises before after old new }
+{}

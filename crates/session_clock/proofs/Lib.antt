@@ -1,2 +1,0 @@
-pub mod HeartbeatLemmas
-pub mod HistoryLemmas
