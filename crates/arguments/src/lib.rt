@@ -2,9 +2,8 @@
 //! they name, and what is told where they are refused.
 #![tactic(auto)]
 
-mod folder;
+mod files;
 pub mod options;
 pub mod refused;
 pub mod task;
 mod texts;
-mod token;

@@ -1,15 +1,13 @@
 //! What a program is asked to do.
 
-use crate::folder::{FolderFault, read_folder};
+use crate::files::{FileFault, read_folder, read_token};
 use crate::options::{Options, read_options, server};
 use crate::texts::{is_origin, is_path};
-use crate::token::{TokenFault, read_token};
 use clap::error::ErrorKind;
 use clap::{ArgMatches, Command, Error};
 use journal::Config;
 use settings::Settings;
 use std::alloc::{AllocError, Global};
-use std::convert::AsStr;
 use std::rt::{Env, Files};
 use std::{env, io};
 use terms::Text;
@@ -55,16 +53,6 @@ impl Program {
         }
     }
 
-    /// What these words say, the program's name first.
-    fn matches<'a, S: AsStr>(
-        self,
-        alloc: Global,
-        words: &'a [S],
-    ) -> Result<Box<ArgMatches<'a>>, Error> {
-        let matches = self.command(alloc)?.try_get_matches_from(words)?;
-        Ok(Box::new(alloc, matches)?)
-    }
-
     /// The error of arguments that can't be taken.
     fn refusal(self, alloc: Global, message: &str) -> Result<Error, AllocError> {
         let mut command = self.command(alloc)?;
@@ -80,7 +68,9 @@ pub fn read_arguments<R: Env + Files + AllocGlobal + Clone + Drop>(
 ) -> Result<Task, Error> {
     let program = Program::EventServer;
     let words = words(rt, program)?;
-    let matches = program.matches(rt.alloc(), words.as_slice())?;
+    let matches = program
+        .command(rt.alloc())?
+        .try_get_matches_from(words.as_slice())?;
     match matches.subcommand_matches("serve") {
         Some(serve) => Ok(Task::Serve(right_options(rt, program, serve, processors)?)),
         None => Ok(Task::Script),
@@ -97,7 +87,9 @@ pub fn read_server_arguments<R: Env + Files + AllocGlobal + Clone + Drop>(
 ) -> Result<Box<Options>, Error> {
     let program = Program::Server(name, about);
     let words = words(rt, program)?;
-    let matches = program.matches(rt.alloc(), words.as_slice())?;
+    let matches = program
+        .command(rt.alloc())?
+        .try_get_matches_from(words.as_slice())?;
     right_options(rt, program, &matches, processors)
 }
 
@@ -141,14 +133,14 @@ fn read_files<R: Files + AllocGlobal + Clone + Drop>(
     if let Some(folder) = matches.get_str("page") {
         match read_folder(rt, folder) {
             Ok(page) => options.settings.page = page,
-            Err(FolderFault::Memory(refused)) => return Err(refused),
+            Err(FileFault::Memory(refused)) => return Err(refused),
             Err(fault) => return Ok(Some(format!(in alloc; "--page {folder}: {fault}")?)),
         }
     }
     if let Some(file) = matches.get_str("token-file") {
         match read_token(rt, file) {
             Ok(token) => options.token = Some(token),
-            Err(TokenFault::Memory(refused)) => return Err(refused),
+            Err(FileFault::Memory(refused)) => return Err(refused),
             Err(fault) => return Ok(Some(format!(in alloc; "--token-file {file}: {fault}")?)),
         }
     }

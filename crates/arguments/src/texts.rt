@@ -9,23 +9,17 @@ pub(crate) fn is_origin(text: &str) -> bool {
 }
 
 fn is_part(text: &str) -> bool {
-    !text.is_empty() && text.bytes().all(is_byte_of_part)
-}
-
-fn is_byte_of_part(byte: u8) -> bool {
-    byte.is_ascii_lowercase()
-        || byte.is_ascii_digit()
-        || matches!(byte, b'+' | b'-' | b'.' | b'_' | b':' | b'[' | b']')
+    let is_allowed = |byte: u8| {
+        byte.is_ascii_lowercase()
+            || byte.is_ascii_digit()
+            || matches!(byte, b'+' | b'-' | b'.' | b'_' | b':' | b'[' | b']')
+    };
+    !text.is_empty() && text.bytes().all(is_allowed)
 }
 
 /// Whether a request may have this path (RFC 9112, section 3.2.1), and it isn't the socket's.
 pub(crate) fn is_path(text: &str) -> bool {
-    text.starts_with('/')
-        && text.bytes().all(is_byte_of_path)
-        && text != "/socket.io"
-        && text != "/socket.io/"
-}
-
-fn is_byte_of_path(byte: u8) -> bool {
-    byte.is_ascii_graphic() && !matches!(byte, b'?' | b'#')
+    let is_allowed = |byte: u8| byte.is_ascii_graphic() && !matches!(byte, b'?' | b'#');
+    let is_socket = text == "/socket.io" || text == "/socket.io/";
+    text.starts_with('/') && text.bytes().all(is_allowed) && !is_socket
 }

@@ -24,7 +24,7 @@ use Rattle.connection.specs.declared.ack_book.Question.{Question}
 use Rattle.connection.specs.Book as book
 use Rattle.connection.specs.BookContents as book_contents
 use Rattle.connection.specs.History.{Call, Framed, FrameRefused, Ticked, Ponged, Probed, Upgraded, ProbeLost, GetBegan, GetEnded, PingCarried, Entered, Left, Asked, Answered, frames, failure, IsLegal, clock_calls, book_calls, is_getting, is_ping_due}
-use Rattle.connection.specs.Line.{PlainLine, ping_after, fresh_book, book_in, failure_of, HasTaken, LeadsTo, HasHistory, Advances}
+use Rattle.connection.specs.Line.{PlainLine, ping_after, fresh_book, book_in, failure_of, FailsWith, HasTaken, LeadsTo, HasHistory, Advances}
 
 -- calls that lead from each history to the next line lead from the one that there is
 pub advanced : (old new : PlainLine) (calls : List Call) → Advances old calls new → HasHistory old → HasHistory new
@@ -174,6 +174,14 @@ module _ (l : PlainLine) (next : Progress) (X : SioError → Type 0) (result : R
   pub bytes-advance : (t : List ℕ) → IfSome (binary_refusal l.assembler) (λ error. (result ≡ Err error) × X error) → IfOk result (λ given. Accepts l.assembler (binary t) given next)
       → OnOk result (Advances l (Framed (binary t) ∷ []) (record l { assembler = next }))
   bytes-advance t refused = advances-by l (binary t) next X result (bytes-work refused)
+
+-- after an error other than Memory the assembler has failed, and nothing else has changed
+pub faulty : (l : PlainLine) (next : Progress) (R : SioError → Type 0) (result : Result (Option SioPacket) SioError)
+    → IfErr result (λ e. ((e ≡ SioError.Memory) × (next ≡ l.assembler)) ⊎ (R e × (next ≡ Failed e)))
+    → IfErr result (λ e. ((e ≡ SioError.Memory) × (record l { assembler = next } ≡ l)) ⊎ (R e × FailsWith e l (record l { assembler = next })))
+faulty l next R (Ok given) fault = tt
+faulty l next R (Err e) (inl short) = inl (short.0, ap (λ p. record l { assembler = p }) short.1)
+faulty l next R (Err e) (inr bad) = inr (bad.0, ap (λ p. record l { assembler = p }) bad.1)
 
 -- ---- the books
 

@@ -1,9 +1,9 @@
 -- What a book answers, and which histories lead to what it holds.
-use Rattle.std.specs.Prelude.{◌≡◌, ◌≢◌, ℕ, nat_lt, List, [], ◌∷◌, Option, None, Some, Result, Ok, Err, All, IsSome}
+use Rattle.std.specs.Prelude.{◌≡◌, ◌≢◌, ℕ, nat_lt, List, [], ◌∷◌, Option, None, Some, Result, Ok, Err, All, IsSome, IfSome, IfOk, IfErr, OnOk, OnErr}
 use Rattle.terms.specs.Refusal.{first_refusal}
 use Rattle.connection.specs.declared.ack_book.Question.{Question}
 use Rattle.connection.specs.declared.ack_error.AckError.{AckError}
-use Rattle.connection.specs.declared.ack_error.AckError.TheVariants.{UnknownId, Spent}
+use Rattle.connection.specs.declared.ack_error.AckError.TheVariants.{Memory, UnknownId, Spent}
 use Rattle.connection.specs.Questions.{Call, Asked, Answered, Expired, next_id, open_questions, question_at}
 use Rattle.connection.specs.BookContents.{Contents}
 
@@ -44,6 +44,21 @@ ForEachHistory b P = (first : ℕ) (h : List Call) → LeadsTo first h b → P f
 -- with this call more, each history that leads to the one contents leads to the other
 abbrev pub Advances : Contents → Call → Contents → Type 0
 Advances old call new = ForEachHistory old (λ first h. LeadsTo first (call ∷ h) new)
+
+-- a question was asked: its id is the next one; or it was refused, where its id would be too great and else for memory
+-- alone, and changed nothing
+pub record Asks (old : Contents) (tag until : ℕ) (result : Result ℕ AckError) (new : Contents) : Type 0 where
+  pub refused : ForEachHistory old (λ first h. IfSome (ask_refusal first h) (λ e. result ≡ Err e))
+  pub memory_alone : ForEachHistory old (λ first h. ask_refusal first h ≡ None → IfErr result (λ e. e ≡ Memory))
+  pub id : IfOk result (λ id. ForEachHistory old (λ first h. id ≡ next_id first h))
+  pub leads : OnOk result (Advances old (Asked tag until) new)
+  pub unchanged : OnErr result (new ≡ old)
+
+-- an id was answered: it has the tag of the question that was open under it; or there was none, and nothing changed
+pub record Answers (old : Contents) (id : ℕ) (result : Result ℕ AckError) (new : Contents) : Type 0 where
+  pub answer : ForEachHistory old (λ first h. result ≡ answer_of (question_at first h id))
+  pub leads : OnOk result (Advances old (Answered id) new)
+  pub unchanged : OnErr result (new ≡ old)
 
 -- some history leads to these contents
 pub record HasHistory (b : Contents) : Type 0 where

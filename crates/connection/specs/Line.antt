@@ -1,5 +1,5 @@
 -- What a line holds, and which histories lead to it.
-use Rattle.std.specs.Prelude.{◌≡◌, ℕ, Bool, true, List, [], ◌∷◌, ◌++◌, Option, None, Some, unwrap_or, Result, OnOk, OnErr}
+use Rattle.std.specs.Prelude.{◌≡◌, ◌⊎◌, ℕ, Bool, true, List, [], ◌∷◌, ◌++◌, Option, None, Some, unwrap_or, Result, IfOk, IfErr, OnOk, OnErr}
 use Rattle.std.specs.Ordering.{nat_cmp}
 use Rattle.std.specs.Map.{lookup}
 use Rattle.std.specs.BTreeMap.{is_at}
@@ -8,7 +8,8 @@ use Rattle.sio_wire.specs.declared.packet.SioPacket.{SioPacket}
 use Rattle.sio_wire.specs.declared.assembler.Progress.{Progress}
 use Rattle.sio_wire.specs.declared.assembler.Progress.TheVariants.{Failed}
 use Rattle.sio_wire.specs.declared.error.SioError.{SioError}
-use Rattle.sio_wire.specs.Frames.{Frame, Accepted}
+use Rattle.sio_wire.specs.declared.error.SioError.TheVariants.{Memory}
+use Rattle.sio_wire.specs.Frames.{Frame, Accepted, Accepts}
 use Rattle.connection.specs.declared.timing.Due.{Due}
 use Rattle.connection.specs.declared.timing.Due.TheVariants.{SendPing}
 use Rattle.terms.specs.Refusal.{ok_unless}
@@ -20,7 +21,7 @@ use Rattle.connection.specs.Clock as clock
 use Rattle.connection.specs.ClockContents as clock_contents
 use Rattle.connection.specs.Book as book
 use Rattle.connection.specs.BookContents as book_contents
-use Rattle.connection.specs.History.{Call, frames, failure, IsLegal, clock_calls, book_calls, is_getting, is_ping_due}
+use Rattle.connection.specs.History.{Call, Framed, frames, failure, IsLegal, clock_calls, book_calls, is_getting, is_ping_due}
 
 -- the assembler and the clock, whether a GET waits and whether a ping is due, and the books of sockets by their ids
 pub record PlainLine : Type 0 where
@@ -95,3 +96,11 @@ FailsWith e old new = new ≡ record old { assembler = Failed e }
 abbrev pub IsWholeIfGiven : Option SioPacket → Type 0
 IsWholeIfGiven None = Unit {0}
 IsWholeIfGiven (Some packet) = IsWhole packet.header.space × IsWhole packet.header.payload
+
+-- a frame came, and the packet that it makes whole is given; after an error other than Memory, which is one of these, the
+-- assembler has failed
+pub record Hears (frame : Frame) (Refuses : SioError → Type 0) (old : PlainLine) (result : Result (Option SioPacket) SioError) (new : PlainLine) : Type 0 where
+  pub given : IfOk result (λ given. Accepts old.assembler frame given new.assembler)
+  pub advances : OnOk result (Advances old (Framed frame ∷ []) new)
+  pub whole : IfOk result IsWholeIfGiven
+  pub fault : IfErr result (λ e. ((e ≡ Memory) × (new ≡ old)) ⊎ (Refuses e × FailsWith e old new))

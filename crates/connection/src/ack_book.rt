@@ -1,8 +1,8 @@
 //! Questions that wait for an acknowledgement (Socket.IO protocol 5, "Acknowledgement").
 
-ghost use Rattle.std.specs.Prelude.{◌≡◌, nat_le, length, count_by, [], None, Some, IfOk, IfErr, IfSome, OnOk, OnErr};
-ghost use Rattle.connection.specs.Questions.{Asked, Answered, Expired, next_id, open_questions, question_at};
-ghost use Rattle.connection.specs.Book.{LeadsTo, ForEachHistory, Advances, HasHistory, IsUnanswered, ask_refusal, answer_of};
+ghost use Rattle.std.specs.Prelude.{◌≡◌, nat_le, length, count_by, [], Some, IfOk, OnOk};
+ghost use Rattle.connection.specs.Questions.{Expired, open_questions, question_at};
+ghost use Rattle.connection.specs.Book.{LeadsTo, ForEachHistory, Advances, Answers, Asks, HasHistory, IsUnanswered};
 
 use crate::AckError;
 use std::alloc::Global;
@@ -57,40 +57,27 @@ impl AckBook {
 
     /// Asks a question that runs out at a moment, and answers its id. Refused, it used no id.
     pub fn ask(&mut self, _alloc: Global, tag: u64, until: u64) -> Result<u64, AckError>
-        ensures refused { ForEachHistory self.old
-            (λ first h. IfSome (ask_refusal first h) (λ e. result ≡ Err e)) }
-        ensures memory_alone { ForEachHistory self.old
-            (λ first h. ask_refusal first h ≡ None → IfErr result (λ e. e ≡ AckError.Memory)) }
-        ensures id { IfOk result (λ id. ForEachHistory self.old (λ first h. id ≡ next_id first h)) }
-        ensures leads { OnOk result (Advances self.old (Asked tag until) self.new) }
+        ensures asks { Asks self.old tag until result self.new }
         ensures asked { IfOk result (λ id. ForEachHistory self.new
             (λ first h. question_at first h id ≡ Some (record { tag = tag; until = until }))) }
-        ensures unchanged { OnErr result (self.new ≡ self.old) }
     {
         if self.next > LAST_ID {
             return Err(AckError::Spent);
         }
         let id = self.next;
-        match self.questions.insert(id, Question { tag, until }) {
-            Ok(_) => {
-                self.next = id + 1;
-                Ok(id)
-            }
-            Err(_) => Err(AckError::Memory),
-        }
+        let Ok(_) = self.questions.insert(id, Question { tag, until }) else {
+            return Err(AckError::Memory);
+        };
+        self.next = id + 1;
+        Ok(id)
     }
 
     /// Takes the answer to a question: gives its tag and forgets its id.
     pub fn answer(&mut self, id: u64) -> Result<u64, AckError>
-        ensures answer { ForEachHistory self.old
-            (λ first h. result ≡ answer_of (question_at first h id)) }
+        ensures answers { Answers self.old id result self.new }
         ensures once { OnOk result (ForEachHistory self.old (λ first h. IsUnanswered h id)) }
-        ensures leads { OnOk result (Advances self.old (Answered id) self.new) }
-        ensures unchanged { OnErr result (self.new ≡ self.old) }
     {
-        let Some(question) = self.questions.remove(&id) else {
-            return Err(AckError::UnknownId);
-        };
+        let question = self.questions.remove(&id).ok_or(AckError::UnknownId)?;
         Ok(question.tag)
     }
 

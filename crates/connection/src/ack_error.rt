@@ -1,5 +1,3 @@
-use std::alloc::AllocError;
-
 /// Why a question isn't asked, or an answer isn't taken.
 #[derive(Clone, Copy, PartialEq, Eq, Debug)]
 pub enum AckError {
@@ -9,15 +7,4 @@ pub enum AckError {
     UnknownId,
     /// The greatest id was used.
     Spent,
-}
-
-impl From<AllocError> for AckError {
-    ghost use Rattle.std.specs.Prelude.{◌≡◌};
-    ghost use Rattle.connection.specs.declared.ack_error.AckError.TheVariants.{Memory};
-
-    ghost from_gives = { λ _ e. e ≡ Memory };
-
-    fn from(_refused: AllocError) -> AckError {
-        AckError::Memory
-    }
 }

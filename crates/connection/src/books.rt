@@ -1,8 +1,8 @@
 //! The acknowledgement books of a client's sockets.
 
-ghost use Rattle.std.specs.Prelude.{◌≡◌, ℕ, ◌==◌, false, None, Err, IfOk, IfErr, IfSome, OnOk, OnErr, if◌then◌else◌};
-ghost use Rattle.connection.specs.Questions.{Asked, Answered, Expired, next_id, question_at};
-ghost use Rattle.connection.specs.Book.{ForEachHistory, Advances, ask_refusal, answer_of};
+ghost use Rattle.std.specs.Prelude.{◌≡◌, ℕ, ◌==◌, false, IfErr, OnOk, OnErr, if◌then◌else◌};
+ghost use Rattle.connection.specs.Questions.{Expired};
+ghost use Rattle.connection.specs.Book.{Advances, Answers, Asks};
 ghost use Rattle.connection.specs.Line.{fresh_book, book_in};
 
 use crate::{AckBook, AckError};
@@ -27,25 +27,15 @@ fn put(books: &mut BTreeMap<Sid, AckBook>, sid: Sid, book: AckBook) -> Result<()
         (book_in books.new.entries sid ≡ book_in books.old.entries sid) }
     ensures memory { IfErr result (λ e. e ≡ AckError.Memory) }
 {
-    match books.insert(sid, book) {
-        Ok(_) => Ok(()),
-        Err(_) => Err(AckError::Memory),
-    }
+    let _before = books.insert(sid, book).map_err(|_| AckError::Memory)?;
+    Ok(())
 }
 
-/// A book with its first question, and the id of that.
-fn first_question(alloc: Global, tag: u64, until: u64) -> Result<(u64, AckBook), AckError>
-    ensures refused { ForEachHistory fresh_book (λ first h.
-        IfSome (ask_refusal first h) (λ e. result ≡ Err e)) }
-    ensures memory_alone { ForEachHistory fresh_book (λ first h.
-        ask_refusal first h ≡ None → IfErr result (λ e. e ≡ AckError.Memory)) }
-    ensures id { IfOk result (λ both.
-        ForEachHistory fresh_book (λ first h. both.0 ≡ next_id first h)) }
-    ensures leads { IfOk result (λ both. Advances fresh_book (Asked tag until) both.1) }
+/// A book with no question.
+fn fresh(alloc: Global) -> AckBook
+    ensures { result ≡ fresh_book }
 {
-    let mut book = AckBook::new(alloc, 0);
-    let id = book.ask(alloc, tag, until)?;
-    Ok((id, book))
+    AckBook::new(alloc, 0)
 }
 
 /// Asks a question of a socket. Its first one makes its book.
@@ -56,35 +46,24 @@ pub(crate) fn ask(
     tag: u64,
     until: u64,
 ) -> Result<u64, AckError>
-    ensures refused { ForEachHistory (book_in books.old.entries sid) (λ first h.
-        IfSome (ask_refusal first h) (λ e. result ≡ Err e)) }
-    ensures memory_alone { ForEachHistory (book_in books.old.entries sid) (λ first h.
-        ask_refusal first h ≡ None → IfErr result (λ e. e ≡ AckError.Memory)) }
-    ensures id { IfOk result (λ id.
-        ForEachHistory (book_in books.old.entries sid) (λ first h. id ≡ next_id first h)) }
-    ensures leads { let old = book_in books.old.entries sid in
-        OnOk result (Advances old (Asked tag until) (book_in books.new.entries sid)) }
-    ensures unchanged { OnErr result
-        (book_in books.new.entries sid ≡ book_in books.old.entries sid) }
+    ensures own { let old = book_in books.old.entries sid in
+        Asks old tag until result (book_in books.new.entries sid) }
     ensures others { (s : ℕ) → sid == s ≡ false
         → book_in books.new.entries s ≡ book_in books.old.entries s }
 {
     if let Some(book) = books.get_mut(&sid) {
         return book.ask(alloc, tag, until);
     }
-    let (id, book) = first_question(alloc, tag, until)?;
+    let mut book = fresh(alloc);
+    let id = book.ask(alloc, tag, until)?;
     put(books, sid, book)?;
     Ok(id)
 }
 
 /// Takes a socket's answer to a question.
 pub(crate) fn answer(books: &mut BTreeMap<Sid, AckBook>, sid: Sid, id: u64) -> Result<u64, AckError>
-    ensures answer { ForEachHistory (book_in books.old.entries sid) (λ first h.
-        result ≡ answer_of (question_at first h id)) }
-    ensures leads { let old = book_in books.old.entries sid in
-        OnOk result (Advances old (Answered id) (book_in books.new.entries sid)) }
-    ensures unchanged { OnErr result
-        (book_in books.new.entries sid ≡ book_in books.old.entries sid) }
+    ensures own { let old = book_in books.old.entries sid in
+        Answers old id result (book_in books.new.entries sid) }
     ensures others { (s : ℕ) → sid == s ≡ false
         → book_in books.new.entries s ≡ book_in books.old.entries s }
 {

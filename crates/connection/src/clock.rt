@@ -119,14 +119,12 @@ impl Clock {
     pub fn probe(&mut self) -> Result<(), ClockError>
         ensures { StepsBy Probed probe_refusal self.old result self.new }
     {
-        match self.transport {
-            Transport::Polling => {
-                self.transport = Transport::Probing;
-                Ok(())
-            }
-            Transport::Probing => Err(ClockError::AlreadyProbing),
-            Transport::Socket => Err(ClockError::AlreadyUpgraded),
-        }
+        self.transport = match self.transport {
+            Transport::Polling => Transport::Probing,
+            Transport::Probing => return Err(ClockError::AlreadyProbing),
+            Transport::Socket => return Err(ClockError::AlreadyUpgraded),
+        };
+        Ok(())
     }
 
     /// The probe succeeded, and the client speaks over the WebSocket from now on. Refused unless a
@@ -134,28 +132,24 @@ impl Clock {
     pub fn upgrade(&mut self) -> Result<(), ClockError>
         ensures { StepsBy Upgraded unprobed_refusal self.old result self.new }
     {
-        match self.transport {
-            Transport::Polling => Err(ClockError::NotProbing),
-            Transport::Probing => {
-                self.transport = Transport::Socket;
-                Ok(())
-            }
-            Transport::Socket => Err(ClockError::AlreadyUpgraded),
-        }
+        self.transport = match self.transport {
+            Transport::Polling => return Err(ClockError::NotProbing),
+            Transport::Probing => Transport::Socket,
+            Transport::Socket => return Err(ClockError::AlreadyUpgraded),
+        };
+        Ok(())
     }
 
     /// The probe failed, and the client goes on polling. Refused unless a probe runs.
     pub fn probe_lost(&mut self) -> Result<(), ClockError>
         ensures { StepsBy ProbeLost unprobed_refusal self.old result self.new }
     {
-        match self.transport {
-            Transport::Polling => Err(ClockError::NotProbing),
-            Transport::Probing => {
-                self.transport = Transport::Polling;
-                Ok(())
-            }
-            Transport::Socket => Err(ClockError::AlreadyUpgraded),
-        }
+        self.transport = match self.transport {
+            Transport::Polling => return Err(ClockError::NotProbing),
+            Transport::Probing => Transport::Polling,
+            Transport::Socket => return Err(ClockError::AlreadyUpgraded),
+        };
+        Ok(())
     }
 
     /// The transport, whether a pong is awaited, whether a namespace was joined, the last moment.

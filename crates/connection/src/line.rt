@@ -1,14 +1,14 @@
 //! What the server keeps of one client beside the hub.
 #![tactic(auto, unfolding(crate::specs::History::frames, crate::specs::History::failure, crate::specs::History::IsLegal, crate::specs::History::clock_calls, crate::specs::History::book_calls, crate::specs::History::is_getting, crate::specs::History::is_ping_due))]
 
-ghost use Rattle.std.specs.Prelude.{◌≡◌, ◌⊎◌, [], ◌∷◌, length, Some, None, Err, IfOk, IfErr, IfSome, OnOk, OnErr};
-ghost use Rattle.sio_wire.specs.Frames.{text as text_frame, binary as binary_frame, Accepts, RefusesText, binary_refusal, exceeds};
+ghost use Rattle.std.specs.Prelude.{◌≡◌, [], ◌∷◌, length, Some, None, Err, IfOk, IfErr, IfSome, OnOk, OnErr};
+ghost use Rattle.sio_wire.specs.Frames.{text as text_frame, binary as binary_frame, RefusesText, binary_refusal, exceeds};
 ghost use Rattle.connection.specs.Heartbeat.{due};
 ghost use Rattle.connection.specs.Upgrade.{transport, probe_refusal, unprobed_refusal};
 ghost use Rattle.connection.specs.Questions.{next_id, question_at};
 ghost use Rattle.connection.specs.Book.{ask_refusal, answer_of};
-ghost use Rattle.connection.specs.History.{Framed, Ticked, Ponged, Probed, Upgraded, ProbeLost, GetBegan, GetEnded, PingCarried, Entered, Left, Asked, Answered, clock_calls, book_calls, is_getting, is_ping_due};
-ghost use Rattle.connection.specs.Line.{LeadsTo, ForEachHistory, HasHistory, Advances, FailsWith, IsWholeIfGiven, StepsBy, ping_after};
+ghost use Rattle.connection.specs.History.{Ticked, Ponged, Probed, Upgraded, ProbeLost, GetBegan, GetEnded, PingCarried, Entered, Left, Asked, Answered, clock_calls, book_calls, is_getting, is_ping_due};
+ghost use Rattle.connection.specs.Line.{LeadsTo, ForEachHistory, HasHistory, Advances, Hears, StepsBy, ping_after};
 
 use crate::{AckBook, AckError, Clock, ClockError, Due, Timing, Transport, books};
 use sio_wire::{Assembler, SioError, SioPacket};
@@ -104,26 +104,16 @@ impl Line {
     /// and payload U+001E stands nowhere. After an error other than `Memory` the assembler has
     /// failed, and each further frame is answered with that error.
     pub fn text(&mut self, alloc: Global, text: &str) -> Result<Option<SioPacket>, SioError>
-        ensures given { IfOk result (λ given.
-            Accepts self.old.assembler (text_frame text.now) given self.new.assembler) }
-        ensures advances { OnOk result
-            (Advances self.old (Framed (text_frame text.now) ∷ []) self.new) }
-        ensures whole { IfOk result IsWholeIfGiven }
-        ensures fault { IfErr result (λ e. ((e ≡ SioError.Memory) × (self.new ≡ self.old))
-            ⊎ (RefusesText self.old.assembler text.now e × FailsWith e self.old self.new)) }
+        ensures { Hears (text_frame text.now) (RefusesText self.old.assembler text.now)
+            self.old result self.new }
     {
         self.assembler.text(alloc, text)
     }
 
     /// The client sent a message of bytes. As `text`.
     pub fn binary(&mut self, alloc: Global, bytes: &[u8]) -> Result<Option<SioPacket>, SioError>
-        ensures given { IfOk result (λ given.
-            Accepts self.old.assembler (binary_frame bytes.now) given self.new.assembler) }
-        ensures advances { OnOk result
-            (Advances self.old (Framed (binary_frame bytes.now) ∷ []) self.new) }
-        ensures whole { IfOk result IsWholeIfGiven }
-        ensures fault { IfErr result (λ e. ((e ≡ SioError.Memory) × (self.new ≡ self.old))
-            ⊎ ((binary_refusal self.old.assembler ≡ Some e) × FailsWith e self.old self.new)) }
+        ensures { Hears (binary_frame bytes.now) (λ e. binary_refusal self.old.assembler ≡ Some e)
+            self.old result self.new }
     {
         self.assembler.binary(alloc, bytes)
     }

@@ -1,5 +1,5 @@
 -- What an event leaves, after the app has heard of the sockets that it ended.
-use Rattle.std.proofs.Common.{◌≡◌, ℕ, Bool, true, false, List, ◌∷◌, refl, ◌++◌, sym, ◌∙◌, ap, subst, Option, None, Some, Result, Ok, Err, IfOk}
+use Rattle.std.proofs.Common.{◌≡◌, ℕ, Bool, true, false, List, ◌∷◌, drop, length, refl, ◌++◌, sym, ◌∙◌, ap, subst, Option, None, Some, Result, Ok, Err, IfOk}
 use Rattle.std.specs.Prelude.{unwrap_or}
 use Rattle.std.specs.List.{AllByRecursion}
 use Rattle.eio_wire.specs.declared.handshake.Numbers.{Numbers}
@@ -10,7 +10,7 @@ use Rattle.terms.specs.declared.entry.Entry.{Entry}
 use Rattle.journal.specs.Plain.{Limits}
 use Rattle.journal.specs.Journal.{History}
 use Rattle.journal.specs.Membership.{is_open}
-use Rattle.hub_state.specs.Departing.{PlainDeparted}
+use Rattle.hub_state.specs.Departing.{PlainDeparted, departed}
 use Rattle.events.specs.declared.event.Event.{Event}
 use Rattle.events.specs.declared.event.Event.TheVariants as event
 use Rattle.events.specs.declared.fault.CoreFault.{CoreFault}
@@ -26,8 +26,8 @@ use Rattle.effects.specs.Saying.{work}
 use Rattle.effects.proofs.DepartedLemmas.{Onward, heard-open, heard-onward, heard-spares}
 use Rattle.dispatch.specs.Handed.{Turn, opens, takes, HandsOut, HandedOut, Handed}
 use Rattle.dispatch.specs.Hearing.{done_of, with_done, done_before, answer_after, Hears, HearsAfter}
-use Rattle.dispatch.specs.Machine.{IsOf, listed, Does}
-use Rattle.dispatch.specs.Place.{place, Agree}
+use Rattle.dispatch.specs.Machine.{IsOf, listed, Row, Does}
+use Rattle.dispatch.specs.Place.{Place, place, Agree}
 use Rattle.dispatch.proofs.EventLaws.{Applied, applied}
 use Rattle.dispatch.proofs.HandedLemmas.{work-hands-nothing, work-begins-none}
 use Rattle.dispatch.proofs.ServerLemmas.{of-some}
@@ -185,3 +185,12 @@ module _ (policy : Policy) (now : ℕ)
       let some = of-some event ids in
       let kept : AllByRecursion IsWhole m.limits.spaces = subst (λ (limits : Limits). AllByRecursion IsWhole limits.spaces) (sym (does.turns some.0 some.1).limits) names in
       left-heard policy now (ended_since h m) m g said answer event ids h new kept does (client_of event) refl heard
+
+-- the event is done as its row says, and then the app hears of the sockets that ended by that
+pub does-with : (policy : Policy) (now : ℕ) (timing : Timing) (numbers : Numbers) (event : Event) (s : Place) (ids : ℕ → ℕ) (said : Answer) (h : History) (answer : Answer) (t : Place) (ids' : ℕ → ℕ)
+    (before : List PlainDeparted) (client : Option ℕ) → Row policy now timing numbers event s ids said (record t { history = h }) ids'
+    → before ≡ departed s.history.base s.history.journal → client ≡ client_of event
+    → HearsAfter policy now client (drop (length before) (departed h.base h.journal)) h said answer t.history → Does policy now timing numbers event s ids answer t ids'
+does-with policy now timing numbers event s ids said h answer t ids' before client row all of hears =
+    let of-event = subst (λ (o : Option ℕ). HearsAfter policy now o (drop (length before) (departed h.base h.journal)) h said answer t.history) of hears in
+    (h, said, row, subst (λ (xs : List PlainDeparted). HearsAfter policy now (client_of event) (drop (length xs) (departed h.base h.journal)) h said answer t.history) all of-event)

@@ -38,7 +38,7 @@ use Rattle.events.specs.App.{Policy, Accepted, Refused, IsCleanArrival, AllClean
 use Rattle.events.specs.Cause.{cause_of_sio}
 use Rattle.events.specs.Plain.{one_packet_more}
 use Rattle.effects.specs.Commands.{Makes, IsRefused, StopsAt, CannotReturn, IsSeated, seat, return_of}
-use Rattle.effects.specs.Effects.{Scene, told_to, counted, Closes, ActsInTurn, StopsAfter}
+use Rattle.effects.specs.Effects.{Scene, IsOpenFor, told_to, counted, Closes, ActsInTurn, StopsAfter}
 use Rattle.events.specs.declared.fault.CoreError.{CoreError}
 use Rattle.events.specs.declared.fault.Stopped.{Stopped}
 use Rattle.effects.specs.Runs.{Runs}
@@ -61,6 +61,10 @@ Draws does old ids result new left = IsSameEvent old new × does old.visit.momen
 -- nothing of the packet was done yet that ends its work
 abbrev pub IsFresh : Scene → Type 0
 IsFresh s = (s.done.closed ≡ None) × (s.ended ≡ false)
+
+-- the client is open, and its packet is fresh
+abbrev pub IsReady : values.Scene → Type 0
+IsReady scene = IsOpenFor scene.visit.client (seen scene) × IsFresh (seen scene)
 
 -- the client has no socket in this namespace, which is the hub's
 abbrev pub IsFreeIn : (space : List ℕ) → ℕ → Scene → Type 0
@@ -199,12 +203,6 @@ Connects c space effects now s result t = (t.ids ≡ (λ k. s.ids (k + 2)))
 abbrev pub Returns : What → (sid : ℕ) → ℕ → Scene → Upshot → Scene → Type 0
 Returns back sid now s result t = (result ≡ Ok tt) × Makes s.history now back t.history × Advances s.line (Entered sid ∷ []) t.line
     × (t ≡ record (counted s) { history = t.history; line = t.line })
-
--- the session that is named comes back, or can't, or the event ends
-abbrev pub Returning : ℕ → (space : List ℕ) → (pid offset : ℕ) → ℕ → Scene → Result Bool Stopped → Scene → Type 0
-Returning c space pid offset now s (Ok true) t = let r = return_of c space pid offset s.history in Returns (what.Recovered r) r.socket.sid now s (Ok tt) t
-Returning c space pid offset now s (Ok false) t = CannotReturn s.history now (what.Recovered (return_of c space pid offset s.history)) × (t ≡ s)
-Returning c space pid offset now s (Err e) t = StopsAt s.history now (what.Recovered (return_of c space pid offset s.history)) e.fault × StopsFor e.fault s e t
 
 module _ (policy : Policy) where
   -- the app says whether the socket is connected; U+001E comes into no effect where none stands in the payload

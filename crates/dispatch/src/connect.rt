@@ -4,11 +4,11 @@
 ghost use Rattle.std.specs.Prelude.{◌≡◌, ◌≢◌, ◌<◌, ◌^◌, ℕ, IfOk, IfErr, IfSome, IfNone};
 ghost use Rattle.effects.specs.Effects.{IsOpenFor};
 ghost use Rattle.effects.specs.Scene.{seen, Plays};
-ghost use Rattle.dispatch.specs.Packets.{Draws, IsFresh, IsFreeIn, Refuses, Connects, ConnectsAs, AsksApp, digits_of, Names, Returning, ComesBack, MayComeBack, AsksToConnect};
+ghost use Rattle.dispatch.specs.Packets.{Draws, IsReady, IsFreeIn, Refuses, Connects, ConnectsAs, AsksApp, digits_of, Names, MayComeBack, AsksToConnect};
 
 use crate::packets::close_for;
 use effects::{Scene, act_all, commands};
-use events::{App, Cause, CoreFault, Effect, IdSource, Stopped, Verdict, Who, Worked};
+use events::{App, Cause, CoreFault, Effect, IdSource, Verdict, Who, Worked};
 use recovery::Pid;
 use sio_wire::{Header, Resume, SioError, read_offset, refused_text, resume_of};
 use std::alloc::Global;
@@ -37,8 +37,7 @@ fn refuse(scene: &mut Scene, space: &str, message: &str) -> Worked
 /// Connects the client with a new socket, and does what the app wants then.
 fn accept(scene: &mut Scene, who: &Who, pid: Pid, wanted: Vec<Effect>) -> Worked
     requires own { who.now.client ≡ scene.old.visit.client }
-    requires open_client { IsOpenFor scene.old.visit.client (seen scene.old) }
-    requires fresh { IsFresh (seen scene.old) }
+    requires ready { IsReady scene.old }
     requires free { IsFreeIn who.now.space scene.old.visit.client (seen scene.old) }
     ensures { Plays (ConnectsAs who.now pid wanted.items) scene.old result scene.new }
 {
@@ -51,19 +50,13 @@ fn accept(scene: &mut Scene, who: &Who, pid: Pid, wanted: Vec<Effect>) -> Worked
 }
 
 /// Asks the app whether the client may connect.
-fn ask_app<A: App, I: IdSource>(
-    scene: &mut Scene,
-    app: &A,
-    ids: &mut I,
-    asked: (Text, Text),
-) -> Worked
-    requires open_client { IsOpenFor scene.old.visit.client (seen scene.old) }
-    requires fresh { IsFresh (seen scene.old) }
-    requires free { IsFreeIn asked.0 scene.old.visit.client (seen scene.old) }
-    ensures { Draws (AsksApp (A.policy app.now) scene.old.visit.client asked.0 asked.1)
+fn ask_app<A: App, I: IdSource>(scene: &mut Scene, app: &A, ids: &mut I, header: Header) -> Worked
+    requires ready { IsReady scene.old }
+    requires free { IsFreeIn header.space scene.old.visit.client (seen scene.old) }
+    ensures { Draws (AsksApp (A.policy app.now) scene.old.visit.client header.space header.payload)
         scene.old (I.stream ids.old) result scene.new (I.stream ids.new) }
 {
-    let (space, payload) = asked;
+    let Header { space, payload, .. } = header;
     match app.connects(scene.visit.alloc, space.as_str(), payload.as_str()) {
         Ok(Verdict::Accept(wanted)) => {
             let sid = Sid::new(ids.draw());
@@ -84,9 +77,8 @@ fn named_in(alloc: Global, payload: &str) -> Result<Option<(Pid, u64)>, CoreFaul
 {
     match resume_of(alloc, payload) {
         Ok(Some(resume)) => Ok(ids_in(&resume)),
-        Ok(None) => Ok(None),
         Err(SioError::Memory) => Err(CoreFault::Memory),
-        Err(_) => Ok(None),
+        Ok(None) | Err(_) => Ok(None),
     }
 }
 
@@ -102,62 +94,25 @@ fn ids_in(resume: &Resume) -> Option<(Pid, u64)>
     Some((Pid::new(pid), offset))
 }
 
-/// Brings the session back that the client names. Answers whether it came back.
-fn come_back(scene: &mut Scene, space: &str, named: (Pid, u64)) -> Result<bool, Stopped>
-    requires open_client { IsOpenFor scene.old.visit.client (seen scene.old) }
-    requires free { IsFreeIn space.now scene.old.visit.client (seen scene.old) }
-    ensures { Plays (Returning scene.old.visit.client space.now named.0 named.1)
-        scene.old result scene.new }
+/// Connects the client to a namespace that it hasn't joined: with the session that it names, or
+/// where it names none or that one can't come back, as the app says.
+fn admit<A: App, I: IdSource>(scene: &mut Scene, app: &A, ids: &mut I, header: Header) -> Worked
+    requires ready { IsReady scene.old }
+    requires free { IsFreeIn header.space scene.old.visit.client (seen scene.old) }
+    ensures { let client = scene.old.visit.client in Draws
+        (MayComeBack (A.policy app.now) client header.space header.payload)
+        scene.old (I.stream ids.old) result scene.new (I.stream ids.new) }
 {
-    let (pid, offset) = named;
-    let Some(sid) = commands::recover(scene.visit, scene.state, space, pid, offset)? else {
-        return Ok(false);
+    let Some(named) = named_in(scene.visit.alloc, header.payload.as_str())? else {
+        return ask_app(scene, app, ids, header);
+    };
+    let space = header.space.as_str();
+    let Some(sid) = commands::recover(scene.visit, scene.state, space, named.0, named.1)? else {
+        return ask_app(scene, app, ids, header);
     };
     scene.line.enter(sid);
     scene.tally.count();
-    Ok(true)
-}
-
-/// Connects the client with the session that it names, or where that can't come back, as the app
-/// says.
-fn return_or_ask<A: App, I: IdSource>(
-    scene: &mut Scene,
-    app: &A,
-    ids: &mut I,
-    asked: (Text, Text),
-    named: (Pid, u64),
-) -> Worked
-    requires open_client { IsOpenFor scene.old.visit.client (seen scene.old) }
-    requires fresh { IsFresh (seen scene.old) }
-    requires free { IsFreeIn asked.0 scene.old.visit.client (seen scene.old) }
-    ensures { let client = scene.old.visit.client in Draws
-        (ComesBack (A.policy app.now) client asked.0 asked.1 named.0 named.1)
-        scene.old (I.stream ids.old) result scene.new (I.stream ids.new) }
-{
-    match come_back(scene, asked.0.as_str(), named) {
-        Ok(true) => Ok(()),
-        Ok(false) => ask_app(scene, app, ids, asked),
-        Err(stopped) => Err(stopped),
-    }
-}
-
-/// Connects the client to a namespace that it hasn't joined.
-fn connect_free<A: App, I: IdSource>(
-    scene: &mut Scene,
-    app: &A,
-    ids: &mut I,
-    asked: (Text, Text),
-) -> Worked
-    requires open_client { IsOpenFor scene.old.visit.client (seen scene.old) }
-    requires fresh { IsFresh (seen scene.old) }
-    requires free { IsFreeIn asked.0 scene.old.visit.client (seen scene.old) }
-    ensures { Draws (MayComeBack (A.policy app.now) scene.old.visit.client asked.0 asked.1)
-        scene.old (I.stream ids.old) result scene.new (I.stream ids.new) }
-{
-    match named_in(scene.visit.alloc, asked.1.as_str())? {
-        Some(named) => return_or_ask(scene, app, ids, asked, named),
-        None => ask_app(scene, app, ids, asked),
-    }
+    Ok(())
 }
 
 /// What a CONNECT does.
@@ -167,18 +122,17 @@ pub(crate) fn connect<A: App, I: IdSource>(
     ids: &mut I,
     header: Header,
 ) -> Worked
-    requires open_client { IsOpenFor scene.old.visit.client (seen scene.old) }
-    requires fresh { IsFresh (seen scene.old) }
+    requires { IsReady scene.old }
     ensures { let client = scene.old.visit.client in Draws
         (AsksToConnect (A.policy app.now) client header.space header.payload)
         scene.old (I.stream ids.old) result scene.new (I.stream ids.new) }
 {
-    let Header { space, payload, .. } = header;
-    if !scene.state.has_space(space.as_str()) {
-        return refuse(scene, space.as_str(), "Invalid namespace");
+    let space = header.space.as_str();
+    if !scene.state.has_space(space) {
+        return refuse(scene, space, "Invalid namespace");
     }
-    if let Some(_) = scene.state.socket_of(scene.visit.client, space.as_str()) {
+    if let Some(_) = scene.state.socket_of(scene.visit.client, space) {
         return close_for(scene, Cause::AlreadyConnected);
     }
-    connect_free(scene, app, ids, (space, payload))
+    admit(scene, app, ids, header)
 }

@@ -8,7 +8,7 @@ ghost use Rattle.effects.specs.Departed.{HearsOfAll};
 ghost use Rattle.effects.specs.Saying.{work};
 ghost use Rattle.dispatch.specs.Hearing.{HearsAfter};
 
-use effects::{Visit, hear_all};
+use effects::{Call, Visit, hear_all};
 use events::{Answered, App, CoreError, Done, Outcome};
 use hub_state::State;
 
@@ -40,43 +40,23 @@ fn hear<A: App>(
     }
 }
 
-/// The app hears of the sockets that an event ended which ends with an error itself. The error
-/// stays.
-fn hear_after_error<A: App>(
-    visit: Visit,
-    state: &mut State,
-    app: &A,
-    from: usize,
-    error: CoreError,
-) -> CoreError
-    ensures { let ended = drop from (departed state.old.base state.old.journal) in
-        HearsAfter (A.policy app.now) visit.moment (Some visit.client) ended
-        state.old (Err error) (Err result) state.new }
-{
-    let mut done = Done::nothing(visit.alloc);
-    done.packets = error.packets;
-    done.effects = error.effects;
-    let _heard = hear_all(visit, state, app, &mut done, from);
-    CoreError {
-        fault: error.fault,
-        packets: error.packets,
-        effects: done.effects,
-    }
-}
-
-/// The app hears of the sockets that an event of the client ended, those from an index on. The
-/// event was answered so.
+/// The app hears of the sockets that an event of a client ended, those from an index on. The event
+/// was answered so; an error of it stays.
 pub(crate) fn hear_after<A: App>(
-    visit: Visit,
+    call: Call,
     state: &mut State,
     app: &A,
+    client: Option<u128>,
     from: usize,
     said: Answered,
 ) -> Answered
     ensures { let ended = drop from (departed state.old.base state.old.journal) in
-        HearsAfter (A.policy app.now) visit.moment (Some visit.client) ended
-        state.old said result state.new }
+        HearsAfter (A.policy app.now) call.moment client ended state.old said result state.new }
 {
+    let Some(client) = client else {
+        return said;
+    };
+    let visit = call.of(client);
     match said {
         Ok(Outcome::Done(done)) => Ok(Outcome::Done(hear(visit, state, app, from, done)?)),
         Ok(Outcome::Lost { saved, done }) => {
@@ -88,6 +68,13 @@ pub(crate) fn hear_after<A: App>(
             Ok(Outcome::Ticked { ping, done })
         }
         Ok(outcome) => Ok(outcome),
-        Err(error) => Err(hear_after_error(visit, state, app, from, error)),
+        Err(mut error) => {
+            let mut done = Done::nothing(visit.alloc);
+            done.packets = error.packets;
+            done.effects = error.effects;
+            let _heard = hear_all(visit, state, app, &mut done, from);
+            error.effects = done.effects;
+            Err(error)
+        }
     }
 }

@@ -5,7 +5,7 @@ ghost use Rattle.std.specs.List.{AllZip};
 ghost use Rattle.journal.specs.Membership.{is_open};
 ghost use Rattle.events.specs.declared.event.WsFrame.TheVariants as frame_of;
 ghost use Rattle.dispatch.specs.Answers.{ForClient};
-ghost use Rattle.dispatch.specs.Frames.{is_too_long, IsFrameOf, IsNoFrame, IsSentAs, frames_of, SendsWaiting, SendsFor};
+ghost use Rattle.dispatch.specs.Frames.{is_too_long, IsFrameOf, IsNoFrame, IsSentAs, frames_of, SendsFor};
 ghost use Rattle.dispatch.specs.Machine.{HearsFor, TakesFrames};
 ghost use Rattle.dispatch.specs.Place.{place, Agree};
 ghost use Rattle.dispatch.specs.Takes.{handed, carried};
@@ -131,32 +131,23 @@ fn frames_for(
     Ok(frames)
 }
 
-/// Hands out the frames of a client that speaks over a WebSocket, or says that there is nothing.
-/// They are written before the entries are taken.
-fn send_waiting(visit: Visit, state: &mut State, line: &mut Line, most: usize, ping: bool) -> Taken
+/// Takes the frames for a client's WebSocket, or says that there is nothing. They are written
+/// before the entries are taken.
+fn frame_take(visit: Visit, state: &mut State, line: &mut Line, most: usize) -> Taken
     requires { is_open state.old.base state.old.journal visit.client ≡ true }
-    ensures { SendsWaiting ping visit.client most visit.moment result
-        state.old state.new line.old line.new }
+    ensures { SendsFor visit.client most visit.moment result state.old state.new line.old line.new }
 {
+    let ping = line.is_ping_due();
+    match line.transport() {
+        Transport::Socket => {}
+        Transport::Polling | Transport::Probing => return Err(CoreFault::WrongTransport),
+    }
     let frames = frames_for(visit, state, ping, most)?;
     if frames.is_empty() {
         return Ok(Outcome::Nothing);
     }
     count(visit, state, line, most, ping)?;
     Ok(Outcome::Frames(Frames::from_vec(frames)))
-}
-
-/// Takes the frames for a client's WebSocket.
-fn frame_take(visit: Visit, state: &mut State, line: &mut Line, most: usize) -> Taken
-    requires { is_open state.old.base state.old.journal visit.client ≡ true }
-    ensures { SendsFor visit.client most visit.moment result state.old state.new line.old line.new }
-{
-    let transport = line.transport();
-    let ping = line.is_ping_due();
-    match transport {
-        Transport::Socket => send_waiting(visit, state, line, most, ping),
-        Transport::Polling | Transport::Probing => Err(CoreFault::WrongTransport),
-    }
 }
 
 /// Takes the frames for the client's WebSocket.

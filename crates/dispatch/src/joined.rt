@@ -1,17 +1,15 @@
 //! What a packet of a connected socket does (Socket.IO protocol 5, "Sending and receiving data",
 //! "Acknowledgement" and "Disconnection from a namespace").
 
-ghost use Rattle.std.specs.Prelude.{◌≡◌};
 ghost use Rattle.effects.specs.Commands.{IsSeated};
-ghost use Rattle.effects.specs.Effects.{IsOpenFor, StandsWith};
-ghost use Rattle.effects.specs.Scene.{seen, Plays};
-ghost use Rattle.dispatch.specs.Packets.{IsFresh, Decides, Leaves, TakesAck, HearsEvent, Serves, ServesJoined};
+ghost use Rattle.effects.specs.Scene.{IsActing, Plays};
+ghost use Rattle.dispatch.specs.Packets.{IsReady, Decides, Leaves, TakesAck, HearsEvent, Serves, ServesJoined};
 
 use crate::packets::close_for;
 use effects::{Scene, act_all, commands};
 use events::{Answer, App, Arrived, Cause, CoreFault, Message, Who, Worked};
 use journal::Side;
-use sio_wire::{Header, Kind, SioPacket};
+use sio_wire::{Kind, SioPacket};
 use terms::{Attachments, Text};
 
 /// What came to a socket: a packet without its namespace.
@@ -25,8 +23,7 @@ struct Said {
 
 /// Asks the app about what arrived, and does what it wants.
 fn decide<A: App>(scene: &mut Scene, app: &A, who: &Who, arrived: &Arrived) -> Worked
-    requires own { who.now.client ≡ scene.old.visit.client }
-    requires stands { StandsWith who.now (seen scene.old) }
+    requires { IsActing who.now scene.old }
     ensures { Plays (Decides (A.policy app.now) who.now arrived.now) scene.old result scene.new }
 {
     match app.decides(scene.visit.alloc, who, arrived) {
@@ -47,8 +44,7 @@ fn leave(scene: &mut Scene, who: &Who) -> Worked
 
 /// Takes the answer to a question. One to a question that isn't open is ignored.
 fn take_answer<A: App>(scene: &mut Scene, app: &A, who: &Who, said: Said) -> Worked
-    requires own { who.now.client ≡ scene.old.visit.client }
-    requires stands { StandsWith who.now (seen scene.old) }
+    requires { IsActing who.now scene.old }
     ensures { Plays (TakesAck (A.policy app.now) who.now said.id said.payload said.attachments)
         scene.old result scene.new }
 {
@@ -70,8 +66,7 @@ fn take_answer<A: App>(scene: &mut Scene, app: &A, who: &Who, said: Said) -> Wor
 
 /// Hears an event of a socket. One with an id asks to be acknowledged.
 fn hear<A: App>(scene: &mut Scene, app: &A, who: &Who, said: Said) -> Worked
-    requires own { who.now.client ≡ scene.old.visit.client }
-    requires stands { StandsWith who.now (seen scene.old) }
+    requires { IsActing who.now scene.old }
     ensures { Plays (HearsEvent (A.policy app.now) who.now said.id said.payload said.attachments)
         scene.old result scene.new }
 {
@@ -86,9 +81,8 @@ fn hear<A: App>(scene: &mut Scene, app: &A, who: &Who, said: Said) -> Worked
 
 /// What a packet of a connected socket does.
 fn serve<A: App>(scene: &mut Scene, app: &A, who: &Who, said: Said) -> Worked
-    requires own { who.now.client ≡ scene.old.visit.client }
+    requires acting { IsActing who.now scene.old }
     requires seated { IsSeated who.now scene.old.state.now }
-    requires stands { StandsWith who.now (seen scene.old) }
     ensures { Plays
         (Serves (A.policy app.now) said.kind who.now said.id said.payload said.attachments)
         scene.old result scene.new }
@@ -104,34 +98,24 @@ fn serve<A: App>(scene: &mut Scene, app: &A, who: &Who, said: Said) -> Worked
 /// What a packet does that isn't a CONNECT. One for a namespace that the client hasn't joined
 /// closes it.
 pub(crate) fn serve_joined<A: App>(scene: &mut Scene, app: &A, packet: SioPacket) -> Worked
-    requires open_client { IsOpenFor scene.old.visit.client (seen scene.old) }
-    requires fresh { IsFresh (seen scene.old) }
+    requires { IsReady scene.old }
     ensures { Plays (ServesJoined (A.policy app.now) scene.old.visit.client packet)
         scene.old result scene.new }
 {
-    let SioPacket {
-        header,
-        attachments,
-    } = packet;
-    let Header {
-        kind,
-        space,
-        id,
-        payload,
-        ..
-    } = header;
+    let header = packet.header;
     // A hub's sockets are connected, each in one of its namespaces.
     scene.state.facts();
     let client = scene.visit.client;
-    let Some(sid) = scene.state.socket_of(client, space.as_str()) else {
+    let Some(sid) = scene.state.socket_of(client, header.space.as_str()) else {
         return close_for(scene, Cause::NotJoined);
     };
+    let space = header.space;
     let who = Who { client, space, sid };
     let said = Said {
-        kind,
-        id,
-        payload,
-        attachments,
+        kind: header.kind,
+        id: header.id,
+        payload: header.payload,
+        attachments: packet.attachments,
     };
     serve(scene, app, &who, said)
 }

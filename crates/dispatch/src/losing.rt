@@ -14,9 +14,10 @@ ghost use Rattle.dispatch.specs.Upkeep.{Ticks, Sweeps};
 
 use crate::lines::{Lines, forget};
 use connection::Due;
-use effects::{Visit, commands};
+use effects::{Call, Visit, commands};
 use events::{Answered, Cause, CoreFault, Done, Outcome};
 use hub_state::State;
+use journal::HubError;
 
 /// Does what is due to the client now. Questions of its sockets that ran out are forgotten first.
 pub(crate) fn tick(visit: Visit, state: &mut State, lines: &mut Lines) -> Answered
@@ -63,8 +64,10 @@ pub(crate) fn park_or_close(visit: Visit, state: &mut State) -> Result<bool, Cor
     requires { is_open state.old.base state.old.journal visit.client ≡ true }
     ensures { Parks state.old visit.moment visit.client result state.new }
 {
-    if commands::park(visit, state)? {
-        return Ok(true);
+    match state.park(visit.alloc, visit.client, visit.moment) {
+        Ok(()) => return Ok(true),
+        Err(HubError::SavedFull) => {}
+        Err(error) => return Err(error.into()),
     }
     commands::close(visit, state)?;
     Ok(false)
@@ -86,10 +89,14 @@ pub(crate) fn lose(visit: Visit, state: &mut State, lines: &mut Lines) -> Answer
     Ok(Outcome::Lost { saved, done })
 }
 
-/// Drops what the hub keeps no longer. No client opens or ends by it, so no line changes.
-pub(crate) fn sweep(visit: Visit, state: &mut State) -> Answered
-    ensures { (lines : List (ℕ × PlainLine)) → Sweeps visit.moment
+/// Drops what the hub keeps no longer: old entries of the log and old saved sessions. No client
+/// opens or ends by it, so no line changes.
+pub(crate) fn sweep(call: Call, state: &mut State) -> Answered
+    ensures { (lines : List (ℕ × PlainLine)) → Sweeps call.moment
         (place state.old lines) result (place state.new lines) }
 {
-    Ok(Outcome::Swept(commands::sweep(visit, state)?))
+    match state.sweep(call.alloc, call.moment) {
+        Ok(swept) => Ok(Outcome::Swept(swept)),
+        Err(error) => Err(CoreFault::from(error).at_once()),
+    }
 }

@@ -7,7 +7,7 @@ ghost use Rattle.journal.specs.Membership.{is_open};
 ghost use Rattle.effects.specs.Effects.{IsOpenFor};
 ghost use Rattle.effects.specs.Runs.{Runs};
 ghost use Rattle.effects.specs.Scene.{seen, IsSameEvent, Plays};
-ghost use Rattle.dispatch.specs.Packets.{stage, Draws, IsFresh, ClosesFor, ParksFor, Works, GoesOn, TakesBinary, Handles, HandlesOrBreaks, HandlesInTurn, BreaksAfter};
+ghost use Rattle.dispatch.specs.Packets.{stage, Draws, IsReady, ClosesFor, Works, GoesOn, TakesBinary, Handles, HandlesOrBreaks, HandlesInTurn, BreaksAfter};
 
 use crate::connect::connect;
 use crate::joined::serve_joined;
@@ -27,20 +27,9 @@ pub(crate) fn close_for(scene: &mut Scene, cause: Cause) -> Worked
     Ok(())
 }
 
-/// Saves the sessions of a client that closes itself, or closes it where they have no place.
-fn park_for(scene: &mut Scene) -> Worked
-    requires { IsOpenFor scene.old.visit.client (seen scene.old) }
-    ensures { Plays (ParksFor scene.old.visit.client) scene.old result scene.new }
-{
-    park_or_close(scene.visit, scene.state)?;
-    scene.tally.close(Cause::ClientClosed);
-    Ok(())
-}
-
 /// What a packet does that came whole.
 fn work<A: App, I: IdSource>(scene: &mut Scene, app: &A, ids: &mut I, packet: SioPacket) -> Worked
-    requires open_client { IsOpenFor scene.old.visit.client (seen scene.old) }
-    requires fresh { IsFresh (seen scene.old) }
+    requires { IsReady scene.old }
     ensures { Draws (Works (A.policy app.now) scene.old.visit.client packet)
         scene.old (I.stream ids.old) result scene.new (I.stream ids.new) }
 {
@@ -57,8 +46,7 @@ fn go_on<A: App, I: IdSource>(
     ids: &mut I,
     given: Result<Option<SioPacket>, SioError>,
 ) -> Worked
-    requires open_client { IsOpenFor scene.old.visit.client (seen scene.old) }
-    requires fresh { IsFresh (seen scene.old) }
+    requires ready { IsReady scene.old }
     requires whole { IfOk given IsWholeIfGiven }
     ensures { Draws (GoesOn (A.policy app.now) scene.old.visit.client given)
         scene.old (I.stream ids.old) result scene.new (I.stream ids.new) }
@@ -74,8 +62,7 @@ fn go_on<A: App, I: IdSource>(
 /// Takes a binary message. One that brings the awaited attachments over the bytes that may wait for
 /// the client closes it, and isn't kept.
 fn take_binary<A: App, I: IdSource>(scene: &mut Scene, app: &A, ids: &mut I, bytes: &[u8]) -> Worked
-    requires open_client { IsOpenFor scene.old.visit.client (seen scene.old) }
-    requires fresh { IsFresh (seen scene.old) }
+    requires { IsReady scene.old }
     ensures { Draws (TakesBinary (A.policy app.now) scene.old.visit.client bytes.now)
         scene.old (I.stream ids.old) result scene.new (I.stream ids.new) }
 {
@@ -88,13 +75,16 @@ fn take_binary<A: App, I: IdSource>(scene: &mut Scene, app: &A, ids: &mut I, byt
 
 /// What a packet does.
 fn handle<A: App, I: IdSource>(scene: &mut Scene, app: &A, ids: &mut I, packet: &Packet) -> Worked
-    requires open_client { IsOpenFor scene.old.visit.client (seen scene.old) }
-    requires fresh { IsFresh (seen scene.old) }
+    requires { IsReady scene.old }
     ensures { Draws (Handles (A.policy app.now) scene.old.visit.client packet.now)
         scene.old (I.stream ids.old) result scene.new (I.stream ids.new) }
 {
     match packet {
-        Packet::Close(_) => park_for(scene),
+        Packet::Close(_) => {
+            park_or_close(scene.visit, scene.state)?;
+            scene.tally.close(Cause::ClientClosed);
+            Ok(())
+        }
         Packet::Ping(_) => close_for(scene, Cause::PingFromClient),
         Packet::Pong(_) => {
             scene.line.pong(scene.visit.moment);

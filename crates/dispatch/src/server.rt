@@ -86,15 +86,10 @@ impl<C: Ledger, T: Ledger> Core<C, T> {
         ensures pass { IfOk result (λ made. made.1 ≡ new_pass) }
         ensures err { IfErr result (λ e. e ≡ at_once (fault_of_config (config_refusal config))) }
     {
+        let lines = BTreeMap::new(alloc);
+        let told = Handshake { timing, numbers };
         match Hub::new(alloc, config, commands, taken) {
-            Ok((hub, pass)) => Ok((
-                Core {
-                    hub,
-                    lines: BTreeMap::new(alloc),
-                    told: Handshake { timing, numbers },
-                },
-                pass,
-            )),
+            Ok((hub, pass)) => Ok((Core { hub, lines, told }, pass)),
             Err(HubError::BadConfig) => Err(CoreFault::BadConfig.at_once()),
             Err(_) => Err(CoreFault::Memory.at_once()),
         }
@@ -127,7 +122,9 @@ impl<C: Ledger, T: Ledger> Core<C, T> {
         let before = self.hub.state.totals();
         let call = Call { alloc, moment: now };
         let Core { hub, lines, told } = self;
-        let answer = apply_to(call, &mut hub.state, lines, told, app, event, ids);
+        let ended = hub.state.departed().len();
+        let said = do_row(call, &mut hub.state, lines, told, app, event, ids);
+        let answer = hear_after(call, &mut hub.state, app, event.client(), ended, said);
         hub.books.catch_up(pass, &before, &hub.state);
         answer
     }
@@ -249,32 +246,6 @@ impl<C: Ledger, T: Ledger> Core<C, T> {
     }
 }
 
-/// Does what an event does to the hub's state and to the clients' lines. Then the app hears of the
-/// sockets that it ended.
-fn apply_to<A: App, I: IdSource>(
-    call: Call,
-    state: &mut State,
-    lines: &mut Lines,
-    handshake: &Handshake,
-    app: &A,
-    event: &Event,
-    ids: &mut I,
-) -> Answered
-    requires agree { Agree state.old lines.old.entries }
-    requires clean { IsClean state.old }
-    ensures { Does (A.policy app.now) call.moment
-        handshake.now.timing handshake.now.numbers event.now
-        (place state.old lines.old.entries) (I.stream ids.old) result
-        (place state.new lines.new.entries) (I.stream ids.new) }
-{
-    let ended = state.departed().len();
-    let said = do_row(call, state, lines, handshake, app, event, ids);
-    match event.client() {
-        Some(client) => hear_after(call.of(client), state, app, ended, said),
-        None => said,
-    }
-}
-
 /// Does what an event does to the hub's state and to the clients' lines, before the app hears of
 /// the sockets that it ended.
 fn do_row<A: App, I: IdSource>(
@@ -313,6 +284,6 @@ fn do_row<A: App, I: IdSource>(
         Event::ProbeLost { client } => upgrade::probe_lost(call.alloc, lines, *client),
         Event::TransportLost { client } => losing::lose(call.of(*client), state, lines),
         Event::Tick { client } => losing::tick(call.of(*client), state, lines),
-        Event::Sweep => losing::sweep(call.of(0), state),
+        Event::Sweep => losing::sweep(call, state),
     }
 }

@@ -7,10 +7,10 @@ ghost use Rattle.journal.specs.Journal.{History};
 ghost use Rattle.journal.specs.Membership.{is_open};
 ghost use Rattle.connection.specs.Line.{Advances};
 ghost use Rattle.dispatch.specs.Place.{IsClean};
-ghost use Rattle.dispatch.specs.Takes.{packets_of, handed, carried, Counts, FailsToCount, TellsNoop, ping_calls, Carries, TakesWaiting, TakesFor, AllWhole};
+ghost use Rattle.dispatch.specs.Takes.{packets_of, handed, carried, Counts, FailsToCount, TellsNoop, ping_calls, TakesWaiting, TakesFor, AllWhole};
 
 use connection::{Line, Transport};
-use effects::{Visit, commands};
+use effects::{Acted, Visit};
 use eio_wire::{Packet, WireError, write_payload};
 use events::{CoreFault, Outcome};
 use hub_state::State;
@@ -89,14 +89,14 @@ fn noop(alloc: Global, line: &mut Line) -> Taken
 }
 
 /// Counts the entries that are handed out, where there are some.
-fn count_entries(visit: Visit, state: &mut State, most: usize) -> Result<(), CoreFault>
+fn count_entries(visit: Visit, state: &mut State, most: usize) -> Acted
     requires { is_open state.old.base state.old.journal visit.client ≡ true }
     ensures ok { OnOk result (Counts visit.client most visit.moment state.old state.new) }
     ensures err { IfErr result (λ f. FailsToCount visit.client most visit.moment state.old f
         × (state.new ≡ state.old)) }
 {
     if most > 0 && state.front(visit.client, 0).is_some() {
-        return commands::take(visit, state, most);
+        state.take_away(visit.alloc, visit.client, most, visit.moment)?;
     }
     Ok(())
 }
@@ -108,7 +108,7 @@ pub(crate) fn count(
     line: &mut Line,
     most: usize,
     ping: bool,
-) -> Result<(), CoreFault>
+) -> Acted
     requires { is_open state.old.base state.old.journal visit.client ≡ true }
     ensures ok { OnOk result (Counts visit.client most visit.moment state.old state.new) }
     ensures line { OnOk result (Advances line.old (ping_calls ping) line.new) }
@@ -122,29 +122,8 @@ pub(crate) fn count(
     Ok(())
 }
 
-/// Hands out a payload of these packets. It is written before the entries are taken.
-fn carry(
-    visit: Visit,
-    state: &mut State,
-    line: &mut Line,
-    most: usize,
-    ping: bool,
-    packets: &[Packet],
-) -> Taken
-    requires open_client { is_open state.old.base state.old.journal visit.client ≡ true }
-    requires carried { packets.now ≡ carried ping (handed state.old visit.client most) }
-    requires some { 0 < length packets.now }
-    requires whole { AllWhole packets.now }
-    ensures { Carries visit.client most visit.moment ping result
-        state.old state.new line.old line.new }
-{
-    let text = payload_of(visit.alloc, packets)?;
-    count(visit, state, line, most, ping)?;
-    line.end_get();
-    Ok(Outcome::Payload(text))
-}
-
-/// Takes the payload for a GET of a client that polls, or says that there is nothing to take.
+/// Takes the payload for a GET of a client that polls, or says that there is nothing to take. It is
+/// written before the entries are taken.
 fn take_waiting(
     visit: Visit,
     state: &mut State,
@@ -165,7 +144,10 @@ fn take_waiting(
             _ => Ok(Outcome::Nothing),
         };
     }
-    carry(visit, state, line, most, ping, packets.as_slice())
+    let text = payload_of(visit.alloc, packets.as_slice())?;
+    count(visit, state, line, most, ping)?;
+    line.end_get();
+    Ok(Outcome::Payload(text))
 }
 
 /// Takes the payload for a client's GET.

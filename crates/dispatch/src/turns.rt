@@ -41,11 +41,11 @@ pub(crate) fn open(
     let line = Line::open(alloc, visit.moment, handshake.timing, socket);
     put(lines, client, line)?;
     let text = Text::from_string(text);
-    match commands::open(visit, state) {
+    match state.open(alloc, client, visit.moment) {
         Ok(()) => Ok(Outcome::Opened(Opening { client, text })),
-        Err(fault) => {
+        Err(error) => {
             forget(lines, client);
-            Err(fault.at_once())
+            Err(CoreFault::from(error).at_once())
         }
     }
 }
@@ -118,14 +118,11 @@ pub(crate) fn work_on<A: App, I: IdSource>(
         line,
         tally: &mut tally,
     };
-    match handle_each(&mut scene, app, ids, packets) {
-        Ok(()) if tally.done.closed.is_some() => {
-            forget(lines, visit.client);
-            Ok(Outcome::Done(tally.done))
-        }
-        Ok(()) => Ok(Outcome::Done(tally.done)),
-        Err(error) => Err(error),
+    handle_each(&mut scene, app, ids, packets)?;
+    if tally.done.closed.is_some() {
+        forget(lines, visit.client);
     }
+    Ok(Outcome::Done(tally.done))
 }
 
 /// A GET of the client begins to wait. A second one closes it.
@@ -150,9 +147,7 @@ pub(crate) fn begin(visit: Visit, state: &mut State, lines: &mut Lines) -> Answe
 pub(crate) fn end(alloc: Global, lines: &mut Lines, client: u128) -> Answered
     ensures { OnLine client Ends lines.old.entries result lines.new.entries }
 {
-    let Some(line) = lines.get_mut(&client) else {
-        return Err(CoreFault::UnknownClient.at_once());
-    };
+    let line = lines.get_mut(&client).ok_or(CoreFault::UnknownClient)?;
     line.end_get();
     Ok(Outcome::Done(Done::nothing(alloc)))
 }

@@ -16,12 +16,8 @@ use terms::Text;
 pub(crate) fn probe(alloc: Global, lines: &mut Lines, client: u128) -> Answered
     ensures { OnLine client Probes lines.old.entries result lines.new.entries }
 {
-    let Some(line) = lines.get_mut(&client) else {
-        return Err(CoreFault::UnknownClient.at_once());
-    };
-    let Ok(text) = Text::copy_of(alloc, "3probe") else {
-        return Err(CoreFault::Memory.at_once());
-    };
+    let line = lines.get_mut(&client).ok_or(CoreFault::UnknownClient)?;
+    let text = Text::copy_of(alloc, "3probe").or(Err(CoreFault::Memory))?;
     answer(Outcome::Probed(text), line.probe())
 }
 
@@ -42,9 +38,7 @@ fn answer(outcome: Outcome, said: Result<(), ClockError>) -> Answered
 pub(crate) fn upgrade(alloc: Global, lines: &mut Lines, client: u128) -> Answered
     ensures { OnLine client Upgrades lines.old.entries result lines.new.entries }
 {
-    let Some(line) = lines.get_mut(&client) else {
-        return Err(CoreFault::UnknownClient.at_once());
-    };
+    let line = lines.get_mut(&client).ok_or(CoreFault::UnknownClient)?;
     answer(Outcome::Done(Done::nothing(alloc)), line.upgrade())
 }
 
@@ -52,8 +46,6 @@ pub(crate) fn upgrade(alloc: Global, lines: &mut Lines, client: u128) -> Answere
 pub(crate) fn probe_lost(alloc: Global, lines: &mut Lines, client: u128) -> Answered
     ensures { OnLine client LosesProbe lines.old.entries result lines.new.entries }
 {
-    let Some(line) = lines.get_mut(&client) else {
-        return Err(CoreFault::UnknownClient.at_once());
-    };
+    let line = lines.get_mut(&client).ok_or(CoreFault::UnknownClient)?;
     answer(Outcome::Done(Done::nothing(alloc)), line.probe_lost())
 }

@@ -2,11 +2,16 @@
 use Rattle.std.specs.Prelude.{◌≡◌, ℕ, Result, OnOk, IfErr}
 use Rattle.events.specs.declared.fault.CoreFault.{CoreFault}
 use Rattle.effects.specs.declared.scene.Scene as values
-use Rattle.effects.specs.Effects.{Scene, scene}
+use Rattle.events.specs.declared.app.Who.{Who}
+use Rattle.effects.specs.Effects.{Scene, scene, StandsWith}
 
 -- where the event stands
 abbrev pub seen : values.Scene → Scene
 seen s = scene s.state.now s.line.now s.tally.now
+
+-- the socket is one of the event's client, and stands with what was done so far
+abbrev pub IsActing : Who → values.Scene → Type 0
+IsActing who s = (who.client ≡ s.visit.client) × StandsWith who (seen s)
 
 -- it is the same event of the same hub and line
 pub record IsSameEvent (old new : values.Scene) : Type 0 where

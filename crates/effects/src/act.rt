@@ -1,19 +1,18 @@
 //! What the app's effects do (Socket.IO protocol 5, "Sending and receiving data" and "Disconnection
 //! from a namespace"; Socket.IO server documentation, "Rooms").
 
-ghost use Rattle.std.specs.Prelude.{◌≡◌, ◌≤◌, false, [], IfOk, IfErr, OnOk};
-ghost use Rattle.sio_wire.specs.Disconnect.{disconnect_text};
+ghost use Rattle.std.specs.Prelude.{◌≡◌, ◌≤◌, false, IfOk, IfErr, OnOk};
 ghost use Rattle.journal.specs.declared.step.What.{What};
 ghost use Rattle.effects.specs.Commands.{IsSeated};
-ghost use Rattle.effects.specs.Effects.{is_unsendable, is_wrong, IsPacket, Closes, Emits, Replies, Disconnects, Acts, ActsInTurn, Fails, Stops, StopsAfter, StandsWith, FailsAt, IsOpenFor, FailsToEmit, FailsToReply, FailsToDisconnect};
+ghost use Rattle.effects.specs.Effects.{is_unsendable, is_wrong, IsPacket, Closes, Replies, Disconnects, Acts, ActsInTurn, Fails, Stops, StopsAfter, FailsAt, IsOpenFor, FailsToReply, FailsToDisconnect};
 ghost use Rattle.effects.specs.Runs.{Runs};
-ghost use Rattle.effects.specs.Scene.{seen, DoesOrFails, IsSameEvent};
+ghost use Rattle.effects.specs.Scene.{seen, IsActing, DoesOrFails, IsSameEvent};
 
 use crate::ask::ask;
-use crate::rooms::{end_all, join, join_all, leave, leave_all};
+use crate::rooms::{change, end_all, join_all, leave_all};
 use crate::say::{is_unsendable, say};
-use crate::{Scene, commands};
-use events::{Cause, CoreFault, Effect, Emission, Reply, Stopped, Who, Worked};
+use crate::{Acted, Scene, Visit, commands};
+use events::{Cause, CoreFault, Effect, Reply, Stopped, Who, Worked};
 use journal::Side;
 use sio_wire::{Header, Kind, disconnect_text, write_header};
 use std::alloc::Global;
@@ -35,7 +34,7 @@ fn is_wrong(asked: Option<u64>, effect: &Effect) -> bool
 }
 
 /// Closes the client for a cause.
-pub fn close_for(scene: &mut Scene, cause: Cause) -> Result<(), CoreFault>
+pub fn close_for(scene: &mut Scene, cause: Cause) -> Acted
     requires { IsOpenFor scene.old.visit.client (seen scene.old) }
     ensures { let client = scene.old.visit.client in DoesOrFails
         (λ now. Closes client now cause) (FailsAt (What.Closed client)) scene.old result scene.new }
@@ -45,30 +44,18 @@ pub fn close_for(scene: &mut Scene, cause: Cause) -> Result<(), CoreFault>
     Ok(())
 }
 
-/// Sends an event to the sockets of some rooms.
-fn emit(scene: &mut Scene, who: &Who, emission: Emission) -> Result<(), CoreFault>
-    requires own { who.now.client ≡ scene.old.visit.client }
-    requires seated { IsSeated who.now scene.old.state.now }
-    requires sendable { is_unsendable emission.payload emission.attachments ≡ false }
-    ensures { DoesOrFails (Emits who.now emission) (λ _. FailsToEmit who.now emission)
-        scene.old result scene.new }
-{
-    let done = &mut scene.tally.done;
-    say(scene.visit, scene.state, done, &who.space, emission)
-}
-
 /// A packet with an id as an entry: of the one kind, or of the other where it has attachments
 /// (Socket.IO protocol 5, "Acknowledgement").
 pub(crate) fn entry_of(
     alloc: Global,
     kinds: (Kind, Kind),
-    space: &str,
+    who: &Who,
     id: u64,
     payload: Text,
     attachments: Attachments,
 ) -> Result<Entry, CoreFault>
     requires { is_unsendable payload attachments ≡ false }
-    ensures ok { IfOk result (λ entry. IsPacket kinds space.now id payload attachments entry) }
+    ensures ok { IfOk result (λ entry. IsPacket kinds who.now.space id payload attachments entry) }
     ensures memory { IfErr result (λ f. f ≡ CoreFault.Memory) }
 {
     let kind = if attachments.is_empty() {
@@ -78,22 +65,20 @@ pub(crate) fn entry_of(
     };
     let header = Header {
         kind,
-        space: Text::copy_of(alloc, space)?,
+        space: Text::copy_of(alloc, who.space.as_str())?,
         id: Some(id),
         payload,
         count: attachments.len() as u32,
     };
-    match write_header(alloc, &header) {
-        Ok(text) => Ok(Entry {
-            text: Text::from_string(text),
-            attachments,
-        }),
-        Err(_) => Err(CoreFault::Memory),
-    }
+    let text = write_header(alloc, &header).or(Err(CoreFault::Memory))?;
+    Ok(Entry {
+        text: Text::from_string(text),
+        attachments,
+    })
 }
 
 /// Tells the client the acknowledgement of an event, or closes it where its outbox has no place.
-fn reply(scene: &mut Scene, who: &Who, id: u64, reply: Reply) -> Result<(), CoreFault>
+fn reply(scene: &mut Scene, who: &Who, id: u64, reply: Reply) -> Acted
     requires own { who.now.client ≡ scene.old.visit.client }
     requires open_client { IsOpenFor who.now.client (seen scene.old) }
     requires sendable { is_unsendable reply.payload reply.attachments ≡ false }
@@ -102,8 +87,7 @@ fn reply(scene: &mut Scene, who: &Who, id: u64, reply: Reply) -> Result<(), Core
 {
     let alloc = scene.visit.alloc;
     let kinds = (Kind::Ack, Kind::BinaryAck);
-    let space = who.space.as_str();
-    let entry = entry_of(alloc, kinds, space, id, reply.payload, reply.attachments)?;
+    let entry = entry_of(alloc, kinds, who, id, reply.payload, reply.attachments)?;
     if commands::tell(scene.visit, scene.state, entry)? {
         scene.tally.count();
         scene.tally.asked = None;
@@ -112,29 +96,20 @@ fn reply(scene: &mut Scene, who: &Who, id: u64, reply: Reply) -> Result<(), Core
     close_for(scene, Cause::OutboxFull)
 }
 
-/// What the client is told whose socket is disconnected.
-fn goodbye(alloc: Global, space: &str) -> Result<Entry, CoreFault>
-    ensures ok { IfOk result (λ entry.
-        entry ≡ record { text = disconnect_text space.now; attachments = [] }) }
-    ensures memory { IfErr result (λ f. f ≡ CoreFault.Memory) }
-{
-    match disconnect_text(alloc, space) {
-        Ok(text) => Ok(Entry {
-            text: Text::from_string(text),
-            attachments: Attachments::new(alloc),
-        }),
-        Err(_) => Err(CoreFault::Memory),
-    }
-}
-
 /// Disconnects the socket, and tells the client so where its outbox has a place. Its questions go.
-fn disconnect(scene: &mut Scene, who: &Who) -> Result<(), CoreFault>
+fn disconnect(scene: &mut Scene, who: &Who) -> Acted
     requires own { who.now.client ≡ scene.old.visit.client }
     requires seated { IsSeated who.now scene.old.state.now }
     ensures { DoesOrFails (Disconnects who.now) (FailsToDisconnect who.now)
         scene.old result scene.new }
 {
-    let entry = goodbye(scene.visit.alloc, who.space.as_str())?;
+    let alloc = scene.visit.alloc;
+    let space = who.space.as_str();
+    let text = disconnect_text(alloc, space).or(Err(CoreFault::Memory))?;
+    let entry = Entry {
+        text: Text::from_string(text),
+        attachments: Attachments::new(alloc),
+    };
     commands::tell(scene.visit, scene.state, entry)?;
     commands::end(scene.visit, scene.state, who.sid, Side::Server)?;
     scene.line.leave(who.sid);
@@ -144,17 +119,27 @@ fn disconnect(scene: &mut Scene, who: &Who) -> Result<(), CoreFault>
 }
 
 /// What an effect does that is allowed.
-fn act_allowed(scene: &mut Scene, who: &Who, effect: Effect) -> Result<(), CoreFault>
+fn act_allowed(scene: &mut Scene, who: &Who, effect: Effect) -> Acted
     requires own { who.now.client ≡ scene.old.visit.client }
     requires seated { IsSeated who.now scene.old.state.now }
     requires allowed { is_wrong scene.old.tally.now.asked effect ≡ false }
     ensures { DoesOrFails (λ now s t. Acts who.now now s effect t)
         (λ now s f t. Fails who.now now s effect f t) scene.old result scene.new }
 {
+    let Visit { alloc, moment, .. } = scene.visit;
     match effect {
-        Effect::Join(room) => join(scene, who, room),
-        Effect::Leave(room) => leave(scene, who, room),
-        Effect::Emit(emission) => emit(scene, who, emission),
+        Effect::Join(room) => {
+            let answer = scene.state.join(alloc, who.sid, room, moment);
+            change(answer, scene.tally)
+        }
+        Effect::Leave(room) => {
+            let answer = scene.state.leave(alloc, who.sid, room, moment);
+            change(answer, scene.tally)
+        }
+        Effect::Emit(emission) => {
+            let done = &mut scene.tally.done;
+            say(scene.visit, scene.state, done, &who.space, emission)
+        }
         Effect::Reply(answer) => match scene.tally.asked {
             Some(id) => reply(scene, who, id, answer),
             None => unreachable!(),
@@ -168,9 +153,8 @@ fn act_allowed(scene: &mut Scene, who: &Who, effect: Effect) -> Result<(), CoreF
 }
 
 /// What an effect does in its turn.
-fn act(scene: &mut Scene, who: &Who, effect: Effect) -> Result<(), CoreFault>
-    requires own { who.now.client ≡ scene.old.visit.client }
-    requires stands { StandsWith who.now (seen scene.old) }
+fn act(scene: &mut Scene, who: &Who, effect: Effect) -> Acted
+    requires { IsActing who.now scene.old }
     ensures { DoesOrFails (λ now s t. ActsInTurn who.now now s effect t)
         (λ now s f t. Stops who.now now s effect f t) scene.old result scene.new }
 {
@@ -186,25 +170,21 @@ fn act(scene: &mut Scene, who: &Who, effect: Effect) -> Result<(), CoreFault>
 
 /// What the effects of one packet do, in order. So many of its effects were done before, and after
 /// an error so many are done as it says.
-pub fn act_all(scene: &mut Scene, who: &Who, effects: Vec<Effect>, before: usize) -> Worked
-    requires own { who.now.client ≡ scene.old.visit.client }
+pub fn act_all(scene: &mut Scene, who: &Who, wanted: Vec<Effect>, before: usize) -> Worked
+    requires acting { IsActing who.now scene.old }
     requires few { before ≤ 1 }
-    requires stands { StandsWith who.now (seen scene.old) }
     ensures same { IsSameEvent scene.old scene.new }
-    ensures ok { OnOk result (Runs (ActsInTurn who.now scene.old.visit.moment) effects.items
+    ensures ok { OnOk result (Runs (ActsInTurn who.now scene.old.visit.moment) wanted.items
         (seen scene.old) (seen scene.new)) }
     ensures err { IfErr result (λ stopped. StopsAfter who.now scene.old.visit.moment
-        before effects.items (seen scene.old) stopped (seen scene.new)) }
+        before wanted.items (seen scene.old) stopped (seen scene.new)) }
 {
-    let mut count = before;
-    for effect in effects {
+    let mut effects = before;
+    for effect in wanted {
         if let Err(fault) = act(scene, who, effect) {
-            return Err(Stopped {
-                fault,
-                effects: count,
-            });
+            return Err(Stopped { fault, effects });
         }
-        count += 1;
+        effects += 1;
     }
     Ok(())
 }

@@ -7,7 +7,7 @@ ghost use Rattle.effects.specs.Effects.{is_unsendable, IsOpenFor, IsNextId, HasN
 ghost use Rattle.effects.specs.Scene.{seen, DoesOrFails, IsSameEvent};
 
 use crate::act::{close_for, entry_of};
-use crate::{Scene, Visit, commands};
+use crate::{Acted, Scene, Visit, commands};
 use connection::{AckError, Line};
 use events::{Cause, CoreFault, Inquiry, Who};
 use sio_wire::Kind;
@@ -50,21 +50,13 @@ fn tell(scene: &mut Scene, who: &Who, id: u64, inquiry: Inquiry) -> Result<bool,
 {
     let alloc = scene.visit.alloc;
     let kinds = (Kind::Event, Kind::BinaryEvent);
-    let space = who.space.as_str();
-    let entry = entry_of(
-        alloc,
-        kinds,
-        space,
-        id,
-        inquiry.payload,
-        inquiry.attachments,
-    )?;
+    let entry = entry_of(alloc, kinds, who, id, inquiry.payload, inquiry.attachments)?;
     commands::tell(scene.visit, scene.state, entry)
 }
 
 /// Asks the socket a question, or closes its client where the outbox has no place for it. A
 /// question that isn't told is forgotten again.
-pub(crate) fn ask(scene: &mut Scene, who: &Who, inquiry: Inquiry) -> Result<(), CoreFault>
+pub(crate) fn ask(scene: &mut Scene, who: &Who, inquiry: Inquiry) -> Acted
     requires own { who.now.client ≡ scene.old.visit.client }
     requires open_client { IsOpenFor who.now.client (seen scene.old) }
     requires sendable { is_unsendable inquiry.payload inquiry.attachments ≡ false }

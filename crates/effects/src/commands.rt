@@ -1,29 +1,29 @@
 //! The hub's commands, as an event of one client uses them: refusals that can't come are gone,
 //! those that end the event are faults, and the rest are answers.
 
-ghost use Rattle.std.specs.Prelude.{◌≡◌, true, IfOk};
+ghost use Rattle.std.specs.Prelude.{◌≡◌, true};
 ghost use Rattle.journal.specs.declared.error.HubError.TheVariants as hub;
 ghost use Rattle.journal.specs.declared.step.What.{What};
 ghost use Rattle.journal.specs.Membership.{is_open, is_connected, sid_of};
 ghost use Rattle.events.specs.declared.app.Who.{Who};
-ghost use Rattle.effects.specs.Commands.{DoesOrStops, DoesOr, IsSeated, MayJoin, seat, return_of, Recovers, took, Drops};
+ghost use Rattle.events.specs.Fault.{IsFault, fault_of};
+ghost use Rattle.effects.specs.Commands.{DoesOrStops, DoesOr, IsSeated, MayJoin, seat, return_of, Recovers};
 ghost use Rattle.effects.specs.Effects.{told_to};
 
-use crate::Visit;
+use crate::{Acted, Visit};
 use events::{CoreFault, Who};
 use hub_state::State;
-use journal::{HubError, Side, Swept};
+use journal::{HubError, Side};
 use recovery::Pid;
 use terms::{Entry, Sid};
 
-/// Opens a client.
-pub fn open(visit: Visit, state: &mut State) -> Result<(), CoreFault>
-    ensures { DoesOrStops state.old visit.moment (What.Opened visit.client) result state.new }
+/// The fault where a command is refused so.
+fn fault(error: HubError) -> CoreFault
+    requires { IsFault error }
+    ensures named { result ≡ fault_of error }
+    ensures fault { IsFault error }
 {
-    match state.open(visit.alloc, visit.client, visit.moment) {
-        Ok(()) => Ok(()),
-        Err(error) => Err(CoreFault::of(error)),
-    }
+    error.into()
 }
 
 /// Connects an open client's socket to a namespace that it hasn't joined. Answers whether its
@@ -37,7 +37,7 @@ pub fn attach(visit: Visit, state: &mut State, who: &Who, pid: Pid) -> Result<bo
     match state.attach(visit.alloc, who.client, space, who.sid, pid, visit.moment) {
         Ok(()) => Ok(true),
         Err(HubError::OutboxFull) => Ok(false),
-        Err(error) => Err(CoreFault::of(error)),
+        Err(error) => Err(fault(error)),
     }
 }
 
@@ -57,7 +57,7 @@ pub fn recover(
     match state.recover(visit.alloc, visit.client, space, pid, offset, visit.moment) {
         Ok(sid) => Ok(Some(sid)),
         Err(HubError::NotRecoverable(_) | HubError::OutboxFull) => Ok(None),
-        Err(error) => Err(CoreFault::of(error)),
+        Err(error) => Err(fault(error)),
     }
 }
 
@@ -71,66 +71,22 @@ pub fn tell(visit: Visit, state: &mut State, entry: Entry) -> Result<bool, CoreF
     match state.tell(visit.alloc, visit.client, entry, visit.moment) {
         Ok(()) => Ok(true),
         Err(HubError::OutboxFull) => Ok(false),
-        Err(error) => Err(CoreFault::of(error)),
+        Err(error) => Err(error.into()),
     }
 }
 
 /// Ends a connected socket, by the client's will or the server's.
-pub fn end(visit: Visit, state: &mut State, sid: Sid, by: Side) -> Result<(), CoreFault>
+pub fn end(visit: Visit, state: &mut State, sid: Sid, by: Side) -> Acted
     requires { is_connected sid_of state.old.base state.old.journal sid ≡ true }
     ensures { DoesOrStops state.old visit.moment (What.Ended sid by) result state.new }
 {
-    match state.end(visit.alloc, sid, by, visit.moment) {
-        Ok(()) => Ok(()),
-        Err(error) => Err(CoreFault::of(error)),
-    }
+    Ok(state.end(visit.alloc, sid, by, visit.moment)?)
 }
 
 /// Closes the client, which is open.
-pub fn close(visit: Visit, state: &mut State) -> Result<(), CoreFault>
+pub fn close(visit: Visit, state: &mut State) -> Acted
     requires { is_open state.old.base state.old.journal visit.client ≡ true }
     ensures { DoesOrStops state.old visit.moment (What.Closed visit.client) result state.new }
 {
-    match state.close(visit.alloc, visit.client, visit.moment) {
-        Ok(()) => Ok(()),
-        Err(error) => Err(CoreFault::of(error)),
-    }
-}
-
-/// Parks the client, which is open. Answers whether its sessions were saved.
-pub fn park(visit: Visit, state: &mut State) -> Result<bool, CoreFault>
-    requires { is_open state.old.base state.old.journal visit.client ≡ true }
-    ensures { let what = What.Parked visit.client
-        in DoesOr hub.SavedFull state.old visit.moment what result state.new }
-{
-    match state.park(visit.alloc, visit.client, visit.moment) {
-        Ok(()) => Ok(true),
-        Err(HubError::SavedFull) => Ok(false),
-        Err(error) => Err(CoreFault::of(error)),
-    }
-}
-
-/// The first entries that wait for the client, which is open, are taken. Who carries them away has
-/// read them by then.
-pub fn take(visit: Visit, state: &mut State, most: usize) -> Result<(), CoreFault>
-    requires { is_open state.old.base state.old.journal visit.client ≡ true }
-    ensures { let what = took visit.client most state.old
-        in DoesOrStops state.old visit.moment what result state.new }
-{
-    match state.take_away(visit.alloc, visit.client, most, visit.moment) {
-        Ok(_number) => Ok(()),
-        Err(error) => Err(CoreFault::of(error)),
-    }
-}
-
-/// Drops what the hub keeps no longer: old entries of the log and old saved sessions. It is of no
-/// client, and so its step may be one of any client's event.
-pub fn sweep(visit: Visit, state: &mut State) -> Result<Swept, CoreFault>
-    ensures does { DoesOrStops state.old visit.moment What.Swept result state.new }
-    ensures dropped { IfOk result (λ dropped. Drops dropped state.old state.new) }
-{
-    match state.sweep(visit.alloc, visit.moment) {
-        Ok(swept) => Ok(swept),
-        Err(error) => Err(CoreFault::of(error)),
-    }
+    Ok(state.close(visit.alloc, visit.client, visit.moment)?)
 }

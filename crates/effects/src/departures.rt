@@ -8,20 +8,14 @@ ghost use Rattle.effects.specs.Departed.{Sends, HearsOf, HearsOfAll};
 ghost use Rattle.effects.specs.Runs.{RunsOrFails};
 ghost use Rattle.effects.specs.Saying.{work};
 
-use crate::Visit;
 use crate::say::{is_unsendable, say};
+use crate::{Acted, Visit};
 use events::{App, CoreFault, Done, Effect, Who};
 use hub_state::State;
 use terms::Text;
 
 /// Does an effect of a socket that has ended.
-fn send(
-    visit: Visit,
-    state: &mut State,
-    done: &mut Done,
-    space: &Text,
-    effect: Effect,
-) -> Result<(), CoreFault>
+fn send(visit: Visit, state: &mut State, done: &mut Done, space: &Text, effect: Effect) -> Acted
     requires { is_space state.old.limits (place_of state.old.limits space.now) ≡ true }
     ensures { Sends visit.client visit.moment space.now
         (work state.old done.old) effect result (work state.new done.new) }
@@ -42,7 +36,7 @@ fn send_all(
     done: &mut Done,
     space: &Text,
     effects: Vec<Effect>,
-) -> Result<(), CoreFault>
+) -> Acted
     requires { is_space state.old.limits (place_of state.old.limits space.now) ≡ true }
     ensures { RunsOrFails (Sends visit.client visit.moment space.now) effects.items
         (work state.old done.old) result (work state.new done.new) }
@@ -54,13 +48,7 @@ fn send_all(
 }
 
 /// The app hears of a socket that has ended, the one at an index.
-fn hear_of<A: App>(
-    visit: Visit,
-    state: &mut State,
-    app: &A,
-    done: &mut Done,
-    index: usize,
-) -> Result<(), CoreFault>
+fn hear_of<A: App>(visit: Visit, state: &mut State, app: &A, done: &mut Done, index: usize) -> Acted
     requires { index < length (departed state.old.base state.old.journal) }
     ensures { (gone : PlainDeparted)
         → slice_get (departed state.old.base state.old.journal) index ≡ Some gone
@@ -86,7 +74,7 @@ pub fn hear_all<A: App>(
     app: &A,
     done: &mut Done,
     from: usize,
-) -> Result<(), CoreFault>
+) -> Acted
     ensures { let ended = drop from (departed state.old.base state.old.journal) in
         HearsOfAll (A.policy app.now) visit.client visit.moment ended
         (work state.old done.old) result (work state.new done.new) }

@@ -13,4 +13,4 @@ mod scene;
 pub use act::{act_all, close_for};
 pub use departures::hear_all;
 pub use laws::{effects_are_work, others_are_spared};
-pub use scene::{Call, Scene, Tally, Visit};
+pub use scene::{Acted, Call, Scene, Tally, Visit};

@@ -12,14 +12,14 @@ ghost use Rattle.effects.specs.Effects.{scene, all_joined, all_left, is_among, C
 ghost use Rattle.effects.specs.Scene.{DoesOrFails};
 
 use crate::say::retain_others;
-use crate::{Scene, Tally, Visit};
+use crate::{Acted, Scene, Tally, Visit};
 use connection::Line;
-use events::{CoreFault, Selection, Who};
+use events::{Selection, Who};
 use journal::{Dismissed, HubError};
 use terms::{Room, Sid};
 
 /// Counts a change of rooms that the hub answered so, or skips it where the rooms don't allow it.
-fn change<X: Drop>(answer: Result<X, HubError>, tally: &mut Tally) -> Result<(), CoreFault>
+pub(crate) fn change<X: Drop>(answer: Result<X, HubError>, tally: &mut Tally) -> Acted
     requires { IfErr answer IsRoomChange }
     ensures ok { OnOk result ((g h : History) (l : PlainLine) (now : ℕ) (what : What)
         → Does g h now what answer
@@ -34,40 +34,13 @@ fn change<X: Drop>(answer: Result<X, HubError>, tally: &mut Tally) -> Result<(),
             tally.count();
             tally.note(Some(refusal));
         }
-        Err(error) => return Err(CoreFault::of(error)),
+        Err(error) => return Err(error.into()),
     }
     Ok(())
 }
 
-/// Lets the socket join a room.
-pub(crate) fn join(scene: &mut Scene, who: &Who, room: Room) -> Result<(), CoreFault>
-    requires { IsSeated who.now scene.old.state.now }
-    ensures { let what = What.Joined who.now.sid room in
-        DoesOrFails (ChangesRooms what) (FailsAt what) scene.old result scene.new }
-{
-    let Visit { alloc, moment, .. } = scene.visit;
-    let answer = scene.state.join(alloc, who.sid, room, moment);
-    change(answer, scene.tally)
-}
-
-/// Lets the socket leave a room.
-pub(crate) fn leave(scene: &mut Scene, who: &Who, room: Room) -> Result<(), CoreFault>
-    requires { IsSeated who.now scene.old.state.now }
-    ensures { let what = What.Left who.now.sid room in
-        DoesOrFails (ChangesRooms what) (FailsAt what) scene.old result scene.new }
-{
-    let Visit { alloc, moment, .. } = scene.visit;
-    let answer = scene.state.leave(alloc, who.sid, room, moment);
-    change(answer, scene.tally)
-}
-
 /// Lets all these sockets join a room, or none where the rooms don't allow it.
-pub(crate) fn join_all(
-    scene: &mut Scene,
-    who: &Who,
-    selection: Selection,
-    room: Room,
-) -> Result<(), CoreFault>
+pub(crate) fn join_all(scene: &mut Scene, who: &Who, selection: Selection, room: Room) -> Acted
     requires { IsSeated who.now scene.old.state.now }
     ensures { let what = all_joined who.now selection room scene.old.state.now in
         DoesOrFails (ChangesRooms what) (FailsAt what) scene.old result scene.new }
@@ -82,12 +55,7 @@ pub(crate) fn join_all(
 }
 
 /// Lets all these sockets leave a room, or none where the rooms don't allow it.
-pub(crate) fn leave_all(
-    scene: &mut Scene,
-    who: &Who,
-    selection: Selection,
-    room: Room,
-) -> Result<(), CoreFault>
+pub(crate) fn leave_all(scene: &mut Scene, who: &Who, selection: Selection, room: Room) -> Acted
     requires { IsSeated who.now scene.old.state.now }
     ensures { let what = all_left who.now selection room scene.old.state.now in
         DoesOrFails (ChangesRooms what) (FailsAt what) scene.old result scene.new }
@@ -123,7 +91,7 @@ fn leave_if_among(line: &mut Line, tally: &mut Tally, sid: Sid, ended: &[Sid])
 }
 
 /// Disconnects all these sockets. Where the acting one is among them, its questions go.
-pub(crate) fn end_all(scene: &mut Scene, who: &Who, selection: Selection) -> Result<(), CoreFault>
+pub(crate) fn end_all(scene: &mut Scene, who: &Who, selection: Selection) -> Acted
     requires { IsSeated who.now scene.old.state.now }
     ensures { DoesOrFails (EndsAll who.now selection) (FailsToEndAll who.now selection)
         scene.old result scene.new }
@@ -133,16 +101,11 @@ pub(crate) fn end_all(scene: &mut Scene, who: &Who, selection: Selection) -> Res
     tally.done.clients.reserve()?;
     let Selection { rooms, excepted } = selection;
     let space = who.space.as_str();
-    let answer = scene
+    let Dismissed { ended, mut told } = scene
         .state
-        .disconnect_sockets(alloc, space, rooms, excepted, moment);
-    let Dismissed { ended, told } = match answer {
-        Ok(done) => done,
-        Err(error) => return Err(CoreFault::of(error)),
-    };
-    let mut ids = told;
-    retain_others(&mut ids, who.client);
-    tally.done.clients.push(ids);
+        .disconnect_sockets(alloc, space, rooms, excepted, moment)?;
+    retain_others(&mut told, who.client);
+    tally.done.clients.push(told);
     tally.count();
     leave_if_among(scene.line, tally, who.sid, ended.as_slice());
     Ok(())

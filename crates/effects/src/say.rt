@@ -1,15 +1,14 @@
 //! What an event that the app sends does (Socket.IO server documentation, "Broadcasting events").
 
-ghost use Rattle.std.specs.Prelude.{◌≡◌, true, false, not, ◌||◌, filter, ◌==◌, IfOk, IfErr};
+ghost use Rattle.std.specs.Prelude.{◌≡◌, true, false, not, filter, ◌==◌};
 ghost use Rattle.journal.specs.Membership.{is_space, place_of};
 ghost use Rattle.effects.specs.Effects.{is_unsendable};
-ghost use Rattle.effects.specs.Saying.{cast_of, work, SaysOrFails};
+ghost use Rattle.effects.specs.Saying.{work, SaysOrFails};
 
-use crate::Visit;
-use events::{CoreFault, Done, Emission};
+use crate::{Acted, Visit};
+use events::{Done, Emission};
 use hub_state::State;
 use journal::Cast;
-use std::alloc::Global;
 use terms::{Attachments, Text};
 
 /// The most attachments of a packet.
@@ -20,28 +19,6 @@ pub(crate) fn is_unsendable(payload: &str, attachments: &Attachments) -> bool
     ensures { result ≡ is_unsendable payload.now attachments.now }
 {
     !payload.as_bytes().contains(&b']') || attachments.len() > MOST_ATTACHMENTS
-}
-
-/// The broadcast that is asked for.
-fn cast_of(alloc: Global, space: &Text, emission: Emission) -> Result<Cast, CoreFault>
-    ensures ok { IfOk result (λ cast. cast ≡ cast_of space.now emission) }
-    ensures memory { IfErr result (λ f. f ≡ CoreFault.Memory) }
-{
-    let Emission {
-        rooms,
-        excepted,
-        logged,
-        payload,
-        attachments,
-    } = emission;
-    Ok(Cast {
-        space: space.clone()?,
-        rooms,
-        excepted,
-        logged,
-        payload,
-        attachments,
-    })
 }
 
 /// Keeps the clients but one.
@@ -58,7 +35,7 @@ pub(crate) fn say(
     done: &mut Done,
     space: &Text,
     emission: Emission,
-) -> Result<(), CoreFault>
+) -> Acted
     requires there { is_space state.old.limits (place_of state.old.limits space.now) ≡ true }
     requires sendable { is_unsendable emission.payload emission.attachments ≡ false }
     ensures { SaysOrFails visit.client space.now emission visit.moment
@@ -66,11 +43,15 @@ pub(crate) fn say(
 {
     let Visit { alloc, moment, .. } = visit;
     done.clients.reserve()?;
-    let cast = cast_of(alloc, space, emission)?;
-    let cast_done = match state.cast(alloc, cast, moment) {
-        Ok(cast_done) => cast_done,
-        Err(error) => return Err(CoreFault::of(error)),
+    let cast = Cast {
+        space: space.clone()?,
+        rooms: emission.rooms,
+        excepted: emission.excepted,
+        logged: emission.logged,
+        payload: emission.payload,
+        attachments: emission.attachments,
     };
+    let cast_done = state.cast(alloc, cast, moment)?;
     let mut ids = cast_done.clients;
     retain_others(&mut ids, visit.client);
     done.clients.push(ids);

@@ -4,10 +4,13 @@ ghost use Rattle.std.specs.Prelude.{◌≡◌, None, Some, is_some, true, false}
 ghost use Rattle.events.specs.Plain.{nothing_done, one_packet_more, one_more, noted};
 
 use connection::Line;
-use events::{Cause, Done};
+use events::{Cause, CoreFault, Done};
 use hub_state::State;
 use room_maps::RoomError;
 use std::alloc::Global;
+
+/// What comes of a command or an effect: it was done, or why it wasn't.
+pub type Acted = Result<(), CoreFault>;
 
 /// When an event came.
 #[derive(Clone, Copy)]
@@ -110,9 +113,7 @@ impl Tally {
     pub(crate) fn note(&mut self, refused: Option<RoomError>)
         ensures { self.new ≡ record self.old { done = noted refused self.old.done } }
     {
-        if self.done.skipped.is_none() {
-            self.done.skipped = refused;
-        }
+        self.done.skipped = self.done.skipped.or(refused);
     }
 }
 

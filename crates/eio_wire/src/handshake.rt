@@ -27,8 +27,7 @@ pub fn open_text(
     polling: bool,
     numbers: &Numbers,
 ) -> Result<String, WireError>
-    ensures ok { IfOk result
-        (λ text. string_bytes text ≡ open_packet_text client polling numbers.now) }
+    ensures ok { IfOk result (λ t. string_bytes t ≡ open_packet_text client polling numbers.now) }
     ensures err { IfErr result (λ error. error ≡ WireError.Memory) }
 {
     let digits = id_text(client);

@@ -88,10 +88,8 @@ fn holds_separator(rest: &Text) -> bool
 /// Packets have at most one payload, and a text is the payload of at most one list of packets. It
 /// has no effect.
 pub fn one_payload()
-    ensures packets { (ps qs : List Packet) (text : List ℕ)
-        → Payload ps text → Payload qs text → ps ≡ qs }
-    ensures text { (packets : List Packet) (t u : List ℕ)
-        → Payload packets t → Payload packets u → t ≡ u }
+    ensures packets { (ps qs : List Packet) (t : List ℕ) → Payload ps t → Payload qs t → ps ≡ qs }
+    ensures text { (ps : List Packet) (t u : List ℕ) → Payload ps t → Payload ps u → t ≡ u }
 {}
 
 /// A text has at most one fault, and none where it is a payload. It has no effect.
@@ -104,8 +102,7 @@ pub fn one_fault()
 /// A fault is one of Empty, BadType and BadBase64. It has no effect.
 pub fn faults_of_texts()
     ensures packet { (text : List ℕ) → IsTextFault (fault_of text) }
-    ensures payload { (text : List ℕ) (error : WireError)
-        → HasFault text error → IsTextFault error }
+    ensures payload { (text : List ℕ) (e : WireError) → HasFault text e → IsTextFault e }
 {}
 
 /// Packets without a separator in their data are not refused. It has no effect.

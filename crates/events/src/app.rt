@@ -3,10 +3,9 @@
 ghost use Rattle.std.specs.Prelude.{◌≡◌, ◌+◌, ℕ, IfOk};
 ghost use Rattle.events.specs.App.{Policy, plain_verdict, IsCleanVerdict, IsCleanArrival, AllClean};
 
-use crate::emission::Emission;
-use crate::selection::Selection;
 use journal::Ending;
 use std::alloc::{AllocError, Global};
+use std::marker::Model;
 use terms::{Attachments, Room, Sid, Text};
 
 /// The socket that an event came from, or that has ended.
@@ -85,6 +84,55 @@ pub enum Effect {
     AllEnd(Selection),
 }
 
+/// What the app wants done, unless memory was refused.
+pub type Wanted = Result<Vec<Effect>, AllocError>;
+
+/// The sockets of a namespace that are in one of some rooms. In a contract it is plain data.
+#[derive(Drop)]
+pub struct Selection {
+    /// The rooms. None means everybody in the namespace.
+    pub rooms: Vec<Room>,
+    /// The rooms whose sockets aren't meant.
+    pub excepted: Vec<Room>,
+}
+
+impl Model for Selection {
+    ghost use Rattle.events.specs.Selection.{PlainSelection};
+
+    ghost Value = { PlainSelection };
+
+    ghost view = { λ m. record { rooms = m.rooms.items; excepted = m.excepted.items } };
+}
+
+/// An event for the sockets of some rooms. In a contract it is plain data.
+#[derive(Drop)]
+pub struct Emission {
+    /// The rooms that it goes to. None means everybody in the namespace.
+    pub rooms: Vec<Room>,
+    /// The rooms whose sockets don't get it.
+    pub excepted: Vec<Room>,
+    /// Whether it gets an offset and is logged, so that a session that comes back gets it too.
+    pub logged: bool,
+    /// The event as a JSON array.
+    pub payload: Text,
+    /// What the placeholders of the payload stand for.
+    pub attachments: Attachments,
+}
+
+impl Model for Emission {
+    ghost use Rattle.events.specs.Emission.{PlainEmission};
+
+    ghost Value = { PlainEmission };
+
+    ghost view = { λ e. record {
+      rooms = e.rooms.items;
+      excepted = e.excepted.items;
+      logged = e.logged;
+      payload = e.payload;
+      attachments = e.attachments;
+    } };
+}
+
 /// An event that asks for an acknowledgement.
 #[derive(Drop)]
 pub struct Inquiry {
@@ -115,30 +163,16 @@ pub trait App {
     fn connects(&self, alloc: Global, space: &str, payload: &str) -> Result<Verdict, AllocError>
         ensures allowed { IfOk result (λ verdict.
             (policy self.now).allows space.now payload.now (plain_verdict verdict)) }
-        ensures clean { IfOk result (λ verdict.
-            IsCleanVerdict payload.now (plain_verdict verdict)) };
+        ensures clean { IfOk result (λ v. IsCleanVerdict payload.now (plain_verdict v)) };
 
     /// What is done where something arrived from a socket.
-    fn decides(
-        &self,
-        alloc: Global,
-        who: &Who,
-        arrived: &Arrived,
-    ) -> Result<Vec<Effect>, AllocError>
-        ensures decided { IfOk result (λ effects.
-            (policy self.now).decides who.now arrived.now effects.items) }
-        ensures clean { IfOk result (λ effects.
-            IsCleanArrival arrived.now → AllClean effects.items) };
+    fn decides(&self, alloc: Global, who: &Who, arrived: &Arrived) -> Wanted
+        ensures decided { IfOk result (λ e. (policy self.now).decides who.now arrived.now e.items) }
+        ensures clean { IfOk result (λ e. IsCleanArrival arrived.now → AllClean e.items) };
 
     /// What is done where a socket has ended, which was in these rooms, its own among them. It can
     /// do nothing any more, so of all effects only `Emit` may follow.
-    fn left(
-        &self,
-        alloc: Global,
-        who: &Who,
-        rooms: &[Room],
-        ending: Ending,
-    ) -> Result<Vec<Effect>, AllocError>
+    fn left(&self, alloc: Global, who: &Who, rooms: &[Room], ending: Ending) -> Wanted
         ensures left { IfOk result (λ effects.
             (policy self.now).leaves who.now rooms.now ending effects.items) }
         ensures clean { IfOk result (λ effects. AllClean effects.items) };

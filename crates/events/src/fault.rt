@@ -2,7 +2,7 @@
 
 ghost use Rattle.std.specs.Prelude.{◌≡◌};
 ghost use Rattle.events.specs.declared.fault.CoreFault.TheVariants.{Memory};
-ghost use Rattle.events.specs.Fault.{IsFault, fault_of};
+ghost use Rattle.events.specs.Fault.{fault_of};
 
 use journal::HubError;
 use std::alloc::{AllocError, AllocFailed};
@@ -51,21 +51,6 @@ pub struct CoreError {
 }
 
 impl CoreFault {
-    /// The fault where a command of the hub is refused.
-    pub fn of(error: HubError) -> CoreFault
-        requires { IsFault error }
-        ensures named { result ≡ fault_of error }
-        ensures fault { IsFault error }
-    {
-        match error {
-            HubError::Memory => CoreFault::Memory,
-            HubError::IdTaken => CoreFault::IdTaken,
-            HubError::TooManyClients => CoreFault::TooManyClients,
-            HubError::Spent => CoreFault::Spent,
-            _ => unreachable!(),
-        }
-    }
-
     /// The fault where nothing of the event was done.
     pub fn at_once(self) -> CoreError
         ensures { result ≡ record { fault = self; packets = 0; effects = 0 } }
@@ -82,7 +67,7 @@ impl CoreFault {
 pub type Worked = Result<(), Stopped>;
 
 impl From<CoreFault> for CoreError {
-    ghost from_gives = { λ fault error. error ≡ record { fault = fault; packets = 0; effects = 0 } };
+    ghost from_gives = { λ fault e. e ≡ record { fault = fault; packets = 0; effects = 0 } };
 
     fn from(fault: CoreFault) -> CoreError {
         fault.at_once()
@@ -94,6 +79,21 @@ impl From<CoreFault> for Stopped {
 
     fn from(fault: CoreFault) -> Stopped {
         Stopped { fault, effects: 0 }
+    }
+}
+
+/// The fault where a command of the hub is refused. No other refusal ends an event.
+impl From<HubError> for CoreFault {
+    ghost from_gives = { λ error fault. fault ≡ fault_of error };
+
+    fn from(error: HubError) -> CoreFault {
+        match error {
+            HubError::Memory => CoreFault::Memory,
+            HubError::IdTaken => CoreFault::IdTaken,
+            HubError::TooManyClients => CoreFault::TooManyClients,
+            HubError::Spent => CoreFault::Spent,
+            _ => CoreFault::UnknownClient,
+        }
     }
 }
 

@@ -4,24 +4,19 @@
 
 mod app;
 mod cause;
-mod done;
-mod emission;
 mod event;
 mod fault;
 mod loss;
 mod outcome;
 mod peer;
-mod receivers;
-mod selection;
 
-pub use app::{Answer, App, Arrived, Effect, IdSource, Inquiry, Message, Reply, Verdict, Who};
+pub use app::{
+    Answer, App, Arrived, Effect, Emission, IdSource, Inquiry, Message, Reply, Selection, Verdict,
+    Wanted, Who,
+};
 pub use cause::Cause;
-pub use done::Done;
-pub use emission::Emission;
 pub use event::{Event, WsFrame};
 pub use fault::{CoreError, CoreFault, Stopped, Worked};
 pub use loss::{Loss, Telling};
-pub use outcome::{Answered, Frames, Opening, Outcome};
+pub use outcome::{Answered, Done, Frames, Opening, Outcome, Receivers};
 pub use peer::{Peer, PeerFault};
-pub use receivers::Receivers;
-pub use selection::Selection;

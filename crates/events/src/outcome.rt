@@ -1,11 +1,15 @@
 //! What an event is answered with.
 
-ghost use Rattle.std.specs.Prelude.{◌≡◌};
+ghost use Rattle.std.specs.Prelude.{◌≡◌, ◌-◌, ◌<◌, ◌++◌, ◌∷◌, List, [], Some, map, OnOk, vec_len, vec_capacity};
+ghost use Rattle.events.specs.Plain.{PlainDone, PlainReceivers, nothing_done};
+ghost use Rattle.events.specs.declared.event.WsFrame.{WsFrame};
 
-use crate::done::Done;
+use crate::cause::Cause;
 use crate::event::WsFrame;
 use crate::fault::CoreError;
 use journal::Swept;
+use room_maps::RoomError;
+use std::alloc::{AllocError, Global};
 use std::marker::Model;
 use terms::Text;
 
@@ -54,9 +58,6 @@ pub struct Frames {
 }
 
 impl Model for Frames {
-    ghost use Rattle.std.specs.Prelude.{List};
-    ghost use Rattle.events.specs.declared.event.WsFrame.{WsFrame};
-
     ghost Value = { List WsFrame };
 
     ghost view = { λ f. f.list.items };
@@ -75,5 +76,112 @@ impl Frames {
         ensures { result.now ≡ self.now }
     {
         self.list.as_slice()
+    }
+}
+
+/// What was done of an event. In a contract it is plain data.
+#[derive(Drop)]
+pub struct Done {
+    /// The packets that were worked on, those that are ignored and one that closed the client among
+    /// them. It stays at the greatest usize.
+    pub packets: usize,
+    /// The effects that were done of all packets together. It stays at the greatest usize.
+    pub effects: usize,
+    /// Why the first effect was skipped that the rooms didn't allow.
+    pub skipped: Option<RoomError>,
+    /// Whether an answer came to a question that isn't open.
+    pub ignored: bool,
+    /// Why the client was closed, where it was.
+    pub closed: Option<Cause>,
+    /// The clients that got something, one list for each broadcast, without the event's own client.
+    pub clients: Receivers,
+}
+
+impl Model for Done {
+    ghost Value = { PlainDone };
+
+    ghost view = { λ d. record {
+      packets = d.packets;
+      effects = d.effects;
+      skipped = d.skipped;
+      ignored = d.ignored;
+      closed = d.closed;
+      clients = d.clients.lists;
+    } };
+}
+
+impl Done {
+    /// Nothing was done yet.
+    pub fn nothing(alloc: Global) -> Done
+        ensures { result ≡ nothing_done }
+    {
+        Done {
+            packets: 0,
+            effects: 0,
+            skipped: None,
+            ignored: false,
+            closed: None,
+            clients: Receivers::new(alloc),
+        }
+    }
+
+    /// Nothing was done, and the client was closed.
+    pub fn closed(alloc: Global, cause: Cause) -> Done
+        ensures { result ≡ record nothing_done { closed = Some cause } }
+    {
+        let mut done = Done::nothing(alloc);
+        done.closed = Some(cause);
+        done
+    }
+}
+
+/// The clients that got something, one list for each broadcast. In a contract they are these lists,
+/// and for how many more there is room.
+#[derive(Drop)]
+pub struct Receivers {
+    lists: Vec<Vec<u128>>,
+}
+
+impl Model for Receivers {
+    ghost Value = { PlainReceivers };
+
+    ghost view = { λ r. record {
+      lists = map (λ ids. ids.items) r.lists.items;
+      room = vec_capacity r.lists - vec_len r.lists;
+    } };
+}
+
+impl Receivers {
+    /// Nobody yet. It takes no memory.
+    pub fn new(alloc: Global) -> Receivers
+        ensures { result.lists ≡ [] }
+    {
+        Receivers {
+            lists: Vec::new(alloc),
+        }
+    }
+
+    /// The lists, in the order of the broadcasts. A client may be in several of them.
+    pub fn lists(&self) -> &[Vec<u128>]
+        ensures { map (λ ids. ids.items) result.now ≡ self.now.lists }
+    {
+        self.lists.as_slice()
+    }
+
+    /// Makes room for one more list.
+    pub fn reserve(&mut self) -> Result<(), AllocError>
+        ensures same { self.new.lists ≡ self.old.lists }
+        ensures ok { OnOk result (0 < self.new.room) }
+    {
+        self.lists.reserve(1)?;
+        Ok(())
+    }
+
+    /// Adds a list, for which there is room.
+    pub fn push(&mut self, ids: Vec<u128>)
+        requires { 0 < self.old.room }
+        ensures { self.new.lists ≡ self.old.lists ++ ids.items ∷ [] }
+    {
+        self.lists.push_reserved(ids);
     }
 }

@@ -1,9 +1,9 @@
 //! An app behind a token.
 
 ghost use Rattle.std.specs.Prelude.{◌≡◌, IfOk};
-ghost use Rattle.guarded.specs.Guarded.{has_token};
+ghost use Rattle.guarded.specs.Guarded.{Admits, comes_in, has_token};
 
-use events::{App, Arrived, Effect, Verdict, Who};
+use events::{App, Arrived, Verdict, Wanted, Who};
 use journal::Ending;
 use serde_json::{Category, Value};
 use std::alloc::{AllocError, Global};
@@ -12,8 +12,8 @@ use terms::{Room, Text};
 /// What a client without the token is told.
 const NOT_ALLOWED: &str = "Not allowed";
 
-/// An app, and the token without which it is asked nothing, if there is one. `Debug` doesn't show it,
-/// since the token is a secret.
+/// An app, and the token without which it is asked nothing, if there is one. `Debug` doesn't show
+/// it, since the token is a secret.
 #[derive(Drop)]
 pub struct Guarded<A> {
     pub app: A,
@@ -22,8 +22,6 @@ pub struct Guarded<A> {
 }
 
 impl<A: App> App for Guarded<A> {
-    ghost use Rattle.guarded.specs.Guarded.{Admits, comes_in};
-
     ghost policy = { λ guarded. record (A.policy guarded.app) {
       allows = λ space payload. Admits (comes_in guarded.token payload)
           ((A.policy guarded.app).allows space payload);
@@ -38,22 +36,11 @@ impl<A: App> App for Guarded<A> {
         self.app.connects(alloc, space, payload)
     }
 
-    fn decides(
-        &self,
-        alloc: Global,
-        who: &Who,
-        arrived: &Arrived,
-    ) -> Result<Vec<Effect>, AllocError> {
+    fn decides(&self, alloc: Global, who: &Who, arrived: &Arrived) -> Wanted {
         self.app.decides(alloc, who, arrived)
     }
 
-    fn left(
-        &self,
-        alloc: Global,
-        who: &Who,
-        rooms: &[Room],
-        ending: Ending,
-    ) -> Result<Vec<Effect>, AllocError> {
+    fn left(&self, alloc: Global, who: &Who, rooms: &[Room], ending: Ending) -> Wanted {
         self.app.left(alloc, who, rooms, ending)
     }
 }

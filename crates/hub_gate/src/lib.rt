@@ -7,7 +7,7 @@ mod pool;
 mod serve;
 mod worker;
 
-pub use locked::{Locked, Sealing, mirrors_of};
+pub use locked::{Locked, Sealing, Turn, mirrors_of};
 pub use peer::{Open, PeerSource, Queue, Turnstile};
 pub use pool::Pool;
 pub use serve::{Report, ServeError, Settled, serve_peers};

@@ -10,10 +10,9 @@ ghost use Rattle.events.specs.declared.fault.CoreFault.{CoreFault};
 ghost use Rattle.events.specs.Answer.{at_once};
 ghost use Rattle.hub_gate.specs.Facts.{IsSoundCore, IsOfCore};
 ghost use Rattle.hub_gate.specs.Sealing.{Seals};
-ghost use Rattle.hub_gate.specs.Turns.{Applied, desk};
 
 use dispatch::Core;
-use events::{Answered, App, CoreError, CoreFault, Event, IdSource};
+use events::{CoreError, CoreFault};
 use hub_totals::Pass;
 use journal::{Epoch, HubError};
 use std::alloc::Global;
@@ -30,33 +29,17 @@ pub struct Locked<C: Ledger, T: Ledger> {
     core: Mutex<Core<C, T>>,
 }
 
-/// What one turn at the core did: the core as it was lent, the answer, and the core as it was given
-/// back. The cores are known to contracts alone, and take no bytes.
-pub(crate) struct Turn<C: Ledger, T: Ledger> {
-    pub(crate) before: Snapshot<Core<C, T>>,
-    pub(crate) got: Answered,
-    pub(crate) after: Snapshot<Core<C, T>>,
-}
-
-impl<C: Ledger, T: Ledger> Drop for Turn<C, T> {
-    fn drop(self) {
-        let Self {
-            before: _,
-            got: _,
-            after: _,
-        } = self;
-    }
-}
-
-/// What a seal did: the core as it was lent, the answer, and the core as it was given back. The
-/// cores are known to contracts alone, and take no bytes.
+/// What one turn at the core did: the core as it was lent, what was got of it, and the core as it
+/// was given back. The cores are known to contracts alone, and take no bytes.
 #[derive(Drop)]
-pub struct Sealing<C: Ledger, T: Ledger> {
+pub struct Turn<C: Ledger, T: Ledger, X> {
     pub before: Snapshot<Core<C, T>>,
-    /// The epoch, or `None` where the journal is short.
-    pub got: Result<Option<Epoch>, CoreError>,
+    pub got: X,
     pub after: Snapshot<Core<C, T>>,
 }
+
+/// What a seal did. It got the epoch, or `None` where the journal is short.
+pub type Sealing<C, T> = Turn<C, T, Result<Option<Epoch>, CoreError>>;
 
 impl<C: Ledger, T: Ledger> Locked<C, T> {
     /// Puts a core under its lock.
@@ -100,7 +83,7 @@ impl<C: Ledger, T: Ledger> Locked<C, T> {
         let got = seal_if_long(alloc, &mut *guard, least, bytes);
         let after = Snapshot::of(&*guard);
         drop(guard);
-        Sealing { before, got, after }
+        Turn { before, got, after }
     }
 
     /// A pass that has counted nothing. Refused as `Spent` alone. It may wait.
@@ -128,34 +111,12 @@ pub fn mirrors_of<C: Ledger, T: Ledger>(
 }
 
 /// Changes nothing. It tells what every core keeps.
-fn note_facts<C: Ledger, T: Ledger>(core: &Core<C, T>)
+pub(crate) fn note_facts<C: Ledger, T: Ledger>(core: &Core<C, T>)
     ensures { IsSoundCore core.now }
 {
     core.facts();
     core.hub().state().facts();
     let _maps = mirrors_of(core);
-}
-
-/// Applies one event, and compares the pass with the core's counts.
-pub(crate) fn apply_counted<C: Ledger, T: Ledger, A: App, I: IdSource>(
-    alloc: Global,
-    core: &mut Core<C, T>,
-    pass: &mut Pass<C, T>,
-    app: &A,
-    event: &Event,
-    now: u64,
-    ids: &mut I,
-) -> Answered
-    requires sound { IsSoundCore core.old }
-    requires counted { AtLeast core.old.hub pass.old }
-    ensures { Applied (A.policy app.now) event.now now
-        core.old (desk pass.old (I.stream ids.old)) result
-        core.new (desk pass.new (I.stream ids.new)) }
-{
-    let got = core.apply(alloc, pass, app, event, now, ids);
-    core.audit(pass);
-    note_facts(core);
-    got
 }
 
 /// Whether the journal has fewer steps, and entries of fewer bytes in them.
@@ -181,8 +142,7 @@ fn seal_if_long<C: Ledger, T: Ledger>(
     ensures memory { IfErr result (λ e. e ≡ at_once CoreFault.Memory) }
 {
     note_facts(core);
-    let short = is_short(core, least, bytes);
-    if short {
+    if is_short(core, least, bytes) {
         return Ok(None);
     }
     let Ok(epoch) = core.seal(alloc) else {

@@ -17,8 +17,7 @@ use std::alloc::{AllocError, Global};
 use std::snapshot::Snapshot;
 use std::sync::Wait;
 use std::sync::ledger::Ledger;
-use std::thread;
-use std::thread::{Promise, PromisedHandle, Scope, Threads};
+use std::thread::{self, Promise, PromisedHandle, Threads};
 use thiserror::Error;
 
 /// The most workers of a pool.
@@ -82,11 +81,7 @@ struct Started<C: Ledger, T: Ledger, A, P, I> {
 
 impl<C: Ledger, T: Ledger, A, P, I> Drop for Started<C, T, A, P, I> {
     fn drop(self) {
-        let Self {
-            job: _,
-            app: _,
-            turns: _,
-        } = self;
+        let Self { job, app, turns } = self;
     }
 }
 
@@ -257,7 +252,15 @@ fn run_all<
             };
             let mut worker = 0usize;
             for job in jobs {
-                handles.push_reserved(start(scope, pool, worker, job)?);
+                let begun = Started {
+                    job: Snapshot::of(&job),
+                    app: Snapshot::of(pool.app),
+                    turns: pool.turns,
+                };
+                let Ok(handle) = scope.spawn_with(begun, move || work(pool, worker, job)) else {
+                    return Err(ServeError::Spawn);
+                };
+                handles.push_reserved(handle);
                 worker = worker.saturating_add(1);
             }
             Ok(join_all(pool.rt, handles, all))
@@ -265,50 +268,17 @@ fn run_all<
     )
 }
 
-/// Starts a job in a thread of the scope.
-fn start<
-    's,
-    'e: 's,
-    R: Wait + Sync,
-    C: Ledger + Send + 's,
-    T: Ledger + Send + 's,
-    A: App + Sync,
-    P: Peer + Send + Drop + 's,
-    G: Turnstile + Sync,
-    I: IdSource + Send + Drop + 's,
->(
-    scope: &Scope<'s, &'e ()>,
-    pool: &'s Pool<'_, R, C, T, A, G>,
-    worker: usize,
-    job: Job<C, T, P, I>,
-) -> Result<PromisedHandle<Finished<C, T>, Started<C, T, A, P, I>>, ServeError>
-    ensures ok { IfOk result (λ h. (h.promise.job.value ≡ job)
-        × (h.promise.app.value ≡ pool.now.app.now) × (h.promise.turns ≡ pool.now.turns)) }
-    ensures err { IfErr result (λ e. e ≡ ServeError.Spawn) }
-{
-    let begun = Started {
-        job: Snapshot::of(&job),
-        app: Snapshot::of(pool.app),
-        turns: pool.turns,
-    };
-    match scope.spawn_with(begun, move || work(pool, worker, job)) {
-        Ok(handle) => Ok(handle),
-        Err(_) => Err(ServeError::Spawn),
-    }
-}
-
 /// Joins these threads in turn, and lists what they hand back in the place that is kept for it.
 fn join_all<R: Threads, X: Drop, P: Promise<X>>(
     rt: &R,
     handles: Vec<PromisedHandle<X, P>>,
-    all: Vec<X>,
+    mut all: Vec<X>,
 ) -> Vec<X>
     requires none { (vec_len all ≡ 0) × (all.items ≡ []) }
     requires room { vec_len handles ≤ vec_capacity all }
     ensures len { vec_len result ≡ vec_len handles }
     ensures kept { AllZip (λ h x. P.kept_by h.promise x) handles.items result.items }
 {
-    let mut all = all;
     for handle in handles {
         all.push_reserved(handle.join(rt));
     }
@@ -337,25 +307,21 @@ fn work<R: Wait, C: Ledger, T: Ledger, A: App, P: Peer + Drop, G: Turnstile, I: 
 fn gather<C: Ledger, T: Ledger>(
     pass: &mut Pass<C, T>,
     finished: Vec<Finished<C, T>>,
-    counts: Vec<WorkerCounts>,
+    mut all: Vec<WorkerCounts>,
 ) -> Vec<WorkerCounts>
-    requires none { (vec_len counts ≡ 0) × (counts.items ≡ []) }
-    requires room { vec_len finished ≤ vec_capacity counts }
+    requires none { (vec_len all ≡ 0) × (all.items ≡ []) }
+    requires room { vec_len finished ≤ vec_capacity all }
     ensures len { vec_len result ≡ vec_len finished }
     ensures counts { result.items ≡ map (λ f. f.counts) finished.items }
     ensures commands { pass.new.commands ≡ pass.old.commands + sum_by (λ w. w.commands) result.items }
     ensures taken { pass.new.taken ≡ pass.old.taken + sum_by (λ w. w.taken) result.items }
 {
-    let mut counts = counts;
     for one in finished {
-        let Finished {
-            pass: part,
-            counts: own,
-        } = one;
-        pass.absorb(part);
-        counts.push_reserved(own);
+        let Finished { pass: own, counts } = one;
+        pass.absorb(own);
+        all.push_reserved(counts);
     }
-    counts
+    all
 }
 
 /// The report of these workers, where the pass has counted all of the core's totals.
@@ -371,11 +337,7 @@ fn settle<R: Wait, C: Ledger, T: Ledger, A, G>(
 {
     let mut guard = pool.locked.look(pool.rt, pass);
     let core = Snapshot::of(&*guard);
-    let settled = guard.settle(pass);
-    let totals = match settled {
-        Ok(totals) => totals,
-        Err(lack) => return Err(ServeError::NotAll(lack)),
-    };
+    let totals = guard.settle(pass).map_err(ServeError::NotAll)?;
     let report = Report { totals, workers };
     Ok(Settled { report, core })
 }

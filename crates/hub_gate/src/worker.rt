@@ -3,7 +3,7 @@
 ghost use Rattle.std.specs.Prelude.{◌≡◌, ◌+◌, option_map};
 ghost use Rattle.hub_gate.specs.Turns.{Applied, ServesAll, Talks, TellsLost, WorksOff, desk, lost_by};
 
-use crate::locked::{Turn, apply_counted};
+use crate::locked::{Turn, note_facts};
 use crate::peer::{PeerSource, Turnstile};
 use crate::pool::Pool;
 use events::{Answered, App, Event, IdSource, Loss, Outcome, Peer, Telling};
@@ -47,14 +47,16 @@ impl<R: Wait, C: Ledger, T: Ledger, A: App, G: Turnstile> Pool<'_, R, C, T, A, G
         event: &Event,
         now: u64,
         ids: &mut I,
-    ) -> Turn<C, T>
+    ) -> Turn<C, T, Answered>
         ensures { Applied (A.policy self.now.app.now) event.now now
             result.before.value (desk pass.old (I.stream ids.old)) result.got
             result.after.value (desk pass.new (I.stream ids.new)) }
     {
         let mut guard = self.locked.look(self.rt, pass);
         let before = Snapshot::of(&*guard);
-        let got = apply_counted(self.alloc, &mut *guard, pass, self.app, event, now, ids);
+        let got = guard.apply(self.alloc, pass, self.app, event, now, ids);
+        guard.audit(pass);
+        note_facts(&*guard);
         let after = Snapshot::of(&*guard);
         drop(guard);
         Turn { before, got, after }
@@ -124,14 +126,10 @@ impl<R: Wait, C: Ledger, T: Ledger, A: App, G: Turnstile> Pool<'_, R, C, T, A, G
             (peer.new, desk pass.new (I.stream ids.new)) }
     {
         let (failed, lost) = self.talk(pass, peer, worker, turn, ids);
-        if !failed {
-            return false;
+        if failed && let Some((client, now)) = lost {
+            self.tell_lost(pass, client, now, ids);
         }
-        let Some((client, now)) = lost else {
-            return true;
-        };
-        self.tell_lost(pass, client, now, ids);
-        true
+        failed
     }
 }
 
@@ -150,7 +148,7 @@ pub fn run_worker<
     I: IdSource,
 >(
     pool: &Pool<R, C, T, A, G>,
-    pass: Pass<C, T>,
+    mut pass: Pass<C, T>,
     peers: &mut S,
     worker: usize,
     ids: &mut I,
@@ -162,11 +160,9 @@ pub fn run_worker<
         pool.now.turns peers.old (desk pass (I.stream ids.old))
         result.1.peers result.1.faults (desk result.0 (I.stream ids.new)) }
 {
-    let mut pass = pass;
     let (commands, taken) = (pass.commands(), pass.taken());
     let mut turn = 0;
-    let mut served = 0usize;
-    let mut faults = 0usize;
+    let (mut served, mut faults) = (0usize, 0usize);
     'peers: for _ in pool.rt.forever() {
         let Some(mut peer) = peers.next_peer() else {
             break;

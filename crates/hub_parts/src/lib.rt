@@ -6,12 +6,10 @@ mod client;
 mod limits;
 mod outbox;
 mod seats;
-mod sockets;
 mod steps;
 
-pub use client::Client;
+pub use client::{Client, Sockets};
 pub use limits::Limits;
 pub use outbox::{Outbox, room_after};
 pub use seats::Seats;
-pub use sockets::Sockets;
 pub use steps::Steps;

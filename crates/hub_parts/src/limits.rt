@@ -2,6 +2,7 @@
 
 ghost use Rattle.std.specs.Prelude.{◌≡◌, List, ℕ, Some, bytes_eq, position, if◌then◌else◌, OnOk, IfOk, IfErr};
 ghost use Rattle.std.specs.BTreeMap.{get_by_text};
+ghost use Rattle.journal.specs.Plain.{Limits as PlainLimits};
 
 use journal::{Config, HubError};
 use std::alloc::Global;
@@ -18,11 +19,7 @@ pub struct Limits {
 }
 
 impl Model for Limits {
-    ghost use Rattle.std.specs.Prelude.{◌≡◌, List, ℕ, bytes_eq, position};
-    ghost use Rattle.std.specs.BTreeMap.{get_by_text};
-    ghost use Rattle.journal.specs.Plain.{Limits};
-
-    ghost Value = { Limits };
+    ghost Value = { PlainLimits };
 
     ghost view = { λ l. l.config };
 
@@ -46,8 +43,8 @@ fn put_place(
     Ok(())
 }
 
-/// The first place of each name in a list. It goes from the last name to the first, so that a name's
-/// first place is put last.
+/// The first place of each name in a list. It goes from the last name to the first, so that a
+/// name's first place is put last.
 fn first_places(alloc: Global, names: &[Text]) -> Result<BTreeMap<String, usize>, HubError>
     ensures ok { IfOk result (λ places. (name : List ℕ)
         → get_by_text places name ≡ position (bytes_eq name) names.now) }

@@ -3,6 +3,7 @@
 ghost use Rattle.std.specs.Prelude.{◌≡◌, ◌+◌, ◌<◌, ◌≤◌, [], ◌∷◌, ◌++◌, length, take, drop, map, false, ◌||◌, nat_le, nat_lt, IfOk, OnOk, IfSome, IfNone, option_copied, slice_get, Some, None};
 ghost use Rattle.std.specs.Arc.{arc_value};
 ghost use Rattle.terms.specs.Entry.{entry_size};
+ghost use Rattle.journal.specs.Plain.{PlainOutbox};
 ghost use Rattle.journal.specs.Outboxes.{total_size, has_no_place};
 
 use circular_buffer::HeapCircularBuffer;
@@ -22,11 +23,6 @@ pub struct Outbox {
 }
 
 impl Model for Outbox {
-    ghost use Rattle.std.specs.Prelude.{◌≡◌, ◌+◌, map};
-    ghost use Rattle.std.specs.Arc.{arc_value};
-    ghost use Rattle.journal.specs.Plain.{PlainOutbox};
-    ghost use Rattle.journal.specs.Outboxes.{total_size};
-
     ghost Value = { PlainOutbox };
 
     ghost view = { λ o. record {
@@ -97,10 +93,7 @@ impl Outbox {
     pub fn get(&self, index: usize) -> Option<&Entry>
         ensures { option_copied result ≡ slice_get self.now.waiting index }
     {
-        match self.ring.get(index) {
-            Some(entry) => Some(&**entry),
-            None => None,
-        }
+        Some(&**self.ring.get(index)?)
     }
 
     /// Whether there is no place for an entry.

@@ -8,7 +8,7 @@ ghost use Rattle.std.specs.BTreeSet as sorted;
 ghost use Rattle.terms.specs.Listing.{ListsRising};
 ghost use Rattle.std.specs.declared.ops.Bound.{Bound};
 ghost use Rattle.journal.specs.Casting.{is_here};
-ghost use Rattle.hub_parts.specs.Seats.{IsIndex, seat_cmp, SameSeats, WithSeat, WithoutSeat};
+ghost use Rattle.hub_parts.specs.Seats.{IsIndex, SeatMap, seat_cmp, seat_map_code, SameSeats, WithSeat, WithoutSeat};
 
 use journal::Socket;
 use std::alloc::{AllocError, Global};
@@ -27,8 +27,6 @@ pub struct Seats {
 }
 
 impl Model for Seats {
-    ghost use Rattle.hub_parts.specs.Seats.{SeatMap, seat_map_code, IsIndex};
-
     ghost Value = { SeatMap };
 
     ghost coded = { seat_map_code };

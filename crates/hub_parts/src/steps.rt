@@ -4,6 +4,7 @@ ghost use Rattle.std.specs.Prelude.{◌≡◌, ◌∷◌, [], ◌-◌, ◌<◌, 
 ghost use Rattle.terms.specs.Entry.{entry_size};
 ghost use Rattle.journal.specs.Totals as totals;
 ghost use Rattle.journal.specs.declared.error.HubError.TheVariants.{Memory};
+ghost use Rattle.hub_parts.specs.Steps.{PlainSteps};
 
 use journal::{HubError, Step, What};
 use std::alloc::Global;
@@ -16,16 +17,12 @@ use terms::Entry;
 #[derive(Drop)]
 pub struct Steps {
     steps: Vec<Step>,
-    /// How many bytes the entries of broadcasts and messages have together. It stays at the greatest
-    /// u64.
+    /// How many bytes the entries of broadcasts and messages have together. It stays at the
+    /// greatest u64.
     bytes: u64,
 }
 
 impl Model for Steps {
-    ghost use Rattle.std.specs.Prelude.{◌≡◌, ◌-◌, min, reverse, vec_len, vec_capacity};
-    ghost use Rattle.journal.specs.Totals as totals;
-    ghost use Rattle.hub_parts.specs.Steps.{PlainSteps};
-
     ghost Value = { PlainSteps };
 
     ghost view = { λ s. record {
@@ -78,10 +75,7 @@ impl Steps {
         ensures ok { OnOk result (0 < self.new.room) }
         ensures memory { IfErr result (λ e. e ≡ HubError.Memory) }
     {
-        match self.steps.reserve(1) {
-            Ok(()) => Ok(()),
-            Err(_) => Err(HubError::Memory),
-        }
+        Ok(self.steps.reserve(1)?)
     }
 
     /// Adds a step, for which there is room.

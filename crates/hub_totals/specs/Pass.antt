@@ -1,22 +1,19 @@
 -- What a pass has counted, and how a hub counts each command together with the pass that it came with.
-use Rattle.std.specs.Prelude.{◌≡◌, ℕ, ◌+◌, ◌-◌, ◌<◌, ◌≤◌, [], None, Result, Ok, Err, length, min}
+use Rattle.std.specs.Prelude.{◌≡◌, ℕ, ◌+◌, ◌-◌, ◌<◌, ◌≤◌, [], None, Result, Ok, Err, length}
 use Rattle.std.specs.declared.sync.ledger.Blank.{Blank}
 use Rattle.journal.specs.declared.error.HubError.{HubError}
 use Rattle.journal.specs.declared.error.HubError.TheVariants.{Spent}
 use Rattle.journal.specs.declared.answers.Swept.{Swept}
 use Rattle.journal.specs.declared.totals.Totals.{Totals}
 use Rattle.journal.specs.declared.step.What.{What}
-use Rattle.journal.specs.declared.step.What.TheVariants.{Took}
 use Rattle.journal.specs.Config.{empty_base}
 use Rattle.journal.specs.Journal.{History, history, moment_at, with_step}
-use Rattle.journal.specs.Log.{log}
-use Rattle.journal.specs.Outboxes.{waiting}
-use Rattle.journal.specs.Sessions.{sessions}
 use Rattle.journal.specs.Command.{refusal, is_found_late, IsErrorOf}
 use Rattle.journal.specs.Plain.{Limits, PlainCast, PlainCastDone}
 use Rattle.journal.specs.Casting.{refusal_of, IsCast, IsCastError}
 use Rattle.journal.specs.Totals as totals
 use Rattle.journal.specs.Totals.{handed_out, handed_out_by}
+use Rattle.hub_state.specs.Words.{logs, saves}
 use Rattle.hub_totals.specs.declared.books.NotAll.{NotAll}
 
 -- a ledger with this name that nothing was added to, cut into 65,536 parts
@@ -75,18 +72,10 @@ commands_of hub = totals.commands hub.history.base hub.history.journal
 abbrev pub taken_of : PlainHub → ℕ
 taken_of hub = handed_out hub.history.base hub.history.journal
 
--- how many entries a client is handed of so many that it asks for, and the step that hands them out
-abbrev pub handed : History → (client most : ℕ) → ℕ
-handed h client most = min most (length (waiting h.base h.limits h.journal client))
-
-abbrev pub took : History → (client most : ℕ) → What
-took h client most = Took client most (handed h client most)
-
 -- so many entries of the log and so many saved sessions are gone
 abbrev pub Drops : Swept → (before after : History) → Type 0
 Drops swept h g =
-    (length (log h.base h.limits h.journal) ≡ length (log g.base g.limits g.journal) + swept.log)
-    × (length (sessions h.base h.limits h.journal) ≡ length (sessions g.base g.limits g.journal) + swept.saved)
+    (length (logs h) ≡ length (logs g) + swept.log) × (length (saves h) ≡ length (saves g) + swept.saved)
 
 -- the pass with one command more, which did this
 abbrev pub with_command : What → PlainPass → PlainPass

@@ -3,7 +3,6 @@
 
 ghost use Rattle.std.specs.Prelude.{◌≡◌, ◌+◌, ◌-◌, ◌==◌, ◌<◌, ◌≤◌, min};
 ghost use Rattle.journal.specs.Totals as totals;
-ghost use Rattle.journal.specs.Totals.{handed_out};
 ghost use Rattle.hub_totals.specs.Pass.{books_of, new_pass, GivesPass, IsBlankOf};
 
 use hub_state::State;
@@ -52,16 +51,14 @@ impl<L: Ledger> Model for Part<L> {
 }
 
 impl<L: Ledger> Counter<L> {
-    /// A total of 0, and its first holder, with one of the 65,536 parts.
-    fn open(blank: Blank) -> (Counter<L>, Part<L>)
+    /// A total of 0, of which no holder has any of the 65,536 parts.
+    fn open(blank: Blank) -> Counter<L>
         requires { IsBlankOf L.name L.parts blank }
-        ensures counter { result.0 ≡ record { total = 0; rest = 65535 } }
-        ensures part { result.1 ≡ record { amount = 0; parts = 1 } }
+        ensures { result ≡ record { total = 0; rest = 65536 } }
     {
-        let (book, mut rest) = blank.open::<L>();
-        let share = rest.split_off(1, 0);
-        let parts = 65_535;
-        (Counter { parts, book, rest }, Part { number: 0, share })
+        let (book, rest) = blank.open::<L>();
+        let parts = 65_536;
+        Counter { parts, book, rest }
     }
 
     /// A holder more, with one part and nothing added.
@@ -182,9 +179,8 @@ impl<C: Ledger, T: Ledger> Pass<C, T> {
     }
 }
 
-/// The books of both ledgers, with the parts that no pass was given.
-///
-/// In a contract it is both totals and the number of parts of each ledger that no pass was given.
+/// The books of both ledgers. In a contract they are both totals, and the number of parts of each
+/// ledger that no pass was given.
 #[derive(Drop)]
 pub struct Books<C: Ledger, T: Ledger> {
     commands: Counter<C>,
@@ -211,8 +207,8 @@ impl<C: Ledger, T: Ledger> Books<C, T> {
         ensures books { result.0 ≡ record { commands = 0; taken = 0; rest = 65535 } }
         ensures pass { result.1 ≡ new_pass }
     {
-        let (all_commands, commands) = Counter::open(commands);
-        let (all_taken, taken) = Counter::open(taken);
+        let (mut all_commands, mut all_taken) = (Counter::open(commands), Counter::open(taken));
+        let (commands, taken) = (all_commands.part(), all_taken.part());
         let pass = Pass { commands, taken };
         let (commands, taken) = (all_commands, all_taken);
         (Books { commands, taken }, pass)
@@ -223,7 +219,7 @@ impl<C: Ledger, T: Ledger> Books<C, T> {
     /// stay exact.
     pub(crate) fn count(&mut self, pass: &mut Pass<C, T>, state: &State, entries: u64)
         requires { (totals.commands state.now.base state.now.journal ≡ self.old.commands + 1)
-            × (handed_out state.now.base state.now.journal ≡ self.old.taken + entries) }
+            × (totals.handed_out state.now.base state.now.journal ≡ self.old.taken + entries) }
         ensures books { self.new ≡ books_of state.now self.old.rest }
         ensures pass { pass.new ≡ record pass.old
             { commands = pass.old.commands + 1; taken = pass.old.taken + entries } }
@@ -240,7 +236,7 @@ impl<C: Ledger, T: Ledger> Books<C, T> {
         requires before { (before.now.commands ≡ self.old.commands)
             × (before.now.taken ≡ self.old.taken) }
         requires grown { (self.old.commands ≤ totals.commands state.now.base state.now.journal)
-            × (self.old.taken ≤ handed_out state.now.base state.now.journal) }
+            × (self.old.taken ≤ totals.handed_out state.now.base state.now.journal) }
         ensures books { self.new ≡ books_of state.now self.old.rest }
         ensures pass { (pass.new.commands + self.old.commands
             ≡ pass.old.commands + self.new.commands)
@@ -261,19 +257,8 @@ impl<C: Ledger, T: Ledger> Books<C, T> {
         if self.commands.parts == 1 {
             return Err(HubError::Spent);
         }
-        let commands = self.commands.part();
-        let taken = self.taken.part();
+        let (commands, taken) = (self.commands.part(), self.taken.part());
         Ok(Pass { commands, taken })
-    }
-
-    /// Changes nothing. It tells that the totals are at least what the pass has counted.
-    pub(crate) fn audit(&mut self, pass: &mut Pass<C, T>)
-        ensures same { (self.new ≡ self.old) × (pass.new ≡ pass.old) }
-        ensures commands { pass.old.commands ≤ self.old.commands }
-        ensures taken { pass.old.taken ≤ self.old.taken }
-    {
-        self.commands.book.audit(&mut pass.commands.share);
-        self.taken.book.audit(&mut pass.taken.share);
     }
 
     /// What the pass lacks of these totals, which are the books'. Changes nothing.

@@ -1,21 +1,19 @@
 //! A hub that many threads use: each counts what it has had accepted in a pass of its own.
 #![tactic(auto, unfolding(journal::specs::Totals::commands, journal::specs::Totals::handed_out, journal::specs::Journal::total))]
 
-ghost use Rattle.std.specs.Prelude.{◌≡◌, ℕ, ◌+◌, None, IsOk, IfOk, IfErr, OnOk, unwrap_or, take, Result};
+ghost use Rattle.std.specs.Prelude.{◌≡◌, ℕ, ◌+◌, None, IsOk, IfOk, IfErr, OnOk, length, min, unwrap_or, take, Result};
 ghost use Rattle.journal.specs.Config.{config_refusal};
 ghost use Rattle.journal.specs.ManySockets.{joining, leaving, dismissal};
 ghost use Rattle.journal.specs.Membership.{place_of};
-ghost use Rattle.journal.specs.Outboxes.{waiting};
 ghost use Rattle.journal.specs.Plain.{PlainCast, PlainCastDone};
 ghost use Rattle.journal.specs.Seal.{Seals};
 ghost use Rattle.journal.specs.declared.ending.Side.{Side};
 ghost use Rattle.journal.specs.declared.error.HubError.{HubError};
-ghost use Rattle.journal.specs.declared.socket.Socket.{Socket};
 ghost use Rattle.journal.specs.declared.step.What.{What};
 ghost use Rattle.journal.specs.declared.step.What.TheVariants.{Closed, Left, Opened, Parked};
-ghost use Rattle.continuity.specs.Truly.{HearsWhatIsDue};
 ghost use Rattle.hub_state.specs.Returning.{return_of};
-ghost use Rattle.hub_totals.specs.Pass.{handed, new_hub, new_pass, took, AtLeast, CastDoesCounted, DoesCounted, Drops, GivesPass, IsBlankOf, PlainHub, PlainPass, Rises, Settles};
+ghost use Rattle.hub_state.specs.Words.{socket_for, told, took, waits, AllHear};
+ghost use Rattle.hub_totals.specs.Pass.{new_hub, new_pass, AtLeast, CastDoesCounted, DoesCounted, Drops, GivesPass, IsBlankOf, PlainHub, PlainPass, Rises, Settles};
 
 use crate::books::{Books, NotAll, Pass};
 use hub_state::State;
@@ -26,7 +24,7 @@ use std::marker::Model;
 use std::sync::ledger::{Blank, Ledger};
 use terms::{Entry, Room, Sid};
 
-type Result<X, E = HubError> = std::result::Result<X, E>;
+type Result<X = (), E = HubError> = std::result::Result<X, E>;
 
 /// A hub with its books. `C` is the ledger of the commands that it accepts, `T` that of the entries
 /// that it hands out; both are this hub's alone, so a pass at these types is a pass of this hub.
@@ -38,6 +36,7 @@ type Result<X, E = HubError> = std::result::Result<X, E>;
 /// (`counted_commands_rise`). A command takes no more time or memory than `State`'s.
 #[derive(Drop)]
 pub struct Hub<C: Ledger, T: Ledger> {
+    alloc: Global,
     /// The clients, sockets, rooms, sessions and the log. Who changes it by its own commands, and
     /// not by the hub's, counts them with `Books::catch_up` before the hub is used again.
     pub state: State,
@@ -48,15 +47,14 @@ pub struct Hub<C: Ledger, T: Ledger> {
 
 impl<C: Ledger, T: Ledger> Model for Hub<C, T> {
     ghost use Rattle.std.specs.Prelude.{◌≡◌};
-    ghost use Rattle.journal.specs.Totals as totals;
-    ghost use Rattle.journal.specs.Totals.{handed_out};
+    ghost use Rattle.journal.specs.Totals.{commands, handed_out};
     ghost use Rattle.hub_totals.specs.Pass.{PlainHub};
 
     ghost Value = { PlainHub };
 
     ghost view = { λ h. record { history = h.state; rest = h.books.rest } };
 
-    ghost invariant = { λ h. (h.books.commands ≡ totals.commands h.state.base h.state.journal)
+    ghost invariant = { λ h. (h.books.commands ≡ commands h.state.base h.state.journal)
         × (h.books.taken ≡ handed_out h.state.base h.state.journal) };
 }
 
@@ -86,7 +84,12 @@ impl<C: Ledger, T: Ledger> Hub<C, T> {
     {
         let state = State::new(alloc, config)?;
         let (books, pass) = Books::open(commands, taken);
-        Ok((Hub { state, books }, pass))
+        let hub = Hub {
+            alloc,
+            state,
+            books,
+        };
+        Ok((hub, pass))
     }
 
     /// A pass that has counted nothing, for one more thread. Refused as `Spent` alone, after 65,534
@@ -98,14 +101,14 @@ impl<C: Ledger, T: Ledger> Hub<C, T> {
         self.books.new_pass()
     }
 
-    /// Changes nothing. It tells that the hub's counts are at least what the pass has counted.
+    /// Changes nothing. It tells that the hub's counts are u64s, and at least what the pass has
+    /// counted.
     pub fn audit(&mut self, pass: &mut Pass<C, T>)
         ensures same { (self.new ≡ self.old) × (pass.new ≡ pass.old) }
         ensures at_least { AtLeast self.old pass.old }
     {
-        // The totals are u64s.
-        let _fits = self.state.totals();
-        self.books.audit(pass);
+        let totals = self.state.totals();
+        let _lack = self.books.lacks(pass, &totals);
     }
 
     /// The hub's counts, where the pass has all of its commands and all that it handed out, and
@@ -126,16 +129,10 @@ impl<C: Ledger, T: Ledger> Hub<C, T> {
     }
 
     /// Opens a client. As `State::open`, counted in the pass.
-    pub fn open(
-        &mut self,
-        alloc: Global,
-        pass: &mut Pass<C, T>,
-        client: u128,
-        now: u64,
-    ) -> Result<()>
+    pub fn open(&mut self, pass: &mut Pass<C, T>, client: u128, now: u64) -> Result
         ensures does { DoesCounted self.old self.new pass.old pass.new now (Opened client) result }
     {
-        self.state.open(alloc, client, now)?;
+        self.state.open(self.alloc, client, now)?;
         self.books.count(pass, &self.state, 0);
         Ok(())
     }
@@ -143,94 +140,65 @@ impl<C: Ledger, T: Ledger> Hub<C, T> {
     /// Connects a client's new socket to a namespace. As `State::attach`, counted in the pass.
     pub fn attach(
         &mut self,
-        alloc: Global,
         pass: &mut Pass<C, T>,
         client: u128,
         space: &str,
         sid: Sid,
         pid: Pid,
         now: u64,
-    ) -> Result<()>
-        ensures does { let place = place_of self.old.history.limits space.now in
-            let socket : Socket = record { client = client; space = place; sid = sid; pid = pid } in
+    ) -> Result
+        ensures does { let socket = socket_for self.old.history client space.now sid pid in
             DoesCounted self.old self.new pass.old pass.new now (What.Attached socket) result }
     {
-        self.state.attach(alloc, client, space, sid, pid, now)?;
+        self.state.attach(self.alloc, client, space, sid, pid, now)?;
         self.books.count(pass, &self.state, 0);
         Ok(())
     }
 
     /// A socket joins a room. As `State::join`, counted in the pass.
-    pub fn join(
-        &mut self,
-        alloc: Global,
-        pass: &mut Pass<C, T>,
-        sid: Sid,
-        room: Room,
-        now: u64,
-    ) -> Result<()>
+    pub fn join(&mut self, pass: &mut Pass<C, T>, sid: Sid, room: Room, now: u64) -> Result
         ensures does { DoesCounted self.old self.new pass.old pass.new now
             (What.Joined sid room) result }
     {
-        self.state.join(alloc, sid, room, now)?;
+        self.state.join(self.alloc, sid, room, now)?;
         self.books.count(pass, &self.state, 0);
         Ok(())
     }
 
     /// A socket leaves a room. As `State::leave`, counted in the pass.
-    pub fn leave(
-        &mut self,
-        alloc: Global,
-        pass: &mut Pass<C, T>,
-        sid: Sid,
-        room: Room,
-        now: u64,
-    ) -> Result<()>
+    pub fn leave(&mut self, pass: &mut Pass<C, T>, sid: Sid, room: Room, now: u64) -> Result
         ensures does { DoesCounted self.old self.new pass.old pass.new now (Left sid room) result }
     {
-        self.state.leave(alloc, sid, room, now)?;
+        self.state.leave(self.alloc, sid, room, now)?;
         self.books.count(pass, &self.state, 0);
         Ok(())
     }
 
     /// Ends a socket by the server. As `State::end`, counted in the pass.
-    pub fn end(&mut self, alloc: Global, pass: &mut Pass<C, T>, sid: Sid, now: u64) -> Result<()>
+    pub fn end(&mut self, pass: &mut Pass<C, T>, sid: Sid, now: u64) -> Result
         ensures does { DoesCounted self.old self.new pass.old pass.new now
             (What.Ended sid Side.Server) result }
     {
-        self.state.end(alloc, sid, Side::Server, now)?;
+        self.state.end(self.alloc, sid, Side::Server, now)?;
         self.books.count(pass, &self.state, 0);
         Ok(())
     }
 
     /// Closes a client. As `State::close`, counted in the pass.
-    pub fn close(
-        &mut self,
-        alloc: Global,
-        pass: &mut Pass<C, T>,
-        client: u128,
-        now: u64,
-    ) -> Result<()>
+    pub fn close(&mut self, pass: &mut Pass<C, T>, client: u128, now: u64) -> Result
         ensures does { DoesCounted self.old self.new pass.old pass.new now (Closed client) result }
     {
-        self.state.close(alloc, client, now)?;
+        self.state.close(self.alloc, client, now)?;
         self.books.count(pass, &self.state, 0);
         Ok(())
     }
 
     /// Puts an entry at the end of a client's outbox. As `State::tell`, counted in the pass.
-    pub fn tell(
-        &mut self,
-        alloc: Global,
-        pass: &mut Pass<C, T>,
-        client: u128,
-        entry: Entry,
-        now: u64,
-    ) -> Result<()>
-        ensures does { let what = What.Told (record { client = client; entry = entry }) in
-            DoesCounted self.old self.new pass.old pass.new now what result }
+    pub fn tell(&mut self, pass: &mut Pass<C, T>, client: u128, entry: Entry, now: u64) -> Result
+        ensures does { DoesCounted self.old self.new pass.old pass.new now
+            (told client entry) result }
     {
-        self.state.tell(alloc, client, entry, now)?;
+        self.state.tell(self.alloc, client, entry, now)?;
         self.books.count(pass, &self.state, 0);
         Ok(())
     }
@@ -238,18 +206,16 @@ impl<C: Ledger, T: Ledger> Hub<C, T> {
     /// Hands out the first entries that wait for a client. As `State::take`, counted in the pass.
     pub fn take(
         &mut self,
-        alloc: Global,
         pass: &mut Pass<C, T>,
         client: u128,
         most: usize,
         now: u64,
     ) -> Result<Vec<Entry>>
-        ensures entries { let h = self.old.history in IfOk result (λ entries.
-            entries.items ≡ take most (waiting h.base h.limits h.journal client)) }
+        ensures entries { IfOk result (λ v. v.items ≡ take most (waits self.old.history client)) }
         ensures does { let what = took self.old.history client most in
             DoesCounted self.old self.new pass.old pass.new now what result }
     {
-        let entries = self.state.take(alloc, client, most, now)?;
+        let entries = self.state.take(self.alloc, client, most, now)?;
         self.books.count(pass, &self.state, entries.len() as u64);
         Ok(entries)
     }
@@ -257,34 +223,26 @@ impl<C: Ledger, T: Ledger> Hub<C, T> {
     /// Takes away the first entries that wait. As `State::take_away`, counted in the pass.
     pub fn take_away(
         &mut self,
-        alloc: Global,
         pass: &mut Pass<C, T>,
         client: u128,
         most: usize,
         now: u64,
     ) -> Result<usize>
-        ensures number { IfOk result (λ number. number ≡ handed self.old.history client most) }
+        ensures number { IfOk result (λ n. n ≡ min most (length (waits self.old.history client))) }
         ensures does { let what = took self.old.history client most in
             DoesCounted self.old self.new pass.old pass.new now what result }
     {
-        let number = self.state.take_away(alloc, client, most, now)?;
+        let number = self.state.take_away(self.alloc, client, most, now)?;
         self.books.count(pass, &self.state, number as u64);
         Ok(number)
     }
 
     /// Broadcasts an event to sockets of a namespace. As `State::cast`, counted in the pass.
-    pub fn cast(
-        &mut self,
-        alloc: Global,
-        pass: &mut Pass<C, T>,
-        cast: Cast,
-        now: u64,
-    ) -> Result<CastDone>
+    pub fn cast(&mut self, pass: &mut Pass<C, T>, cast: Cast, now: u64) -> Result<CastDone>
         ensures does { CastDoesCounted self.old self.new pass.old pass.new now cast result }
-        ensures continuity { let g = self.new.history in
-            (p : ℕ) → HearsWhatIsDue g.base g.limits g.journal p }
+        ensures continuity { AllHear self.new.history }
     {
-        let done = self.state.cast(alloc, cast, now)?;
+        let done = self.state.cast(self.alloc, cast, now)?;
         self.books.count(pass, &self.state, 0);
         Ok(done)
     }
@@ -292,7 +250,6 @@ impl<C: Ledger, T: Ledger> Hub<C, T> {
     /// All sockets that match join a room. As `State::sockets_join`, counted in the pass.
     pub fn sockets_join(
         &mut self,
-        alloc: Global,
         pass: &mut Pass<C, T>,
         space: &str,
         rooms: Vec<Room>,
@@ -306,7 +263,7 @@ impl<C: Ledger, T: Ledger> Hub<C, T> {
             let change = joining self.old.history place rooms.items excepted.items room in
             DoesCounted self.old self.new pass.old pass.new now (What.AllJoined change) result }
     {
-        let state = &mut self.state;
+        let (alloc, state) = (self.alloc, &mut self.state);
         let joined = state.sockets_join(alloc, space, rooms, excepted, room, now)?;
         self.books.count(pass, &self.state, 0);
         Ok(joined)
@@ -315,7 +272,6 @@ impl<C: Ledger, T: Ledger> Hub<C, T> {
     /// All sockets that match leave a room. As `State::sockets_leave`, counted in the pass.
     pub fn sockets_leave(
         &mut self,
-        alloc: Global,
         pass: &mut Pass<C, T>,
         space: &str,
         rooms: Vec<Room>,
@@ -329,7 +285,7 @@ impl<C: Ledger, T: Ledger> Hub<C, T> {
             let change = leaving self.old.history place rooms.items excepted.items room in
             DoesCounted self.old self.new pass.old pass.new now (What.AllLeft change) result }
     {
-        let state = &mut self.state;
+        let (alloc, state) = (self.alloc, &mut self.state);
         let left = state.sockets_leave(alloc, space, rooms, excepted, room, now)?;
         self.books.count(pass, &self.state, 0);
         Ok(left)
@@ -338,7 +294,6 @@ impl<C: Ledger, T: Ledger> Hub<C, T> {
     /// All sockets that match end. As `State::disconnect_sockets`, counted in the pass.
     pub fn disconnect_sockets(
         &mut self,
-        alloc: Global,
         pass: &mut Pass<C, T>,
         space: &str,
         rooms: Vec<Room>,
@@ -352,23 +307,17 @@ impl<C: Ledger, T: Ledger> Hub<C, T> {
             let all = dismissal self.old.history place rooms.items excepted.items in
             DoesCounted self.old self.new pass.old pass.new now (What.AllEnded all) result }
     {
-        let state = &mut self.state;
+        let (alloc, state) = (self.alloc, &mut self.state);
         let done = state.disconnect_sockets(alloc, space, rooms, excepted, now)?;
         self.books.count(pass, &self.state, 0);
         Ok(done)
     }
 
     /// Parks a client that was lost. As `State::park`, counted in the pass.
-    pub fn park(
-        &mut self,
-        alloc: Global,
-        pass: &mut Pass<C, T>,
-        client: u128,
-        now: u64,
-    ) -> Result<()>
+    pub fn park(&mut self, pass: &mut Pass<C, T>, client: u128, now: u64) -> Result
         ensures does { DoesCounted self.old self.new pass.old pass.new now (Parked client) result }
     {
-        self.state.park(alloc, client, now)?;
+        self.state.park(self.alloc, client, now)?;
         self.books.count(pass, &self.state, 0);
         Ok(())
     }
@@ -376,7 +325,6 @@ impl<C: Ledger, T: Ledger> Hub<C, T> {
     /// Brings a saved session back at a client. As `State::recover`, counted in the pass.
     pub fn recover(
         &mut self,
-        alloc: Global,
         pass: &mut Pass<C, T>,
         client: u128,
         space: &str,
@@ -388,20 +336,20 @@ impl<C: Ledger, T: Ledger> Hub<C, T> {
             IfOk result (λ sid. sid ≡ back.socket.sid) }
         ensures does { let back = return_of client space.now pid offset self.old.history in
             DoesCounted self.old self.new pass.old pass.new now (What.Recovered back) result }
-        ensures continuity { let g = self.new.history in
-            (p : ℕ) → HearsWhatIsDue g.base g.limits g.journal p }
+        ensures continuity { AllHear self.new.history }
     {
-        let sid = self.state.recover(alloc, client, space, pid, offset, now)?;
+        let (alloc, state) = (self.alloc, &mut self.state);
+        let sid = state.recover(alloc, client, space, pid, offset, now)?;
         self.books.count(pass, &self.state, 0);
         Ok(sid)
     }
 
     /// Drops outdated log entries and sessions. As `State::sweep`, counted in the pass.
-    pub fn sweep(&mut self, alloc: Global, pass: &mut Pass<C, T>, now: u64) -> Result<Swept>
+    pub fn sweep(&mut self, pass: &mut Pass<C, T>, now: u64) -> Result<Swept>
         ensures does { DoesCounted self.old self.new pass.old pass.new now What.Swept result }
         ensures counts { IfOk result (λ swept. Drops swept self.old.history self.new.history) }
     {
-        let swept = self.state.sweep(alloc, now)?;
+        let swept = self.state.sweep(self.alloc, now)?;
         self.books.count(pass, &self.state, 0);
         Ok(swept)
     }

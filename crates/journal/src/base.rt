@@ -1,5 +1,10 @@
-//! The state from which a journal begins.
+//! The state from which a journal begins, and a closed part of a hub's history.
 
+ghost use Rattle.std.specs.Prelude.{map};
+ghost use Rattle.std.specs.Arc.{arc_value};
+ghost use Rattle.journal.specs.Plain.{PlainBase, PlainBaseClient};
+
+use crate::step::Step;
 use crate::totals::Totals;
 use recovery::{Logged, Pid, Saved};
 use std::marker::Model;
@@ -25,8 +30,6 @@ pub struct Base {
 }
 
 impl Model for Base {
-    ghost use Rattle.journal.specs.Plain.{PlainBase};
-
     ghost Value = { PlainBase };
 
     ghost view = { λ b. record {
@@ -52,10 +55,6 @@ pub struct BaseClient {
 }
 
 impl Model for BaseClient {
-    ghost use Rattle.std.specs.Prelude.{map};
-    ghost use Rattle.std.specs.Arc.{arc_value};
-    ghost use Rattle.journal.specs.Plain.{PlainBaseClient};
-
     ghost Value = { PlainBaseClient };
 
     ghost view = { λ c. record {
@@ -63,4 +62,28 @@ impl Model for BaseClient {
       sockets = c.sockets.items;
       waiting = map arc_value c.waiting.items;
     } };
+}
+
+/// The state from which a journal began, and its steps up to a seal. In a contract it is plain
+/// data, with the newest step first.
+pub struct Epoch {
+    pub base: Base,
+    /// The steps since the base, the oldest first.
+    pub steps: Vec<Step>,
+}
+
+/// Written out, so that a crate above takes the drop of all that lies in it by this one call.
+impl Drop for Epoch {
+    fn drop(self) {
+        let Self { base: _, steps: _ } = self;
+    }
+}
+
+impl Model for Epoch {
+    ghost use Rattle.std.specs.Prelude.{reverse};
+    ghost use Rattle.journal.specs.Seal.{PlainEpoch};
+
+    ghost Value = { PlainEpoch };
+
+    ghost view = { λ e. record { base = e.base; journal = reverse e.steps.items } };
 }

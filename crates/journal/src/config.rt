@@ -3,6 +3,7 @@
 ghost use Rattle.std.specs.Prelude.{◌≡◌, ◌≤◌, ◌==◌, ◌||◌, false, length, not, nat_lt, bytes_eq};
 ghost use Rattle.std.specs.List.{list_any};
 ghost use Rattle.journal.specs.Config as rules;
+ghost use Rattle.journal.specs.Plain.{Limits};
 
 use std::marker::Model;
 use terms::Text;
@@ -30,8 +31,6 @@ pub struct Config {
 }
 
 impl Model for Config {
-    ghost use Rattle.journal.specs.Plain.{Limits};
-
     ghost Value = { Limits };
 
     ghost view = { λ c. record {

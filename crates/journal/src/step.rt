@@ -1,9 +1,13 @@
 //! The steps of a journal: the commands that were accepted.
 
-use crate::contents::{Broadcast, Dismissal, Message, Recovery, RoomChange};
+ghost use Rattle.std.specs.Arc.{arc_value};
+ghost use Rattle.journal.specs.Plain.{PlainBroadcast, PlainDismissal, PlainMessage, PlainRecovery, PlainRoomChange};
+
 use crate::ending::Side;
 use crate::socket::Socket;
-use terms::{Room, Sid};
+use std::marker::Model;
+use std::sync::Arc;
+use terms::{Entry, Room, Sid};
 
 /// A command that was accepted, and when.
 #[derive(Drop)]
@@ -46,4 +50,127 @@ pub enum What {
     Closed(u128),
     /// Outdated broadcasts of the log and outdated sessions were dropped.
     Swept,
+}
+
+/// A broadcast that was accepted. In a contract it is plain data.
+#[derive(Drop)]
+pub struct Broadcast {
+    /// The place of its namespace in the hub's list.
+    pub space: u16,
+    /// The rooms that it goes to. None means everybody in the namespace.
+    pub rooms: Vec<Room>,
+    /// The rooms whose sockets don't get it.
+    pub excepted: Vec<Room>,
+    /// Its offset, where it is logged.
+    pub offset: Option<u64>,
+    /// What is sent, shared with the outboxes.
+    pub entry: Arc<Entry>,
+    /// The sockets that miss it, each once, since their clients' outboxes have no place for it.
+    pub dropped: Vec<Sid>,
+}
+
+impl Model for Broadcast {
+    ghost Value = { PlainBroadcast };
+
+    ghost view = { λ b. record {
+      space = b.space;
+      rooms = b.rooms.items;
+      excepted = b.excepted.items;
+      offset = b.offset;
+      entry = arc_value b.entry;
+      dropped = b.dropped.items;
+    } };
+}
+
+/// A change of one room for many sockets: all that match it joined the room, or left it. In a
+/// contract it is plain data, and so are those below.
+#[derive(Drop)]
+pub struct RoomChange {
+    /// The place of the namespace in the hub's list.
+    pub space: u16,
+    /// The rooms whose sockets match. None means everybody in the namespace.
+    pub rooms: Vec<Room>,
+    /// The rooms whose sockets don't match.
+    pub excepted: Vec<Room>,
+    /// The room that changed.
+    pub room: Room,
+    /// The sockets that joined or left it, rising.
+    pub changed: Vec<Sid>,
+}
+
+impl Model for RoomChange {
+    ghost Value = { PlainRoomChange };
+
+    ghost view = { λ m. record {
+      space = m.space;
+      rooms = m.rooms.items;
+      excepted = m.excepted.items;
+      room = m.room;
+      changed = m.changed.items;
+    } };
+}
+
+/// Many sockets that were ended together, and what they were told.
+#[derive(Drop)]
+pub struct Dismissal {
+    /// The place of the namespace in the hub's list.
+    pub space: u16,
+    /// The rooms whose sockets match. None means everybody in the namespace.
+    pub rooms: Vec<Room>,
+    /// The rooms whose sockets don't match.
+    pub excepted: Vec<Room>,
+    /// The sockets that were ended, rising.
+    pub ended: Vec<Sid>,
+    /// The clients that were told so, rising: those whose outboxes had a place for it.
+    pub told: Vec<u128>,
+}
+
+impl Model for Dismissal {
+    ghost Value = { PlainDismissal };
+
+    ghost view = { λ d. record {
+      space = d.space;
+      rooms = d.rooms.items;
+      excepted = d.excepted.items;
+      ended = d.ended.items;
+      told = d.told.items;
+    } };
+}
+
+/// An entry for one client.
+#[derive(Drop)]
+pub struct Message {
+    pub client: u128,
+    /// What is sent, shared with the outbox.
+    pub entry: Arc<Entry>,
+}
+
+impl Model for Message {
+    ghost Value = { PlainMessage };
+
+    ghost view = { λ m. record { client = m.client; entry = arc_value m.entry } };
+}
+
+/// A session that came back.
+#[derive(Drop)]
+pub struct Recovery {
+    /// Its socket, with the ids that it had, at the client that brought it back.
+    pub socket: Socket,
+    /// The offset that the client named as its last.
+    pub offset: u64,
+    /// The rooms that came back with it, rising.
+    pub rooms: Vec<Room>,
+    /// The offsets of the broadcasts that it missed, rising.
+    pub missed: Vec<u64>,
+}
+
+impl Model for Recovery {
+    ghost Value = { PlainRecovery };
+
+    ghost view = { λ r. record {
+      socket = r.socket;
+      offset = r.offset;
+      rooms = r.rooms.items;
+      missed = r.missed.items;
+    } };
 }

@@ -4,7 +4,7 @@ use Rattle.std.proofs.lemmas.Bool.{cases_eq}
 use Rattle.loop_rules.specs.declared.looks.LookState.{LookState}
 use Rattle.loop_rules.specs.declared.roster.Roster.{Roster}
 use Rattle.loop_rules.specs.declared.notes.Notes.{Notes}
-use Rattle.loop_rules.specs.declared.takers.Takers.{Takers}
+use Rattle.loop_rules.specs.declared.roster.Takers.{Takers}
 use Rattle.loop_rules.specs.Ids.{loop_of}
 use Rattle.loop_rules.specs.Notes.{is_noted}
 use Rattle.loop_rules.specs.Rotas.{Waiting, look_of, will_look, called_at}

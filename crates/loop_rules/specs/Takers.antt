@@ -1,7 +1,7 @@
 -- Which connection what is put for a client goes to.
 use Rattle.std.specs.Prelude.{ℕ, Bool, false, Option, None, Some, nat_eq}
 use Rattle.std.specs.HashMap.{get}
-use Rattle.loop_rules.specs.declared.takers.Takers.{Takers}
+use Rattle.loop_rules.specs.declared.roster.Takers.{Takers}
 
 -- the key of the connection
 abbrev pub taker_of : Takers → ℕ → Option ℕ

@@ -4,24 +4,20 @@
 
 mod deadlines;
 mod frames;
-mod ids;
 mod looks;
 mod mailbox;
 mod notes;
 mod owners;
 mod roster;
 mod rota;
-mod takers;
 mod turns;
 
 pub use deadlines::{Overdue, Part, find_overdue};
 pub use frames::left_after_message;
-pub use ids::{LOOPS, loop_of, marked};
 pub use looks::{Found, LookState, Pause};
 pub use mailbox::{Mail, Mailbox};
 pub use notes::Notes;
-pub use owners::{dealt_to, owner_of};
-pub use roster::Roster;
+pub use owners::{LOOPS, dealt_to, loop_of, marked, owner_of};
+pub use roster::{Roster, Takers};
 pub use rota::Rota;
-pub use takers::Takers;
 pub use turns::{Turn, Verdict};

@@ -98,50 +98,19 @@ impl LookState {
         matches!(self, LookState::Called | LookState::Again)
     }
 
-    /// Something came.
-    fn called(self) -> LookState
-        ensures { result ≡ looks.called self }
-    {
-        match self {
-            LookState::Rests | LookState::Called => LookState::Called,
-            LookState::Looks { dry } | LookState::Stirred { dry } => LookState::Stirred { dry },
-            LookState::Again | LookState::Full | LookState::Early => LookState::Again,
-        }
-    }
-
-    /// Its turn begins.
-    fn begun(self) -> LookState
-        ensures { result ≡ looks.begun self }
-    {
-        match self {
-            LookState::Rests | LookState::Called => LookState::Looks { dry: false },
-            _ => LookState::Stirred { dry: false },
-        }
-    }
-
     /// An event was answered, and this follows.
     fn followed(self, found: Found, verdict: Verdict) -> LookState
         ensures { result ≡ looks.followed self found verdict }
     {
+        let dry = found == Found::Dry;
         match verdict {
             Verdict::Rests => LookState::Rests,
             Verdict::Held => LookState::Full,
             Verdict::Again => LookState::Again,
-            Verdict::GoesOn => self.going_on(found),
-        }
-    }
-
-    /// One that goes on: where its look is over, another begins.
-    fn going_on(self, found: Found) -> LookState
-        ensures { result ≡ looks.going_on self found }
-    {
-        let dry = found == Found::Dry;
-        if has_looked(self.is_dry(), found) {
-            LookState::Looks { dry: false }
-        } else if self.is_calm() {
-            LookState::Looks { dry }
-        } else {
-            LookState::Stirred { dry }
+            // Where its look is over, another begins.
+            Verdict::GoesOn if has_looked(self.is_dry(), found) => LookState::Looks { dry: false },
+            Verdict::GoesOn if self.is_calm() => LookState::Looks { dry },
+            Verdict::GoesOn => LookState::Stirred { dry },
         }
     }
 
@@ -167,7 +136,11 @@ impl LookState {
         ensures law { NeverRests self.old self.new }
     {
         let old = *self;
-        *self = old.called();
+        *self = match old {
+            LookState::Rests | LookState::Called => LookState::Called,
+            LookState::Looks { dry } | LookState::Stirred { dry } => LookState::Stirred { dry },
+            LookState::Again | LookState::Full | LookState::Early => LookState::Again,
+        };
         self.is_queued() && !old.is_queued()
     }
 
@@ -176,7 +149,10 @@ impl LookState {
         ensures state { self.new ≡ looks.begun self.old }
         ensures law { NeverRests self.old self.new }
     {
-        *self = self.begun();
+        *self = match self {
+            LookState::Rests | LookState::Called => LookState::Looks { dry: false },
+            _ => LookState::Stirred { dry: false },
+        };
     }
 
     /// An event was answered. Answers what follows, where it has too much unsent or not.

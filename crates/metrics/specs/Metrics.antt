@@ -1,14 +1,18 @@
 -- The counts as text (Prometheus, "Exposition formats", the text-based format): of each name what it counts and how,
 -- and then its numbers, a line each.
-use Rattle.std.specs.Prelude.{ℕ, List, ◌++◌, codes}
+use Rattle.std.specs.Prelude.{◌≡◌, ℕ, List, ◌++◌, String, codes, string_bytes}
 use Rattle.std.specs.List.{flat_map}
 use Rattle.std.specs.Fmt.{decimal}
 use Rattle.journal.specs.declared.totals.Totals.{Totals}
-use Rattle.metrics.specs.declared.counts.CoreCounts.{CoreCounts}
-use Rattle.metrics.specs.declared.counts.LoopCounts.{LoopCounts}
-use Rattle.metrics.specs.declared.counts.Refusals.{Refusals}
-use Rattle.metrics.specs.declared.counts.Sizes.{Sizes}
+use Rattle.metrics.specs.declared.metrics.CoreCounts.{CoreCounts}
+use Rattle.metrics.specs.declared.metrics.LoopCounts.{LoopCounts}
+use Rattle.metrics.specs.declared.metrics.Refusals.{Refusals}
+use Rattle.metrics.specs.declared.metrics.Sizes.{Sizes}
 use Rattle.metrics.specs.Reason.{label}
+
+-- a text before and after this was put at its end
+abbrev pub Adds : {Z : Type 0} → (old new : String Z) → (more : List ℕ) → Type 0
+Adds old new more = string_bytes new ≡ string_bytes old ++ more
 
 -- what numbers of a name say, and of which kind they are
 abbrev pub head : (name kind help : List ℕ) → List ℕ

@@ -1,12 +1,53 @@
 //! The counts as text (Prometheus, "Exposition formats", the text-based format).
 
-ghost use Rattle.std.specs.Prelude.{◌≡◌, ◌++◌, IfOk, OnOk, string_bytes};
+ghost use Rattle.std.specs.Prelude.{◌≡◌, IfOk, OnOk, string_bytes};
 ghost use Rattle.metrics.specs.Metrics as metrics;
+ghost use Rattle.metrics.specs.Metrics.{Adds};
 
-use crate::counts::{CoreCounts, LoopCounts, Refusals, Sizes};
+use crate::reason::Reason;
 use journal::Totals;
 use std::alloc::{AllocError, Global};
 use std::fmt::Write;
+
+/// What a core holds at a moment.
+#[derive(Clone, Copy, Debug, PartialEq, Eq)]
+pub struct Sizes {
+    /// The clients that are open.
+    pub clients: u64,
+    /// The sockets that are connected.
+    pub sockets: u64,
+    /// The rooms that have a socket, each socket's own one among them.
+    pub rooms: u64,
+    /// The sessions that are saved, outdated ones among them.
+    pub saved: u64,
+    /// The broadcasts that are logged.
+    pub logged: u64,
+}
+
+/// What a core has done, and what it holds then.
+#[derive(Clone, Copy, Debug, PartialEq, Eq)]
+pub struct CoreCounts {
+    pub totals: Totals,
+    pub sizes: Sizes,
+}
+
+/// What one loop had.
+#[derive(Clone, Copy, Debug, PartialEq, Eq)]
+pub struct LoopCounts {
+    /// Which loop it is.
+    pub number: u64,
+    /// The connections that it was given.
+    pub connections: u64,
+    /// The requests that came whole over them.
+    pub requests: u64,
+}
+
+/// How often something was refused for a reason.
+#[derive(Clone, Copy, Debug, PartialEq, Eq)]
+pub struct Refusals {
+    pub reason: Reason,
+    pub count: u64,
+}
 
 /// What a server tells.
 #[derive(Debug, Drop)]
@@ -33,52 +74,28 @@ impl Metrics {
     }
 }
 
+/// Adds names with one number: of each the name, the kind, what it says, and the number.
+macro_rules! push_rows {
+    ($text:expr; $($name:literal, $kind:literal, $help:literal, $number:expr;)*) => {
+        $(push_row($text, $name, $kind, $help, $number)?;)*
+    };
+}
+
 fn totals_text(alloc: Global, totals: &Totals) -> Result<String, AllocError>
     ensures { IfOk result (λ text. string_bytes text ≡ metrics.totals_text totals.now) }
 {
     let mut text = String::new(alloc);
-    push_row(
-        &mut text,
-        "socketio_commands_total",
-        "counter",
-        "Changes of the state that were accepted.",
-        totals.commands,
-    )?;
-    push_row(
-        &mut text,
-        "socketio_messages_placed_total",
-        "counter",
-        "Messages put into outboxes.",
-        totals.placed,
-    )?;
-    push_row(
-        &mut text,
-        "socketio_messages_dropped_total",
-        "counter",
-        "Messages that had no place in one.",
-        totals.dropped,
-    )?;
-    push_row(
-        &mut text,
-        "socketio_messages_taken_total",
-        "counter",
-        "Messages handed to clients.",
-        totals.taken,
-    )?;
-    push_row(
-        &mut text,
-        "socketio_messages_discarded_total",
-        "counter",
-        "Messages that waited when their client ended.",
-        totals.discarded,
-    )?;
-    push_row(
-        &mut text,
-        "socketio_messages_waiting",
-        "gauge",
-        "Messages that wait.",
-        totals.waiting,
-    )?;
+    push_rows! { &mut text;
+        "socketio_commands_total", "counter", "Changes of the state that were accepted.",
+            totals.commands;
+        "socketio_messages_placed_total", "counter", "Messages put into outboxes.", totals.placed;
+        "socketio_messages_dropped_total", "counter", "Messages that had no place in one.",
+            totals.dropped;
+        "socketio_messages_taken_total", "counter", "Messages handed to clients.", totals.taken;
+        "socketio_messages_discarded_total", "counter",
+            "Messages that waited when their client ended.", totals.discarded;
+        "socketio_messages_waiting", "gauge", "Messages that wait.", totals.waiting;
+    }
     Ok(text)
 }
 
@@ -86,41 +103,15 @@ fn sizes_text(alloc: Global, sizes: &Sizes) -> Result<String, AllocError>
     ensures { IfOk result (λ text. string_bytes text ≡ metrics.sizes_text sizes.now) }
 {
     let mut text = String::new(alloc);
-    push_row(
-        &mut text,
-        "socketio_clients",
-        "gauge",
-        "Clients that are open.",
-        sizes.clients,
-    )?;
-    push_row(
-        &mut text,
-        "socketio_sockets",
-        "gauge",
-        "Sockets that are connected to a namespace.",
-        sizes.sockets,
-    )?;
-    push_row(
-        &mut text,
-        "socketio_rooms",
-        "gauge",
-        "Rooms that have a socket, each socket's own one among them.",
-        sizes.rooms,
-    )?;
-    push_row(
-        &mut text,
-        "socketio_sessions_saved",
-        "gauge",
-        "Saved sessions, outdated ones among them.",
-        sizes.saved,
-    )?;
-    push_row(
-        &mut text,
-        "socketio_log_entries",
-        "gauge",
-        "Broadcasts that are logged.",
-        sizes.logged,
-    )?;
+    push_rows! { &mut text;
+        "socketio_clients", "gauge", "Clients that are open.", sizes.clients;
+        "socketio_sockets", "gauge", "Sockets that are connected to a namespace.", sizes.sockets;
+        "socketio_rooms", "gauge", "Rooms that have a socket, each socket's own one among them.",
+            sizes.rooms;
+        "socketio_sessions_saved", "gauge", "Saved sessions, outdated ones among them.",
+            sizes.saved;
+        "socketio_log_entries", "gauge", "Broadcasts that are logged.", sizes.logged;
+    }
     Ok(text)
 }
 
@@ -174,8 +165,7 @@ fn refused_text(alloc: Global, refused: &[Refusals]) -> Result<String, AllocErro
 
 /// Adds what numbers of a name say.
 fn push_head(text: &mut String, name: &str, kind: &str, help: &str) -> Result<(), AllocError>
-    ensures { OnOk result (string_bytes text.new
-        ≡ string_bytes text.old ++ metrics.head name.now kind.now help.now) }
+    ensures { OnOk result (Adds text.old text.new (metrics.head name.now kind.now help.now)) }
 {
     write!(text, "# HELP {name} {help}\n# TYPE {name} {kind}\n")
 }
@@ -188,16 +178,14 @@ fn push_row(
     help: &str,
     number: u64,
 ) -> Result<(), AllocError>
-    ensures { OnOk result (string_bytes text.new
-        ≡ string_bytes text.old ++ metrics.row name.now kind.now help.now number) }
+    ensures { OnOk result (Adds text.old text.new (metrics.row name.now kind.now help.now number)) }
 {
     push_head(text, name, kind, help)?;
     write!(text, "{name} {number}\n")
 }
 
 fn push_connections(text: &mut String, it: &LoopCounts) -> Result<(), AllocError>
-    ensures { OnOk result
-        (string_bytes text.new ≡ string_bytes text.old ++ metrics.connections_of it.now) }
+    ensures { OnOk result (Adds text.old text.new (metrics.connections_of it.now)) }
 {
     push_labelled(
         text,
@@ -208,29 +196,25 @@ fn push_connections(text: &mut String, it: &LoopCounts) -> Result<(), AllocError
 }
 
 fn push_requests(text: &mut String, it: &LoopCounts) -> Result<(), AllocError>
-    ensures { OnOk result
-        (string_bytes text.new ≡ string_bytes text.old ++ metrics.requests_of it.now) }
+    ensures { OnOk result (Adds text.old text.new (metrics.requests_of it.now)) }
 {
     push_labelled(text, "socketio_requests_total", it.number, it.requests)
 }
 
 fn push_labelled(text: &mut String, name: &str, number: u64, count: u64) -> Result<(), AllocError>
-    ensures { OnOk result (string_bytes text.new
-        ≡ string_bytes text.old ++ metrics.of_loop name.now number count) }
+    ensures { OnOk result (Adds text.old text.new (metrics.of_loop name.now number count)) }
 {
     write!(text, "{name}{{loop=\"{number}\"}} {count}\n")
 }
 
 fn push_refused(text: &mut String, it: &Refusals) -> Result<(), AllocError>
-    ensures { OnOk result
-        (string_bytes text.new ≡ string_bytes text.old ++ metrics.refused_of it.now) }
+    ensures { OnOk result (Adds text.old text.new (metrics.refused_of it.now)) }
 {
     push_reason(text, "socketio_refused_total", it.reason.label(), it.count)
 }
 
 fn push_reason(text: &mut String, name: &str, reason: &str, count: u64) -> Result<(), AllocError>
-    ensures { OnOk result (string_bytes text.new
-        ≡ string_bytes text.old ++ metrics.for_reason name.now reason.now count) }
+    ensures { OnOk result (Adds text.old text.new (metrics.for_reason name.now reason.now count)) }
 {
     write!(text, "{name}{{reason=\"{reason}\"}} {count}\n")
 }

@@ -3,8 +3,8 @@ use Rattle.std.specs.Prelude.{ℕ, ◌+◌, ◌==◌, cond, nat_le, nat_lt, List
 use Rattle.std.specs.List.{find, sum_by}
 use Rattle.terms.specs.Refusal.{first_refusal}
 use Rattle.page.specs.declared.file.File.{File}
-use Rattle.page.specs.declared.error.PageError.{PageError}
-use Rattle.page.specs.declared.error.PageError.TheVariants.{TooMany, TooLarge}
+use Rattle.page.specs.declared.pages.PageError.{PageError}
+use Rattle.page.specs.declared.pages.PageError.TheVariants.{TooMany, TooLarge}
 
 abbrev pub Files : Type 0
 Files = List File

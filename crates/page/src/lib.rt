@@ -2,12 +2,8 @@
 //! before it.
 #![tactic(auto)]
 
-mod error;
 mod file;
-mod media;
 mod pages;
 
-pub use error::PageError;
-pub use file::File;
-pub use media::media_type;
-pub use pages::{MOST_BYTES, MOST_FILES, Page};
+pub use file::{File, media_type};
+pub use pages::{MOST_BYTES, MOST_FILES, Page, PageError};

@@ -2,10 +2,9 @@
 
 ghost use Rattle.std.specs.Prelude.{◌≡◌, ◌⊎◌, ◌-◌, ◌≤◌, ◌++◌, ◌∷◌, [], length, IfErr, OnOk, OnErr, None, Some, option_copied};
 ghost use Rattle.page.specs.Pages as pages;
-ghost use Rattle.page.specs.Pages.{file_for, refusal, size_of};
-ghost use Rattle.page.specs.declared.error.PageError.TheVariants.{Memory};
+ghost use Rattle.page.specs.Pages.{Files, file_for, refusal, size_of};
+ghost use Rattle.page.specs.declared.pages.PageError.TheVariants.{Memory};
 
-use crate::error::PageError;
 use crate::file::File;
 use std::alloc::Global;
 use std::marker::Model;
@@ -19,6 +18,17 @@ pub const MOST_BYTES: usize = 16_777_216;
 /// The file that the path `/` asks for.
 const INDEX: &str = "index.html";
 
+/// Why a file has no place in a page, in the order in which it is tested.
+#[derive(Clone, Copy, Debug, PartialEq, Eq)]
+pub enum PageError {
+    /// There are as many files as a page may have.
+    TooMany,
+    /// The files would have more bytes than a page may have.
+    TooLarge,
+    /// An allocation was refused.
+    Memory,
+}
+
 /// The files of a page. In a contract it is their list.
 #[derive(Drop)]
 pub struct Page {
@@ -27,9 +37,6 @@ pub struct Page {
 }
 
 impl Model for Page {
-    ghost use Rattle.std.specs.Prelude.{◌≡◌, ◌≤◌, length};
-    ghost use Rattle.page.specs.Pages.{Files, size_of};
-
     ghost Value = { Files };
 
     ghost view = { λ p. p.files.items };

@@ -2,9 +2,9 @@
 
 ghost use Rattle.std.specs.Prelude.{◌≡◌, [], IfOk, slice_get};
 ghost use Rattle.quiz.specs.Quiz as table;
-ghost use Rattle.quiz.specs.Quiz.{begins_with, is_text, decided};
+ghost use Rattle.quiz.specs.Quiz.{Allows, begins_with, is_text, decided};
 
-use events::{App, Arrived, Effect, Emission, Inquiry, Reply, Verdict, Who};
+use events::{App, Arrived, Effect, Emission, Inquiry, Reply, Verdict, Wanted, Who};
 use journal::Ending;
 use sio_wire::{SioError, names};
 use std::alloc::{AllocError, Global};
@@ -20,8 +20,6 @@ const PATIENCE: u64 = 30_000;
 pub struct Quiz;
 
 impl App for Quiz {
-    ghost use Rattle.quiz.specs.Quiz.{Allows, decided};
-
     ghost policy = { λ app. record {
       allows = λ space payload verdict. Allows verdict;
       decides = λ who arrived effects. effects ≡ decided arrived;
@@ -32,28 +30,17 @@ impl App for Quiz {
         Ok(Verdict::Accept(Vec::new(alloc)))
     }
 
-    fn decides(
-        &self,
-        alloc: Global,
-        _who: &Who,
-        arrived: &Arrived,
-    ) -> Result<Vec<Effect>, AllocError> {
+    fn decides(&self, alloc: Global, _who: &Who, arrived: &Arrived) -> Wanted {
         decide(alloc, arrived)
     }
 
-    fn left(
-        &self,
-        alloc: Global,
-        _who: &Who,
-        _rooms: &[Room],
-        _ending: Ending,
-    ) -> Result<Vec<Effect>, AllocError> {
+    fn left(&self, alloc: Global, _who: &Who, _rooms: &[Room], _ending: Ending) -> Wanted {
         Ok(Vec::new(alloc))
     }
 }
 
 /// The effects of what arrived.
-fn decide(alloc: Global, arrived: &Arrived) -> Result<Vec<Effect>, AllocError>
+fn decide(alloc: Global, arrived: &Arrived) -> Wanted
     ensures { IfOk result (λ effects. effects.items ≡ decided arrived.now) }
 {
     let mut effects = Vec::new(alloc);

@@ -40,11 +40,3 @@ drop_pieces (suc k) (x ∷ xs) ys =
     drop_pieces k xs ys
     ∙ ap (λ d. drop (min k (length xs)) xs ++ drop d ys) (sym d)
     ∙ ap (λ m. drop m (x ∷ xs) ++ drop (suc k - min (suc k) (suc (length xs))) ys) (sym m)
-
--- the offsets of both pieces past a place, put one after the other
-pub missed_pieces : (p : PlainLogged → Bool) (k : ℕ) (front back all : List PlainLogged) → front ++ back ≡ all
-    → offsets_of p (drop (min k (length front)) front) ++ offsets_of p (drop (k - min k (length front)) back) ≡ offsets_of p (drop k all)
-missed_pieces p k front back all is =
-    sym (offsets_of-append p (drop (min k (length front)) front) (drop (k - min k (length front)) back))
-    ∙ ap (offsets_of p) (sym (drop_pieces k front back))
-    ∙ ap (λ es. offsets_of p (drop k es)) is

@@ -23,6 +23,11 @@ pub record LogContents : Type 0 where
   pub last : ℕ
   pub entries : List PlainLogged
 
+-- a log that has these
+abbrev pub contents : (limit : ℕ) → Option ℕ → (last : ℕ) → List PlainLogged → LogContents
+contents limit next last entries =
+    record { limit = limit; next = next; last = last; entries = entries }
+
 -- ---- offsets
 
 -- the number as an offset, which there is none of past the greatest u64

@@ -4,13 +4,9 @@
 
 mod error;
 mod expiry;
-mod logged;
 mod packet_log;
-mod saved_session;
 mod saved_table;
 
 pub use error::RecoveryError;
-pub use logged::Logged;
-pub use packet_log::PacketLog;
-pub use saved_session::{Pid, Saved};
-pub use saved_table::SavedTable;
+pub use packet_log::{Logged, PacketLog};
+pub use saved_table::{Pid, Saved, SavedTable};

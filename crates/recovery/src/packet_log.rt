@@ -1,20 +1,90 @@
 //! The latest broadcasts (Socket.IO server documentation, "Connection state recovery").
 
 ghost use Rattle.std.specs.Prelude.{◌≡◌, ℕ, ◌+◌, ◌^◌, ◌<◌, ◌≤◌, ◌==◌, max, length, List, [], ◌∷◌, ◌++◌, filter, map, drop, IfOk, IfErr, IfSome, OnOk, OnErr, IfNone, Some, None, option_copied, is_some};
-ghost use Rattle.std.specs.List.{find, take_while};
-ghost use Rattle.recovery.specs.Expiry as expiry;
+ghost use Rattle.std.specs.List.{find, list_any, take_while};
 ghost use Rattle.std.specs.Arc.{arc_value};
-ghost use Rattle.recovery.specs.PacketLog.{LogCall, LogContents, Pushed, Swept, IsLogOf, IsRun, IsPlace, HasNone, offset_or_spent, pushed, stands, later_than, latest, number_of, with_entry, swept, logged_as};
-ghost use Rattle.recovery.specs.Missed.{missed, missed_refusal, is_for};
+ghost use Rattle.terms.specs.Audience as addressed;
+ghost use Rattle.recovery.specs.Expiry as expiry;
+ghost use Rattle.recovery.specs.PacketLog.{LogCall, LogContents, PlainLogged, Pushed, Swept, IsLog, IsLogOf, IsRun, IsPlace, HasNone, contents, offset_or_spent, pushed, stands, later_than, number_of, with_entry, swept, logged_as};
+ghost use Rattle.recovery.specs.Missed.{missed, missed_refusal, is_for, is_one_of};
 
 use crate::error::RecoveryError;
 use crate::expiry::is_outdated;
-use crate::logged::Logged;
 use circular_buffer::HeapCircularBuffer;
 use std::alloc::{AllocError, Global};
 use std::marker::Model;
 use std::sync::Arc;
 use terms::{Entry, Room};
+
+/// A broadcast that was given an offset. In a contract it is plain data, so that two are equal
+/// where their contents are.
+#[derive(Drop)]
+pub struct Logged {
+    /// Its number: one more than that of the broadcast before it.
+    pub offset: u64,
+    /// When it was logged, in milliseconds.
+    pub at: u64,
+    /// The place of its namespace in the server's list.
+    pub space: u16,
+    /// The rooms that it goes to. None means everybody in the namespace.
+    pub rooms: Vec<Room>,
+    /// The rooms whose sockets don't get it.
+    pub excepted: Vec<Room>,
+    /// What is sent, shared with the clients' queues.
+    pub entry: Arc<Entry>,
+}
+
+impl Model for Logged {
+    ghost Value = { PlainLogged };
+
+    ghost view = { λ l. record {
+      offset = l.offset;
+      at = l.at;
+      space = l.space;
+      rooms = l.rooms.items;
+      excepted = l.excepted.items;
+      entry = arc_value l.entry;
+    } };
+}
+
+impl Logged {
+    /// Whether a socket of this namespace, in these rooms, gets it.
+    pub fn is_for(&self, space: u16, rooms: &[Room]) -> bool
+        ensures { result ≡ is_for space rooms.now self.now }
+    {
+        self.space == space
+            && (names_no_room(&self.rooms) || meets(&self.rooms, rooms))
+            && !meets(&self.excepted, rooms)
+    }
+
+    /// A copy, which shares what is sent.
+    pub(crate) fn copy(&self, alloc: Global) -> Result<Logged, AllocError>
+        ensures { IfOk result (λ copy. copy ≡ self.now) }
+    {
+        Ok(Logged {
+            offset: self.offset,
+            at: self.at,
+            space: self.space,
+            rooms: Vec::from_slice(alloc, &self.rooms)?,
+            excepted: Vec::from_slice(alloc, &self.excepted)?,
+            entry: Arc::try_clone(&self.entry)?,
+        })
+    }
+}
+
+/// Whether a broadcast to these rooms is for everybody.
+fn names_no_room(rooms: &[Room]) -> bool
+    ensures { result ≡ addressed.names_no_room rooms.now }
+{
+    rooms.is_empty()
+}
+
+/// Whether some room stands in both lists.
+fn meets(some: &[Room], rooms: &[Room]) -> bool
+    ensures { result ≡ list_any (is_one_of rooms.now) some.now }
+{
+    some.iter().any(|room| rooms.contains(room))
+}
 
 /// The latest broadcasts, each with its offset. It takes its memory once, when it is made.
 /// A moment before the last that it saw counts as that one.
@@ -29,23 +99,11 @@ pub struct PacketLog {
 }
 
 impl Model for PacketLog {
-    ghost use Rattle.recovery.specs.PacketLog.{LogContents, IsLog};
-
     ghost Value = { LogContents };
 
-    ghost view = { λ l. record {
-      limit = l.ring.capacity;
-      next = l.next;
-      last = l.last;
-      entries = l.ring.items;
-    } };
+    ghost view = { λ l. contents l.ring.capacity l.next l.last l.ring.items };
 
-    ghost invariant = { λ l. IsLog (record {
-      limit = l.ring.capacity;
-      next = l.next;
-      last = l.last;
-      entries = l.ring.items;
-    }) };
+    ghost invariant = { λ l. IsLog (contents l.ring.capacity l.next l.last l.ring.items) };
 }
 
 impl PacketLog {
@@ -53,8 +111,7 @@ impl PacketLog {
     pub fn new(alloc: Global, limit: usize, first: u64) -> Result<PacketLog, RecoveryError>
         requires limit { 1 ≤ limit }
         requires first { 1 ≤ first }
-        ensures empty { IfOk result
-            (λ log. log ≡ record { limit = limit; next = Some first; last = 0; entries = [] }) }
+        ensures empty { IfOk result (λ log. log ≡ contents limit (Some first) 0 []) }
         ensures leads { IfOk result (λ log. IsLogOf first [] log) }
         ensures memory { IfErr result (λ error. error ≡ RecoveryError.Memory) }
     {
@@ -102,9 +159,7 @@ impl PacketLog {
             (logged_as self.old offset at space rooms.items excepted.items (arc_value entry))
             ∷ history) self.new) }
     {
-        let Some(offset) = self.next else {
-            return Err(RecoveryError::Spent);
-        };
+        let offset = self.next.ok_or(RecoveryError::Spent)?;
         let at = self.last.max(at);
         self.place(Logged {
             offset,
@@ -207,13 +262,13 @@ impl PacketLog {
             → IsLogOf first history self.now
             → offsets.items ≡ missed offset space rooms.now (pushed history)) }
     {
-        let Some(place) = self.place_of(offset) else {
+        let Some((front, back)) = self.later(offset) else {
             return Err(RecoveryError::OffsetGone);
         };
-        match missed_after(alloc, &self.ring, place, space, rooms) {
-            Ok(offsets) => Ok(offsets),
-            Err(AllocError) => Err(RecoveryError::Memory),
-        }
+        let mut offsets = Vec::new(alloc);
+        add_offsets(front, space, rooms, &mut offsets)?;
+        add_offsets(back, space, rooms, &mut offsets)?;
+        Ok(offsets)
     }
 
     /// Copies of all entries, their offsets rising. The sent data is shared, not copied.
@@ -232,8 +287,7 @@ impl PacketLog {
 
 /// How many entries from the oldest on are outdated.
 fn count_outdated(ring: &HeapCircularBuffer<Logged>, keep: u64, now: u64) -> usize
-    ensures { result
-        ≡ length (take_while (λ entry. expiry.is_outdated keep now entry.at) ring.now.items) }
+    ensures { result ≡ length (take_while (λ e. expiry.is_outdated keep now e.at) ring.now.items) }
 {
     ring.iter()
         .take_while(|entry| is_outdated(entry.at, keep, now))
@@ -250,28 +304,6 @@ fn pieces_after(ring: &HeapCircularBuffer<Logged>, place: usize) -> (&[Logged], 
     let (front, back) = ring.as_slices();
     let split = past.min(front.len());
     (&front[split..], &back[past - split..])
-}
-
-/// The offsets of the entries past this place that a socket gets.
-fn missed_after(
-    alloc: Global,
-    ring: &HeapCircularBuffer<Logged>,
-    place: usize,
-    space: u16,
-    rooms: &[Room],
-) -> Result<Vec<u64>, AllocError>
-    requires within { place < length ring.now.items }
-    requires small { place + 1 < 2 ^ 64 }
-    ensures { IfOk result (λ offsets. offsets.items ≡ map (λ entry. entry.offset)
-        (filter (is_for space rooms.now) (drop (place + 1) ring.now.items))) }
-{
-    let start = place + 1;
-    let (front, back) = ring.as_slices();
-    let split = start.min(front.len());
-    let mut offsets = Vec::new(alloc);
-    add_offsets(&front[split..], space, rooms, &mut offsets)?;
-    add_offsets(&back[start - split..], space, rooms, &mut offsets)?;
-    Ok(offsets)
 }
 
 /// Puts the offsets of the entries that a socket gets at the end of the list.

@@ -8,17 +8,100 @@ ghost use Rattle.std.specs.List.{list_any};
 ghost use Rattle.std.specs.List.Sorted.{IsStrictlySortedBy};
 ghost use Rattle.std.specs.Map.{lookup, values_of, remove_entry};
 ghost use Rattle.std.specs.BTreeMap.{is_at, insert_entry, btree_map_len};
+ghost use Rattle.recovery.specs.Expiry as expiry;
 ghost use Rattle.recovery.specs.Mirrors.{HaveSameSessions};
-ghost use Rattle.recovery.specs.SavedTable.{PlainSaved, session, save_refusal, find_refusal, or_unknown, table_swept, is_alive};
+ghost use Rattle.recovery.specs.SavedTable.{PlainSaved, TableContents, IsTable, session, save_refusal, find_refusal, or_unknown, table_swept, is_alive};
 ghost use Rattle.recovery.specs.SavedTable as table;
 
 use crate::error::RecoveryError;
 use crate::expiry::is_outdated;
-use crate::saved_session::{Pid, Saved};
 use std::alloc::{AllocError, Global};
 use std::collections::{BTreeMap, BTreeSet};
 use std::marker::Model;
-use terms::Sid;
+use terms::{Room, Sid};
+
+/// A private session id, by which a client asks for its session back. In a contract it is the
+/// number.
+#[derive(Clone, Copy, Debug, PartialEq, Eq, PartialOrd, Ord)]
+pub struct Pid(u128);
+
+impl Model for Pid {
+    ghost use Rattle.std.specs.Prelude.{ℕ};
+
+    ghost Value = { ℕ };
+
+    ghost view = { λ p. p.0 };
+
+    ghost inverse = { λ n. record { 0 = n } };
+}
+
+impl Pid {
+    /// The private session id with this number.
+    pub fn new(id: u128) -> Pid
+        ensures { result ≡ id }
+    {
+        Pid(id)
+    }
+
+    /// Its number.
+    pub fn number(self) -> u128
+        ensures { result ≡ self }
+    {
+        self.0
+    }
+}
+
+/// A socket that was lost. In a contract it is plain data, so that two are equal where their
+/// contents are.
+#[derive(Drop)]
+pub struct Saved {
+    /// Its session id.
+    pub sid: Sid,
+    /// Its private session id.
+    pub pid: Pid,
+    /// The place of its namespace in the server's list.
+    pub space: u16,
+    /// The rooms that it was in, its own among them.
+    pub rooms: Vec<Room>,
+    /// When it was lost, in milliseconds.
+    pub lost_at: u64,
+}
+
+impl Model for Saved {
+    ghost use Rattle.recovery.specs.SavedTable.{PlainSaved};
+
+    ghost Value = { PlainSaved };
+
+    ghost view = { λ s. record {
+      sid = s.sid;
+      pid = s.pid;
+      space = s.space;
+      rooms = s.rooms.items;
+      lost_at = s.lost_at;
+    } };
+}
+
+impl Saved {
+    /// Whether it was lost more than `keep` milliseconds before `now`.
+    pub fn is_outdated(&self, keep: u64, now: u64) -> bool
+        ensures { result ≡ expiry.is_outdated keep now self.now.lost_at }
+    {
+        is_outdated(self.lost_at, keep, now)
+    }
+
+    /// A copy.
+    pub(crate) fn copy(&self, alloc: Global) -> Result<Saved, AllocError>
+        ensures { IfOk result (λ copy. copy ≡ self.now) }
+    {
+        Ok(Saved {
+            sid: self.sid,
+            pid: self.pid,
+            space: self.space,
+            rooms: Vec::from_slice(alloc, &self.rooms)?,
+            lost_at: self.lost_at,
+        })
+    }
+}
 
 /// The lost sessions, at most as many as a limit. Each moment counts as it is handed in. A look-up
 /// by private id or by session id takes the logarithm of the sessions.
@@ -39,9 +122,6 @@ struct Indexes {
 }
 
 impl Model for SavedTable {
-    ghost use Rattle.std.specs.Map.{values_of};
-    ghost use Rattle.recovery.specs.SavedTable.{TableContents, IsTable};
-
     ghost Value = { TableContents };
 
     ghost view = { λ t. record { limit = t.limit; sessions = values_of t.indexes.by_pid.entries } };
@@ -122,10 +202,7 @@ impl SavedTable {
         if let Some(refusal) = self.save_refusal(saved.pid) {
             return Err(refusal);
         }
-        match self.add(saved) {
-            Ok(()) => Ok(()),
-            Err(AllocError) => Err(RecoveryError::Memory),
-        }
+        Ok(self.add(saved)?)
     }
 
     /// Adds a session whose private id is free.
@@ -142,14 +219,11 @@ impl SavedTable {
 
     /// The session with this private id. Refused in this order: there is none; it is outdated.
     pub fn find(&self, pid: Pid, now: u64, keep: u64) -> Result<&Saved, RecoveryError>
-        ensures refused { IfSome (find_refusal self.now pid keep now)
-            (λ error. result ≡ Err error) }
+        ensures refused { IfSome (find_refusal self.now pid keep now) (λ e. result ≡ Err e) }
         ensures found { IfNone (find_refusal self.now pid keep now)
             (IsOkAnd result (λ saved. session self.now pid ≡ Some saved.now)) }
     {
-        let Some(saved) = self.look_up(pid) else {
-            return Err(RecoveryError::UnknownPid);
-        };
+        let saved = self.look_up(pid).ok_or(RecoveryError::UnknownPid)?;
         if saved.is_outdated(keep, now) {
             return Err(RecoveryError::Expired);
         }
@@ -162,10 +236,7 @@ impl SavedTable {
         ensures removed { self.new ≡ table.removed self.old pid }
         ensures unchanged { OnErr result (self.new ≡ self.old) }
     {
-        match self.take_out(pid) {
-            Some(saved) => Ok(saved),
-            None => Err(RecoveryError::UnknownPid),
-        }
+        self.take_out(pid).ok_or(RecoveryError::UnknownPid)
     }
 
     /// Takes a session out of the table.
@@ -203,10 +274,7 @@ impl SavedTable {
             (map (λ (saved : PlainSaved). saved.pid) self.now.sessions) }
         ensures memory { IfErr result (λ error. error ≡ RecoveryError.Memory) }
     {
-        match copy_all(alloc, &self.indexes.by_pid) {
-            Ok(list) => Ok(list),
-            Err(AllocError) => Err(RecoveryError::Memory),
-        }
+        Ok(copy_all(alloc, &self.indexes.by_pid)?)
     }
 }
 

@@ -9,8 +9,8 @@ use Rattle.events.specs.declared.app.Message.{Message}
 use Rattle.events.specs.declared.app.Arrived.{Arrived}
 use Rattle.events.specs.declared.app.Arrived.TheVariants.{Event}
 use Rattle.events.specs.declared.app.Effect.{Effect}
-use Rattle.relay.specs.declared.word.Word.{Word}
-use Rattle.relay.specs.declared.word.Word.TheVariants.{Join, Leave, Say, Two, But, Quiet, All, Ask, Bye, Pull, Push, Kick, Other}
+use Rattle.relay.specs.declared.relay_app.Word.{Word}
+use Rattle.relay.specs.declared.relay_app.Word.TheVariants.{Join, Leave, Say, Two, But, Quiet, All, Ask, Bye, Pull, Push, Kick, Other}
 use Rattle.relay.specs.Relay.{effects_of, effect_for, to_two, to_one_but, pull, push, listed, farewell, reply, texts_of, word_in, room_in}
 
 pub all_append : {A : Type 0} (P : A → Type 0) (xs ys : List A) → AllByRecursion P xs → AllByRecursion P ys → AllByRecursion P (xs ++ ys)

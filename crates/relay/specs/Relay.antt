@@ -10,8 +10,8 @@ use Rattle.events.specs.declared.app.Arrived.{Arrived}
 use Rattle.events.specs.declared.app.Arrived.TheVariants.{Event, Answer}
 use Rattle.events.specs.declared.app.Effect.{Effect}
 use Rattle.events.specs.declared.app.Effect.TheVariants as effect
-use Rattle.relay.specs.declared.word.Word.{Word}
-use Rattle.relay.specs.declared.word.Word.TheVariants as word
+use Rattle.relay.specs.declared.relay_app.Word.{Word}
+use Rattle.relay.specs.declared.relay_app.Word.TheVariants as word
 
 -- ---- CONNECT
 

@@ -1,6 +1,7 @@
 //! Ids that count.
 
-ghost use Rattle.std.specs.Prelude.{◌≡◌};
+ghost use Rattle.std.specs.Prelude.{◌≡◌, ℕ};
+ghost use Rattle.relay.specs.Counter.{counted_from};
 
 use events::IdSource;
 use std::marker::Model;
@@ -13,8 +14,6 @@ pub struct Counter {
 }
 
 impl Model for Counter {
-    ghost use Rattle.std.specs.Prelude.{ℕ};
-
     ghost Value = { ℕ };
 
     ghost view = { λ c. c.next };
@@ -37,8 +36,6 @@ impl Counter {
 }
 
 impl IdSource for Counter {
-    ghost use Rattle.relay.specs.Counter.{counted_from};
-
     ghost stream = { λ next k. counted_from next k };
 
     fn draw(&mut self) -> u128 {

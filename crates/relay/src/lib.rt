@@ -5,7 +5,6 @@
 mod counter;
 mod presence;
 mod relay_app;
-mod word;
 
 pub use counter::Counter;
 pub use presence::Presence;

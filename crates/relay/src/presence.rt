@@ -2,8 +2,9 @@
 
 ghost use Rattle.std.specs.Prelude.{◌≡◌, ◌++◌, IfOk, OnOk};
 ghost use Rattle.relay.specs.Presence as table;
+ghost use Rattle.relay.specs.Presence.{Leaves, told};
 
-use events::{App, Arrived, Effect, Emission, Verdict, Who};
+use events::{App, Arrived, Effect, Emission, Verdict, Wanted, Who};
 use journal::{Ending, Side};
 use std::alloc::{AllocError, Global};
 use terms::{Attachments, Room, Sid, Text, ascii_text, id_text};
@@ -17,8 +18,6 @@ pub struct Presence<A> {
 }
 
 impl<A: App> App for Presence<A> {
-    ghost use Rattle.relay.specs.Presence.{Leaves, told};
-
     ghost policy = { λ presence. record (A.policy presence.app) {
       leaves = λ who rooms ending.
           Leaves ((A.policy presence.app).leaves who rooms ending)
@@ -29,22 +28,11 @@ impl<A: App> App for Presence<A> {
         self.app.connects(alloc, space, payload)
     }
 
-    fn decides(
-        &self,
-        alloc: Global,
-        who: &Who,
-        arrived: &Arrived,
-    ) -> Result<Vec<Effect>, AllocError> {
+    fn decides(&self, alloc: Global, who: &Who, arrived: &Arrived) -> Wanted {
         self.app.decides(alloc, who, arrived)
     }
 
-    fn left(
-        &self,
-        alloc: Global,
-        who: &Who,
-        rooms: &[Room],
-        ending: Ending,
-    ) -> Result<Vec<Effect>, AllocError> {
+    fn left(&self, alloc: Global, who: &Who, rooms: &[Room], ending: Ending) -> Wanted {
         let mut effects = self.app.left(alloc, who, rooms, ending)?;
         if self.tells {
             tell(alloc, &mut effects, who.sid, rooms, ending)?;

@@ -1,11 +1,12 @@
 //! The demonstration app: what it does with each event.
 
-ghost use Rattle.std.specs.Prelude.{◌≡◌, ◌++◌, [], IfOk, OnOk, Some, None, true, false};
+ghost use Rattle.std.specs.Prelude.{◌≡◌, [], ◌∷◌, IfOk};
 ghost use Rattle.relay.specs.Relay as table;
-ghost use Rattle.relay.specs.Relay.{texts_of};
+ghost use Rattle.relay.specs.Relay.{Allows, decided, texts_of, word_of, word_in, room_in};
 
-use crate::word::{Word, room_in, word_in};
-use events::{App, Arrived, Effect, Emission, Inquiry, Message, Reply, Selection, Verdict, Who};
+use events::{
+    App, Arrived, Effect, Emission, Inquiry, Message, Reply, Selection, Verdict, Wanted, Who,
+};
 use journal::Ending;
 use sio_wire::{SioError, names};
 use std::alloc::{AllocError, Global};
@@ -22,8 +23,6 @@ const NOT_ALLOWED: &str = "Not allowed";
 pub struct RelayApp;
 
 impl App for RelayApp {
-    ghost use Rattle.relay.specs.Relay.{Allows, decided};
-
     ghost policy = { λ app. record {
       allows = λ space payload verdict. Allows payload verdict;
       decides = λ who arrived effects. effects ≡ decided who arrived;
@@ -37,69 +36,34 @@ impl App for RelayApp {
         Ok(Verdict::Accept(Vec::new(alloc)))
     }
 
-    fn decides(
-        &self,
-        alloc: Global,
-        who: &Who,
-        arrived: &Arrived,
-    ) -> Result<Vec<Effect>, AllocError> {
+    fn decides(&self, alloc: Global, who: &Who, arrived: &Arrived) -> Wanted {
         match arrived {
             Arrived::Event(message) => decide(alloc, Room::own(who.sid), message),
             Arrived::Answer(_) => Ok(Vec::new(alloc)),
         }
     }
 
-    fn left(
-        &self,
-        alloc: Global,
-        _who: &Who,
-        _rooms: &[Room],
-        _ending: Ending,
-    ) -> Result<Vec<Effect>, AllocError> {
+    fn left(&self, alloc: Global, _who: &Who, _rooms: &[Room], _ending: Ending) -> Wanted {
         Ok(Vec::new(alloc))
     }
 }
 
 /// The effects of an event, from a socket whose own room this is.
-fn decide(alloc: Global, own: Room, message: &Message) -> Result<Vec<Effect>, AllocError>
+fn decide(alloc: Global, own: Room, message: &Message) -> Wanted
     ensures { IfOk result (λ effects. effects.items ≡ table.effects_of own message.now) }
 {
     let texts = texts_of(alloc, message.payload.as_str())?;
     let mut effects = Vec::new(alloc);
-    push_first(&mut effects, first_effect(alloc, own, &texts, message)?)?;
-    push_reply(alloc, &mut effects, message.asked)?;
-    push_farewell(&mut effects, word_in(&texts))?;
-    Ok(effects)
-}
-
-/// Adds the effect, if there is one.
-fn push_first(effects: &mut Vec<Effect>, effect: Option<Effect>) -> Result<(), AllocError>
-    ensures { OnOk result (effects.new.items ≡ effects.old.items ++ table.listed effect) }
-{
-    if let Some(effect) = effect {
+    if let Some(effect) = first_effect(alloc, own, &texts, message)? {
         effects.push(effect)?;
     }
-    Ok(())
-}
-
-/// Adds the acknowledgement, where it is asked for.
-fn push_reply(alloc: Global, effects: &mut Vec<Effect>, asked: bool) -> Result<(), AllocError>
-    ensures { OnOk result (effects.new.items ≡ effects.old.items ++ table.answer asked) }
-{
-    if asked {
-        effects.push(Effect::Reply(reply(alloc)?))?;
+    if message.asked {
+        effects.push(reply(alloc)?)?;
     }
-    Ok(())
-}
-
-/// Adds the disconnection, where the event asks for it.
-fn push_farewell(effects: &mut Vec<Effect>, word: Word) -> Result<(), AllocError>
-    ensures { OnOk result (effects.new.items ≡ effects.old.items ++ table.farewell word) }
-{
-    if word == Word::Bye {
+    if word_in(&texts) == Word::Bye {
         effects.push(Effect::Disconnect)?;
     }
-    Ok(())
+    Ok(effects)
 }
 
 /// The texts among an event's elements. A payload that is no array has none.
@@ -122,53 +86,21 @@ fn first_effect(
 ) -> Result<Option<Effect>, AllocError>
     ensures { IfOk result (λ effect. effect ≡ table.first_effect own texts.now message.now) }
 {
-    let room = room_in(texts, 1);
-    match (word_in(texts), room) {
-        (Word::Join, Some(room)) => Ok(Some(Effect::Join(room))),
-        (Word::Leave, Some(room)) => Ok(Some(Effect::Leave(room))),
-        (Word::Say, Some(room)) => Ok(Some(emit(alloc, &[room], &[own], true, message)?)),
-        (Word::Quiet, Some(room)) => Ok(Some(emit(alloc, &[room], &[own], false, message)?)),
-        (Word::Two, Some(room)) => to_two(alloc, own, room, room_in(texts, 2), message),
-        (Word::But, Some(room)) => to_one_but(alloc, own, room, room_in(texts, 2), message),
-        (Word::All, _) => Ok(Some(emit(alloc, &[], &[], true, message)?)),
-        (Word::Ask, _) => Ok(Some(ask(alloc, message)?)),
-        (Word::Pull, Some(room)) => pull(alloc, room, room_in(texts, 2)),
-        (Word::Push, Some(room)) => push(alloc, room, room_in(texts, 2)),
-        (Word::Kick, Some(room)) => Ok(Some(Effect::AllEnd(select(alloc, &[room], &[own])?))),
-        _ => Ok(None),
-    }
-}
-
-/// The event for two rooms, where the second is known.
-fn to_two(
-    alloc: Global,
-    own: Room,
-    room: Room,
-    second: Option<Room>,
-    message: &Message,
-) -> Result<Option<Effect>, AllocError>
-    ensures { IfOk result (λ effect. effect ≡ table.to_two own room second message.now) }
-{
-    match second {
-        Some(second) => Ok(Some(emit(alloc, &[room, second], &[own], true, message)?)),
-        None => Ok(None),
-    }
-}
-
-/// The event for a room but not for another one, where that is known.
-fn to_one_but(
-    alloc: Global,
-    own: Room,
-    room: Room,
-    second: Option<Room>,
-    message: &Message,
-) -> Result<Option<Effect>, AllocError>
-    ensures { IfOk result (λ effect. effect ≡ table.to_one_but own room second message.now) }
-{
-    match second {
-        Some(second) => Ok(Some(emit(alloc, &[room], &[second, own], true, message)?)),
-        None => Ok(None),
-    }
+    let effect = match (word_in(texts), room_in(texts, 1), room_in(texts, 2)) {
+        (Word::Join, Some(room), _) => Effect::Join(room),
+        (Word::Leave, Some(room), _) => Effect::Leave(room),
+        (Word::Say, Some(room), _) => emit(alloc, &[room], &[own], true, message)?,
+        (Word::Quiet, Some(room), _) => emit(alloc, &[room], &[own], false, message)?,
+        (Word::Two, Some(room), Some(other)) => emit(alloc, &[room, other], &[own], true, message)?,
+        (Word::But, Some(room), Some(other)) => emit(alloc, &[room], &[other, own], true, message)?,
+        (Word::All, _, _) => emit(alloc, &[], &[], true, message)?,
+        (Word::Ask, _, _) => ask(alloc, message)?,
+        (Word::Pull, Some(room), Some(other)) => Effect::AllJoin(select(alloc, room, &[])?, other),
+        (Word::Push, Some(room), Some(other)) => Effect::AllLeave(select(alloc, room, &[])?, other),
+        (Word::Kick, Some(room), _) => Effect::AllEnd(select(alloc, room, &[own])?),
+        _ => return Ok(None),
+    };
+    Ok(Some(effect))
 }
 
 /// The event as it came, as a question to its socket.
@@ -183,33 +115,12 @@ fn ask(alloc: Global, message: &Message) -> Result<Effect, AllocError>
     }))
 }
 
-/// The sockets of a room join a second one, where that is known.
-fn pull(alloc: Global, room: Room, second: Option<Room>) -> Result<Option<Effect>, AllocError>
-    ensures { IfOk result (λ effect. effect ≡ table.pull room second) }
-{
-    match second {
-        Some(second) => Ok(Some(Effect::AllJoin(select(alloc, &[room], &[])?, second))),
-        None => Ok(None),
-    }
-}
-
-/// The sockets of a room leave a second one, where that is known.
-fn push(alloc: Global, room: Room, second: Option<Room>) -> Result<Option<Effect>, AllocError>
-    ensures { IfOk result (λ effect. effect ≡ table.push room second) }
-{
-    match second {
-        Some(second) => Ok(Some(Effect::AllLeave(select(alloc, &[room], &[])?, second))),
-        None => Ok(None),
-    }
-}
-
-/// The sockets of these rooms except those.
-fn select(alloc: Global, rooms: &[Room], excepted: &[Room]) -> Result<Selection, AllocError>
-    ensures { IfOk result
-        (λ selection. selection ≡ record { rooms = rooms.now; excepted = excepted.now }) }
+/// The sockets of a room, except those in some others.
+fn select(alloc: Global, room: Room, excepted: &[Room]) -> Result<Selection, AllocError>
+    ensures { IfOk result (λ s. s ≡ record { rooms = room ∷ []; excepted = excepted.now }) }
 {
     Ok(Selection {
-        rooms: Vec::from_slice(alloc, rooms)?,
+        rooms: Vec::from_slice(alloc, &[room])?,
         excepted: Vec::from_slice(alloc, excepted)?,
     })
 }
@@ -222,8 +133,7 @@ fn emit(
     logged: bool,
     message: &Message,
 ) -> Result<Effect, AllocError>
-    ensures { IfOk result
-        (λ effect. effect ≡ table.emit rooms.now excepted.now logged message.now) }
+    ensures { IfOk result (λ e. e ≡ table.emit rooms.now excepted.now logged message.now) }
 {
     Ok(Effect::Emit(Emission {
         rooms: Vec::from_slice(alloc, rooms)?,
@@ -235,11 +145,83 @@ fn emit(
 }
 
 /// The acknowledgement of an event.
-fn reply(alloc: Global) -> Result<Reply, AllocError>
-    ensures { IfOk result (λ reply. Effect.Reply reply ≡ table.reply) }
+fn reply(alloc: Global) -> Result<Effect, AllocError>
+    ensures { IfOk result (λ effect. effect ≡ table.reply) }
 {
-    Ok(Reply {
+    Ok(Effect::Reply(Reply {
         payload: Text::copy_of(alloc, "[]")?,
         attachments: Attachments::new(alloc),
-    })
+    }))
+}
+
+/// What the name of an event asks for.
+#[derive(Clone, Copy, Debug, PartialEq, Eq)]
+pub enum Word {
+    /// To join a room.
+    Join,
+    /// To leave a room.
+    Leave,
+    /// That a room gets the event.
+    Say,
+    /// That two rooms get it.
+    Two,
+    /// That a room but not another one gets it.
+    But,
+    /// That a room gets it, without an offset.
+    Quiet,
+    /// That everybody gets it.
+    All,
+    /// To be asked a question.
+    Ask,
+    /// To be disconnected.
+    Bye,
+    /// That the sockets of a room join another one.
+    Pull,
+    /// That the sockets of a room leave another one.
+    Push,
+    /// That the other sockets of a room are disconnected.
+    Kick,
+    /// Nothing that the app knows.
+    Other,
+}
+
+/// What an event of this name asks for.
+fn word_of(name: &str) -> Word
+    ensures { result ≡ word_of name.now }
+{
+    match name {
+        "join" => Word::Join,
+        "leave" => Word::Leave,
+        "say" => Word::Say,
+        "two" => Word::Two,
+        "but" => Word::But,
+        "quiet" => Word::Quiet,
+        "all" => Word::All,
+        "ask" => Word::Ask,
+        "bye" => Word::Bye,
+        "pull" => Word::Pull,
+        "push" => Word::Push,
+        "kick" => Word::Kick,
+        _ => Word::Other,
+    }
+}
+
+/// What the first of an event's texts asks for.
+fn word_in(texts: &[Option<Text>]) -> Word
+    ensures { result ≡ word_in texts.now }
+{
+    match texts.first() {
+        Some(Some(name)) => word_of(name.as_str()),
+        _ => Word::Other,
+    }
+}
+
+/// The room that the text at a place names, where there is one of at most 64 bytes.
+fn room_in(texts: &[Option<Text>], place: usize) -> Option<Room>
+    ensures { result ≡ room_in place texts.now }
+{
+    match texts.get(place) {
+        Some(Some(name)) => Room::read(name.as_str()),
+        _ => None,
+    }
 }

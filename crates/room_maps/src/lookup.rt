@@ -12,9 +12,9 @@ ghost use Rattle.room_maps.specs.Mirror.{entry_pairs, HasRisingRooms, is_in_one_
 ghost use Rattle.terms.specs.Room.{room_cmp};
 ghost use Rattle.terms.specs.Listing.{ListsRising};
 
-use crate::links;
+use crate::rooms::{RoomMap, SocketMap};
 use std::alloc::{AllocError, Global};
-use std::collections::{BTreeMap, BTreeSet};
+use std::collections::BTreeSet;
 use terms::{Room, Sid};
 
 /// Whether one of the rooms is in the set.
@@ -25,7 +25,7 @@ fn meets(inside: &BTreeSet<Room>, rooms: &[Room]) -> bool
 }
 
 /// Whether the socket is in one of the rooms.
-fn is_in_any(by_socket: &BTreeMap<Sid, BTreeSet<Room>>, sid: Sid, rooms: &[Room]) -> bool
+fn is_in_any(by_socket: &SocketMap, sid: Sid, rooms: &[Room]) -> bool
     ensures { result ≡ is_in_one_of by_socket.now rooms.now sid }
 {
     if rooms.is_empty() {
@@ -40,7 +40,7 @@ fn is_in_any(by_socket: &BTreeMap<Sid, BTreeSet<Room>>, sid: Sid, rooms: &[Room]
 /// All sockets but those in an excepted room. It walks the sockets once.
 pub(crate) fn sockets_but(
     alloc: Global,
-    by_socket: &BTreeMap<Sid, BTreeSet<Room>>,
+    by_socket: &SocketMap,
     excepted: &[Room],
 ) -> Result<Vec<Sid>, AllocError>
     ensures ordered { tree.IsOrdered nat_cmp by_socket.now }
@@ -58,7 +58,7 @@ pub(crate) fn sockets_but(
 /// Adds the sockets of a set but those in an excepted room.
 fn add_chosen(
     sids: &mut Vec<Sid>,
-    by_socket: &BTreeMap<Sid, BTreeSet<Room>>,
+    by_socket: &SocketMap,
     members: &BTreeSet<Sid>,
     excepted: &[Room],
 ) -> Result<(), AllocError>
@@ -77,8 +77,8 @@ fn add_chosen(
 /// Adds the members of a room but those in an excepted one.
 fn add_members(
     sids: &mut Vec<Sid>,
-    by_socket: &BTreeMap<Sid, BTreeSet<Room>>,
-    by_room: &BTreeMap<Room, BTreeSet<Sid>>,
+    by_socket: &SocketMap,
+    by_room: &RoomMap,
     room: Room,
     excepted: &[Room],
 ) -> Result<(), AllocError>
@@ -96,8 +96,8 @@ fn add_members(
 /// The members of each room but those in an excepted one, room after room.
 fn all_members(
     alloc: Global,
-    by_socket: &BTreeMap<Sid, BTreeSet<Room>>,
-    by_room: &BTreeMap<Room, BTreeSet<Sid>>,
+    by_socket: &SocketMap,
+    by_room: &RoomMap,
     rooms: &[Room],
     excepted: &[Room],
 ) -> Result<Vec<Sid>, AllocError>
@@ -116,14 +116,13 @@ fn all_members(
 /// the rooms.
 pub(crate) fn members_but(
     alloc: Global,
-    by_socket: &BTreeMap<Sid, BTreeSet<Room>>,
-    by_room: &BTreeMap<Room, BTreeSet<Sid>>,
+    by_socket: &SocketMap,
+    by_room: &RoomMap,
     rooms: &[Room],
     excepted: &[Room],
 ) -> Result<Vec<Sid>, AllocError>
-    ensures { IfOk result (λ sids. ListsRising nat_cmp
-        (λ sid. is_member_of_one by_room.now rooms.now sid
-        && not (is_in_one_of by_socket.now excepted.now sid)) sids.items) }
+    ensures { IfOk result (λ r. ListsRising nat_cmp (λ s. is_member_of_one by_room.now rooms.now s
+        && not (is_in_one_of by_socket.now excepted.now s)) r.items) }
 {
     let sids = all_members(alloc, by_socket, by_room, rooms, excepted)?;
     Ok(rising(sids))
@@ -131,8 +130,7 @@ pub(crate) fn members_but(
 
 /// The sockets, rising, each once.
 pub(crate) fn rising(mut sids: Vec<Sid>) -> Vec<Sid>
-    ensures { ListsRising nat_cmp
-        (λ sid. list_any (eq_by_cmp nat_cmp sid) sids.items) result.items }
+    ensures { ListsRising nat_cmp (λ s. list_any (eq_by_cmp nat_cmp s) sids.items) result.items }
 {
     sids.sort_unstable();
     sids.dedup();
@@ -159,11 +157,10 @@ fn add_pairs(
 /// once.
 pub(crate) fn all_pairs(
     alloc: Global,
-    by_socket: &BTreeMap<Sid, BTreeSet<Room>>,
+    by_socket: &SocketMap,
 ) -> Result<Vec<(Sid, Room)>, AllocError>
     ensures ordered { tree.IsOrdered nat_cmp by_socket.now }
-    ensures items { IfOk result
-        (λ pairs. pairs.items ≡ flat_map entry_pairs by_socket.now.entries) }
+    ensures items { IfOk result (λ p. p.items ≡ flat_map entry_pairs by_socket.now.entries) }
     ensures rises { IfOk result (λ pairs. AllByRecursion HasRisingRooms by_socket.now.entries) }
 {
     let mut pairs = Vec::with_capacity(alloc, by_socket.len())?;

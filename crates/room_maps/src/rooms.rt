@@ -8,10 +8,10 @@ ghost use Rattle.terms.specs.Refusal.{ok_unless};
 ghost use Rattle.terms.specs.Listing.{ListsRising};
 ghost use Rattle.terms.specs.Room.{room_cmp, same_room, own_room};
 ghost use Rattle.room_maps.specs.Links.{is_linked, HasNoEmptySet, IsUnchanged, AddsLink};
-ghost use Rattle.room_maps.specs.Membership.{pair_cmp, no_sockets, is_socket, is_in, rooms_in, is_full, with_pair, without_pair, with_pairs, with_socket, with_socket_in, without_socket, enter_refusal, enter_all_refusal, join_refusal, leave_refusal, unknown_refusal, AreConsistent};
+ghost use Rattle.room_maps.specs.Membership.{RoomSets, room_sets_code, HasFewRooms, pair_cmp, no_sockets, is_socket, is_in, rooms_in, is_full, with_pair, without_pair, with_pairs, with_socket, with_socket_in, without_socket, enter_refusal, enter_all_refusal, join_refusal, leave_refusal, unknown_refusal, AreConsistent};
 ghost use Rattle.room_maps.specs.Membership as membership;
 ghost use Rattle.room_maps.specs.Addressed.{is_addressed};
-ghost use Rattle.room_maps.specs.Mirror.{IsMirrored};
+ghost use Rattle.room_maps.specs.Mirror.{IsMirrored, Mirror, sets_of, pairs_of};
 
 mod together;
 
@@ -25,6 +25,12 @@ use terms::{Room, Sid};
 /// A socket is in at most so many rooms, its own among them.
 const MOST_ROOMS: usize = 256;
 
+/// The rooms of each socket.
+pub type SocketMap = BTreeMap<Sid, BTreeSet<Room>>;
+
+/// The sockets of each room.
+pub type RoomMap = BTreeMap<Room, BTreeSet<Sid>>;
+
 /// Which sockets there are, and which rooms each is in. Each socket is in its own room, and a room
 /// lasts while a socket is in it.
 ///
@@ -32,14 +38,11 @@ const MOST_ROOMS: usize = 256;
 /// "the logarithm" is that of the number of sockets or of rooms.
 #[derive(Drop)]
 pub struct Rooms {
-    by_socket: BTreeMap<Sid, BTreeSet<Room>>,
-    by_room: BTreeMap<Room, BTreeSet<Sid>>,
+    by_socket: SocketMap,
+    by_room: RoomMap,
 }
 
 impl Model for Rooms {
-    ghost use Rattle.room_maps.specs.Membership.{RoomSets, room_sets_code, HasFewRooms};
-    ghost use Rattle.room_maps.specs.Mirror.{sets_of, pairs_of, Mirror};
-
     ghost Value = { RoomSets };
 
     ghost coded = { room_sets_code };
@@ -141,10 +144,7 @@ impl Rooms {
         if self.is_socket(sid) {
             return Err(RoomError::SidTaken);
         }
-        match self.add_socket(alloc, sid) {
-            Ok(()) => Ok(()),
-            Err(AllocError) => Err(RoomError::Memory),
-        }
+        Ok(self.add_socket(alloc, sid)?)
     }
 
     /// A new socket, which is in its own room and in all of these, or nothing. A room that is named
@@ -161,10 +161,7 @@ impl Rooms {
         if let Some(refusal) = self.enter_all_refusal(sid, rooms) {
             return Err(refusal);
         }
-        match self.add_socket_in(alloc, sid, rooms) {
-            Ok(()) => Ok(()),
-            Err(AllocError) => Err(RoomError::Memory),
-        }
+        Ok(self.add_socket_in(alloc, sid, rooms)?)
     }
 
     /// The socket is in one room more. Refused as `UnknownSocket`, `AlreadyIn`, `TooManyRooms`,
@@ -179,10 +176,7 @@ impl Rooms {
         if let Some(refusal) = self.join_refusal(sid, room) {
             return Err(refusal);
         }
-        match self.add(alloc, sid, room) {
-            Ok(()) => Ok(()),
-            Err(AllocError) => Err(RoomError::Memory),
-        }
+        Ok(self.add(alloc, sid, room)?)
     }
 
     /// The socket is in one room less. Refused as `UnknownSocket`, `OwnRoom`, `NotIn`. It takes the
@@ -219,8 +213,7 @@ impl Rooms {
         ensures refused { IfSome (unknown_refusal self.now sid) (λ e. result ≡ Err e) }
         ensures memory_alone { unknown_refusal self.now sid ≡ None
             → IfErr result (λ e. e ≡ RoomError.Memory) }
-        ensures rooms { IfOk result
-            (λ rooms. ListsRising room_cmp (is_in self.now sid) rooms.items) }
+        ensures rooms { IfOk result (λ r. ListsRising room_cmp (is_in self.now sid) r.items) }
         // So `enter_all` takes them all again.
         ensures few { IfOk result (λ rooms. membership.are_too_many sid rooms.items ≡ false) }
     {
@@ -228,10 +221,7 @@ impl Rooms {
             return Err(RoomError::UnknownSocket);
         }
         self.kept_facts();
-        match self.room_list(alloc, sid) {
-            Ok(rooms) => Ok(rooms),
-            Err(AllocError) => Err(RoomError::Memory),
-        }
+        Ok(self.room_list(alloc, sid)?)
     }
 
     fn room_list(&self, alloc: Global, sid: Sid) -> Result<Vec<Room>, AllocError>
@@ -250,10 +240,7 @@ impl Rooms {
             (λ sids. ListsRising nat_cmp (λ sid. is_in self.now sid room) sids.items) }
         ensures memory_alone { IfErr result (λ e. e ≡ RoomError.Memory) }
     {
-        match self.member_list(alloc, room) {
-            Ok(sids) => Ok(sids),
-            Err(AllocError) => Err(RoomError::Memory),
-        }
+        Ok(self.member_list(alloc, room)?)
     }
 
     fn member_list(&self, alloc: Global, room: Room) -> Result<Vec<Sid>, AllocError>
@@ -280,10 +267,7 @@ impl Rooms {
             (is_addressed self.now rooms.now excepted.now) sids.items) }
         ensures memory_alone { IfErr result (λ e. e ≡ RoomError.Memory) }
     {
-        match self.addressed_list(alloc, rooms, excepted) {
-            Ok(sids) => Ok(sids),
-            Err(AllocError) => Err(RoomError::Memory),
-        }
+        Ok(self.addressed_list(alloc, rooms, excepted)?)
     }
 
     fn addressed_list(
@@ -309,10 +293,7 @@ impl Rooms {
             (λ pairs. ListsRising pair_cmp (λ pair. is_in self.now pair.0 pair.1) pairs.items) }
         ensures memory_alone { IfErr result (λ e. e ≡ RoomError.Memory) }
     {
-        match self.pair_list(alloc) {
-            Ok(pairs) => Ok(pairs),
-            Err(AllocError) => Err(RoomError::Memory),
-        }
+        Ok(self.pair_list(alloc)?)
     }
 
     fn pair_list(&self, alloc: Global) -> Result<Vec<(Sid, Room)>, AllocError>
@@ -331,12 +312,7 @@ impl Rooms {
 
     /// The two maps themselves: the rooms of each socket, and the sockets of each room (Socket.IO
     /// server documentation, "Rooms", "Implementation details"). It has no effect.
-    pub fn mirrors(
-        &self,
-    ) -> (
-        &BTreeMap<Sid, BTreeSet<Room>>,
-        &BTreeMap<Room, BTreeSet<Sid>>,
-    )
+    pub fn mirrors(&self) -> (&SocketMap, &RoomMap)
         ensures { IsMirrored self.now result.0.now result.1.now }
     {
         (&self.by_socket, &self.by_room)
@@ -347,13 +323,8 @@ impl Rooms {
         ensures ok { OnOk result (self.new ≡ with_socket self.old sid) }
         ensures err { OnErr result (self.new ≡ self.old) }
     {
-        add_pair(
-            alloc,
-            &mut self.by_socket,
-            &mut self.by_room,
-            sid,
-            Room::own(sid),
-        )?;
+        let own = Room::own(sid);
+        add_pair(alloc, &mut self.by_socket, &mut self.by_room, sid, own)?;
         Ok(())
     }
 
@@ -433,8 +404,8 @@ impl Rooms {
 /// back.
 fn add_pair(
     alloc: Global,
-    by_socket: &mut BTreeMap<Sid, BTreeSet<Room>>,
-    by_room: &mut BTreeMap<Room, BTreeSet<Sid>>,
+    by_socket: &mut SocketMap,
+    by_room: &mut RoomMap,
     sid: Sid,
     room: Room,
 ) -> Result<(), AllocError>
@@ -443,10 +414,8 @@ fn add_pair(
     ensures added { OnOk result (AddsLink nat_cmp room_cmp by_socket.old by_socket.new sid room
         × AddsLink room_cmp nat_cmp by_room.old by_room.new room sid) }
     ensures filled { HasNoEmptySet room_cmp by_room.old → HasNoEmptySet room_cmp by_room.new }
-    ensures socket_side_unchanged { OnErr result
-        (IsUnchanged nat_cmp room_cmp by_socket.old by_socket.new) }
-    ensures room_side_unchanged { OnErr result
-        (IsUnchanged room_cmp nat_cmp by_room.old by_room.new) }
+    ensures sockets_kept { OnErr result (IsUnchanged nat_cmp room_cmp by_socket.old by_socket.new) }
+    ensures rooms_kept { OnErr result (IsUnchanged room_cmp nat_cmp by_room.old by_room.new) }
 {
     links::link(alloc, by_socket, sid, room)?;
     let second = links::link(alloc, by_room, room, sid);

@@ -1,13 +1,13 @@
-//! Lists of events with their answers, workers on threads over a core's lock, and scripts over
-//! devices that fail. `trials` plays most scripts.
+//! Ids that are in use, workers on threads over a core's lock, and scripts over devices that fail.
+//! `trials` plays most scripts.
 
+mod acts;
 mod books;
 mod devices;
-mod event_lines;
+mod drawn;
 mod expected;
 mod gates;
 mod hall;
-mod lists;
 mod long_lines;
 mod losses;
 mod pools;

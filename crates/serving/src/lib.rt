@@ -2,10 +2,6 @@
 //! `main` reads the arguments, and starts the thread that waits for the end of standard input.
 #![tactic(auto)]
 
-mod error_log;
-mod program;
 mod served;
 
-pub use error_log::ErrorLog;
-pub use program::{end_with, processors};
-pub use served::{Listening, ServeFault, listen, serve, wait_for_end};
+pub use served::{ErrorLog, Listening, end_with, listen, processors, serve, wait_for_end};

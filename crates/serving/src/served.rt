@@ -1,11 +1,11 @@
-//! It tells where it listens, serves, and tells what it did.
+//! It tells where it listens, serves, and tells what it did and how it ended.
 
-use crate::error_log::ErrorLog;
 use events::App;
 use hub_gate::Report;
+use journal::Totals;
 use script::Answer;
 use settings::Settings;
-use std::io::Read;
+use std::fmt::Display;
 use std::net::Net;
 use std::process::ExitCode;
 use std::random::RandomSource;
@@ -13,27 +13,43 @@ use std::rt::Clock;
 use std::sync::{Arc, Wait};
 use std::thread::Threads;
 use std::time::Duration;
-use std::{fmt, io};
-use tcp_server::{Server, ServerFault, Shared};
+use std::{io, thread};
+use tcp_server::{Ended, Log, Server, ServerFault, Shared};
 
 /// How long what is open may take to end once standard input has ended, in milliseconds.
 const GRACE: u64 = 5_000;
 
-/// Why the server ended.
+/// The most threads that serve where nobody says how many.
+const MOST_WORKERS: usize = 8;
+
+/// Tells standard error of a server. Where that fails, nothing is told.
 #[derive(Drop)]
-pub enum ServeFault {
-    /// The server doesn't begin, or ended by this.
-    Server(ServerFault),
-    /// Standard output failed.
-    Writing,
+pub struct ErrorLog<R> {
+    pub rt: R,
+    /// Whether the end of each client is told.
+    pub verbose: bool,
 }
 
-impl fmt::Display for ServeFault {
-    fn fmt<W: fmt::Write>(&self, f: &mut fmt::Formatter<W>) -> fmt::Result {
-        match self {
-            ServeFault::Server(fault) => fmt::Display::fmt(fault, f),
-            ServeFault::Writing => f.write_str("device fault while writing"),
-        }
+impl<R: Eprint> Log for ErrorLog<R> {
+    fn hears_clients(&self) -> bool {
+        self.verbose
+    }
+
+    fn client_ended(&self, ended: &Ended) {
+        let id = ended.client;
+        let transport = if ended.socket { "websocket" } else { "polling" };
+        let lived = ended.lived;
+        let _ = match ended.cause {
+            Some(cause) => {
+                let closed = Answer::Closed(cause);
+                eprintln!(self.rt; "client {id:032x}, {transport}, {closed}, after {lived} ms")
+            }
+            None => eprintln!(self.rt; "client {id:032x}, {transport}, lost, after {lived} ms"),
+        };
+    }
+
+    fn totals(&self, totals: Totals) {
+        let _ = eprintln!(self.rt; "{}", Answer::Totals(totals));
     }
 }
 
@@ -45,14 +61,12 @@ pub fn listen<R: Net + Print + Eprint + AllocGlobal + Copy + Drop + Sync>(
     rt: &R,
     settings: Settings,
     verbose: bool,
-) -> Result<Listening<R>, ServeFault> {
+) -> Result<Listening<R>, ServerFault> {
     let alloc = rt.alloc();
-    let Ok(place) = format!(in alloc; "{}:{}", settings.host, settings.port) else {
-        return Err(ServeFault::Server(ServerFault::Memory));
-    };
+    let place = format!(in alloc; "{}:{}", settings.host, settings.port)?;
     let log = ErrorLog { rt: *rt, verbose };
-    let server = Server::listen(rt, alloc, settings, log).map_err(ServeFault::Server)?;
-    println!(rt; "listening {place}").map_err(|_| ServeFault::Writing)?;
+    let server = Server::listen(rt, alloc, settings, log)?;
+    println!(rt; "listening {place}").map_err(|_| ServerFault::Writing)?;
     Ok(server)
 }
 
@@ -61,26 +75,14 @@ pub fn serve<R, A: App + Sync>(
     rt: &R,
     server: Listening<R>,
     app: &A,
-) -> Result<ExitCode, ServeFault>
+) -> Result<ExitCode, ServerFault>
 where
     R: Threads + Wait + Clock + RandomSource + Print + Eprint + AllocGlobal,
     R: Copy + Drop + Sync + Send + 'static,
 {
-    let report = server.run(rt, rt.alloc(), app).map_err(ServeFault::Server)?;
-    tell_report(rt, &report).map_err(|_| ServeFault::Writing)?;
+    let report = server.run(rt, rt.alloc(), app)?;
+    tell_report(rt, &report).map_err(|_| ServerFault::Writing)?;
     Ok(ExitCode::SUCCESS)
-}
-
-/// Reads standard input to its end, and has the server end then.
-pub fn wait_for_end<R: Wait + Clock + Input>(rt: &R, shared: &Arc<Shared>) {
-    let mut reader = rt.reader();
-    let mut piece = [0; 512];
-    for _ in 0..u64::MAX {
-        if matches!(reader.read(&mut piece), Ok(0) | Err(_)) {
-            break;
-        }
-    }
-    shared.stop(rt, Duration::from_millis(GRACE));
 }
 
 /// Tells what the server did, and then what each worker did of it.
@@ -91,4 +93,29 @@ fn tell_report<R: Print>(rt: &R, report: &Report) -> io::Result<()> {
         println!(rt; "worker {number}: commands {commands}, taken {taken}")?;
     }
     Ok(())
+}
+
+/// Reads standard input to its end, and has the server end then.
+pub fn wait_for_end<R: Wait + Clock + Input>(rt: &R, shared: &Arc<Shared>) {
+    // An input that fails has ended too.
+    let _ = io::copy(&mut rt.reader(), &mut io::sink());
+    shared.stop(rt, Duration::from_millis(GRACE));
+}
+
+/// The status of a program of this name. Why it failed is told on standard error.
+pub fn end_with<R: Eprint, E: Display + Drop>(
+    rt: &R,
+    name: &str,
+    done: Result<ExitCode, E>,
+) -> ExitCode {
+    done.unwrap_or_else(|fault| {
+        // Where standard error fails too, the status alone tells of the fault.
+        let _ = eprintln!(rt; "{name}: {fault}");
+        ExitCode::FAILURE
+    })
+}
+
+/// How many threads serve where nobody says how many.
+pub fn processors(rt: &impl Threads) -> usize {
+    thread::available_parallelism(rt).map_or(1, |number| number.get().min(MOST_WORKERS))
 }

@@ -3,8 +3,8 @@ use Rattle.std.specs.Prelude.{◌==◌, Bool, ◌||◌, [], ◌∷◌, Option, n
 use Rattle.terms.specs.Refusal.{first_refusal}
 use Rattle.connection.specs.declared.timing.Timing.{Timing}
 use Rattle.journal.specs.Config.{is_bad_config}
-use Rattle.settings.specs.declared.wrong.Setting.{Setting}
-use Rattle.settings.specs.declared.wrong.Setting.TheVariants as setting
+use Rattle.settings.specs.declared.settings.Setting.{Setting}
+use Rattle.settings.specs.declared.settings.Setting.TheVariants as setting
 use Rattle.settings.specs.declared.settings.Settings.{Settings}
 
 -- some time of the heartbeat is 0

@@ -2,9 +2,5 @@
 #![tactic(auto)]
 
 mod settings;
-mod usual;
-mod wrong;
 
-pub use settings::Settings;
-pub use usual::{MOST_BYTES, NUMBERS, TIMING, usual_spaces};
-pub use wrong::Setting;
+pub use settings::{MOST_BYTES, NUMBERS, Setting, Settings, TIMING, usual_spaces};

@@ -1,19 +1,102 @@
-//! The settings of a server.
+//! The settings of a server: which are usual, and which allow no server.
 
 ghost use Rattle.std.specs.Prelude.{◌≡◌, ◌<◌, None, IfOk};
 ghost use Rattle.settings.specs.Usual as usual;
+ghost use Rattle.settings.specs.Wrong as rules;
 ghost use Rattle.settings.specs.Wrong.{wrong_setting};
 
-use crate::usual::{MOST_BYTES, TIMING, usual_hub};
-use crate::wrong::{Setting, has_no_time};
 use connection::Timing;
 use eio_wire::Numbers;
 use journal::Config;
 use page::Page;
 use std::alloc::{AllocError, Global};
+use std::fmt;
+use terms::Text;
 
 /// The most loops: with the keeper as many workers as an id can tell.
 const MOST_WORKERS: usize = 1_023;
+
+/// The most bytes of a request's body, and of a frame.
+pub const MOST_BYTES: u64 = 1_000_000;
+
+/// When a client is pinged and given up: pings each 25 s, 20 s for the answer, 45 s to join a
+/// namespace.
+pub const TIMING: Timing = Timing {
+    ping_interval: 25_000,
+    ping_timeout: 20_000,
+    connect_timeout: 45_000,
+};
+
+/// What clients are told of that, and of their payloads.
+pub const NUMBERS: Numbers = Numbers {
+    ping_interval: TIMING.ping_interval,
+    ping_timeout: TIMING.ping_timeout,
+    max_payload: MOST_BYTES,
+};
+
+/// The namespaces.
+pub fn usual_spaces(alloc: Global) -> Result<Vec<Text>, AllocError>
+    ensures { IfOk result (λ spaces. spaces.items ≡ usual.spaces) }
+{
+    let mut spaces = Vec::new(alloc);
+    spaces.push(Text::copy_of(alloc, "/")?)?;
+    spaces.push(Text::copy_of(alloc, "/admin")?)?;
+    Ok(spaces)
+}
+
+/// The limits of the hub, with the namespaces.
+fn usual_hub(alloc: Global) -> Result<Config, AllocError>
+    ensures { IfOk result (λ hub. hub ≡ usual.hub) }
+{
+    let spaces = usual_spaces(alloc)?;
+    Ok(Config {
+        clients: 10_000,
+        capacity: 64,
+        bytes: 8_388_608,
+        log: 1_024,
+        saved: 4_096,
+        keep: 120_000,
+        first_offset: 1,
+        spaces,
+    })
+}
+
+/// A setting that can be wrong.
+#[derive(Clone, Copy, Debug, PartialEq, Eq)]
+pub enum Setting {
+    /// No loop, or more than 1,023.
+    Workers,
+    /// No connection together.
+    Together,
+    /// No entry in a payload over HTTP.
+    PollEntries,
+    /// No time from ping to ping, for the answer, or for the joining of a namespace.
+    Timing,
+    /// No byte in a payload, or more than are taken.
+    MaxPayload,
+    /// The hub allows no such limits or namespaces.
+    Limits,
+}
+
+impl fmt::Display for Setting {
+    fn fmt<W: fmt::Write>(&self, f: &mut fmt::Formatter<W>) -> fmt::Result {
+        f.write_str(match self {
+            Setting::Workers => "number of workers",
+            Setting::Together => "number of connections together",
+            Setting::PollEntries => "number of entries in a payload",
+            Setting::Timing => "timing",
+            Setting::MaxPayload => "size of payloads",
+            Setting::Limits => "limits",
+        })
+    }
+}
+
+/// Whether some time of the heartbeat is 0.
+fn has_no_time(timing: &Timing) -> bool
+    ensures { result ≡ rules.has_no_time timing.now }
+{
+    timing.ping_interval == 0 || timing.ping_timeout == 0 || timing.connect_timeout == 0
+}
 
 /// What a server is started with.
 #[derive(Drop)]
@@ -29,12 +112,12 @@ pub struct Settings {
     pub hub: Config,
     /// When a client is pinged, and when it is given up. No time of these is 0.
     pub timing: Timing,
-    /// How many bytes a payload may have, as clients are told: 1 to 1,000,000. The server takes so many
-    /// of each, whatever it told.
+    /// How many bytes a payload may have, as clients are told: 1 to 1,000,000. The server takes so
+    /// many of each, whatever it told.
     pub max_payload: u64,
-    /// How many connections, one after another, one loop is given before the next one is, at least 1.
-    /// Who comes at the same time is often in the same rooms, and one loop serves these without waking
-    /// another.
+    /// How many connections, one after another, one loop is given before the next one is, at least
+    /// 1. Who comes at the same time is often in the same rooms, and one loop serves these without
+    /// waking another.
     pub together: u64,
     /// How many entries one payload over HTTP may have, at least 1.
     pub poll_entries: usize,

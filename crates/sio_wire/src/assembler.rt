@@ -1,8 +1,9 @@
 //! One client's frames, put together to packets (Socket.IO protocol 5, "Packet encoding").
 
 ghost use Rattle.std.specs.Prelude.{List, [], ◌≡◌, ◌≢◌, ◌⊎◌, ◌+◌, ◌<◌, ◌≤◌, Some, Err, IfOk, IfErr, IfSome, IfNone, OnOk, length, sum_by};
+ghost use Rattle.sio_wire.specs.declared.assembler.Progress.{Progress};
 ghost use Rattle.sio_wire.specs.Header.{Sio};
-ghost use Rattle.sio_wire.specs.Frames.{Frame, text as text_frame, binary as binary_frame, Accepted, Accepts, GivesOrKeeps, RefusesText, text_refusal, binary_refusal, awaited, exceeds};
+ghost use Rattle.sio_wire.specs.Frames.{Frame, text as text_frame, binary as binary_frame, Accepted, Accepts, GivesOrKeeps, IsProgress, RefusesText, text_refusal, binary_refusal, awaited, exceeds};
 
 use crate::error::SioError;
 use crate::header::{Header, read_header};
@@ -31,11 +32,7 @@ pub struct Assembler {
 }
 
 impl Model for Assembler {
-    ghost use Rattle.sio_wire.specs.declared.assembler.Progress.{Progress};
-
     ghost Value = { Progress };
-
-    ghost use Rattle.sio_wire.specs.Frames.{IsProgress};
 
     ghost view = { λ a. a.progress };
 
@@ -69,8 +66,7 @@ impl Assembler {
     /// `Memory` the assembler has failed: each further frame is answered with that error. After
     /// `Memory` it is as before.
     pub fn text(&mut self, alloc: Global, text: &str) -> Result<Option<SioPacket>, SioError>
-        ensures accepted { IfOk result
-            (λ given. Accepts self.old (text_frame text.now) given self.new) }
+        ensures accepted { IfOk result (λ g. Accepts self.old (text_frame text.now) g self.new) }
         ensures spells { OnOk result ((header : Header) × Sio header text.now) }
 
         // While binary frames are awaited, and after a failure, no text is looked at.
@@ -96,8 +92,7 @@ impl Assembler {
     /// `Memory` the assembler has failed: each further frame is answered with that error. After
     /// `Memory` it is as before.
     pub fn binary(&mut self, alloc: Global, bytes: &[u8]) -> Result<Option<SioPacket>, SioError>
-        ensures accepted { IfOk result
-            (λ given. Accepts self.old (binary_frame bytes.now) given self.new) }
+        ensures accepted { IfOk result (λ g. Accepts self.old (binary_frame bytes.now) g self.new) }
         ensures refused { IfSome (binary_refusal self.old) (λ error.
             (result ≡ Err error) × (self.new ≡ Progress.Failed error)) }
         ensures fault { IfErr result (λ error. ((error ≡ SioError.Memory) × (self.new ≡ self.old))

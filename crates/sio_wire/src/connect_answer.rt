@@ -1,8 +1,9 @@
-//! What the server answers to a CONNECT (Socket.IO protocol 5, "Connection to a namespace").
+//! What the server answers to a CONNECT, and what it sends where it ends a socket (Socket.IO
+//! protocol 5, "Connection to a namespace" and "Disconnection from a namespace").
 
 ghost use Rattle.std.specs.Prelude.{◌≡◌, IfOk, OnErr, IsErrOf, string_bytes};
-ghost use Rattle.json.specs.Print.{quoted};
 ghost use Rattle.sio_wire.specs.ConnectAnswer as answer;
+ghost use Rattle.sio_wire.specs.Disconnect as disconnect;
 ghost use Rattle.sio_wire.specs.Header.{space_text};
 
 use crate::error::SioError;
@@ -25,20 +26,22 @@ pub fn connected_text(alloc: Global, space: &str, sid: u128, pid: u128) -> Resul
 
 /// The answer that the connection is refused, with a message for the client.
 pub fn refused_text(alloc: Global, space: &str, message: &str) -> Result<String, SioError>
-    ensures ok { IfOk result
-        (λ text. string_bytes text ≡ answer.refused_text space.now message.now) }
+    ensures ok { IfOk result (λ t. string_bytes t ≡ answer.refused_text space.now message.now) }
     ensures err { OnErr result (IsErrOf result SioError.Memory) }
 {
     let part = space_part(alloc, space)?;
-    let message = quote(alloc, message)?;
+    let message = Value::try_from_str(alloc, message)?.to_string(alloc)?;
     Ok(format!(in alloc; "4{part}{{\"message\":{message}}}")?)
 }
 
-/// The text as a JSON text.
-fn quote(alloc: Global, text: &str) -> Result<String, AllocError>
-    ensures { IfOk result (λ written. string_bytes written ≡ quoted text.now) }
+/// The DISCONNECT packet for a namespace.
+pub fn disconnect_text(alloc: Global, space: &str) -> Result<String, SioError>
+    ensures ok { IfOk result (λ text. string_bytes text ≡ disconnect.disconnect_text space.now) }
+    ensures err { OnErr result (IsErrOf result SioError.Memory) }
 {
-    Value::try_from_str(alloc, text)?.to_string(alloc)
+    let mut text = String::from_str(alloc, "1")?;
+    push_space(&mut text, space)?;
+    Ok(text)
 }
 
 /// The namespace and a comma, or nothing for `/`.

@@ -17,9 +17,7 @@ pub fn with_offset(alloc: Global, payload: &str, offset: u64) -> Result<String, 
         ↔ (list_any is_bracket payload.now ≡ false) }
     ensures err { IfErr result (λ e. (e ≡ SioError.Memory) ⊎ (e ≡ SioError.BadShape)) }
 {
-    let Some(front) = before_last_bracket(payload) else {
-        return Err(SioError::BadShape);
-    };
+    let front = before_last_bracket(payload).ok_or(SioError::BadShape)?;
     let mut digits = [0u8; 16];
     write_digits(u128::from(offset), &mut digits);
     let digits = ascii_text(&digits);
@@ -29,8 +27,7 @@ pub fn with_offset(alloc: Global, payload: &str, offset: u64) -> Result<String, 
 /// The offset that has these digits.
 pub fn read_offset(text: &str) -> Option<u64>
     ensures digits { IfSome result (λ offset. text.now ≡ offset_digits offset) }
-    ensures again { (offset : ℕ)
-        → offset < 2 ^ 64 → text.now ≡ offset_digits offset → result ≡ Some offset }
+    ensures again { (n : ℕ) → n < 2 ^ 64 → text.now ≡ offset_digits n → result ≡ Some n }
 {
     if text.len() != 16 {
         return None;

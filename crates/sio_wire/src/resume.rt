@@ -7,7 +7,7 @@ ghost use Rattle.sio_wire.specs.JsonFields.{resume_at};
 use crate::error::SioError;
 use crate::tree::parse;
 use serde_json::Value;
-use std::alloc::{AllocError, Global};
+use std::alloc::Global;
 use terms::Text;
 
 /// The private session id that a client names, and the last offset that it got in that session,
@@ -31,16 +31,10 @@ pub fn resume_of(alloc: Global, payload: &str) -> Result<Option<Resume>, SioErro
     let pid = value.get("pid").and_then(Value::as_str);
     let offset = value.get("offset").and_then(Value::as_str);
     match (pid, offset) {
-        (Some(pid), Some(offset)) => Ok(Some(copy_of(alloc, pid, offset)?)),
+        (Some(pid), Some(offset)) => Ok(Some(Resume {
+            pid: Text::copy_of(alloc, pid)?,
+            offset: Text::copy_of(alloc, offset)?,
+        })),
         _ => Ok(None),
     }
-}
-
-fn copy_of(alloc: Global, pid: &str, offset: &str) -> Result<Resume, AllocError>
-    ensures { IfOk result (λ named. named ≡ record { pid = pid.now; offset = offset.now }) }
-{
-    Ok(Resume {
-        pid: Text::copy_of(alloc, pid)?,
-        offset: Text::copy_of(alloc, offset)?,
-    })
 }

@@ -1,12 +1,15 @@
-//! The JSON tree of a text.
+//! The JSON tree of a payload, and the texts among an event's elements.
 
-ghost use Rattle.std.specs.Prelude.{◌≡◌, ◌⊎◌, Some, None, IfOk, IfErr};
+ghost use Rattle.std.specs.Option.{option_copied};
+ghost use Rattle.std.specs.Prelude.{◌≡◌, ◌⊎◌, Some, None, Ok, Err, IfOk, IfErr};
 ghost use Rattle.serde_json.specs.Read.{read};
-ghost use Rattle.serde_json.specs.View.{view};
+ghost use Rattle.serde_json.specs.View.{view, items_view};
+ghost use Rattle.sio_wire.specs.JsonFields.{texts_of, names_at};
 
 use crate::error::SioError;
 use serde_json::{Category, Value};
-use std::alloc::Global;
+use std::alloc::{AllocError, Global};
+use terms::Text;
 
 /// The tree, or `BadJson` where the text is no JSON text.
 pub(crate) fn parse(alloc: Global, text: &str) -> Result<Value, SioError>
@@ -18,5 +21,38 @@ pub(crate) fn parse(alloc: Global, text: &str) -> Result<Value, SioError>
         Ok(value) => Ok(value),
         Err(error) if error.classify() == Category::Memory => Err(SioError::Memory),
         Err(_) => Err(SioError::BadJson),
+    }
+}
+
+/// For each element of the payload's array its text, or `None` where it is no text. `BadJson`
+/// where the payload is no JSON text, then `BadShape` where it is no array.
+pub fn names(alloc: Global, payload: &str) -> Result<Vec<Option<Text>>, SioError>
+    ensures ok { IfOk result (λ found. names_at payload.now ≡ Ok found.items) }
+    ensures err { IfErr result (λ e. (e ≡ SioError.Memory) ⊎ (names_at payload.now ≡ Err e)) }
+{
+    match &parse(alloc, payload)? {
+        Value::Array(elements) => Ok(texts(alloc, elements)?),
+        _ => Err(SioError::BadShape),
+    }
+}
+
+/// For each value its text, where it is one.
+fn texts(alloc: Global, values: &Vec<Value>) -> Result<Vec<Option<Text>>, AllocError>
+    ensures { IfOk result (λ found. found.items ≡ texts_of (items_view values.now.items)) }
+{
+    let mut found = Vec::new(alloc);
+    for value in values {
+        found.push(copy_of(alloc, value.as_str())?)?;
+    }
+    Ok(found)
+}
+
+/// A copy of the text, if there is one.
+fn copy_of(alloc: Global, text: Option<&str>) -> Result<Option<Text>, AllocError>
+    ensures { IfOk result (λ copy. copy ≡ option_copied text.entry) }
+{
+    match text {
+        Some(text) => Ok(Some(Text::copy_of(alloc, text)?)),
+        None => Ok(None),
     }
 }

@@ -13,10 +13,6 @@ use std::alloc::Global;
 use std::rt::Clock;
 use tcp_streams::Stream;
 
-/// So many bytes are sent when their connection's turn ends, while they are at hand in the processor's
-/// caches. Fewer wait for the end of the loop's turn, so that more may go out with them.
-const MUCH_UNSENT: usize = 32_768;
-
 /// The connections of a loop. Each has a key.
 pub struct Connections<R> {
     slots: Slab<Box<Connection<R>>>,
@@ -158,22 +154,6 @@ impl<R: Clock + Drop> Connections<R> {
         }
     }
 
-    /// Whether a connection brought all that it read, and its stream has no more, as far as is known.
-    pub fn has_brought_all(&mut self, key: usize) -> bool {
-        self.get_mut(key).is_some_and(Connection::has_brought_all)
-    }
-
-    /// What a connection has to send goes out at the end of the loop's turn, or at once where that is
-    /// much. Answers whether it is over.
-    pub fn send_soon(&mut self, key: usize, now: u64) -> bool {
-        let unsent = self.get_mut(key).map_or(0, Connection::bytes_unsent);
-        if unsent >= MUCH_UNSENT {
-            return self.send(key, now);
-        }
-        self.note_unsent(key);
-        false
-    }
-
     /// One that may have bytes to send.
     pub fn pop_unsent(&mut self) -> Option<usize> {
         let key = self.unsent.pop()?;
@@ -215,16 +195,6 @@ impl<R: Clock + Drop> Connections<R> {
         }
     }
 
-    /// Whose connection it is, once that is known.
-    pub fn client(&self, key: usize) -> Option<u128> {
-        self.slots.get(key)?.stage.client()
-    }
-
-    /// Whether the connection is a WebSocket.
-    pub fn is_socket(&self, key: usize) -> bool {
-        self.slots.get(key).is_some_and(|own| own.stage.is_socket())
-    }
-
     /// Queues the connection with this token, if it is still there.
     pub fn queue(&mut self, token: Token) {
         if let Some(key) = self.key_of(token) {
@@ -232,29 +202,21 @@ impl<R: Clock + Drop> Connections<R> {
         }
     }
 
-    /// What a connection is at.
-    fn part_of(&self, key: usize, cutting: bool) -> Part {
-        let Some(connection) = self.slots.get(key) else {
-            return Part::Ends;
+    /// Does what is to be done with a connection that took too long, or one that is to end. Answers
+    /// whether it is to be closed at once.
+    pub fn keep_deadline(&mut self, key: usize, cutting: bool, now: u64) -> bool {
+        let Some(connection) = self.slots.get_mut(key) else {
+            return false;
         };
         let (stage, takers) = (&connection.stage, &self.roster.takers);
         let speaks = |client| !stage.is_socket() || takers.is_taker(client, key);
-        match connection.mode {
+        let part = match connection.mode {
             Mode::Gathers => Part::Request,
             Mode::Loses(_) | Mode::Closes if !cutting => Part::Sends,
             Mode::Loses(_) | Mode::Closes | Mode::Lingers => Part::Ends,
             Mode::Serves if stage.is_waiting() => Part::Waits,
             Mode::Serves if stage.client().is_none_or(speaks) => Part::Served,
             Mode::Serves => Part::Knocks,
-        }
-    }
-
-    /// Does what is to be done with a connection that took too long, or one that is to end. Answers
-    /// whether it is to be closed at once.
-    pub fn keep_deadline(&mut self, key: usize, cutting: bool, now: u64) -> bool {
-        let part = self.part_of(key, cutting);
-        let Some(connection) = self.get_mut(key) else {
-            return false;
         };
         let overdue = connection.keep_deadline(part, cutting, now);
         if !matches!(overdue, Overdue::Nothing | Overdue::Close) {

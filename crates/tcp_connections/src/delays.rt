@@ -36,17 +36,15 @@ impl Delays {
         self.noops.retain(|_, told| is_recent(*told, now));
     }
 
-    /// From when on a request is served that came now.
-    pub fn served_from(&self, target: Target, now: u64) -> u64 {
-        match target {
+    /// From when on a request is served that came now over this connection, which waits where that is
+    /// later, and there is memory for it.
+    pub fn delay(&mut self, target: Target, token: Token, now: u64) -> u64 {
+        let from = match target {
             Target::Poll(client) => served_from(self.noops.get(&client).copied(), now),
             _ => now,
-        }
-    }
-
-    /// A connection waits until this moment. Answers whether there was memory for it.
-    pub fn delay(&mut self, from: u64, token: Token) -> bool {
-        self.waiting.push_back((from, token)).is_ok()
+        };
+        let waits = from > now && self.waiting.push_back((from, token)).is_ok();
+        if waits { from } else { now }
     }
 
     /// The moment of the first one that waits.

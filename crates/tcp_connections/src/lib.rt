@@ -4,7 +4,6 @@
 
 mod connections;
 mod delays;
-mod progress;
 mod stage;
 mod tcp_connection;
 mod watch;

@@ -4,7 +4,6 @@ use crate::watch::Watch;
 use events::{Answered, Event, Peer, PeerFault};
 use http_edge::{EdgeError, Gathered, OnStream, Replay, Request, Target, write_response};
 use loop_rules::Pause;
-use page::Page;
 use peers::{
     PollPeer, PollRequest, Reply, SocketPeer, SocketRequest, accept_socket, reply_to_fault,
     reply_to_target,
@@ -41,11 +40,10 @@ impl<R: Clock + Drop> Stage<R> {
     /// The stream, if it is still here.
     pub fn stream(&mut self) -> Option<&mut Stream> {
         match self {
-            Stage::Gathering { stream, .. } => Some(stream),
+            Stage::Gathering { stream, .. } | Stage::Downloading { stream, .. } => Some(stream),
             Stage::Polling(peer) => Some(peer.wire_mut().get_mut()),
             Stage::Speaking(peer) => Some(peer.stream_mut().get_mut()),
             Stage::Answered(stream) => Some(stream),
-            Stage::Downloading { stream, .. } => Some(stream),
             Stage::Gone => None,
         }
     }
@@ -57,11 +55,6 @@ impl<R: Clock + Drop> Stage<R> {
             Stage::Speaking(peer) => peer.client(),
             _ => None,
         }
-    }
-
-    /// Whether it is a request over HTTP.
-    pub fn is_polling(&self) -> bool {
-        matches!(self, Stage::Polling(_))
     }
 
     /// Whether it is a WebSocket.
@@ -154,16 +147,7 @@ impl<R: Clock + Drop> Stage<R> {
         }
     }
 
-    /// Answers by a file, of which the head and a first piece are written.
-    fn download(&mut self, alloc: Global, page: Arc<Page>, request: Box<Request>) {
-        if let Some(mut stream) = self.take_stream() {
-            if let Ok(download) = Download::begin(alloc, &mut stream, page, request) {
-                *self = Stage::Downloading { stream, download };
-            }
-        }
-    }
-
-    /// Has a request served, or answers it.
+    /// Answers a request, or has a peer serve it. None where no peer does.
     pub fn serve(
         &mut self,
         alloc: Global,
@@ -171,38 +155,33 @@ impl<R: Clock + Drop> Stage<R> {
         target: Target,
         watch: Watch<R>,
         rules: &Rules,
-    ) {
+    ) -> Option<()> {
         if matches!(target, Target::NotFound) && asks_for_file(&rules.page, &request) {
-            match Arc::try_clone(&rules.page) {
-                Ok(page) => self.download(alloc, page, request),
-                Err(_) => self.reply(alloc, &None, reply_to_fault(EdgeError::Memory)),
-            }
-        } else if let Some(reply) = reply_to_target(target) {
-            self.reply(alloc, &request.origin, Some(reply));
-        } else if let Some(stream) = self.take_stream() {
-            let stage = serving(alloc, stream, request, target, watch, rules.poll_entries);
-            *self = stage.unwrap_or(Stage::Gone);
+            let Ok(page) = Arc::try_clone(&rules.page) else {
+                self.reply(alloc, &None, reply_to_fault(EdgeError::Memory));
+                return None;
+            };
+            let mut stream = self.take_stream()?;
+            let download = Download::begin(alloc, &mut stream, page, request).ok()?;
+            *self = Stage::Downloading { stream, download };
+            return None;
         }
+        if let Some(reply) = reply_to_target(target) {
+            self.reply(alloc, &request.origin, Some(reply));
+            return None;
+        }
+        let stream = self.take_stream()?;
+        let request = Box::into_inner(request);
+        if let Some(wanted) = SocketRequest::of(target) {
+            let socket = accept_socket(alloc, stream, request.head, request.rest)?;
+            let peer = SocketPeer::new(alloc, socket, watch, wanted);
+            *self = Stage::Speaking(Box::new(alloc, peer).ok()?);
+            return Some(());
+        }
+        let wanted = PollRequest::of(target, request.body)?;
+        let (wire, most) = (OnStream::new(stream), rules.poll_entries);
+        let peer = PollPeer::new(alloc, wire, watch, wanted, most, request.origin);
+        *self = Stage::Polling(Box::new(alloc, peer).ok()?);
+        Some(())
     }
-}
-
-/// Who serves a request, if somebody can. A payload over HTTP has at most so many entries.
-fn serving<R: Clock + Drop>(
-    alloc: Global,
-    stream: Stream,
-    request: Box<Request>,
-    target: Target,
-    watch: Watch<R>,
-    most: usize,
-) -> Option<Stage<R>> {
-    let request = Box::into_inner(request);
-    if let Some(wanted) = SocketRequest::of(target) {
-        let socket = accept_socket(alloc, stream, request.head, request.rest)?;
-        let peer = SocketPeer::new(alloc, socket, watch, wanted);
-        return Some(Stage::Speaking(Box::new(alloc, peer).ok()?));
-    }
-    let wanted = PollRequest::of(target, request.body)?;
-    let wire = OnStream::new(stream);
-    let peer = PollPeer::new(alloc, wire, watch, wanted, most, request.origin);
-    Some(Stage::Polling(Box::new(alloc, peer).ok()?))
 }

@@ -1,12 +1,12 @@
 //! One connection.
 
-use crate::progress::Progress;
 use crate::stage::Stage;
 use crate::watch::Watch;
-use events::{Answered, Event, Loss, Telling};
+use events::{Answered, Event, Frames, Loss, Outcome, Telling, WsFrame};
 use http_edge::{Gathered, Request, Target};
-use loop_rules::{Found, Overdue, Part, Pause, find_overdue};
+use loop_rules::{Found, Overdue, Part, Pause, find_overdue, left_after_message};
 use mio::Token;
+use peers::{FRAMES_PER_TAKE, PROBE, UPGRADE};
 use std::alloc::Global;
 use std::net::Shutdown;
 use std::rt::Clock;
@@ -14,6 +14,9 @@ use tcp_streams::{Rules, Stream, drain};
 
 /// A connection with more bytes unsent than this is not served until they have gone.
 const MOST_UNSENT: usize = 65_536;
+
+/// For how long what is due to a client isn't asked again, in milliseconds.
+const DUE: u64 = 10;
 
 /// What a connection is about.
 #[derive(Drop)]
@@ -46,7 +49,12 @@ pub struct Connection<R> {
     moved: u64,
     /// It waits for this moment before it is served.
     pub not_before: u64,
-    progress: Progress,
+    /// How many bytes at the most its WebSocket has read and not brought.
+    unread: usize,
+    /// Its last event takes what waits, where all that was read was brought and the stream had no more.
+    dry: bool,
+    /// The moment at which it was last asked what is due.
+    asked: u64,
     pub stage: Stage<R>,
 }
 
@@ -87,7 +95,9 @@ impl<R: Clock + Drop> Connection<R> {
             since: now,
             moved: now,
             not_before: 0,
-            progress: Progress::new(0),
+            unread: 0,
+            dry: false,
+            asked: 0,
             stage: Stage::Gathering { stream, gathered },
         };
         Box::new(alloc, connection).ok()
@@ -134,15 +144,15 @@ impl<R: Clock + Drop> Connection<R> {
         rules: &Rules,
         now: u64,
     ) {
-        self.progress = Progress::new(request.rest.len());
+        self.unread = request.rest.len();
         self.mode = Mode::Serves;
         self.since = now;
         if let Some(stream) = self.stage.stream() {
             // The head, and the rest with it.
             let _ = stream.take_read();
         }
-        self.stage.serve(alloc, request, target, watch, rules);
-        if !matches!(self.stage, Stage::Polling(_) | Stage::Speaking(_)) {
+        let served = self.stage.serve(alloc, request, target, watch, rules);
+        if served.is_none() {
             self.end(now);
         }
     }
@@ -172,22 +182,26 @@ impl<R: Clock + Drop> Connection<R> {
         }
     }
 
-    /// Brings an event, unless what it asks was asked just so.
+    /// Brings an event, unless it asks what is due, a moment after that was asked.
     fn bring(&mut self, event: Event, moment: u64) -> Next {
         let read = self.stage.stream().map_or(0, |stream| stream.take_read());
-        self.progress.note_read(read, &event);
-        let dry = self.stage.has_read_nothing() || self.has_brought_all();
-        if self.progress.asks_again(&event, dry, moment) {
-            Next::AsksAgain
-        } else {
-            Next::Brings(event, moment)
+        let unread = self.unread.saturating_add(read);
+        let left = |length| left_after_message(unread, length);
+        self.unread = message_length(&event).map_or(unread, left);
+        self.dry = matches!(event, Event::FrameTake { .. })
+            && (self.stage.has_read_nothing() || self.has_brought_all());
+        if matches!(event, Event::Tick { .. }) {
+            if moment < self.asked.saturating_add(DUE) {
+                return Next::AsksAgain;
+            }
+            self.asked = moment;
         }
+        Next::Brings(event, moment)
     }
 
     /// Whether it brought all that it read, and its stream has no more, as far as is known.
     pub fn has_brought_all(&mut self) -> bool {
-        self.progress.has_brought_all()
-            && self.stage.stream().is_none_or(|stream| stream.is_drained())
+        self.unread == 0 && self.stage.stream().is_none_or(|stream| stream.is_drained())
     }
 
     /// Hears the answer to its event, and tells what that says of its look. It fails where it could not.
@@ -196,8 +210,14 @@ impl<R: Clock + Drop> Connection<R> {
             self.fail(now);
             return None;
         }
-        let (is_idle, found) = (self.stage.is_idle(), self.progress.found(got));
-        Some(if is_idle { Found::Idle } else { found })
+        let took_all = |frames: &Frames| frames.as_slice().len() < FRAMES_PER_TAKE;
+        Some(match got {
+            _ if self.stage.is_idle() => Found::Idle,
+            Ok(Outcome::Ticked { ping, done }) if !*ping && done.closed.is_none() => Found::Quiet,
+            Ok(Outcome::Nothing) if self.dry => Found::Dry,
+            Ok(Outcome::Frames(frames)) if self.dry && took_all(frames) => Found::Dry,
+            _ => Found::More,
+        })
     }
 
     /// It is served no more, and ends once its bytes have gone.
@@ -251,7 +271,7 @@ impl<R: Clock + Drop> Connection<R> {
     /// else it is read on, since a stream that is closed with bytes unread takes back what was sent.
     fn part(&mut self, now: u64) -> Sent {
         self.since = now;
-        if self.stage.is_polling() {
+        if matches!(self.stage, Stage::Polling(_)) {
             return Sent::Remove;
         }
         self.mode = Mode::Lingers;
@@ -270,7 +290,7 @@ impl<R: Clock + Drop> Connection<R> {
         }
         match self.mode {
             Mode::Loses(_) => self.cut(),
-            _ if self.stage.is_polling() => self.fail(now),
+            _ if matches!(self.stage, Stage::Polling(_)) => self.fail(now),
             Mode::Serves => self.cut(),
             Mode::Gathers | Mode::Closes | Mode::Lingers => return Sent::Remove,
         }
@@ -287,5 +307,18 @@ impl<R: Clock + Drop> Connection<R> {
     /// Reads and forgets what comes. None where it has ended.
     pub fn drain(&mut self) -> Option<Pause> {
         drain(self.stage.stream()?)
+    }
+}
+
+/// How long the message is that an event brings.
+fn message_length(event: &Event) -> Option<usize> {
+    match event {
+        Event::Frame { frame, .. } => Some(match frame {
+            WsFrame::Text(text) => text.as_str().len(),
+            WsFrame::Bytes(bytes) => bytes.as_slice().len(),
+        }),
+        Event::Probe { .. } => Some(PROBE.len()),
+        Event::Upgraded { .. } => Some(UPGRADE.len()),
+        _ => None,
     }
 }

@@ -5,11 +5,12 @@ use loop_rules::Notes;
 use metrics::Reason;
 use peers::Moments;
 use std::alloc::{AllocError, Global};
+use std::io;
 use std::rt::Clock;
 use std::sync::{Arc, Wait};
-use std::time::{Duration, Instant};
+use std::time::Instant;
 use tcp_connections::Watch;
-use tcp_streams::{Ended, Handed, Inbox, Log, Rules, ServerFault, Shared, starting};
+use tcp_streams::{Ended, Handed, Inbox, Log, Rules, Shared};
 
 /// What a worker goes by: through it a loop, or the keeper, speaks to the others.
 pub struct Base<'a, R, L> {
@@ -46,8 +47,8 @@ impl<'a, R: Clock + Copy, L> Base<'a, R, L> {
         log: &'a L,
         shared: Arc<Shared>,
         rules: Arc<Rules>,
-    ) -> Result<Base<'a, R, L>, ServerFault> {
-        let start = Instant::now(rt).map_err(starting)?;
+    ) -> io::Result<Base<'a, R, L>> {
+        let watch = Watch::new(*rt, Instant::now(rt)?);
         Ok(Base {
             rt: *rt,
             alloc,
@@ -55,7 +56,7 @@ impl<'a, R: Clock + Copy, L> Base<'a, R, L> {
             number: 0,
             shared,
             rules,
-            watch: Watch::new(*rt, start),
+            watch,
         })
     }
 
@@ -84,11 +85,6 @@ impl<R: Wait + Clock, L: Log> Base<'_, R, L> {
         self.shared.note_closed(&self.rt);
     }
 
-    /// The loop was given a connection.
-    pub fn note_connection(&self) {
-        self.shared.tallies.note_connection(&self.rt, self.number);
-    }
-
     /// Something was refused.
     pub fn note_refused(&self, reason: Reason) {
         self.shared.tallies.note_refused(&self.rt, reason);
@@ -103,11 +99,6 @@ impl<R: Wait + Clock, L: Log> Base<'_, R, L> {
     pub fn hand(&self, owner: usize, handed: Handed) -> bool {
         let inbox = self.shared.inboxes.get(owner);
         inbox.is_some_and(|inbox| inbox.hand(&self.rt, handed))
-    }
-
-    /// Waits until no loop is at work, but no longer than so, and tells whether none is.
-    pub fn wait_for_loops(&self, most: Duration) -> bool {
-        self.shared.wait_for_loops(&self.rt, most)
     }
 
     /// Tells each loop of its clients that were noted.
@@ -125,16 +116,29 @@ impl<R: Wait + Clock, L: Log> Base<'_, R, L> {
         notes.everyone = false;
     }
 
-    /// A client was opened.
+    /// A client was opened. Where there is no memory for it, nothing is told of it.
     pub fn note_opened(&mut self, client: u128, socket: bool) {
         let now = self.watch.now();
-        self.shared.lives.note_opened(&self.rt, client, socket, now);
+        if let Some(lives) = &self.shared.lives {
+            let _ = lives.lock(&self.rt).insert(client, (now, socket));
+        }
+    }
+
+    /// A client has come over to its WebSocket.
+    pub fn note_upgraded(&self, client: u128) {
+        if let Some(lives) = &self.shared.lives {
+            if let Some((_, socket)) = lives.lock(&self.rt).get_mut(&client) {
+                *socket = true;
+            }
+        }
     }
 
     /// A client has ended, of which the log is told.
     pub fn note_end(&mut self, client: u128, cause: Option<Cause>) {
         let now = self.watch.now();
-        if let Some((since, socket)) = self.shared.lives.remove(&self.rt, client) {
+        let lives = self.shared.lives.as_ref();
+        let life = lives.and_then(|lives| lives.lock(&self.rt).remove(&client));
+        if let Some((since, socket)) = life {
             self.log.client_ended(&Ended {
                 client,
                 socket,

@@ -6,55 +6,54 @@ use crate::base::Base;
 use crate::drawn::DrawnIds;
 use crate::event_loop::EventLoop;
 use crate::keeper::{Keeper, KeptCore};
-use crate::worker::Worker;
+use events::{Answered, Event, Peer, PeerFault};
 use rand::make_rng;
 use rand::rngs::StdRng;
-use std::alloc::Global;
+use std::alloc::{AllocError, Global};
 use std::random::RandomSource;
 use std::rt::Clock;
 use std::sync::{Arc, Wait};
 use std::thread;
 use std::thread::{JoinHandle, Threads};
-use tcp_streams::{Acceptor, Ears, Log, ServerFault, starting};
+use tcp_streams::{Acceptor, Ears, Log, ServerFault};
 
-/// The workers of a server, which are to be served, and who accepts in a thread that has begun.
-pub struct Crew<'a, R, L, K> {
-    pub workers: Vec<Worker<'a, R, L, K>>,
-    /// A source of ids for each worker.
-    pub ids: Vec<DrawnIds<StdRng>>,
-    pub accepting: JoinHandle<()>,
+/// What a thread of the pool serves.
+pub enum Worker<'a, R, L, K> {
+    Serves(EventLoop<'a, R, L>),
+    Keeps(Keeper<'a, R, L, K>),
 }
 
-/// The workers, each with its source of ids, and who accepts for them.
-pub fn crew_for<
-    'a,
-    R: Threads + Wait + Clock + RandomSource + Copy + Drop + Send + 'static,
-    L: Log,
-    K: KeptCore,
->(
-    base: &Base<'a, R, L>,
-    ears: Vec<Ears>,
-    core: K,
-    acceptor: Box<Acceptor>,
-) -> Result<Crew<'a, R, L, K>, ServerFault>
-    ensures { IfOk result (λ crew. vec_len crew.ids ≡ vec_len crew.workers) }
-{
-    let workers = workers_for(base, ears, core)?;
-    let ids = sources(&base.rt, base.alloc, workers.len())?;
-    let accepting = start_accepting(base, acceptor)?;
-    Ok(Crew {
-        workers,
-        ids,
-        accepting,
-    })
+/// Written out, so that a crate above takes the drop of all that lies in it by this one call.
+impl<R: Drop, L, K: Drop> Drop for Worker<'_, R, L, K> {
+    fn drop(self) {
+        match self {
+            Worker::Serves(_) | Worker::Keeps(_) => {}
+        }
+    }
+}
+
+impl<R: Wait + Clock + Copy + Drop, L: Log, K: KeptCore> Peer for Worker<'_, R, L, K> {
+    fn next(&mut self) -> Result<Option<(Event, u64)>, PeerFault> {
+        match self {
+            Worker::Serves(own) => own.next(),
+            Worker::Keeps(keeper) => keeper.next(),
+        }
+    }
+
+    fn answer(&mut self, got: &Answered) -> Result<(), PeerFault> {
+        match self {
+            Worker::Serves(own) => own.answer(got),
+            Worker::Keeps(keeper) => keeper.answer(got),
+        }
+    }
 }
 
 /// The loops, each with its ears, and the keeper as the last worker.
-fn workers_for<'a, R: Wait + Clock + Copy + Drop, L: Log, K: KeptCore>(
+pub fn workers_for<'a, R: Wait + Clock + Copy + Drop, L: Log, K: KeptCore>(
     base: &Base<'a, R, L>,
     ears: Vec<Ears>,
     core: K,
-) -> Result<Vec<Worker<'a, R, L, K>>, ServerFault> {
+) -> Result<Vec<Worker<'a, R, L, K>>, AllocError> {
     let mut workers = Vec::new(base.alloc);
     for own in ears {
         let own = EventLoop::new(base.of_worker(workers.len())?, own)?;
@@ -66,7 +65,7 @@ fn workers_for<'a, R: Wait + Clock + Copy + Drop, L: Log, K: KeptCore>(
 }
 
 /// A source of ids for each worker, which begins where the system says.
-fn sources<R: RandomSource>(
+pub fn sources<R: RandomSource>(
     rt: &R,
     alloc: Global,
     workers: usize,
@@ -75,14 +74,13 @@ fn sources<R: RandomSource>(
 {
     let mut all = Vec::new(alloc);
     for worker in 0..workers {
-        let random = make_rng::<StdRng, R>(rt).map_err(starting)?;
-        all.push(DrawnIds::new(worker, random))?;
+        all.push(DrawnIds::new(worker, make_rng::<StdRng, R>(rt)?))?;
     }
     Ok(all)
 }
 
 /// Accepts in a thread of its own.
-fn start_accepting<R: Threads + Wait + Clock + Copy + Drop + Send + 'static, L>(
+pub fn start_accepting<R: Threads + Wait + Clock + Copy + Drop + Send + 'static, L>(
     base: &Base<'_, R, L>,
     mut acceptor: Box<Acceptor>,
 ) -> Result<JoinHandle<()>, ServerFault> {

@@ -6,19 +6,23 @@ use events::{Answered, Event, Peer, PeerFault};
 use loop_rules::{Mail, Notes, Pause, Turn};
 use mio::net::TcpStream;
 use mio::{Events, Interest, Poll};
-use std::alloc::Global;
+use std::alloc::{AllocError, Global};
 use std::mem;
 use std::rt::Clock;
 use std::sync::Wait;
 use std::time::Duration;
 use tcp_connections::{Connection, Connections, Delays, Mode, Next};
-use tcp_streams::{Buffered, Ears, Handed, Inbox, Log, ServerFault, Stream};
+use tcp_streams::{Buffered, Ears, Handed, Inbox, Log, Reading, Stream};
 
 /// How many reports of streams one wait takes.
 const EVENTS: usize = 256;
 
 /// The most new connections that one turn of the loop adds. Where more wait, it doesn't sleep.
 const STREAMS: usize = 256;
+
+/// So many bytes are sent when their connection's turn ends, while they are at hand in the processor's
+/// caches. Fewer wait for the end of the loop's turn, so that more may go out with them.
+const MUCH_UNSENT: usize = 32_768;
 
 /// The most turns of connections in one turn of the loop.
 const TURNS: usize = 1_024;
@@ -39,6 +43,7 @@ pub(crate) struct Current {
 }
 
 /// A loop over many connections.
+#[derive(Drop)]
 pub struct EventLoop<'a, R, L> {
     pub(crate) base: Base<'a, R, L>,
     pub(crate) poll: Poll,
@@ -54,25 +59,6 @@ pub struct EventLoop<'a, R, L> {
     /// The moment of the next beat.
     beat: u64,
     begun: bool,
-}
-
-/// Written out, so that a crate above takes the drop of all that lies in it by this one call.
-impl<R: Drop, L> Drop for EventLoop<'_, R, L> {
-    fn drop(self) {
-        let Self {
-            base: _,
-            poll: _,
-            streams: _,
-            events: _,
-            connections: _,
-            mail: _,
-            notes: _,
-            delays: _,
-            current: _,
-            beat: _,
-            begun: _,
-        } = self;
-    }
 }
 
 impl<R: Wait + Clock + Copy + Drop, L: Log> Peer for EventLoop<'_, R, L> {
@@ -108,7 +94,7 @@ impl<R: Wait + Clock + Copy + Drop, L: Log> Peer for EventLoop<'_, R, L> {
 
 impl<'a, R: Wait + Clock + Copy + Drop, L: Log> EventLoop<'a, R, L> {
     /// A loop without connections.
-    pub fn new(base: Base<'a, R, L>, ears: Ears) -> Result<EventLoop<'a, R, L>, ServerFault> {
+    pub fn new(base: Base<'a, R, L>, ears: Ears) -> Result<EventLoop<'a, R, L>, AllocError> {
         let Ears { poll, streams } = ears;
         let alloc = base.alloc;
         Ok(EventLoop {
@@ -131,8 +117,9 @@ impl<'a, R: Wait + Clock + Copy + Drop, L: Log> EventLoop<'a, R, L> {
         })
     }
 
-    /// The next connection gets its turn; where none has anything to do, the loop's turn ends and the
-    /// next begins. Answers whether the loop goes on.
+    /// The next connection gets its turn; where none has anything to do, the loop's turn ends, and the
+    /// next begins once it has waited for streams, for what others hand in, or for the next moment at
+    /// which something is due. Answers whether the loop goes on.
     fn pick(&mut self) -> bool {
         if self.current.left > 0 {
             if let Some(key) = self.connections.roster.rota.pop() {
@@ -146,15 +133,19 @@ impl<'a, R: Wait + Clock + Copy + Drop, L: Log> EventLoop<'a, R, L> {
         self.base.send(&mut self.notes);
         self.send_all();
         let base = &self.base;
-        if self.connections.len() == 0 && base.shared.is_over(&base.rt) {
+        if self.connections.len() == 0 && base.shared.standing(&base.rt).is_over() {
             return false;
         }
         self.current.left = TURNS;
-        let waited = self.wait();
-        if waited {
-            self.take_in();
+        let timeout = Duration::from_millis(self.time_to_sleep());
+        if self.poll.poll(&mut self.events, Some(timeout)).is_err() {
+            return false;
         }
-        waited
+        for event in self.events.iter() {
+            self.connections.note(event);
+        }
+        self.take_in();
+        true
     }
 
     /// Sends the bytes of all connections that have some.
@@ -164,21 +155,8 @@ impl<'a, R: Wait + Clock + Copy + Drop, L: Log> EventLoop<'a, R, L> {
             let Some(key) = self.connections.pop_unsent() else {
                 return;
             };
-            if self.connections.send(key, now) {
-                self.close(key);
-            }
+            self.send(key, now);
         }
-    }
-
-    /// Waits for streams, for what others hand in, or for the next moment at which something is due.
-    /// Answers whether it could.
-    fn wait(&mut self) -> bool {
-        let timeout = Duration::from_millis(self.time_to_sleep());
-        let waited = self.poll.poll(&mut self.events, Some(timeout));
-        for event in self.events.iter() {
-            self.connections.note(event);
-        }
-        waited.is_ok()
     }
 
     /// The time until something is due: none where something is to be done, or was handed in.
@@ -208,7 +186,7 @@ impl<'a, R: Wait + Clock + Copy + Drop, L: Log> EventLoop<'a, R, L> {
         self.do_due(everyone);
     }
 
-    /// Does what is due. Where all connections are to be looked at, their deadlines are.
+    /// Does what is due. Once a beat, or where all are to be looked at, each connection's deadline is.
     fn do_due(&mut self, everyone: bool) {
         let now = self.base.now();
         for _ in 0..usize::MAX {
@@ -217,9 +195,17 @@ impl<'a, R: Wait + Clock + Copy + Drop, L: Log> EventLoop<'a, R, L> {
             };
             self.connections.queue(token);
         }
-        if now >= self.beat || everyone {
-            self.beat = now.saturating_add(BEAT);
-            self.keep_deadlines(now);
+        if now < self.beat && !everyone {
+            return;
+        }
+        self.beat = now.saturating_add(BEAT);
+        self.delays.forget_old(now);
+        let base = &self.base;
+        let cutting = base.shared.standing(&base.rt).cutting;
+        for key in 0..self.connections.keys_below() {
+            if self.connections.keep_deadline(key, cutting, now) {
+                self.close(key);
+            }
         }
     }
 
@@ -229,8 +215,9 @@ impl<'a, R: Wait + Clock + Copy + Drop, L: Log> EventLoop<'a, R, L> {
             let Ok(stream) = self.streams.try_recv(&self.base.rt) else {
                 return;
             };
-            self.base.note_connection();
-            let alloc = self.base.alloc;
+            let base = &self.base;
+            base.shared.tallies.note_connection(&base.rt, base.number);
+            let alloc = base.alloc;
             let stream = Box::new(alloc, Buffered::new(alloc, stream)).ok();
             if stream.and_then(|stream| self.add(stream)).is_none() {
                 self.base.note_closed();
@@ -264,18 +251,6 @@ impl<'a, R: Wait + Clock + Copy + Drop, L: Log> EventLoop<'a, R, L> {
         self.connections.add(self.base.alloc, stream, token, now)
     }
 
-    /// Looks at what each connection has come to.
-    fn keep_deadlines(&mut self, now: u64) {
-        self.delays.forget_old(now);
-        let base = &self.base;
-        let cutting = base.shared.is_cutting(&base.rt);
-        for key in 0..self.connections.keys_below() {
-            if self.connections.keep_deadline(key, cutting, now) {
-                self.close(key);
-            }
-        }
-    }
-
     /// The next event of a connection, if it has one.
     fn step(&mut self, key: usize) -> Option<(Event, u64)> {
         let now = self.base.now();
@@ -284,36 +259,32 @@ impl<'a, R: Wait + Clock + Copy + Drop, L: Log> EventLoop<'a, R, L> {
             return None;
         };
         match connection.mode {
-            Mode::Gathers => self.gather(key, now),
-            Mode::Serves => return self.bring(key, now),
+            Mode::Gathers => match connection.stage.read(self.base.alloc) {
+                Ok(Reading::Pauses(pause)) => self.pause(key, pause),
+                Ok(Reading::Whole(request)) => self.direct(key, request, now),
+                Err(fault) => self.refuse(key, fault, now),
+            },
+            Mode::Serves => match connection.next(now) {
+                Next::Brings(event, moment) => {
+                    self.current.comes_over = matches!(event, Event::Upgraded { .. });
+                    return Some((event, moment));
+                }
+                Next::AsksAgain => self.hear_nothing(key),
+                Next::Pauses(pause) => self.rest(key, pause),
+                Next::Fails => {}
+            },
             Mode::Loses(loss) => return Some((loss.event(), now)),
             Mode::Closes => self.rest(key, Pause::Done),
-            Mode::Lingers => self.linger(key),
-        }
-        None
-    }
-
-    /// The next event of a connection that is served.
-    fn bring(&mut self, key: usize, now: u64) -> Option<(Event, u64)> {
-        match self.connections.get_mut(key)?.next(now) {
-            Next::Brings(event, moment) => {
-                self.current.comes_over = matches!(event, Event::Upgraded { .. });
-                return Some((event, moment));
+            // What still comes is forgotten.
+            Mode::Lingers => {
+                let drained = connection.drain();
+                self.pause(key, drained.unwrap_or(Pause::Done));
+                if drained.is_none() {
+                    self.close(key);
+                }
             }
-            Next::AsksAgain => self.hear_nothing(key),
-            Next::Pauses(pause) => self.rest(key, pause),
-            Next::Fails => {}
         }
         None
-    }
-
-    /// Reads and forgets what comes of a connection that has ended.
-    fn linger(&mut self, key: usize) {
-        let drained = self.connections.get_mut(key).and_then(Connection::drain);
-        self.pause(key, drained.unwrap_or(Pause::Done));
-        if drained.is_none() {
-            self.close(key);
-        }
     }
 
     /// The turn of a connection is over.
@@ -331,8 +302,17 @@ impl<'a, R: Wait + Clock + Copy + Drop, L: Log> EventLoop<'a, R, L> {
     /// What a connection has to send goes out at the end of the loop's turn, or at once where that is
     /// much.
     pub(crate) fn send_soon(&mut self, key: usize) {
+        let connection = self.connections.get_mut(key);
+        if connection.map_or(0, Connection::bytes_unsent) < MUCH_UNSENT {
+            return self.connections.note_unsent(key);
+        }
         let now = self.base.now();
-        if self.connections.send_soon(key, now) {
+        self.send(key, now);
+    }
+
+    /// Sends the bytes of a connection, which may be over then.
+    fn send(&mut self, key: usize, now: u64) {
+        if self.connections.send(key, now) {
             self.close(key);
         }
     }

@@ -4,13 +4,13 @@ use crate::base::Base;
 use events::{Answered, CoreError, CoreFault, Done, Event, Outcome, Peer, PeerFault};
 use loop_rules::{Notes, loop_of};
 use metrics::CoreCounts;
-use std::alloc::Global;
+use std::alloc::{AllocError, Global};
 use std::mem;
 use std::rt::Clock;
 use std::sync::Wait;
 use std::time::Duration;
 use std::vec::IntoIter;
-use tcp_streams::{Log, ServerFault};
+use tcp_streams::Log;
 
 /// How long a round is, in milliseconds: each client is asked once a round what is due to it.
 const ROUND: u64 = 1_000;
@@ -49,7 +49,7 @@ pub struct Keeper<'a, R, L, K> {
 
 impl<'a, R: Wait + Clock + Copy, L: Log, K: KeptCore> Keeper<'a, R, L, K> {
     /// The first round is to come.
-    pub(crate) fn new(base: Base<'a, R, L>, core: K) -> Result<Keeper<'a, R, L, K>, ServerFault> {
+    pub(crate) fn new(base: Base<'a, R, L>, core: K) -> Result<Keeper<'a, R, L, K>, AllocError> {
         Ok(Keeper {
             notes: Notes::new(base.alloc, base.rules.loops)?,
             clients: Vec::new(base.alloc).into_iter(),
@@ -65,28 +65,27 @@ impl<'a, R: Wait + Clock + Copy, L: Log, K: KeptCore> Keeper<'a, R, L, K> {
     /// Waits for the next round, and tells whether there is one. Where the journal is long, it is sealed.
     fn rests(&self) -> bool {
         for _ in 0..LOOKS {
+            let base = &self.base;
             let part = Duration::from_millis(ROUND / LOOKS);
-            if self.base.wait_for_loops(part) {
+            if base.shared.wait_for_loops(&base.rt, part) {
                 return false;
             }
-            self.core.seal(&self.base.rt, self.base.alloc);
+            self.core.seal(&base.rt, base.alloc);
         }
         true
     }
 
     /// Tells the core's counts, where somebody may ask for them, and the log, where it is time.
     fn tell_counts(&mut self) {
-        let (asked, due) = (self.base.rules.metrics.is_some(), self.is_report_due());
-        if !asked && !due {
+        let is_due = self.is_report_due();
+        let base = &self.base;
+        if base.rules.metrics.is_none() && !is_due {
             return;
         }
-        let counts = self.core.counts(&self.base.rt);
-        if asked {
-            let base = &self.base;
-            base.shared.tallies.note_core(&base.rt, counts);
-        }
-        if due {
-            self.base.log.totals(counts.totals);
+        let counts = self.core.counts(&base.rt);
+        base.shared.tallies.0.lock(&base.rt).core = counts;
+        if is_due {
+            base.log.totals(counts.totals);
         }
     }
 
@@ -119,17 +118,6 @@ impl<'a, R: Wait + Clock + Copy, L: Log, K: KeptCore> Keeper<'a, R, L, K> {
         true
     }
 
-    /// The next event of the round, if it has one.
-    fn next_of_round(&mut self) -> Option<Event> {
-        match self.clients.next() {
-            Some(client) => {
-                self.client = client;
-                Some(Event::Tick { client })
-            }
-            None => mem::replace(&mut self.sweeps, false).then_some(Event::Sweep),
-        }
-    }
-
     /// Notes whom the answer to a tick concerns.
     fn note_tick(&mut self, ping: bool, done: &Done) {
         if ping || done.closed.is_some() {
@@ -157,8 +145,12 @@ impl<R: Wait + Clock + Copy, L: Log, K: KeptCore> Peer for Keeper<'_, R, L, K> {
             base.shared.note_begun(&base.rt);
         }
         for _ in 0..u64::MAX {
-            if let Some(event) = self.next_of_round() {
-                return Ok(Some((event, self.base.now())));
+            if let Some(client) = self.clients.next() {
+                self.client = client;
+                return Ok(Some((Event::Tick { client }, self.base.now())));
+            }
+            if mem::replace(&mut self.sweeps, false) {
+                return Ok(Some((Event::Sweep, self.base.now())));
             }
             if !self.begin_round() {
                 break;

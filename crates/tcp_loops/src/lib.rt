@@ -8,12 +8,7 @@ mod crew;
 mod drawn;
 mod event_loop;
 mod keeper;
-mod requests;
-mod worker;
 
 pub use base::Base;
-pub use crew::{Crew, crew_for};
-pub use drawn::DrawnIds;
-pub use event_loop::EventLoop;
-pub use keeper::{Keeper, KeptCore};
-pub use worker::Worker;
+pub use crew::{Worker, sources, start_accepting, workers_for};
+pub use keeper::KeptCore;

@@ -1,6 +1,7 @@
 //! A server, from its listening to its totals.
 
 ghost use Rattle.std.specs.Prelude.{◌≡◌, ◌+◌, None, Err, IfOk, IfSome, OnOk, vec_len, sum_by};
+ghost use Rattle.hub_totals.specs.Pass.{IsBlankOf};
 ghost use Rattle.settings.specs.Wrong.{wrong_setting};
 ghost use Rattle.tcp_streams.specs.declared.fault.ServerFault.TheVariants.{BadSetting};
 
@@ -9,8 +10,9 @@ use dispatch::Core;
 use events::{App, CoreError, CoreFault, IdSource, Peer};
 use hub_gate::{Locked, Open, Pool, Report, ServeError, serve_peers};
 use hub_totals::Pass;
+use journal::Config;
 use settings::{Setting, Settings};
-use std::alloc::Global;
+use std::alloc::{AllocError, Global};
 use std::marker::Brand;
 use std::net::Net;
 use std::random::RandomSource;
@@ -18,10 +20,9 @@ use std::rt::Clock;
 use std::sync::ledger::{Blank, Ledger};
 use std::sync::{Arc, Wait};
 use std::thread::Threads;
-use tcp_loops::{Base, Crew, crew_for};
+use tcp_loops::{Base, sources, start_accepting, workers_for};
 use tcp_streams::{
-    Acceptor, Ears, Log, Making, Rules, ServerFault, Shared, acceptor_for, ears_for,
-    rules_and_making,
+    Acceptor, Ears, Log, Rules, ServerFault, Shared, acceptor_for, ears_for, rules_and_limits,
 };
 
 /// How many threads may count what they do.
@@ -35,7 +36,7 @@ pub struct Server<L> {
     ears: Vec<Ears>,
     shared: Arc<Shared>,
     rules: Arc<Rules>,
-    making: Box<Making>,
+    hub: Box<Config>,
 }
 
 /// Written out, so that a crate above takes the drop of all that lies in it by this one call.
@@ -48,7 +49,7 @@ impl<L: Drop> Drop for Server<L> {
             ears: _,
             shared: _,
             rules: _,
-            making: _,
+            hub: _,
         } = self;
     }
 }
@@ -70,7 +71,7 @@ impl<L: Log + Sync + Drop> Server<L> {
         let (port, acceptor, bell) = acceptor_for(rt, alloc, &settings)?;
         let (ears, inboxes) = ears_for(rt, alloc, settings.workers)?;
         let shared = Shared::new(alloc, inboxes, bell, log.hears_clients())?;
-        let (rules, making) = rules_and_making(alloc, settings)?;
+        let (rules, hub) = rules_and_limits(alloc, settings)?;
         Ok(Server {
             log,
             port,
@@ -78,7 +79,7 @@ impl<L: Log + Sync + Drop> Server<L> {
             ears,
             shared,
             rules,
-            making,
+            hub,
         })
     }
 
@@ -110,11 +111,11 @@ impl<L: Log + Sync + Drop> Server<L> {
             ears,
             shared,
             rules,
-            making,
+            hub,
         } = self;
         let base = Base::new(rt, alloc, &log, shared, rules)?;
         let (commands, taken) = (Blank::new(PARTS), Blank::new(PARTS));
-        run_in::<Brand, Brand, R, L, A>(&base, app, acceptor, ears, making, commands, taken)
+        run_in::<Brand, Brand, R, L, A>(&base, app, acceptor, ears, hub, commands, taken)
     }
 }
 
@@ -131,28 +132,31 @@ fn run_in<
     app: &A,
     acceptor: Box<Acceptor>,
     ears: Vec<Ears>,
-    making: Box<Making>,
+    hub: Box<Config>,
     commands: Blank,
     taken: Blank,
 ) -> Result<Report, ServerFault>
-    requires commands { (commands.name ≡ C.name)
-        × (commands.parts ≡ C.parts) × (commands.parts ≡ 65536) }
-    requires taken { (taken.name ≡ T.name) × (taken.parts ≡ T.parts) × (taken.parts ≡ 65536) }
+    requires commands { IsBlankOf C.name C.parts commands }
+    requires taken { IsBlankOf T.name T.parts taken }
     ensures commands { IfOk result (λ r.
         r.totals.commands ≡ sum_by (λ w. w.commands) r.workers.items) }
     ensures taken { IfOk result (λ r.
         r.totals.taken ≡ sum_by (λ w. w.taken) r.workers.items) }
 {
-    let (locked, mut pass, looks) = lock_core::<C, T>(base.alloc, making, commands, taken)?;
+    let (locked, mut pass, looks) = lock_core::<C, T>(
+        base.alloc,
+        hub,
+        &base.rules,
+        commands,
+        taken,
+    )?;
     let core = WatchedCore {
         locked: &*locked,
         pass: looks,
     };
-    let Crew {
-        workers,
-        ids,
-        accepting,
-    } = crew_for(base, ears, core, acceptor)?;
+    let workers = workers_for(base, ears, core)?;
+    let ids = sources(&base.rt, base.alloc, workers.len())?;
+    let accepting = start_accepting(base, acceptor)?;
     let pool = Pool {
         rt: &base.rt,
         alloc: base.alloc,
@@ -190,7 +194,7 @@ fn serve_pool<
     let number = workers.len();
     match serve_peers(pool, pass, workers, number, ids) {
         Ok(settled) => Ok(settled.report),
-        Err(ServeError::Memory) => Err(ServerFault::Memory),
+        Err(ServeError::Memory) => Err(ServerFault::Memory(AllocError)),
         Err(ServeError::NotAll(_)) => Err(ServerFault::Books),
         Err(_) => Err(ServerFault::Starting),
     }
@@ -199,19 +203,21 @@ fn serve_pool<
 /// A core without clients under its lock, its pass, and one more, with which it is looked at.
 fn lock_core<C: Ledger, T: Ledger>(
     alloc: Global,
-    making: Box<Making>,
+    hub: Box<Config>,
+    rules: &Rules,
     commands: Blank,
     taken: Blank,
 ) -> Result<(Box<Locked<C, T>>, Pass<C, T>, Pass<C, T>), ServerFault>
-    requires commands { (commands.name ≡ C.name)
-        × (commands.parts ≡ C.parts) × (commands.parts ≡ 65536) }
-    requires taken { (taken.name ≡ T.name) × (taken.parts ≡ T.parts) × (taken.parts ≡ 65536) }
+    requires commands { IsBlankOf C.name C.parts commands }
+    requires taken { IsBlankOf T.name T.parts taken }
     ensures pass { IfOk result (λ made. made.1 ≡ record { commands = 0; taken = 0; parts = 1 }) }
 {
-    let making = Box::into_inner(making);
-    let (hub, timing) = (making.hub, making.timing);
-    let made = Core::new(alloc, hub, timing, making.numbers, commands, taken);
-    let (mut core, pass) = made.map_err(refused)?;
+    let hub = Box::into_inner(hub);
+    let made = Core::new(alloc, hub, rules.timing, rules.numbers, commands, taken);
+    let (mut core, pass) = match made {
+        Ok(made) => made,
+        Err(error) => return Err(refused(error)),
+    };
     let looks = core.new_pass().map_err(|_| ServerFault::Starting)?;
     Ok((Box::new(alloc, Locked::new(core))?, pass, looks))
 }
@@ -219,7 +225,7 @@ fn lock_core<C: Ledger, T: Ledger>(
 /// Why there is no core.
 fn refused(error: CoreError) -> ServerFault {
     match error.fault {
-        CoreFault::Memory => ServerFault::Memory,
+        CoreFault::Memory => ServerFault::Memory(AllocError),
         _ => ServerFault::BadSetting(Setting::Limits),
     }
 }

@@ -1,6 +1,6 @@
 //! Who accepts connections.
 
-use crate::fault::{ServerFault, listening, starting};
+use crate::fault::ServerFault;
 use crate::inbox::poll_with_bell;
 use crate::shared::Shared;
 use http_edge::{OnStream, Status, write_response};
@@ -11,6 +11,7 @@ use mio::{Events, Interest, Poll, Token, Waker};
 use settings::Settings;
 use std::alloc::Global;
 use std::collections::VecDeque;
+use std::io;
 use std::io::ErrorKind;
 use std::net::{Net, Shutdown, ToSocketAddrs};
 use std::rt::Clock;
@@ -81,12 +82,14 @@ pub fn acceptor_for<R: Net>(
     alloc: Global,
     settings: &Settings,
 ) -> Result<(u16, Box<Acceptor>, Waker), ServerFault> {
-    let mut listener = listen_at(rt, settings.host.as_str(), settings.port)?;
-    let port = listener.local_addr().map_err(listening)?.port();
+    let listening = listen_at(rt, settings.host.as_str(), settings.port);
+    let (mut listener, port) = listening.map_err(|error| match ServerFault::from(error) {
+        ServerFault::Starting => ServerFault::Listening,
+        fault => fault,
+    })?;
     let (poll, bell) = poll_with_bell(rt)?;
-    poll.registry()
-        .register(&mut listener, LISTENER, Interest::READABLE)
-        .map_err(starting)?;
+    let registry = poll.registry();
+    registry.register(&mut listener, LISTENER, Interest::READABLE)?;
     let acceptor = Acceptor {
         alloc,
         poll,
@@ -104,17 +107,18 @@ pub fn acceptor_for<R: Net>(
     Ok((port, Box::new(alloc, acceptor)?, bell))
 }
 
-/// Listens at the first address of the host that can be bound.
-fn listen_at<R: Net>(rt: &R, host: &str, port: u16) -> Result<TcpListener, ServerFault> {
-    let addresses = (host, port).to_socket_addrs(rt).map_err(listening)?;
-    let mut refused = ServerFault::Listening;
-    for address in addresses {
-        match TcpListener::bind(rt, address) {
-            Ok(listener) => return Ok(listener),
-            Err(error) => refused = listening(error),
+/// Listens at the first address of the host that can be bound, and tells at which port.
+fn listen_at<R: Net>(rt: &R, host: &str, port: u16) -> io::Result<(TcpListener, u16)> {
+    let mut bound = Err(io::Error::from(ErrorKind::AddrNotAvailable));
+    for address in (host, port).to_socket_addrs(rt)? {
+        bound = TcpListener::bind(rt, address);
+        if bound.is_ok() {
+            break;
         }
     }
-    Err(refused)
+    let listener = bound?;
+    let port = listener.local_addr()?.port();
+    Ok((listener, port))
 }
 
 impl Acceptor {
@@ -122,7 +126,7 @@ impl Acceptor {
     pub fn accept_all<R: Wait + Clock>(&mut self, rt: &R, shared: &Shared) {
         if shared.wait_for_workers(rt, Duration::from_millis(START)) {
             for _ in 0..u64::MAX {
-                if self.left == Some(0) || shared.is_closing(rt) {
+                if self.left == Some(0) || shared.standing(rt).closing {
                     break;
                 }
                 match self.listener.accept() {
@@ -131,7 +135,7 @@ impl Acceptor {
                 }
             }
         }
-        shared.note_closing(rt);
+        shared.stop_accepting(rt);
     }
 
     /// Waits for a connection; where some were refused, until they are closed. Where none could be

@@ -11,12 +11,12 @@ use std::{io, mem};
 const KEPT: usize = 200_000;
 
 /// What a connection reads and writes.
-pub type Stream = Box<Buffered<TcpStream>>;
+pub type Stream = Box<Buffered>;
 
 /// Reads from a stream whose reads do not wait, and keeps what is written until `send`.
 #[derive(Drop)]
-pub struct Buffered<S> {
-    stream: S,
+pub struct Buffered {
+    stream: TcpStream,
     // The stream has no byte until it is reported ready again.
     drained: bool,
     // The other side has sent its last byte, so that a short read is no sign of a drained stream.
@@ -30,9 +30,9 @@ pub struct Buffered<S> {
     ghost in_output: { sent ≤ length output.items },
 }
 
-impl<S> Buffered<S> {
+impl Buffered {
     /// Nothing was read or written yet.
-    pub fn new(alloc: Global, stream: S) -> Buffered<S> {
+    pub fn new(alloc: Global, stream: TcpStream) -> Buffered {
         Buffered {
             stream,
             drained: false,
@@ -72,7 +72,7 @@ impl<S> Buffered<S> {
     }
 
     /// The stream itself.
-    pub fn get_mut(&mut self) -> &mut S {
+    pub fn get_mut(&mut self) -> &mut TcpStream {
         &mut self.stream
     }
 
@@ -84,9 +84,7 @@ impl<S> Buffered<S> {
             self.output.clear();
         }
     }
-}
 
-impl<S: Write> Buffered<S> {
     /// Sends what waits, as far as the stream takes it, and tells how many bytes that were.
     pub fn send(&mut self) -> io::Result<usize> {
         let mut total: usize = 0;
@@ -109,7 +107,7 @@ impl<S: Write> Buffered<S> {
     }
 }
 
-impl<S: Read> Read for Buffered<S> {
+impl Read for Buffered {
     fn read(&mut self, buf: &mut [u8]) -> io::Result<usize> {
         if self.cut {
             return Ok(0);
@@ -131,7 +129,7 @@ impl<S: Read> Read for Buffered<S> {
     }
 }
 
-impl<S> Write for Buffered<S> {
+impl Write for Buffered {
     fn write(&mut self, buf: &[u8]) -> io::Result<usize> {
         if !self.cut {
             self.output.extend_from_slice(buf)?;

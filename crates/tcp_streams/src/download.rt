@@ -19,8 +19,6 @@ pub struct Download {
     path: String,
     /// How many of its bytes were written.
     written: usize,
-    /// All of its bytes were written.
-    over: bool,
 }
 
 /// Whether a request asks for a file of the page (RFC 9110, sections 9.3.1 and 9.3.2).
@@ -32,9 +30,9 @@ pub fn asks_for_file(page: &Page, request: &Request) -> bool {
 impl Download {
     /// The file that a request asks for, of which the head and a first piece were written. A HEAD asks
     /// for no more than the head.
-    pub fn begin<S>(
+    pub fn begin(
         alloc: Global,
-        stream: &mut Buffered<S>,
+        stream: &mut Buffered,
         page: Arc<Page>,
         request: Box<Request>,
     ) -> io::Result<Download> {
@@ -47,33 +45,34 @@ impl Download {
         let mut download = Download {
             page,
             path,
-            written: 0,
-            over: method.as_str() == "HEAD",
+            written: if method.as_str() == "HEAD" {
+                usize::MAX
+            } else {
+                0
+            },
         };
         download.write_piece(stream)?;
         Ok(download)
     }
 
+    /// What is left of the file.
+    fn rest(&self) -> &[u8] {
+        match self.page.look_up(self.path.as_str()) {
+            Some(file) => file.bytes.as_slice().get(self.written..).unwrap_or(&[]),
+            None => &[],
+        }
+    }
+
     /// Whether all was written.
     pub fn is_over(&self) -> bool {
-        self.over
+        self.rest().is_empty()
     }
 
     /// Writes the next piece, if there is one.
-    pub fn write_piece<S>(&mut self, stream: &mut Buffered<S>) -> io::Result<()> {
-        if self.over {
-            return Ok(());
-        }
-        let Some(file) = self.page.look_up(self.path.as_str()) else {
-            self.over = true;
-            return Ok(());
-        };
-        let bytes = file.bytes.as_slice();
-        let start = self.written.min(bytes.len());
-        let end = start.saturating_add(PIECE).min(bytes.len());
-        let _ = stream.write(&bytes[start..end])?;
-        self.written = end;
-        self.over = end == bytes.len();
+    pub fn write_piece(&mut self, stream: &mut Buffered) -> io::Result<()> {
+        let rest = self.rest();
+        let count = stream.write(&rest[..rest.len().min(PIECE)])?;
+        self.written = self.written.saturating_add(count);
         Ok(())
     }
 }

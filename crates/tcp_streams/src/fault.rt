@@ -1,7 +1,7 @@
 //! Why a server ended.
 
 use settings::Setting;
-use std::alloc::{AllocError, AllocFailed};
+use std::alloc::AllocError;
 use std::io;
 use thiserror::Error;
 
@@ -10,13 +10,16 @@ use thiserror::Error;
 pub enum ServerFault {
     /// An allocation was refused.
     #[error("out of memory")]
-    Memory,
+    Memory(#[from(alloc)] AllocError),
     /// A device failed as the server began to listen.
     #[error("device fault while listening")]
     Listening,
     /// A device failed as the server made its threads, or what they need.
     #[error("device fault while starting")]
     Starting,
+    /// A device failed as its program told where it listens, or what it did.
+    #[error("device fault while writing")]
+    Writing,
     /// No server is made with this setting.
     #[error("bad {0}")]
     BadSetting(Setting),
@@ -25,30 +28,11 @@ pub enum ServerFault {
     Books,
 }
 
-impl From<AllocError> for ServerFault {
-    fn from(_refused: AllocError) -> ServerFault {
-        ServerFault::Memory
-    }
-}
-
-impl<T: Drop> From<AllocFailed<T>> for ServerFault {
-    fn from(_refused: AllocFailed<T>) -> ServerFault {
-        ServerFault::Memory
-    }
-}
-
-/// The server couldn't begin to listen.
-pub fn listening(error: io::Error) -> ServerFault {
-    match error.kind() {
-        io::ErrorKind::OutOfMemory => ServerFault::Memory,
-        _ => ServerFault::Listening,
-    }
-}
-
-/// The server couldn't make what it needs.
-pub fn starting(error: io::Error) -> ServerFault {
-    match error.kind() {
-        io::ErrorKind::OutOfMemory => ServerFault::Memory,
-        _ => ServerFault::Starting,
+impl From<io::Error> for ServerFault {
+    fn from(error: io::Error) -> ServerFault {
+        match error.kind() {
+            io::ErrorKind::OutOfMemory => ServerFault::Memory(AllocError),
+            _ => ServerFault::Starting,
+        }
     }
 }

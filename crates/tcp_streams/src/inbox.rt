@@ -1,13 +1,14 @@
 //! What a loop waits with, and what others hand to it.
 
 use crate::buffered::Stream;
-use crate::fault::{ServerFault, starting};
+use crate::fault::ServerFault;
 use crossbeam_channel::{Receiver, Sender, bounded};
 use http_edge::{Request, Target};
 use loop_rules::{Mail, Mailbox};
 use mio::net::TcpStream;
 use mio::{Poll, Token, Waker};
 use std::alloc::Global;
+use std::io;
 use std::net::Net;
 use std::rt::Clock;
 use std::sync::{Mutex, Wait};
@@ -48,9 +49,9 @@ pub struct Ears {
 }
 
 /// A poll, and the bell that ends its waiting.
-pub(crate) fn poll_with_bell<R: Net>(rt: &R) -> Result<(Poll, Waker), ServerFault> {
-    let poll = Poll::new(rt).map_err(starting)?;
-    let bell = Waker::new(poll.registry(), BELL).map_err(starting)?;
+pub(crate) fn poll_with_bell<R: Net>(rt: &R) -> io::Result<(Poll, Waker)> {
+    let poll = Poll::new(rt)?;
+    let bell = Waker::new(poll.registry(), BELL)?;
     Ok((poll, bell))
 }
 

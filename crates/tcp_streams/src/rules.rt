@@ -11,7 +11,7 @@ use settings::Settings;
 use std::alloc::{AllocError, Global};
 use std::sync::Arc;
 
-/// What a loop goes by.
+/// What a loop goes by, and how a core pings its clients.
 #[derive(Drop)]
 pub struct Rules {
     /// How many loops there are.
@@ -26,15 +26,9 @@ pub struct Rules {
     pub metrics: Option<String>,
     /// Every how many seconds the totals are told, if they are.
     pub report: Option<u64>,
-    ghost some: { 0 < loops },
-}
-
-/// What the core of a server is made with.
-#[derive(Drop)]
-pub struct Making {
-    pub hub: Config,
     pub timing: Timing,
     pub numbers: Numbers,
+    ghost some: { 0 < loops },
 }
 
 impl Rules {
@@ -45,20 +39,16 @@ impl Rules {
     }
 }
 
-/// What the loops go by, and what the core is made with.
-pub fn rules_and_making(
+/// What the loops go by, and the limits of the hub.
+pub fn rules_and_limits(
     alloc: Global,
     settings: Settings,
-) -> Result<(Arc<Rules>, Box<Making>), AllocError>
+) -> Result<(Arc<Rules>, Box<Config>), AllocError>
     requires { 0 < settings.workers }
 {
-    let making = Making {
-        numbers: settings.numbers(),
-        hub: settings.hub,
-        timing: settings.timing,
-    };
-    let making = Box::new(alloc, making)?;
     let rules = Rules {
+        numbers: settings.numbers(),
+        timing: settings.timing,
         loops: settings.workers,
         poll_entries: settings.poll_entries,
         origins: settings.origins,
@@ -66,5 +56,5 @@ pub fn rules_and_making(
         metrics: settings.metrics,
         report: settings.report,
     };
-    Ok((Arc::new(alloc, rules)?, making))
+    Ok((Arc::new(alloc, rules)?, Box::new(alloc, settings.hub)?))
 }

@@ -6,6 +6,7 @@ use crate::news::Lives;
 use crate::tallies::Tallies;
 use mio::Waker;
 use std::alloc::Global;
+use std::collections::HashMap;
 use std::rt::Clock;
 use std::sync::{Arc, Condvar, CondvarTimeouts, Mutex, Wait};
 use std::time::Duration;
@@ -16,7 +17,7 @@ pub struct Shared {
     pub inboxes: Vec<Inbox>,
     acceptor: Waker,
     /// The clients that are there, if somebody hears of them.
-    pub lives: Lives,
+    pub lives: Option<Lives>,
     /// What is counted.
     pub tallies: Tallies,
     standing: Mutex<Standing>,
@@ -38,8 +39,8 @@ impl Drop for Shared {
 }
 
 /// How far a server is.
-#[derive(Drop)]
-struct Standing {
+#[derive(Clone, Copy, Default)]
+pub struct Standing {
     /// The connections that are open, those on their way to a loop among them.
     open: u64,
     /// The workers that have begun, the keeper among them.
@@ -47,14 +48,14 @@ struct Standing {
     /// The loops at work.
     loops: usize,
     /// No more connections are accepted.
-    closing: bool,
+    pub closing: bool,
     /// What is still open is to end.
-    cutting: bool,
+    pub cutting: bool,
 }
 
 impl Standing {
     /// Whether nothing is open, and nothing more will be.
-    fn is_over(&self) -> bool {
+    pub fn is_over(self) -> bool {
         self.closing && self.open == 0
     }
 }
@@ -68,17 +69,14 @@ impl Shared {
         hears_clients: bool,
     ) -> Result<Arc<Shared>, ServerFault> {
         let standing = Standing {
-            open: 0,
-            begun: 0,
             loops: inboxes.len(),
-            closing: false,
-            cutting: false,
+            ..Standing::default()
         };
         let shared = Shared {
             tallies: Tallies::new(alloc, inboxes.len())?,
             inboxes,
             acceptor,
-            lives: Lives::new(alloc, hears_clients),
+            lives: hears_clients.then(|| Mutex::new(HashMap::new(alloc))),
             standing: Mutex::new(standing),
             changed: Condvar::new(),
         };
@@ -107,15 +105,10 @@ impl Shared {
         }
     }
 
-    /// No more connections are accepted.
-    pub fn note_closing(&self, rt: &impl Wait) {
-        self.standing.lock(rt).closing = true;
-        self.wake_everyone(rt);
-    }
-
     /// No more connections are to be accepted.
     pub fn stop_accepting(&self, rt: &impl Wait) {
-        self.note_closing(rt);
+        self.standing.lock(rt).closing = true;
+        self.wake_everyone(rt);
         // A bell that can't be rung leaves the acceptor waiting for one more connection.
         let _ = self.acceptor.wake();
     }
@@ -128,19 +121,9 @@ impl Shared {
         self.wake_everyone(rt);
     }
 
-    /// Whether no more connections are accepted.
-    pub fn is_closing(&self, rt: &impl Wait) -> bool {
-        self.standing.lock(rt).closing
-    }
-
-    /// Whether what is still open is to end.
-    pub fn is_cutting(&self, rt: &impl Wait) -> bool {
-        self.standing.lock(rt).cutting
-    }
-
-    /// Whether nothing is open, and nothing more will be.
-    pub fn is_over(&self, rt: &impl Wait) -> bool {
-        self.standing.lock(rt).is_over()
+    /// How far it is now.
+    pub fn standing(&self, rt: &impl Wait) -> Standing {
+        *self.standing.lock(rt)
     }
 
     /// A worker has begun.

@@ -26,7 +26,7 @@ const NONE: CoreCounts = CoreCounts {
 
 /// What the threads of a server count while it runs, and what the keeper last told of the core.
 #[derive(Drop)]
-pub struct Tallies(Mutex<Metrics>);
+pub struct Tallies(pub Mutex<Metrics>);
 
 impl Tallies {
     /// Nothing was counted yet.
@@ -71,15 +71,5 @@ impl Tallies {
                 it.count = it.count.saturating_add(1);
             }
         }
-    }
-
-    /// The core's counts are these.
-    pub fn note_core(&self, rt: &impl Wait, counts: CoreCounts) {
-        self.0.lock(rt).core = counts;
-    }
-
-    /// All of them as text.
-    pub fn text(&self, rt: &impl Wait, alloc: Global) -> Result<String, AllocError> {
-        self.0.lock(rt).text(alloc)
     }
 }

@@ -76,41 +76,41 @@ impl<C: Ledger, T: Ledger> Hall<C, T> {
             // Each sixteenth is for the room, the others for nobody.
             "fill" if number % 16 == 15 => self.cast(alloc, "/", "members", true)?,
             "fill" => self.cast(alloc, "/", "nobody", true)?,
-            "sweep" => self.sweep(alloc)?,
+            "sweep" => self.sweep()?,
             // It counts for the steps since the last one.
             "seal" => return Ok(self.hub.seal(alloc)?.steps.len() as u64),
             "join_all" | "leave_all" | "end_all" => self.act_together(alloc, deed)?,
             _ => match deed.parse::<usize>() {
                 Ok(body) => gather(alloc, body)?,
-                Err(_) => self.client_does(alloc, deed, u128::from(number))?,
+                Err(_) => self.client_does(deed, u128::from(number))?,
             },
         }
         Ok(1)
     }
 
     /// What one client does. Where a socket of it connects, the answer to CONNECT waits then.
-    fn client_does(&mut self, alloc: Global, deed: &str, id: u128) -> Result<(), Fault> {
+    fn client_does(&mut self, deed: &str, id: u128) -> Result<(), Fault> {
         let (hub, pass, sid, pid) = (&mut self.hub, &mut self.pass, Sid::new(id), Pid::new(id));
         let (other, second) = (Sid::new(SECOND | id), Pid::new(SECOND | id));
         match deed {
-            "open" => hub.open(alloc, pass, id, NOW)?,
-            "attach" => hub.attach(alloc, pass, id, "/", sid, pid, NOW)?,
-            "enter" => hub.attach(alloc, pass, id, FEW, other, second, NOW)?,
-            "return" => hub.attach(alloc, pass, id, "/", other, second, NOW)?,
-            "join" => hub.join(alloc, pass, sid, named("members"), NOW)?,
-            "leave" => hub.leave(alloc, pass, sid, named("members"), NOW)?,
-            "park" => hub.park(alloc, pass, id, NOW)?,
-            "take" => drop(hub.take_away(alloc, pass, id, CAPACITY, NOW)?),
+            "open" => hub.open(pass, id, NOW)?,
+            "attach" => hub.attach(pass, id, "/", sid, pid, NOW)?,
+            "enter" => hub.attach(pass, id, FEW, other, second, NOW)?,
+            "return" => hub.attach(pass, id, "/", other, second, NOW)?,
+            "join" => hub.join(pass, sid, named("members"), NOW)?,
+            "leave" => hub.leave(pass, sid, named("members"), NOW)?,
+            "park" => hub.park(pass, id, NOW)?,
+            "take" => drop(hub.take_away(pass, id, CAPACITY, NOW)?),
             // The session comes back, which had the log's first broadcast.
-            "recover" => drop(hub.recover(alloc, pass, id, "/", pid, 1, NOW)?),
+            "recover" => drop(hub.recover(pass, id, "/", pid, 1, NOW)?),
             _ => return Err(MISSPELLED),
         }
         Ok(())
     }
 
     /// All that is kept of the past is dropped: as many sessions as there are clients.
-    fn sweep(&mut self, alloc: Global) -> Result<(), Fault> {
-        let swept = self.hub.sweep(alloc, &mut self.pass, 1_000_000)?;
+    fn sweep(&mut self) -> Result<(), Fault> {
+        let swept = self.hub.sweep(&mut self.pass, 1_000_000)?;
         if swept.saved as u64 == self.clients {
             return Ok(());
         }
@@ -131,7 +131,7 @@ impl<C: Ledger, T: Ledger> Hall<C, T> {
             payload: Text::copy_of(alloc, PAYLOAD)?,
             attachments: Attachments::new(alloc),
         };
-        let _done = self.hub.cast(alloc, &mut self.pass, event, NOW)?;
+        let _done = self.hub.cast(&mut self.pass, event, NOW)?;
         Ok(())
     }
 
@@ -141,9 +141,9 @@ impl<C: Ledger, T: Ledger> Hall<C, T> {
         let rooms = Vec::from_slice(alloc, &[named("members")])?;
         let none = Vec::new(alloc);
         match deed {
-            "join_all" => drop(hub.sockets_join(alloc, pass, "/", rooms, none, guests, NOW)?),
-            "leave_all" => drop(hub.sockets_leave(alloc, pass, "/", rooms, none, guests, NOW)?),
-            _ => drop(hub.disconnect_sockets(alloc, pass, "/", rooms, none, NOW)?),
+            "join_all" => drop(hub.sockets_join(pass, "/", rooms, none, guests, NOW)?),
+            "leave_all" => drop(hub.sockets_leave(pass, "/", rooms, none, guests, NOW)?),
+            _ => drop(hub.disconnect_sockets(pass, "/", rooms, none, NOW)?),
         }
         Ok(())
     }

@@ -94,24 +94,24 @@ impl<C: Ledger, T: Ledger> Player<C, T> {
 
     /// Plays a command, most of which have no other answer than that they were done.
     fn act(&mut self, words: &Words<'_>, answer: &mut String) -> Result<(), HubError> {
-        let (alloc, hub, pass, now) = (self.alloc, &mut self.hub, &mut self.pass, self.now);
+        let (hub, pass, now) = (&mut self.hub, &mut self.pass, self.now);
         match words.word(0) {
-            "open" => hub.open(alloc, pass, words.id(1), now),
-            "park" => hub.park(alloc, pass, words.id(1), now),
-            "close" => hub.close(alloc, pass, words.id(1), now),
-            "end" => hub.end(alloc, pass, words.sid(1), now),
-            "join" => hub.join(alloc, pass, words.sid(1), words.room(2), now),
-            "leave" => hub.leave(alloc, pass, words.sid(1), words.room(2), now),
+            "open" => hub.open(pass, words.id(1), now),
+            "park" => hub.park(pass, words.id(1), now),
+            "close" => hub.close(pass, words.id(1), now),
+            "end" => hub.end(pass, words.sid(1), now),
+            "join" => hub.join(pass, words.sid(1), words.room(2), now),
+            "leave" => hub.leave(pass, words.sid(1), words.room(2), now),
             "attach" => self.attach(words),
-            "tell" => hub.tell(alloc, pass, words.id(1), words.entry(alloc)?, now),
+            "tell" => hub.tell(pass, words.id(1), words.entry(self.alloc)?, now),
             _ => self.act_and_tell(words, answer),
         }
     }
 
     fn attach(&mut self, words: &Words<'_>) -> Result<(), HubError> {
-        let (alloc, hub, pass, now) = (self.alloc, &mut self.hub, &mut self.pass, self.now);
+        let (hub, pass, now) = (&mut self.hub, &mut self.pass, self.now);
         let (client, space) = (words.id(1), words.word(2));
-        hub.attach(alloc, pass, client, space, words.sid(3), words.pid(4), now)
+        hub.attach(pass, client, space, words.sid(3), words.pid(4), now)
     }
 
     /// Plays a command that is answered.
@@ -133,7 +133,7 @@ impl<C: Ledger, T: Ledger> Player<C, T> {
     /// sockets miss it, and the clients that got it.
     fn cast(&mut self, words: &Words<'_>, answer: &mut String) -> Result<(), HubError> {
         let cast = words.cast(self.alloc)?;
-        let mut done = self.hub.cast(self.alloc, &mut self.pass, cast, self.now)?;
+        let mut done = self.hub.cast(&mut self.pass, cast, self.now)?;
         done.clients.sort_unstable();
         let (placed, dropped) = (done.placed, done.dropped);
         Ok(write!(
@@ -144,23 +144,23 @@ impl<C: Ledger, T: Ledger> Player<C, T> {
     }
 
     fn take(&mut self, words: &Words<'_>, answer: &mut String) -> Result<(), HubError> {
-        let (alloc, hub, pass) = (self.alloc, &mut self.hub, &mut self.pass);
-        let entries = hub.take(alloc, pass, words.id(1), words.number(2) as usize, self.now)?;
+        let (hub, pass) = (&mut self.hub, &mut self.pass);
+        let entries = hub.take(pass, words.id(1), words.number(2) as usize, self.now)?;
         Ok(write_entries(&entries, answer)?)
     }
 
     /// Takes entries away, and answers how many.
     fn skip(&mut self, words: &Words<'_>, answer: &mut String) -> Result<(), HubError> {
-        let (alloc, hub, pass) = (self.alloc, &mut self.hub, &mut self.pass);
+        let (hub, pass) = (&mut self.hub, &mut self.pass);
         let most = words.number(2) as usize;
-        let count = hub.take_away(alloc, pass, words.id(1), most, self.now)?;
+        let count = hub.take_away(pass, words.id(1), most, self.now)?;
         Ok(write!(answer, "  {count}")?)
     }
 
     fn recover(&mut self, words: &Words<'_>, answer: &mut String) -> Result<(), HubError> {
-        let (alloc, hub, pass, now) = (self.alloc, &mut self.hub, &mut self.pass, self.now);
+        let (hub, pass, now) = (&mut self.hub, &mut self.pass, self.now);
         let (client, space, offset) = (words.id(1), words.word(2), words.number(4));
-        let sid = hub.recover(alloc, pass, client, space, words.pid(3), offset, now)?;
+        let sid = hub.recover(pass, client, space, words.pid(3), offset, now)?;
         Ok(write!(answer, "  {}", sid.number())?)
     }
 
@@ -171,9 +171,9 @@ impl<C: Ledger, T: Ledger> Player<C, T> {
         let (named, but) = (words.rooms(alloc, 2)?, words.rooms(alloc, 3)?);
         let (space, room) = (words.word(1), words.room(4));
         let sids = if words.word(0) == "pull" {
-            hub.sockets_join(alloc, pass, space, named, but, room, now)?
+            hub.sockets_join(pass, space, named, but, room, now)?
         } else {
-            hub.sockets_leave(alloc, pass, space, named, but, room, now)?
+            hub.sockets_leave(pass, space, named, but, room, now)?
         };
         Ok(write_sids(&sids, answer)?)
     }
@@ -182,14 +182,14 @@ impl<C: Ledger, T: Ledger> Player<C, T> {
     fn kick(&mut self, words: &Words<'_>, answer: &mut String) -> Result<(), HubError> {
         let (alloc, hub, pass, now) = (self.alloc, &mut self.hub, &mut self.pass, self.now);
         let (named, but) = (words.rooms(alloc, 2)?, words.rooms(alloc, 3)?);
-        let done = hub.disconnect_sockets(alloc, pass, words.word(1), named, but, now)?;
+        let done = hub.disconnect_sockets(pass, words.word(1), named, but, now)?;
         write_sids(&done.ended, answer)?;
         Ok(write!(answer, " told {:?}", done.told)?)
     }
 
     /// How many of the log's entries and of the saved sessions were dropped.
     fn sweep(&mut self, answer: &mut String) -> Result<(), HubError> {
-        let swept = self.hub.sweep(self.alloc, &mut self.pass, self.now)?;
+        let swept = self.hub.sweep(&mut self.pass, self.now)?;
         Ok(write!(answer, "  {} {}", swept.log, swept.saved)?)
     }
 

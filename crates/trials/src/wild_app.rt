@@ -3,7 +3,7 @@
 ghost use Rattle.std.specs.Prelude.{IfOk, IfSome};
 ghost use Rattle.events.specs.App.{AllClean, IsCleanEffect};
 
-use events::{App, Arrived, Effect, Emission, Inquiry, Reply, Selection, Verdict, Who};
+use events::{App, Arrived, Effect, Emission, Inquiry, Reply, Selection, Verdict, Wanted, Who};
 use journal::Ending;
 use relay::{Presence, RelayApp};
 use std::alloc::{AllocError, Global};
@@ -104,12 +104,7 @@ impl App for WildApp {
         }
     }
 
-    fn decides(
-        &self,
-        alloc: Global,
-        who: &Who,
-        arrived: &Arrived,
-    ) -> Result<Vec<Effect>, AllocError> {
+    fn decides(&self, alloc: Global, who: &Who, arrived: &Arrived) -> Wanted {
         if let Arrived::Event(message) = arrived
             && let Some(effects) = effects_of(
                 alloc,
@@ -122,13 +117,7 @@ impl App for WildApp {
         RelayApp.decides(alloc, who, arrived)
     }
 
-    fn left(
-        &self,
-        alloc: Global,
-        who: &Who,
-        rooms: &[Room],
-        ending: Ending,
-    ) -> Result<Vec<Effect>, AllocError> {
+    fn left(&self, alloc: Global, who: &Who, rooms: &[Room], ending: Ending) -> Wanted {
         if was_in(rooms, b"oops") {
             return Ok(vec![in alloc; Effect::Disconnect]?);
         }

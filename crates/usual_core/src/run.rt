@@ -73,7 +73,8 @@ fn on_server_of<C: Ledger + Send + Sync, T: Ledger + Send + Sync, W: OnServer>(
     commands: Blank,
     taken: Blank,
 ) -> Result<W::Found, CoreError>
-    requires commands { (commands.name ≡ C.name) × (commands.parts ≡ C.parts) × (commands.parts ≡ 65536) }
+    requires commands { (commands.name ≡ C.name)
+        × (commands.parts ≡ C.parts) × (commands.parts ≡ 65536) }
     requires taken { (taken.name ≡ T.name) × (taken.parts ≡ T.parts) × (taken.parts ≡ 65536) }
 {
     let mut server = new_server::<C, T>(alloc, settings, commands, taken)?;
@@ -99,7 +100,8 @@ fn on_locked_of<C: Ledger + Send + Sync, T: Ledger + Send + Sync, W: OnLocked>(
     commands: Blank,
     taken: Blank,
 ) -> Result<(W::Found, Totals), CoreError>
-    requires commands { (commands.name ≡ C.name) × (commands.parts ≡ C.parts) × (commands.parts ≡ 65536) }
+    requires commands { (commands.name ≡ C.name)
+        × (commands.parts ≡ C.parts) × (commands.parts ≡ 65536) }
     requires taken { (taken.name ≡ T.name) × (taken.parts ≡ T.parts) × (taken.parts ≡ 65536) }
 {
     let server = new_server::<C, T>(alloc, settings, commands, taken)?;
@@ -116,7 +118,8 @@ fn new_server<C: Ledger, T: Ledger>(
     commands: Blank,
     taken: Blank,
 ) -> Result<Box<Server<C, T>>, CoreError>
-    requires commands { (commands.name ≡ C.name) × (commands.parts ≡ C.parts) × (commands.parts ≡ 65536) }
+    requires commands { (commands.name ≡ C.name)
+        × (commands.parts ≡ C.parts) × (commands.parts ≡ 65536) }
     requires taken { (taken.name ≡ T.name) × (taken.parts ≡ T.parts) × (taken.parts ≡ 65536) }
 {
     let Settings {

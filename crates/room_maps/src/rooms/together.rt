@@ -94,10 +94,7 @@ impl Rooms {
         if let Some(refusal) = self.join_all_refusal(sids, room) {
             return Err(refusal);
         }
-        match self.add_outsiders(alloc, sids, room) {
-            Ok(joined) => Ok(joined),
-            Err(AllocError) => Err(RoomError::Memory),
-        }
+        Ok(self.add_outsiders(alloc, sids, room)?)
     }
 
     /// The sockets aren't in the room any more, all of them or none. One that isn't in it stays as
@@ -122,10 +119,7 @@ impl Rooms {
         if let Some(refusal) = self.leave_all_refusal(sids, room) {
             return Err(refusal);
         }
-        match self.take_insiders(alloc, sids, room) {
-            Ok(left) => Ok(left),
-            Err(AllocError) => Err(RoomError::Memory),
-        }
+        Ok(self.take_insiders(alloc, sids, room)?)
     }
 
     /// Those of the sockets that aren't in the room, rising.
@@ -194,8 +188,7 @@ impl Rooms {
     /// which takes no memory.
     fn add_members(&mut self, alloc: Global, sids: &[Sid], room: Room) -> Result<(), AllocError>
         requires known { (sid : ℕ) → is_named sids.now sid ≡ true → is_socket self.old sid ≡ true }
-        requires absent { (sid : ℕ)
-            → is_named sids.now sid ≡ true → is_in self.old sid room ≡ false }
+        requires absent { (s : ℕ) → is_named sids.now s ≡ true → is_in self.old s room ≡ false }
         requires few { (sid : ℕ) → is_named sids.now sid ≡ true → is_full self.old sid ≡ false }
         ensures ok { OnOk result (self.new ≡ with_members self.old sids.now room) }
         ensures err { OnErr result (self.new ≡ self.old) }
@@ -226,8 +219,7 @@ impl Rooms {
 
     /// Takes the sockets out of the room, which takes no memory.
     fn take_members(&mut self, sids: &[Sid], room: Room)
-        requires { (sid : ℕ)
-            → is_named sids.now sid ≡ true → same_room (own_room sid) room ≡ false }
+        requires { (s : ℕ) → is_named sids.now s ≡ true → same_room (own_room s) room ≡ false }
         ensures { self.new ≡ without_members self.old sids.now room }
     {
         links::unlink_keys(&mut self.by_socket, sids, &room);

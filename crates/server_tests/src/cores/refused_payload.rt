@@ -1,6 +1,6 @@
 //! A payload whose growths are refused.
 
-use crate::cores::event_lines::Line;
+use crate::cores::acts::Act::{self, Opens, Posts, Takes};
 use events::{CoreError, CoreFault};
 use hub_state::State;
 use relay::RelayApp;
@@ -10,14 +10,16 @@ use terms::Room;
 use usual_core::{OnServer, Server, Settings, on_new_server};
 
 /// Two clients join a room. The first one joins another room, and speaks to the first.
-const JOINED: &str = r#"open
-post 1 40|42["join","r"]
-take 1
-open
-post 4 40|42["join","r"]
-take 4"#;
+static JOINED: [Act; 6] = [
+    Opens,
+    Posts(1, "40\u{1e}42[\"join\",\"r\"]"),
+    Takes(1),
+    Opens,
+    Posts(4, "40\u{1e}42[\"join\",\"r\"]"),
+    Takes(4),
+];
 
-const TWO_PACKETS: &str = r#"post 1 42["join","q"]|42["say","r","x"]"#;
+const TWO_PACKETS: Act = Posts(1, "42[\"join\",\"q\"]\u{1e}42[\"say\",\"r\",\"x\"]");
 
 /// How many of the two packets are done, by what the hub tells: the members of the other room, the
 /// commands and the entries that were placed.
@@ -40,13 +42,13 @@ fn done_by(before: (usize, u64, u64), error: Option<CoreError>) -> Option<(usize
     }
 }
 
-/// Why a line is refused.
+/// Why this is refused, if it is.
 fn refusal<C: Ledger, T: Ledger>(
     alloc: Global,
     server: &mut Server<C, T>,
-    line: &str,
+    act: Act,
 ) -> Option<Option<CoreError>> {
-    let event = Line::read(line).event(alloc).ok()?;
+    let event = act.event(alloc).ok()?;
     Some(server.apply(alloc, &RelayApp, &event, 0).err())
 }
 
@@ -62,8 +64,8 @@ impl OnServer for TellsHowFar {
         alloc: Global,
         server: &mut Server<C, T>,
     ) -> Option<bool> {
-        for line in JOINED.lines() {
-            if refusal(alloc, server, line)?.is_some() {
+        for act in JOINED {
+            if refusal(alloc, server, act)?.is_some() {
                 return None;
             }
         }

@@ -1,13 +1,14 @@
 //! What a request is answered with, for what its events were answered with. No core serves it.
 
-use crate::edge::sheet::{Sheet, Still};
+use crate::edge::asker::{Asker, Still, asker};
 use events::CoreFault::{
     self, BadEffect, IdTaken, Memory, NotProbing, Spent, TooManyClients, UnknownClient,
     WrongTransport,
 };
 use events::{Answered, Cause, Done, Opening, Outcome, Peer, PeerFault};
-use peers::{PollPeer, PollRequest};
+use peers::{Moments, PollRequest};
 use std::alloc::{AllocError, Global};
+use std::cell::Cell;
 use terms::Text;
 
 /// What a request asks for.
@@ -25,12 +26,13 @@ enum Given {
     Does(usize, Option<Cause>),
     Begun,
     Payload,
+    Noop,
     Nothing,
     Refused(CoreFault),
 }
 
 use Asks::{Get, Open, Post};
-use Given::{Begun, Does, Nothing, Opened, Payload, Refused};
+use Given::{Begun, Does, Noop, Nothing, Opened, Payload, Refused};
 
 /// A request, what its events are answered with, and the status line and the end of what it is
 /// answered with, if anything.
@@ -121,17 +123,14 @@ fn answer(alloc: Global, given: Given) -> Result<Answered, AllocError> {
         })),
         Begun => Ok(Outcome::Begun),
         Payload => Ok(Outcome::Payload(Text::copy_of(alloc, "4hi")?)),
+        Noop => Ok(Outcome::Payload(Text::copy_of(alloc, "6")?)),
         Nothing => Ok(Outcome::Nothing),
         Refused(fault) => Err(fault.at_once()),
     })
 }
 
 /// Gives the peer these answers, for an event each.
-fn hear(
-    alloc: Global,
-    peer: &mut PollPeer<Sheet, Still>,
-    given: &[Given],
-) -> Result<(), PeerFault> {
+fn hear(alloc: Global, peer: &mut Asker<Still>, given: &[Given]) -> Result<(), PeerFault> {
     for one in given {
         let Ok(got) = answer(alloc, *one) else {
             return Err(PeerFault::Memory);
@@ -147,18 +146,10 @@ fn hear(
 /// What is written for a request, whose wire takes `room` bytes, and whether the writing failed.
 /// Nothing where it has a further event.
 fn written(alloc: Global, asks: Asks, given: &[Given], room: usize) -> Option<(Vec<u8>, bool)> {
-    let request = request(alloc, asks).ok()?;
-    let mut peer = PollPeer::new(
-        alloc,
-        Sheet::with_room(alloc, room),
-        Still,
-        request,
-        64,
-        None,
-    );
+    let mut peer = asker(alloc, Still, request(alloc, asks).ok()?, room);
     let heard = hear(alloc, &mut peer, given);
     match peer.next() {
-        Ok(None) => Some((peer.into_wire().written, heard.is_err())),
+        Ok(None) => Some((peer.into_wire().into_stream().written, heard.is_err())),
         _ => None,
     }
 }
@@ -207,4 +198,55 @@ fn the_writer_fails_at_each_byte(rt: HostRuntime) {
         let is_right = is_beginning(rt.alloc(), room) || is_beginning(rt.alloc(), room);
         assert!(rt; is_right, "after {room}");
     }
+}
+
+/// Each moment is one later than the one before, and pauses are counted.
+#[derive(Clone, Copy, Debug)]
+struct Counted<'c> {
+    moments: &'c Cell<u64>,
+    pauses: &'c Cell<u64>,
+}
+
+impl<'c> Moments for Counted<'c> {
+    fn now(&mut self) -> u64 {
+        let moment = self.moments.get();
+        self.moments.set(moment.saturating_add(1));
+        moment
+    }
+
+    fn pause(&mut self) {
+        self.pauses.set(self.pauses.get().saturating_add(1));
+    }
+}
+
+/// What the events of a GET are answered with that finds nothing twice: the moment of each event, and
+/// how many pauses were made before it and by the time that it was answered.
+static PACED: [(Given, u64, u64, u64); 4] = [
+    (Begun, 10, 0, 0),
+    (Nothing, 11, 0, 0),
+    (Nothing, 12, 1, 1),
+    (Noop, 13, 2, 3),
+];
+
+/// Whether a GET goes so.
+fn is_paced(alloc: Global) -> Option<bool> {
+    let (moments, pauses) = (Cell::new(10), Cell::new(0));
+    let counted = Counted {
+        moments: &moments,
+        pauses: &pauses,
+    };
+    let mut peer = asker(alloc, counted, PollRequest::Get { client: 7 }, 1_000);
+    let mut is_right = true;
+    for (given, at, before, after) in PACED {
+        let (_, now) = peer.next().ok()??;
+        is_right = is_right && (now, pauses.get()) == (at, before);
+        peer.answer(&answer(alloc, given).ok()?).ok()?;
+        is_right = is_right && pauses.get() == after;
+    }
+    Some(is_right)
+}
+
+#[test]
+fn moments_and_pauses(rt: HostRuntime) {
+    assert!(rt; is_paced(rt.alloc()) == Some(true) || is_paced(rt.alloc()) == Some(true));
 }

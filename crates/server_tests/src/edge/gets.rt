@@ -1,9 +1,9 @@
 //! GETs that wait, served by a core.
 
+use crate::edge::asker::{Asker, Still, asker};
 use crate::edge::served::{End, serve};
-use crate::edge::sheet::{Sheet, Still};
 use events::Event;
-use peers::{PollPeer, PollRequest};
+use peers::PollRequest;
 use relay::RelayApp;
 use std::alloc::Global;
 use std::sync::ledger::Ledger;
@@ -83,24 +83,13 @@ static ROWS: [(u128, &[(usize, Move)]); 4] = [
     ),
 ];
 
-type Getter = PollPeer<Sheet, Still>;
-
-fn getter(alloc: Global, client: u128) -> Getter {
-    let request = PollRequest::Get { client };
-    PollPeer::new(
-        alloc,
-        Sheet::with_room(alloc, 1_000),
-        Still,
-        request,
-        64,
-        None,
-    )
+fn getter(alloc: Global, client: u128) -> Asker<Still> {
+    asker(alloc, Still, PollRequest::Get { client }, 1_000)
 }
 
 /// Opens a client by a request, and says which.
 fn opened<C: Ledger, T: Ledger>(alloc: Global, server: &mut Server<C, T>) -> Option<u128> {
-    let wire = Sheet::with_room(alloc, 1_000);
-    let mut peer = PollPeer::new(alloc, wire, Still, PollRequest::Open, 64, None);
+    let mut peer = asker(alloc, Still, PollRequest::Open, 1_000);
     serve(alloc, server, &mut peer, 1);
     peer.client()
 }
@@ -109,7 +98,7 @@ fn opened<C: Ledger, T: Ledger>(alloc: Global, server: &mut Server<C, T>) -> Opt
 fn goes<C: Ledger, T: Ledger>(
     alloc: Global,
     server: &mut Server<C, T>,
-    peer: &mut Getter,
+    peer: &mut Asker<Still>,
     client: u128,
     one: Move,
 ) -> bool {
@@ -120,7 +109,7 @@ fn goes<C: Ledger, T: Ledger>(
             true
         }
         IsIdle(idle) => peer.is_idle() == idle && peer.client() == Some(client),
-        Writes(end) => peer.wire().written.as_slice().ends_with(end),
+        Writes(end) => peer.wire().get_ref().written.as_slice().ends_with(end),
         Probe => server
             .apply(alloc, &RelayApp, &Event::Probe { client }, 0)
             .is_ok(),
@@ -137,8 +126,11 @@ fn all_go<C: Ledger, T: Ledger>(
     let (mut first, mut second) = (getter(alloc, client), getter(alloc, client));
     let mut is_right = true;
     for (place, one) in moves {
-        let peer = if *place == 1 { &mut first } else { &mut second };
-        is_right = goes(alloc, server, peer, client, *one) && is_right;
+        let is_so = match *place {
+            1 => goes(alloc, server, &mut first, client, *one),
+            _ => goes(alloc, server, &mut second, client, *one),
+        };
+        is_right = is_so && is_right;
     }
     is_right
 }

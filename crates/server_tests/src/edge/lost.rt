@@ -1,18 +1,16 @@
 //! Requests that a worker serves, of which one can't be answered.
 
-use crate::edge::sheet::{Sheet, Still};
+use crate::edge::asker::{Asker, Still, asker};
 use hub_gate::{Locked, Open, Pool, Queue, WorkerCounts, run_worker};
 use hub_totals::Pass;
 use journal::Totals;
-use peers::{PollPeer, PollRequest};
+use peers::PollRequest;
 use relay::{Counter, RelayApp};
 use std::alloc::{AllocError, Global};
 use std::sync::Wait;
 use std::sync::ledger::Ledger;
 use terms::Text;
 use usual_core::{OnLocked, Settings, on_new_locked};
-
-type Asker = PollPeer<Sheet, Still>;
 
 /// What a request asks for.
 #[derive(Clone, Copy, Debug)]
@@ -37,29 +35,21 @@ static LINES: [(Line, usize); 10] = [
     (Line::Get(2), 20),
 ];
 
-fn asker(alloc: Global, line: Line, room: usize) -> Result<Asker, AllocError> {
-    let request = match line {
+fn request(alloc: Global, line: Line) -> Result<PollRequest, AllocError> {
+    Ok(match line {
         Line::Open => PollRequest::Open,
         Line::Get(client) => PollRequest::Get { client },
         Line::Post(client, body) => PollRequest::Post {
             client,
             body: Text::copy_of(alloc, body)?,
         },
-    };
-    Ok(PollPeer::new(
-        alloc,
-        Sheet::with_room(alloc, room),
-        Still,
-        request,
-        64,
-        None,
-    ))
+    })
 }
 
-fn askers(alloc: Global) -> Result<Vec<Asker>, AllocError> {
+fn askers(alloc: Global) -> Result<Vec<Asker<Still>>, AllocError> {
     let mut peers = Vec::new(alloc);
     for (line, room) in LINES {
-        peers.push(asker(alloc, line, room)?)?;
+        peers.push(asker(alloc, Still, request(alloc, line)?, room))?;
     }
     Ok(peers)
 }
@@ -68,7 +58,7 @@ fn askers(alloc: Global) -> Result<Vec<Asker>, AllocError> {
 #[derive(Drop)]
 struct Serves<'a, R: Wait> {
     rt: &'a R,
-    peers: Vec<Asker>,
+    peers: Vec<Asker<Still>>,
 }
 
 impl<'a, R: Wait> OnLocked for Serves<'a, R> {

@@ -1,7 +1,7 @@
 //! The bytes of an answer.
 
-use crate::edge::memory_wire::MemoryWire;
-use http_edge::{EdgeError, Status, write_response};
+use crate::edge::spoken::Spoken;
+use http_edge::{EdgeError, OnStream, Status, write_response};
 use std::alloc::Global;
 
 /// A status, the origin that is named, if one is, what stands before the last field, and the body.
@@ -66,9 +66,9 @@ fn answered(
     origin: &Option<String>,
     want: &[u8],
 ) -> (Result<(), EdgeError>, bool) {
-    let mut wire = MemoryWire::with_room(alloc, step, room);
+    let mut wire = OnStream::new(Spoken::silent(alloc, step, room));
     let answer = write_response(alloc, &mut wire, status, origin, body);
-    let written = wire.written.as_slice();
+    let written = wire.get_ref().written.as_slice();
     let is_right = match answer {
         Ok(()) => written == want,
         Err(_) => want.starts_with(written),

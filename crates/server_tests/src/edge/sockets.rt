@@ -1,7 +1,7 @@
 //! WebSockets, served by a core.
 
+use crate::edge::asker::Still;
 use crate::edge::served::serve;
-use crate::edge::sheet::Still;
 use crate::edge::spoken::{Piece, Spoken};
 use events::Event;
 use http_edge::Replay;

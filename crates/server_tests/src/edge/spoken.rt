@@ -1,4 +1,4 @@
-//! A stream of which a test says what each read gives.
+//! A stream in memory, of which a test says what each read gives and how many bytes it takes.
 
 use std::alloc::Global;
 use std::io;
@@ -12,11 +12,13 @@ pub enum Piece {
     Fail,
 }
 
-/// Gives these pieces, each at one read, and then ends; takes `room` bytes and then fails.
+/// Gives these pieces, each at one read, and then ends; takes `room` bytes, at most `step` at a
+/// time, and then fails.
 #[derive(Drop)]
 pub struct Spoken {
     pieces: Vec<Piece>,
     at: usize,
+    step: usize,
     room: usize,
     pub written: Vec<u8>,
 }
@@ -26,9 +28,17 @@ impl Spoken {
         Spoken {
             pieces,
             at: 0,
+            step: usize::MAX,
             room,
             written: Vec::new(alloc),
         }
+    }
+
+    /// One that gives nothing.
+    pub fn silent(alloc: Global, step: usize, room: usize) -> Spoken {
+        let mut stream = Spoken::new(alloc, Vec::new(alloc), room);
+        stream.step = step;
+        stream
     }
 }
 
@@ -52,7 +62,7 @@ impl Read for Spoken {
 
 impl Write for Spoken {
     fn write(&mut self, buf: &[u8]) -> io::Result<usize> {
-        let count = buf.len().min(self.room);
+        let count = buf.len().min(self.step).min(self.room);
         if (count == 0 && !buf.is_empty())
             || self.written.extend_from_slice(&buf[..count]).is_err()
         {

@@ -1,6 +1,6 @@
 //! An app that wants what can't be done.
 
-use events::{App, Arrived, Effect, Verdict, Who};
+use events::{App, Arrived, Effect, Verdict, Wanted, Who};
 use journal::Ending;
 use std::alloc::{AllocError, Global};
 use terms::Room;
@@ -20,22 +20,11 @@ impl App for Vague {
         Ok(Verdict::Accept(Vec::new(alloc)))
     }
 
-    fn decides(
-        &self,
-        alloc: Global,
-        _who: &Who,
-        _arrived: &Arrived,
-    ) -> Result<Vec<Effect>, AllocError> {
+    fn decides(&self, alloc: Global, _who: &Who, _arrived: &Arrived) -> Wanted {
         Ok(Vec::new(alloc))
     }
 
-    fn left(
-        &self,
-        alloc: Global,
-        _who: &Who,
-        _rooms: &[Room],
-        _ending: Ending,
-    ) -> Result<Vec<Effect>, AllocError> {
+    fn left(&self, alloc: Global, _who: &Who, _rooms: &[Room], _ending: Ending) -> Wanted {
         let mut effects = Vec::new(alloc);
         effects.push(Effect::Disconnect)?;
         Ok(effects)

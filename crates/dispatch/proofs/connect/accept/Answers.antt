@@ -5,10 +5,12 @@ use Rattle.effects.proofs.ActLemmas.{stands-seated}
 use Rattle.dispatch.proofs.ConnectLemmas.{does-all, seated-new}
 use Rattle.dispatch.proofs.connect.accept.Goals as goal
 
-pub act_all-requires-clause-stands : goal.act_all-requires-clause-stands
-act_all-requires-clause-stands c =
-    stands-seated c.args.who.now c.args.scene.now.visit.moment (scene c.attach.new.state c.enter.new.self c.count.new.self) (ap (λ (t : Tally). t.done.closed) c.count.ensures ∙ c.requires.fresh.0)
-    (seated-new c.args.who.now c.args.pid c.args.scene.now.visit.moment c.args.scene.now.state.now c.attach.new.state (rw c.if-branch.true at c.in_ok-attach.ensures) (rw c.requires.own c.requires.open_client) c.requires.free.0)
+pub act_all-requires-clause-acting : goal.act_all-requires-clause-acting
+act_all-requires-clause-acting c = (
+  c.requires.own,
+  stands-seated c.args.who.now c.args.scene.now.visit.moment (scene c.attach.new.state c.enter.new.self c.count.new.self) (ap (λ (t : Tally). t.done.closed) c.count.ensures ∙ c.requires.ready.1.0)
+      (seated-new c.args.who.now c.args.pid c.args.scene.now.visit.moment c.args.scene.now.state.now c.attach.new.state (rw c.if-branch.true at c.in_ok-attach.ensures) (rw c.requires.own c.requires.ready.0) c.requires.free.0),
+)
 
 pub returns-then-branch : goal.returns-then-branch
 returns-then-branch c = (

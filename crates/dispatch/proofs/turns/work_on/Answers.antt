@@ -1,4 +1,4 @@
-use Rattle.std.proofs.Common.{rules, ◌≡◌, ◌∙◌, ap, Some, refl, subst}
+use Rattle.std.proofs.Common.{rules, ◌≡◌, ◌∙◌, ap, Some, Err, refl, subst}
 use Rattle.connection.specs.Line.{PlainLine}
 use Rattle.effects.specs.Scene.{seen}
 use Rattle.dispatch.specs.Machine.{opening}
@@ -7,8 +7,8 @@ use Rattle.dispatch.specs.Place.{line_of, place, KeepsOthers}
 use Rattle.dispatch.proofs.TurnLemmas.{ends-with}
 use Rattle.dispatch.proofs.turns.work_on.Goals as goal
 
-pub returns-in-Err : goal.returns-in-Err
-returns-in-Err g c = λ line known.
+pub returns-in_err-handle_each : goal.returns-in_err-handle_each
+returns-in_err-handle_each g c = λ line known.
     let client = c.args.visit.client in
     let policy = g.A.App.policy c.args.app.now in
     let ids = g.I.IdSource.stream c.args.ids.now in
@@ -21,6 +21,7 @@ returns-in-Err g c = λ line known.
     let others : KeepsOthers client (place c.args.state.now c.args.lines.now.entries) (place state new) = search rules in
     let has : line_of new client ≡ Some c.line-1.given.0 = search rules in
     let same : c.in-Some.line.now ≡ line = search rules in
-    ends-with policy c.args.visit.moment client c.args.packets.now line (place c.args.state.now c.args.lines.now.entries) (place state new) ids left c.in-Err.error (stage (seen worked) left)
-    (subst (λ (l : PlainLine). BreaksAfter policy client c.args.visit.moment c.args.packets.now (stage (opening c.args.state.now l) ids) c.in-Err.error (stage (seen worked) left)) same (rw c.new-tally.ensures at c.in-Err.ensures.err))
-    made (has ∙ ap (λ (l : PlainLine). Some l) kept) others refl
+    let failed : c.from_residual.result ≡ Err c.in_err-handle_each.field-0.0 = search rules in
+    rw failed (ends-with policy c.args.visit.moment client c.args.packets.now line (place c.args.state.now c.args.lines.now.entries) (place state new) ids left c.in_err-handle_each.field-0.0 (stage (seen worked) left)
+    (subst (λ (l : PlainLine). BreaksAfter policy client c.args.visit.moment c.args.packets.now (stage (opening c.args.state.now l) ids) c.in_err-handle_each.field-0.0 (stage (seen worked) left)) same (rw c.new-tally.ensures at c.in_err-handle_each.ensures.err))
+    made (has ∙ ap (λ (l : PlainLine). Some l) kept) others refl)

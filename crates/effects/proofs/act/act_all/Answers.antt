@@ -15,7 +15,7 @@ loop-effect-init c = record {
   same = search rules;
   run = runs-none _ _;
   split = search rules;
-  stands = c.requires.stands;
+  stands = c.requires.acting.1;
   count = search rules;
 }
 
@@ -38,11 +38,11 @@ returns-in-Err-clause-err c =
       length yielded,
       c.loop-effect.invariant.count,
       at,
-      subst (λ (xs : List Effect). Runs (ActsInTurn c.args.who.now now) xs (seen c.args.scene.now) at) (sym (take-done c.args.effects.items yielded _ c.loop-effect.invariant.split)) c.loop-effect.invariant.run,
+      subst (λ (xs : List Effect). Runs (ActsInTurn c.args.who.now now) xs (seen c.args.scene.now) at) (sym (take-done c.args.wanted.items yielded _ c.loop-effect.invariant.split)) c.loop-effect.invariant.run,
       c.in-Some.effect,
-      get-next c.args.effects.items yielded _ c.next.new.self.rest.items c.in-Some.effect c.loop-effect.invariant.split c.in-Some.ensures.steps.0,
+      get-next c.args.wanted.items yielded _ c.next.new.self.rest.items c.in-Some.effect c.loop-effect.invariant.split c.in-Some.ensures.steps.0,
       subst (λ (moment : ℕ). Stops c.args.who.now moment at c.in-Some.effect c.in-Err.fault (seen c.act.new.scene)) (ap (λ (v : Visit). v.moment) c.loop-effect.invariant.same.visit) c.in-Err.ensures.err,
     )
 
-pub act-requires-clause-stands : goal.act-requires-clause-stands
-act-requires-clause-stands c = c.loop-effect.invariant.stands
+pub act-requires : goal.act-requires
+act-requires c = (search rules, c.loop-effect.invariant.stands)

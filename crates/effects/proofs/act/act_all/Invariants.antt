@@ -8,7 +8,7 @@ abbrev pub invariant-loop-effect : goal.invariant-loop-effect
 invariant-loop-effect l = record {
   same : IsSameEvent l.fn.scene l.scene;
   run : Runs (ActsInTurn l.who l.fn.scene.visit.moment) l.yielded (seen l.fn.scene) (seen l.scene);
-  split : l.fn.effects.items ≡ l.yielded ++ l.effect-iterator.rest.items;
+  split : l.fn.wanted.items ≡ l.yielded ++ l.effect-iterator.rest.items;
   stands : StandsWith l.who (seen l.scene);
-  count : l.count ≡ l.before + length l.yielded;
+  count : l.effects ≡ l.before + length l.yielded;
 }

@@ -7,7 +7,7 @@ use Rattle.dispatch.proofs.server.Core.new.Goals as goal
 pub invariant_of-result : goal.invariant_of-result
 invariant_of-result g c =
     let is = ap (λ (hub : PlainHub). hub.history) c.in-Ok.ensures.hub in
-    (agree-fresh c.args.config _ _ is c.new-in-Ok.ensures.empty, clean-fresh c.args.config _ c.in-Ok.ensures.config is)
+    (agree-fresh c.args.config _ _ is c.new-lines.ensures.empty, clean-fresh c.args.config _ c.in-Ok.ensures.config is)
 
 pub returns-in-Ok-clause-handed : goal.returns-in-Ok-clause-handed
 returns-in-Ok-clause-handed g c = λ d. handed-fresh c.args.config _ (ap (λ (hub : PlainHub). hub.history) c.in-Ok.ensures.hub) d

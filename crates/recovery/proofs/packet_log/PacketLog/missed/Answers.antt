@@ -1,13 +1,22 @@
-use Rattle.std.proofs.Common.{ap, sym, ◌∙◌, map, filter, List, ℕ, ◌+◌, drop}
+use Rattle.std.proofs.Common.{◌++◌, ap, sym, ◌∙◌, List, ℕ, is_some}
 use Rattle.recovery.specs.PacketLog.{PlainLogged}
 use Rattle.recovery.specs.Missed.{is_for}
+use Rattle.recovery.proofs.MissedLemmas.{offsets_of, offsets_of-append}
 use Rattle.recovery.proofs.PacketLogLemmas.{log_later}
 use Rattle.recovery.proofs.packet_log.PacketLog.missed.Goals as goal
 
-pub returns-in-Ok-clause-whole : goal.returns-in-Ok-clause-whole
-returns-in-Ok-clause-whole c first history is =
-    let offsets : List PlainLogged → List ℕ = λ es. map (λ (e : PlainLogged). e.offset) (filter (is_for c.args.space c.args.rooms.now) es) in
-    c.in-Ok.ensures
-    ∙ ap (λ v. offsets (drop (c.in-Some.place + 1) v.entries)) c.self.view_is
-    ∙ ap offsets (sym c.in-Some.ensures.place.later)
-    ∙ ap offsets (log_later first history c.args.self.now c.args.offset is c.in-Some.ensures.place.stands)
+pub returns-clause-missed : goal.returns-clause-missed
+returns-clause-missed c =
+    let offsets : List PlainLogged → List ℕ = offsets_of (is_for c.args.space c.args.rooms.now) in
+    let front : List PlainLogged = c.in-Some.front.now in
+    let back : List PlainLogged = c.in-Some.back.now in
+    c.in_ok-add_offsets-2.ensures
+    ∙ ap (λ (xs : List ℕ). xs ++ offsets back) (c.in_ok-add_offsets.ensures ∙ ap (λ (xs : List ℕ). xs ++ offsets front) c.new-offsets.ensures.items)
+    ∙ sym (offsets_of-append (is_for c.args.space c.args.rooms.now) front back)
+    ∙ ap offsets c.in-Some.ensures.later
+
+pub returns-clause-whole : goal.returns-clause-whole
+returns-clause-whole c first history is =
+    returns-clause-missed c
+    ∙ ap (offsets_of (is_for c.args.space c.args.rooms.now))
+    (log_later first history c.args.self.now c.args.offset is (sym c.later.ensures.stands ∙ ap is_some c.in-Some.is))

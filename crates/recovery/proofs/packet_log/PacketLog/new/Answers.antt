@@ -2,7 +2,7 @@ use Rattle.std.proofs.Common.{◌^◌, ◌<◌, sym, subst, arith, Some, []}
 use Rattle.recovery.specs.PacketLog.{IsLog, IsLogOf}
 use Rattle.recovery.proofs.PacketLogLemmas.{log_new, log_empty}
 use Rattle.circular_buffer.specs.Buffer.{Buffer}
-use Rattle.recovery.specs.declared.logged.Logged.{Logged}
+use Rattle.recovery.specs.declared.packet_log.Logged.{Logged}
 use Rattle.recovery.proofs.packet_log.PacketLog.new.Goals as goal
 
 pub invariant_of-result : goal.invariant_of-result

@@ -10,13 +10,13 @@ pub invariant_of-self : goal.invariant_of-self
 invariant_of-self c =
     let h = c.in_err-add_pair.ensures in (
       mirror_unchanged c.self.inside.by_socket c.add_pair.new.by_socket c.self.inside.by_room c.add_pair.new.by_room c.self.invariant.0
-          h.socket_side_unchanged h.room_side_unchanged (c.add_pair.ensures.filled c.self.invariant.0.no_empty_room),
-      subst HasFewRooms (sym (sets_unchanged c.self.inside.by_socket c.add_pair.new.by_socket h.socket_side_unchanged)) c.self.invariant.1,
+          h.sockets_kept h.rooms_kept (c.add_pair.ensures.filled c.self.invariant.0.no_empty_room),
+      subst HasFewRooms (sym (sets_unchanged c.self.inside.by_socket c.add_pair.new.by_socket h.sockets_kept)) c.self.invariant.1,
     )
 
 pub returns-in_err-add_pair-clause-err : goal.returns-in_err-add_pair-clause-err
 returns-in_err-add_pair-clause-err c =
-    on_err _ _ (sets_unchanged c.self.inside.by_socket c.add_pair.new.by_socket c.in_err-add_pair.ensures.socket_side_unchanged ∙ c.self.view_is)
+    on_err _ _ (sets_unchanged c.self.inside.by_socket c.add_pair.new.by_socket c.in_err-add_pair.ensures.sockets_kept ∙ c.self.view_is)
 
 pub invariant_of-self-2 : goal.invariant_of-self-2
 invariant_of-self-2 c =

@@ -1,4 +1,4 @@
-use Rattle.std.proofs.Common.{◌≡◌, ◌∷◌, [], arith, sym, ◌∙◌, append_assoc, append-nil}
+use Rattle.std.proofs.Common.{◌≡◌, ◌∷◌, [], arith, rules, sym, ◌∙◌, append_assoc, append-nil}
 use Rattle.std.specs.Vec.Iter.{into_iter_items}
 use Rattle.hub_gate.specs.Serving.{WorksAs}
 use Rattle.hub_gate.proofs.Dealing.{nothing_left}
@@ -14,7 +14,7 @@ loop-job-preserved g c =
       room = omega (arith, c.push_reserved.ensures.capacity, at.invariant.room);
       yielded = append_assoc at.yielded (c.in-Some.job ∷ []) (into_iter_items c.next.new.self) ∙ rw (← steps) at.invariant.yielded;
       begun = rw c.push_reserved.ensures.items (zip_push (λ j h. (h.promise.job.value ≡ j) × (h.promise.app.value ≡ c.captures.pool.now.app.now) × (h.promise.turns ≡ c.captures.pool.now.turns))
-          at.yielded at.handles.items c.in-Some.job c.in_ok-start.field-0 at.invariant.begun c.in_ok-start.ensures.ok);
+          at.yielded at.handles.items c.in-Some.job c.in-Ok-spawn_with.handle at.invariant.begun (search rules));
     }
 
 pub returns : goal.returns

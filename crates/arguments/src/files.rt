@@ -1,0 +1,118 @@
+//! What the options name: the folder whose files are served beside the socket's path, and the file
+//! with the token that clients need.
+
+use page::{File, MOST_BYTES, MOST_FILES, Page, PageError};
+use std::alloc::{AllocError, Global};
+use std::io::{ErrorKind, Read};
+use std::path::Path;
+use std::rt::Files;
+use std::{fs, io};
+use terms::{Bytes, Text};
+use thiserror::Error;
+
+/// Why a folder can't be served, or a file gives no token.
+#[derive(Debug, Drop, Error)]
+pub enum FileFault {
+    /// An allocation was refused.
+    #[error("out of memory")]
+    Memory(#[from(alloc)] AllocError),
+    /// The folder, or a file of it.
+    #[error("{0} can't be read")]
+    Unreadable(String),
+    #[error("the name of a file in it is not UTF-8")]
+    BadName,
+    #[error("it has more than {MOST_FILES} files")]
+    TooMany,
+    #[error("its files have more than {MOST_BYTES} bytes together")]
+    TooLarge,
+    /// The file with the token.
+    #[error("it can't be read")]
+    NoFile,
+    #[error("it is not UTF-8")]
+    NotUtf8,
+    #[error("there is no token in it")]
+    NoToken,
+}
+
+impl From<PageError> for FileFault {
+    fn from(error: PageError) -> FileFault {
+        match error {
+            PageError::TooMany => FileFault::TooMany,
+            PageError::TooLarge => FileFault::TooLarge,
+            PageError::Memory => FileFault::Memory(AllocError),
+        }
+    }
+}
+
+/// What a failed call on this path of a folder comes to.
+fn fault_at(alloc: Global, path: &str, error: &io::Error) -> FileFault {
+    match error.kind() {
+        ErrorKind::OutOfMemory => FileFault::Memory(AllocError),
+        // The one fault of a name.
+        ErrorKind::InvalidFilename => FileFault::BadName,
+        _ => String::from_str(alloc, path).map_or_else(FileFault::Memory, FileFault::Unreadable),
+    }
+}
+
+/// The files of a folder. What else is in it, as other folders, is left out.
+pub fn read_folder<R: Files + AllocGlobal + Clone + Drop>(
+    rt: &R,
+    folder: &str,
+) -> Result<Page, FileFault> {
+    let alloc = rt.alloc();
+    let mut page = Page::new(alloc);
+    let entries = fs::read_dir(rt, folder).map_err(|error| fault_at(alloc, folder, &error))?;
+    for entry in entries {
+        let entry = entry.map_err(|error| fault_at(alloc, folder, &error))?;
+        add_entry(rt, &mut page, entry.file_name(), entry.path())?;
+    }
+    Ok(page)
+}
+
+/// Adds an entry of a folder, if it is a file.
+fn add_entry<R: Files + AllocGlobal>(
+    rt: &R,
+    page: &mut Page,
+    name: &str,
+    path: Path<'_>,
+) -> Result<(), FileFault> {
+    let (alloc, room) = (rt.alloc(), MOST_BYTES - page.size());
+    let read = read_file(rt, path, room).map_err(|error| fault_at(alloc, path.as_str(), &error))?;
+    if let Some(bytes) = read {
+        let (name, bytes) = (Text::copy_of(alloc, name)?, Bytes::from_vec(bytes));
+        page.add(File { name, bytes })?;
+    }
+    Ok(())
+}
+
+/// The bytes of a file, but just one more than there is room for where it has more. Nothing where it
+/// is no file.
+fn read_file<R: Files + AllocGlobal>(
+    rt: &R,
+    path: Path<'_>,
+    room: usize,
+) -> io::Result<Option<Vec<u8>>> {
+    if !fs::metadata(rt, path)?.is_file() {
+        return Ok(None);
+    }
+    let file = fs::open(rt, path)?;
+    let most = (room as u64).saturating_add(1);
+    let mut bytes = Vec::new(rt.alloc());
+    file.take(most).read_to_end(&mut bytes)?;
+    Ok(Some(bytes))
+}
+
+/// The token in a file: its text, without the end of its line.
+pub fn read_token<R: Files + AllocGlobal>(rt: &R, path: &str) -> Result<Text, FileFault> {
+    let text = fs::read_to_string(rt, path).map_err(|error| match error.kind() {
+        ErrorKind::OutOfMemory => FileFault::Memory(AllocError),
+        ErrorKind::InvalidData => FileFault::NotUtf8,
+        _ => FileFault::NoFile,
+    })?;
+    let line = text.as_str().strip_suffix('\n').unwrap_or(text.as_str());
+    let token = line.strip_suffix('\r').unwrap_or(line);
+    if token.is_empty() {
+        return Err(FileFault::NoToken);
+    }
+    Ok(Text::copy_of(rt.alloc(), token)?)
+}
