@@ -1,16 +1,17 @@
 -- A history one call longer.
-use Rattle.std.proofs.Common.{◌≡◌, ℕ, ◌+◌, ◌≤◌, nat_lt, false, cond, nat_cmp, List, ◌∷◌, Some, None, sym, ap, ◌∙◌, arith}
-use Rattle.std.specs.Prelude.{filter, count_by, nat_le, length, is_some, IsSome}
+use Rattle.std.proofs.Common.{◌≡◌, ℕ, ◌+◌, ◌≤◌, nat_lt, false, cond, nat_cmp, List, ◌∷◌, Option, Some, None, Result, Ok, Err, refl, sym, ap, subst, ◌∙◌, arith}
+use Rattle.std.specs.Prelude.{filter, count_by, nat_le, length, is_some, IsSome, IfSome}
 use Rattle.std.specs.Map.{lookup, remove_entry}
 use Rattle.std.specs.BTreeMap.{insert_entry, is_at}
 use Rattle.std.proofs.lemmas.Bool.Decides.{nat_tests}
 use Rattle.std.proofs.lemmas.List.Filters.{length-filter_both}
 use Rattle.std.proofs.lemmas.List.Sums.{length-filter}
 use Rattle.connection.specs.declared.ack_book.Question.{Question}
-use Rattle.connection.specs.declared.ack_error.AckError.TheVariants.{Spent}
+use Rattle.connection.specs.declared.ack_error.AckError.{AckError}
+use Rattle.connection.specs.declared.ack_error.AckError.TheVariants.{Memory, Spent}
 use Rattle.connection.specs.Questions.{Call, Asked, Answered, Expired, asks, next_id, open_questions, question_at}
 use Rattle.connection.specs.BookContents.{Contents}
-use Rattle.connection.specs.Book.{IsLegal, LeadsTo, ForEachHistory, HasHistory, last_id}
+use Rattle.connection.specs.Book.{IsLegal, LeadsTo, ForEachHistory, HasHistory, Asks, ask_refusal, last_id}
 use Rattle.connection.proofs.EntryLemmas.{insert_entry-last, remove_entry-filter, lookup-same_key}
 use Rattle.connection.proofs.QuestionLemmas.{open_questions-rise}
 
@@ -68,3 +69,19 @@ forgotten_by_expiry now questions =
     let rest = λ (e : ℕ × Question). nat_le e.1.until now in
     ap (λ n. length (filter (λ (e : ℕ × Question). nat_lt now e.1.until) questions) + n) (sym (length-filter rest questions))
     ∙ length-filter_both (λ e. nat_lt now e.1.until) rest (λ e. grind (arith, nat_tests)) questions
+
+-- a fresh book that was asked in vain, and another that holds the same and stays as it was
+pub asks-failed : (b fresh next : Contents) (tag until : ℕ) (e : AckError) → fresh ≡ b → Asks fresh tag until (Err e) next → Asks b tag until (Err e) b
+asks-failed b fresh next tag until e is asks =
+    let at = subst (λ (n : Contents). Asks n tag until (Err e) next) is asks in
+    record { refused = at.refused; memory_alone = at.memory_alone; id = tt; leads = tt; unchanged = refl }
+
+-- or that was asked a question, for which there was no memory in the end
+pub asks-short : (b fresh next new : Contents) (tag until id : ℕ) → fresh ≡ b → Asks fresh tag until (Ok id) next → new ≡ b → Asks b tag until (Err Memory) new
+asks-short b fresh next new tag until id is asks same =
+    let at = subst (λ (n : Contents). Asks n tag until (Ok id) next) is asks in
+    record { refused = λ first h leads. on (ask_refusal first h) (at.refused first h leads); memory_alone = λ first h leads free. refl; id = tt; leads = tt; unchanged = same }
+  where
+    on : (o : Option AckError) → IfSome o (λ e. ◌≡◌ {A = Result ℕ AckError} (Ok id) (Err e)) → IfSome o (λ e. ◌≡◌ {A = Result ℕ AckError} (Err Memory) (Err e))
+    on None refused = tt
+    on (Some e) refused = absurd (cc refused)

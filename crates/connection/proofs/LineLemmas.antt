@@ -1,5 +1,5 @@
 -- What each call makes of a line, for every history that leads to it.
-use Rattle.std.proofs.Common.{◌≡◌, ◌⊎◌, ℕ, ◌==◌, Bool, true, false, List, [], ◌∷◌, ◌++◌, refl, sym, ◌∙◌, ap, subst, Option, None, Some, Result, Ok, Err, inl, inr, filter, cond, nat_lt, IfOk, IfErr, IfSome, OnOk, OnErr, if◌then◌else◌}
+use Rattle.std.proofs.Common.{◌≡◌, ◌≢◌, ◌⊎◌, ℕ, ◌==◌, Bool, true, false, List, [], ◌∷◌, ◌++◌, refl, sym, ◌∙◌, ap, subst, Option, None, Some, Result, Ok, Err, inl, inr, filter, cond, nat_lt, IfOk, IfErr, IfSome, OnOk, OnErr, if◌then◌else◌}
 use Rattle.sio_wire.specs.declared.packet.SioPacket.{SioPacket}
 use Rattle.sio_wire.specs.declared.assembler.Progress.{Progress}
 use Rattle.sio_wire.specs.declared.assembler.Progress.TheVariants.{Ready, Waiting, Failed}
@@ -24,7 +24,7 @@ use Rattle.connection.specs.declared.ack_book.Question.{Question}
 use Rattle.connection.specs.Book as book
 use Rattle.connection.specs.BookContents as book_contents
 use Rattle.connection.specs.History.{Call, Framed, FrameRefused, Ticked, Ponged, Probed, Upgraded, ProbeLost, GetBegan, GetEnded, PingCarried, Entered, Left, Asked, Answered, frames, failure, IsLegal, clock_calls, book_calls, is_getting, is_ping_due}
-use Rattle.connection.specs.Line.{PlainLine, ping_after, fresh_book, book_in, failure_of, FailsWith, HasTaken, LeadsTo, HasHistory, Advances}
+use Rattle.connection.specs.Line.{PlainLine, fresh_book, book_in, failure_of, FailsWith, HasTaken, LeadsTo, HasHistory, Advances}
 
 -- calls that lead from each history to the next line lead from the one that there is
 pub advanced : (old new : PlainLine) (calls : List Call) → Advances old calls new → HasHistory old → HasHistory new
@@ -322,6 +322,17 @@ all-expired {F} T now f does (e ∷ es) kept (b, w, g, rest, called, retains, is
         → book.ForEachHistory (unwrap_or (cond t (Some e.1) (lookup (is_at (nat_cmp s)) es)) fresh_book) (λ first h. book.LeadsTo first (questions.Expired now ∷ h) (unwrap_or (cond t (Some w) (lookup (is_at (nat_cmp s)) rest)) fresh_book))
     on true own others = own
     on false own others = others
+
+-- a ping is due after a tick that was answered so, where one was due before it or not
+abbrev pub ping_after : Due → Bool → Bool
+ping_after SendPing ping = true
+ping_after _ ping = ping
+
+pub still-due : (due : Due) (ping : Bool) → due ≢ SendPing → ping ≡ ping_after due ping
+still-due SendPing ping other = absurd (other refl)
+still-due Nothing ping other = refl
+still-due PingTimeout ping other = refl
+still-due ConnectTimeout ping other = refl
 
 -- a tick: every question that ran out is forgotten, the clock is called, and a ping may be due
 pub ticked : (l : PlainLine) (now : ℕ) (due : Due) (clock-after : clock_contents.Contents) (next : List (ℕ × book_contents.Contents))

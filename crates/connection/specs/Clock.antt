@@ -38,7 +38,8 @@ abbrev pub Advances : Contents → Call → Contents → Type 0
 Advances old call new = ForEachHistory old (λ o h. LeadsTo o (call ∷ h) new)
 
 -- a call that may be refused, by the transport: then nothing has changed
-pub record StepsBy (call : Call) (refusal : Transport → Option ClockError) (old : Contents) (result : Result (Unit {0}) ClockError) (new : Contents) : Type 0 where
+pub record StepsBy (call : Call) (refusal : Transport → Option ClockError)
+    (old : Contents) (result : Result (Unit {0}) ClockError) (new : Contents) : Type 0 where
   pub answer : ForEachHistory old (λ o h. result ≡ ok_unless (refusal (transport o h)))
   pub leads : OnOk result (Advances old call new)
   pub unchanged : OnErr result (new ≡ old)

@@ -1,5 +1,5 @@
 -- What a line holds, and which histories lead to it.
-use Rattle.std.specs.Prelude.{◌≡◌, ◌⊎◌, ℕ, Bool, true, List, [], ◌∷◌, ◌++◌, Option, None, Some, unwrap_or, Result, IfOk, IfErr, OnOk, OnErr}
+use Rattle.std.specs.Prelude.{◌≡◌, ◌⊎◌, ℕ, Bool, List, [], ◌∷◌, ◌++◌, Option, None, Some, unwrap_or, Result, IfOk, IfErr, OnOk, OnErr}
 use Rattle.std.specs.Ordering.{nat_cmp}
 use Rattle.std.specs.Map.{lookup}
 use Rattle.std.specs.BTreeMap.{is_at}
@@ -10,8 +10,6 @@ use Rattle.sio_wire.specs.declared.assembler.Progress.TheVariants.{Failed}
 use Rattle.sio_wire.specs.declared.error.SioError.{SioError}
 use Rattle.sio_wire.specs.declared.error.SioError.TheVariants.{Memory}
 use Rattle.sio_wire.specs.Frames.{Frame, Accepted, Accepts}
-use Rattle.connection.specs.declared.timing.Due.{Due}
-use Rattle.connection.specs.declared.timing.Due.TheVariants.{SendPing}
 use Rattle.terms.specs.Refusal.{ok_unless}
 use Rattle.connection.specs.declared.clock_error.ClockError.{ClockError}
 use Rattle.connection.specs.declared.transport.Transport.{Transport}
@@ -33,11 +31,6 @@ pub record PlainLine : Type 0 where
 
 abbrev pub plain_line : Progress → clock_contents.Contents → Bool → Bool → List (ℕ × book_contents.Contents) → PlainLine
 plain_line assembler clock getting ping books = record { assembler = assembler; clock = clock; getting = getting; ping = ping; books = books }
-
--- a ping is due after a tick that was answered so, where one was due before it or not
-abbrev pub ping_after : Due → Bool → Bool
-ping_after SendPing ping = true
-ping_after _ ping = ping
 
 -- a book before its first question
 abbrev pub fresh_book : book_contents.Contents
@@ -82,7 +75,8 @@ abbrev pub Advances : PlainLine → List Call → PlainLine → Type 0
 Advances old calls new = ForEachHistory old (λ o h. LeadsTo o (calls ++ h) new)
 
 -- a call of the clock that it may refuse, by how the client speaks: then nothing has changed
-pub record StepsBy (call : Call) (refusal : Transport → Option ClockError) (old : PlainLine) (result : Result (Unit {0}) ClockError) (new : PlainLine) : Type 0 where
+pub record StepsBy (call : Call) (refusal : Transport → Option ClockError)
+    (old : PlainLine) (result : Result (Unit {0}) ClockError) (new : PlainLine) : Type 0 where
   pub answer : ForEachHistory old (λ o h. result ≡ ok_unless (refusal (transport o (clock_calls h))))
   pub reached : HasHistory old
   pub advances : OnOk result (Advances old (call ∷ []) new)
@@ -99,7 +93,8 @@ IsWholeIfGiven (Some packet) = IsWhole packet.header.space × IsWhole packet.hea
 
 -- a frame came, and the packet that it makes whole is given; after an error other than Memory, which is one of these, the
 -- assembler has failed
-pub record Hears (frame : Frame) (Refuses : SioError → Type 0) (old : PlainLine) (result : Result (Option SioPacket) SioError) (new : PlainLine) : Type 0 where
+pub record Hears (frame : Frame) (Refuses : SioError → Type 0)
+    (old : PlainLine) (result : Result (Option SioPacket) SioError) (new : PlainLine) : Type 0 where
   pub given : IfOk result (λ given. Accepts old.assembler frame given new.assembler)
   pub advances : OnOk result (Advances old (Framed frame ∷ []) new)
   pub whole : IfOk result IsWholeIfGiven

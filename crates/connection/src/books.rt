@@ -1,6 +1,6 @@
 //! The acknowledgement books of a client's sockets.
 
-ghost use Rattle.std.specs.Prelude.{◌≡◌, ℕ, ◌==◌, false, IfErr, OnOk, OnErr, if◌then◌else◌};
+ghost use Rattle.std.specs.Prelude.{◌≡◌, ℕ, ◌==◌, false, if◌then◌else◌};
 ghost use Rattle.connection.specs.Questions.{Expired};
 ghost use Rattle.connection.specs.Book.{Advances, Answers, Asks};
 ghost use Rattle.connection.specs.Line.{fresh_book, book_in};
@@ -16,26 +16,6 @@ pub(crate) fn forget(books: &mut BTreeMap<Sid, AckBook>, sid: Sid)
         ≡ (if sid == s then fresh_book else book_in books.old.entries s) }
 {
     books.remove(&sid);
-}
-
-/// Gives a socket a book.
-fn put(books: &mut BTreeMap<Sid, AckBook>, sid: Sid, book: AckBook) -> Result<(), AckError>
-    ensures own { OnOk result (book_in books.new.entries sid ≡ book) }
-    ensures others { (s : ℕ) → sid == s ≡ false
-        → book_in books.new.entries s ≡ book_in books.old.entries s }
-    ensures unchanged { OnErr result
-        (book_in books.new.entries sid ≡ book_in books.old.entries sid) }
-    ensures memory { IfErr result (λ e. e ≡ AckError.Memory) }
-{
-    let _before = books.insert(sid, book).map_err(|_| AckError::Memory)?;
-    Ok(())
-}
-
-/// A book with no question.
-fn fresh(alloc: Global) -> AckBook
-    ensures { result ≡ fresh_book }
-{
-    AckBook::new(alloc, 0)
 }
 
 /// Asks a question of a socket. Its first one makes its book.
@@ -54,9 +34,11 @@ pub(crate) fn ask(
     if let Some(book) = books.get_mut(&sid) {
         return book.ask(alloc, tag, until);
     }
-    let mut book = fresh(alloc);
+    let mut book = AckBook::new(alloc, 0);
     let id = book.ask(alloc, tag, until)?;
-    put(books, sid, book)?;
+    let Ok(_) = books.insert(sid, book) else {
+        return Err(AckError::Memory);
+    };
     Ok(id)
 }
 
@@ -67,10 +49,7 @@ pub(crate) fn answer(books: &mut BTreeMap<Sid, AckBook>, sid: Sid, id: u64) -> R
     ensures others { (s : ℕ) → sid == s ≡ false
         → book_in books.new.entries s ≡ book_in books.old.entries s }
 {
-    match books.get_mut(&sid) {
-        Some(book) => book.answer(id),
-        None => Err(AckError::UnknownId),
-    }
+    books.get_mut(&sid).ok_or(AckError::UnknownId)?.answer(id)
 }
 
 /// Forgets each question that has run out at this moment.

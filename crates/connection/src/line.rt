@@ -1,14 +1,16 @@
 //! What the server keeps of one client beside the hub.
 #![tactic(auto, unfolding(crate::specs::History::frames, crate::specs::History::failure, crate::specs::History::IsLegal, crate::specs::History::clock_calls, crate::specs::History::book_calls, crate::specs::History::is_getting, crate::specs::History::is_ping_due))]
 
-ghost use Rattle.std.specs.Prelude.{◌≡◌, [], ◌∷◌, length, Some, None, Err, IfOk, IfErr, IfSome, OnOk, OnErr};
+ghost use Rattle.std.specs.Prelude.{◌≡◌, List, [], ◌∷◌, length, Some, None, Err, IfOk, IfErr, IfSome, OnOk, OnErr};
 ghost use Rattle.sio_wire.specs.Frames.{text as text_frame, binary as binary_frame, RefusesText, binary_refusal, exceeds};
+ghost use Rattle.sio_wire.specs.declared.assembler.Progress.{Progress};
+ghost use Rattle.connection.specs.ClockHistory.{Opening};
 ghost use Rattle.connection.specs.Heartbeat.{due};
 ghost use Rattle.connection.specs.Upgrade.{transport, probe_refusal, unprobed_refusal};
 ghost use Rattle.connection.specs.Questions.{next_id, question_at};
 ghost use Rattle.connection.specs.Book.{ask_refusal, answer_of};
-ghost use Rattle.connection.specs.History.{Ticked, Ponged, Probed, Upgraded, ProbeLost, GetBegan, GetEnded, PingCarried, Entered, Left, Asked, Answered, clock_calls, book_calls, is_getting, is_ping_due};
-ghost use Rattle.connection.specs.Line.{LeadsTo, ForEachHistory, HasHistory, Advances, Hears, StepsBy, ping_after};
+ghost use Rattle.connection.specs.History.{Call, Ticked, Ponged, Probed, Upgraded, ProbeLost, GetBegan, GetEnded, PingCarried, Entered, Left, Asked, Answered, clock_calls, book_calls, frames, failure, is_getting, is_ping_due};
+ghost use Rattle.connection.specs.Line.{PlainLine, LeadsTo, ForEachHistory, HasHistory, Advances, Hears, StepsBy};
 
 use crate::{AckBook, AckError, Clock, ClockError, Due, Timing, Transport, books};
 use sio_wire::{Assembler, SioError, SioPacket};
@@ -55,13 +57,6 @@ impl Model for Line {
 
     ghost invariant = { λ l.
         HasHistory (plain_line l.assembler l.clock l.getting l.ping l.books.entries) };
-}
-
-/// Whether a ping is due after a tick that was answered so, where one was due before it or not.
-fn ping_after(due: Due, ping: bool) -> bool
-    ensures { result ≡ ping_after due ping }
-{
-    due == Due::SendPing || ping
 }
 
 impl Line {
@@ -141,7 +136,9 @@ impl Line {
     {
         books::expire(&mut self.books, now);
         let due = self.clock.tick(now);
-        self.ping = ping_after(due, self.ping);
+        if due == Due::SendPing {
+            self.ping = true;
+        }
         due
     }
 
@@ -228,3 +225,12 @@ impl Line {
         books::answer(&mut self.books, sid, id)
     }
 }
+
+/// What an assembler holds is told by the frames that it took and by the one that it refused: where
+/// no frame came it waits for nothing, and calls without a frame leave it as it was. It has no
+/// effect.
+pub fn frames_tell()
+    ensures told { (o : Opening) (g h : List Call) (k l : PlainLine) → LeadsTo o g k → LeadsTo o h l
+        → frames g ≡ frames h → failure g ≡ failure h → k.assembler ≡ l.assembler }
+    ensures ready { (o : Opening) (l : PlainLine) → LeadsTo o [] l → l.assembler ≡ Progress.Ready }
+{}

@@ -29,7 +29,8 @@ use Rattle.events.specs.declared.fault.CoreFault.{CoreFault}
 use Rattle.events.specs.declared.fault.CoreFault.TheVariants.{Memory}
 use Rattle.events.specs.declared.fault.Stopped.{Stopped}
 use Rattle.events.specs.App.{Policy, IsCleanArrival, AllClean}
-use Rattle.effects.specs.Commands.{Makes, IsSeated, seat, return_of}
+use Rattle.hub_state.specs.Returning.{return_of}
+use Rattle.effects.specs.Commands.{Makes, IsSeated, seat}
 use Rattle.effects.specs.Effects.{Scene, told_to, Closes}
 use Rattle.effects.specs.Following.{is_clean, is_work, is_turn, is_cast, WorksFor}
 use Rattle.effects.specs.Runs.{Runs}

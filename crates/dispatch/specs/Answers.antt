@@ -55,9 +55,11 @@ ForClient c row s answer t = elim (s.lines c) [
 ]
 
 -- an event of a client at a moment
-abbrev pub ForVisit : Visit → (ℕ → ℕ → PlainLine → Place → Answer → Place → Type 0) → History → List (ℕ × PlainLine) → Answer → History → List (ℕ × PlainLine) → Type 0
+abbrev pub ForVisit : Visit → (ℕ → ℕ → PlainLine → Place → Answer → Place → Type 0)
+    → History → List (ℕ × PlainLine) → Answer → History → List (ℕ × PlainLine) → Type 0
 ForVisit visit row h lines answer g after = ForClient visit.client (row visit.moment visit.client) (place h lines) answer (place g after)
 
 -- an event of a client that concerns its line alone, whatever the hub's history is
-abbrev pub OnLine : (c : ℕ) → (ℕ → PlainLine → Place → Answer → Place → Type 0) → List (ℕ × PlainLine) → Answer → List (ℕ × PlainLine) → Type 0
+abbrev pub OnLine : (c : ℕ) → (ℕ → PlainLine → Place → Answer → Place → Type 0)
+    → List (ℕ × PlainLine) → Answer → List (ℕ × PlainLine) → Type 0
 OnLine c row lines answer after = (h : History) → ForClient c (row c) (place h lines) answer (place h after)

@@ -89,14 +89,16 @@ Ends c line s _ t = ⊥
 -- the payload for a GET is taken
 abbrev pub Takes : ℕ → (c most : ℕ) → PlainLine → Place → Answer → Place → Type 0
 Takes now c most line s (Ok outcome) t = HasLine c (λ after. TakesFor c most now (Ok outcome) s.history t.history line after) s t
-Takes now c most line s (Err e) t = (e ≡ at_once e.fault) × HasLine c (λ after. TakesFor c most now (Err e.fault) s.history t.history line after) s t
+Takes now c most line s (Err e) t = (e ≡ at_once e.fault)
+    × HasLine c (λ after. TakesFor c most now (Err e.fault) s.history t.history line after) s t
 
 -- ---- a WebSocket
 
 -- the frames for a WebSocket are taken
 abbrev pub TakesFrames : ℕ → (c most : ℕ) → PlainLine → Place → Answer → Place → Type 0
 TakesFrames now c most line s (Ok outcome) t = HasLine c (λ after. SendsFor c most now (Ok outcome) s.history t.history line after) s t
-TakesFrames now c most line s (Err e) t = (e ≡ at_once e.fault) × HasLine c (λ after. SendsFor c most now (Err e.fault) s.history t.history line after) s t
+TakesFrames now c most line s (Err e) t = (e ≡ at_once e.fault)
+    × HasLine c (λ after. SendsFor c most now (Err e.fault) s.history t.history line after) s t
 
 -- ---- a connection that is lost
 

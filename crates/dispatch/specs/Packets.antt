@@ -37,7 +37,8 @@ use Rattle.events.specs.declared.fault.CoreFault.TheVariants.{Memory}
 use Rattle.events.specs.App.{Policy, Accepted, Refused, IsCleanArrival, AllClean}
 use Rattle.events.specs.Cause.{cause_of_sio}
 use Rattle.events.specs.Plain.{one_packet_more}
-use Rattle.effects.specs.Commands.{Makes, IsRefused, StopsAt, CannotReturn, IsSeated, seat, return_of}
+use Rattle.effects.specs.Commands.{Makes, IsRefused, StopsAt, CannotReturn, IsSeated, seat}
+use Rattle.hub_state.specs.Returning.{return_of}
 use Rattle.effects.specs.Effects.{Scene, IsOpenFor, told_to, counted, Closes, ActsInTurn, StopsAfter}
 use Rattle.events.specs.declared.fault.CoreError.{CoreError}
 use Rattle.events.specs.declared.fault.Stopped.{Stopped}
@@ -55,7 +56,8 @@ abbrev pub stage : Scene → (ℕ → ℕ) → Stage
 stage scene ids = record { scene = scene; ids = ids }
 
 -- the event goes on at its moment, is answered so, and draws the ids up to these
-abbrev pub Draws : (ℕ → Stage → Result (Unit {0}) Stopped → Stage → Type 0) → values.Scene → (ℕ → ℕ) → Result (Unit {0}) Stopped → values.Scene → (ℕ → ℕ) → Type 0
+abbrev pub Draws : (ℕ → Stage → Result (Unit {0}) Stopped → Stage → Type 0)
+    → values.Scene → (ℕ → ℕ) → Result (Unit {0}) Stopped → values.Scene → (ℕ → ℕ) → Type 0
 Draws does old ids result new left = IsSameEvent old new × does old.visit.moment (stage (seen old) ids) result (stage (seen new) left)
 
 -- nothing of the packet was done yet that ends its work
@@ -135,19 +137,23 @@ module _ (policy : Policy) where
   -- the app decides what is done where something arrived; U+001E comes into no effect where none arrived
   abbrev pub Decides : Who → Arrived → ℕ → Scene → Upshot → Scene → Type 0
   Decides who arrived now s result t = IsShort s result t
-      ⊎ ((effects : List Effect) × policy.decides who arrived effects × (IsCleanArrival arrived → AllClean effects) × DoesAll who now 0 effects s result t)
+      ⊎ ((effects : List Effect) × policy.decides who arrived effects × (IsCleanArrival arrived → AllClean effects)
+      × DoesAll who now 0 effects s result t)
 
   -- the answer to a question that isn't open is ignored; else the question is forgotten, and the app decides
-  abbrev pub TakesAnswer : Who → (id : ℕ) → (payload : List ℕ) → (attachments : List (List ℕ)) → ℕ → Scene → Upshot → Scene → Type 0
+  abbrev pub TakesAnswer : Who → (id : ℕ) → (payload : List ℕ) → (attachments : List (List ℕ))
+      → ℕ → Scene → Upshot → Scene → Type 0
   TakesAnswer who id payload attachments now s result t =
       (ForEachHistory s.line (λ o h. question_at 0 (book_calls who.sid h) id ≡ None)
       × (result ≡ Ok tt) × Advances s.line [] t.line × (t ≡ record s { line = t.line; done = record s.done { ignored = true } }))
       ⊎ ((question : Question) × (line : PlainLine)
       × ForEachHistory s.line (λ o h. question_at 0 (book_calls who.sid h) id ≡ Some question)
       × Advances s.line (Answered who.sid id ∷ []) line
-      × Decides who (arrived.Answer (record { tag = question.tag; payload = payload; attachments = attachments })) now (record s { line = line }) result t)
+      × Decides who (arrived.Answer (record { tag = question.tag; payload = payload; attachments = attachments }))
+      now (record s { line = line }) result t)
 
-  abbrev pub TakesAck : Who → Option ℕ → (payload : List ℕ) → (attachments : List (List ℕ)) → ℕ → Scene → Upshot → Scene → Type 0
+  abbrev pub TakesAck : Who → Option ℕ → (payload : List ℕ) → (attachments : List (List ℕ))
+      → ℕ → Scene → Upshot → Scene → Type 0
   TakesAck who None payload attachments now s result t = (result ≡ Ok tt) × (t ≡ record s { done = record s.done { ignored = true } })
   TakesAck who (Some id) payload attachments now s result t = TakesAnswer who id payload attachments now s result t
 
@@ -157,7 +163,8 @@ module _ (policy : Policy) where
       Decides who (arrived.Event (record { payload = payload; attachments = attachments; asked = is_some id })) now (record s { asked = id }) result t
 
   -- what a packet of a connected socket does; a CONNECT_ERROR is ignored
-  abbrev pub Serves : Kind → Who → Option ℕ → (payload : List ℕ) → (attachments : List (List ℕ)) → ℕ → Scene → Upshot → Scene → Type 0
+  abbrev pub Serves : Kind → Who → Option ℕ → (payload : List ℕ) → (attachments : List (List ℕ))
+      → ℕ → Scene → Upshot → Scene → Type 0
   Serves kind.Disconnect who id payload attachments now s result t = Leaves who now s result t
   Serves kind.Event who id payload attachments now s result t = HearsEvent who id payload attachments now s result t
   Serves kind.BinaryEvent who id payload attachments now s result t = HearsEvent who id payload attachments now s result t
@@ -208,7 +215,8 @@ module _ (policy : Policy) where
   -- the app says whether the socket is connected; U+001E comes into no effect where none stands in the payload
   abbrev pub AsksApp : ℕ → (space payload : List ℕ) → ℕ → Stage → Upshot → Stage → Type 0
   AsksApp c space payload now s result t = DrawsNone IsShort s result t
-      ⊎ ((effects : List Effect) × policy.allows space payload (Accepted effects) × (IsWhole payload → AllClean effects) × Connects c space effects now s result t)
+      ⊎ ((effects : List Effect) × policy.allows space payload (Accepted effects) × (IsWhole payload → AllClean effects)
+      × Connects c space effects now s result t)
       ⊎ ((message : List ℕ) × policy.allows space payload (Refused message) × DrawsNone (Refuses c now space message) s result t)
 
   -- the session that the payload names comes back; where it can't come back, the app is asked
@@ -216,7 +224,8 @@ module _ (policy : Policy) where
   ComesBack c space payload pid offset now s result t = let r = return_of c space pid offset s.scene.history in
       DrawsNone (Returns (what.Recovered r) r.socket.sid now) s result t
       ⊎ (CannotReturn s.scene.history now (what.Recovered r) × AsksApp c space payload now s result t)
-      ⊎ ((e : Stopped) × (result ≡ Err e) × StopsAt s.scene.history now (what.Recovered r) e.fault × StopsFor e.fault s.scene e t.scene × (t.ids ≡ s.ids))
+      ⊎ ((e : Stopped) × (result ≡ Err e) × StopsAt s.scene.history now (what.Recovered r) e.fault
+      × StopsFor e.fault s.scene e t.scene × (t.ids ≡ s.ids))
 
   abbrev pub MayComeBack : ℕ → (space payload : List ℕ) → ℕ → Stage → Upshot → Stage → Type 0
   MayComeBack c space payload now s result t = DrawsNone IsShort s result t
@@ -287,7 +296,8 @@ module _ (policy : Policy) where
   abbrev pub Handles : ℕ → Packet → ℕ → Stage → Upshot → Stage → Type 0
   Handles c (eio.Close content) now s result t = DrawsNone (ParksFor c now) s result t
   Handles c (eio.Ping content) now s result t = DrawsNone (ClosesFor c now cause.PingFromClient) s result t
-  Handles c (eio.Pong content) now s result t = (result ≡ Ok tt) × Advances s.scene.line (Ponged now ∷ []) t.scene.line × (t ≡ with_line s t.scene.line)
+  Handles c (eio.Pong content) now s result t = (result ≡ Ok tt)
+      × Advances s.scene.line (Ponged now ∷ []) t.scene.line × (t ≡ with_line s t.scene.line)
   Handles c (eio.Message content) now s result t = TakesText c content now s result t
   Handles c (eio.Binary content) now s result t = TakesBinary c content now s result t
   Handles c _ now s result t = (result ≡ Ok tt) × (t ≡ s)

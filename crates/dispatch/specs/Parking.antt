@@ -12,7 +12,8 @@ ParksOrCloses h now c g = Makes h now (what.Parked c) g ⊎ (IsRefused h now (wh
 
 -- neither is done
 abbrev pub FailsToPark : History → ℕ → ℕ → CoreFault → Type 0
-FailsToPark h now c fault = StopsAt h now (what.Parked c) fault ⊎ (IsRefused h now (what.Parked c) hub.SavedFull × StopsAt h now (what.Closed c) fault)
+FailsToPark h now c fault = StopsAt h now (what.Parked c) fault
+    ⊎ (IsRefused h now (what.Parked c) hub.SavedFull × StopsAt h now (what.Closed c) fault)
 
 -- the one or the other, or neither, and then nothing has changed
 abbrev pub Parks : History → ℕ → ℕ → Result Bool CoreFault → History → Type 0

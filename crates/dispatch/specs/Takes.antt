@@ -64,7 +64,8 @@ Counts c most now h g = elim (handed h c most) [
 
 -- the entries aren't counted
 abbrev pub FailsToCount : (c most : ℕ) → ℕ → History → CoreFault → Type 0
-FailsToCount c most now h fault = (fault ≡ Memory) ⊎ ((0 < length (handed h c most)) × StopsAt h now (Took c most (length (handed h c most))) fault)
+FailsToCount c most now h fault = (fault ≡ Memory)
+    ⊎ ((0 < length (handed h c most)) × StopsAt h now (Took c most (length (handed h c most))) fault)
 
 -- nothing was taken
 abbrev pub TakesNone : CoreFault → CoreFault → (h g : History) → (old new : PlainLine) → Type 0

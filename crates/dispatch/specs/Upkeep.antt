@@ -8,7 +8,8 @@ use Rattle.connection.specs.History.{Ticked, clock_calls}
 use Rattle.connection.specs.Line.{PlainLine, ForEachHistory}
 use Rattle.journal.specs.declared.step.What.TheVariants as what
 use Rattle.events.specs.declared.cause.Cause.TheVariants as cause
-use Rattle.effects.specs.Commands.{Makes, StopsAt, Drops}
+use Rattle.hub_totals.specs.Pass.{Drops}
+use Rattle.effects.specs.Commands.{Makes, StopsAt}
 use Rattle.events.specs.declared.outcome.Outcome.TheVariants as outcome
 use Rattle.events.specs.Answer.{Answer, at_once}
 use Rattle.events.specs.Plain.{nothing_done}

@@ -1,7 +1,7 @@
 //! What a CONNECT does (Socket.IO protocol 5, "Connection to a namespace"; Socket.IO server
 //! documentation, "Connection state recovery").
 
-ghost use Rattle.std.specs.Prelude.{◌≡◌, ◌≢◌, ◌<◌, ◌^◌, ℕ, IfOk, IfErr, IfSome, IfNone};
+ghost use Rattle.std.specs.Prelude.{◌≡◌, ◌≢◌, ◌<◌, ◌^◌, ℕ, List, Option, IfOk, IfErr, IfSome, IfNone};
 ghost use Rattle.effects.specs.Effects.{IsOpenFor};
 ghost use Rattle.effects.specs.Scene.{seen, Plays};
 ghost use Rattle.dispatch.specs.Packets.{Draws, IsReady, IsFreeIn, Refuses, Connects, ConnectsAs, AsksApp, digits_of, Names, MayComeBack, AsksToConnect};
@@ -136,3 +136,9 @@ pub(crate) fn connect<A: App, I: IdSource>(
     }
     admit(scene, app, ids, header)
 }
+
+/// A payload names one session and one offset, or none. It has no effect.
+pub fn named_once()
+    ensures { (payload : List ℕ) (one other : Option (ℕ × ℕ))
+        → Names payload one → Names payload other → one ≡ other }
+{}

@@ -1,9 +1,8 @@
 //! What comes and what goes over a client's WebSocket (Engine.IO protocol 4, "WebSocket").
 
-ghost use Rattle.std.specs.Prelude.{◌≡◌, ◌≢◌, ◌⊎◌, ◌++◌, ◌∷◌, [], true, codes, IfOk, IfErr, OnOk, if◌then◌else◌};
+ghost use Rattle.std.specs.Prelude.{◌≡◌, ◌≢◌, ◌⊎◌, ◌++◌, true, IfOk, IfErr, OnOk};
 ghost use Rattle.std.specs.List.{AllZip};
 ghost use Rattle.journal.specs.Membership.{is_open};
-ghost use Rattle.events.specs.declared.event.WsFrame.TheVariants as frame_of;
 ghost use Rattle.dispatch.specs.Answers.{ForClient};
 ghost use Rattle.dispatch.specs.Frames.{is_too_long, IsFrameOf, IsNoFrame, IsSentAs, frames_of, SendsFor};
 ghost use Rattle.dispatch.specs.Machine.{HearsFor, TakesFrames};
@@ -77,37 +76,19 @@ pub(crate) fn hear<A: App, I: IdSource>(
     }
 }
 
-/// The text of a message.
-fn message_text(alloc: Global, rest: &str) -> Result<Text, AllocError>
-    ensures { IfOk result (λ text. text ≡ codes "4" ++ rest.now) }
-{
-    let mut text = String::with_capacity(alloc, rest.len().saturating_add(1))?;
-    text.push_str("4")?;
-    text.push_str(rest)?;
-    Ok(Text::from_string(text))
-}
-
 /// Adds the frames of an entry: its text as a message, and then its attachments.
 fn push_entry(alloc: Global, frames: &mut Vec<WsFrame>, entry: &Entry) -> Result<(), AllocError>
     ensures { OnOk result (frames.new.items ≡ frames.old.items ++ frames_of entry.now) }
 {
-    let text = message_text(alloc, entry.text.as_str())?;
-    frames.push(WsFrame::Text(text))?;
+    let rest = entry.text.as_str();
+    let mut text = String::with_capacity(alloc, rest.len().saturating_add(1))?;
+    text.push_str("4")?;
+    text.push_str(rest)?;
+    frames.push(WsFrame::Text(Text::from_string(text)))?;
     for part in entry.attachments.as_slice() {
         frames.push(WsFrame::Bytes(part.clone()?))?;
     }
     Ok(())
-}
-
-/// The frames before the entries: a ping where one is due.
-fn first_frames(alloc: Global, ping: bool) -> Result<Vec<WsFrame>, AllocError>
-    ensures { IfOk result (λ frames. frames.items ≡ (if ping then frame_of.Text (codes "2") ∷ [] else [])) }
-{
-    let mut frames = Vec::new(alloc);
-    if ping {
-        frames.push(WsFrame::Text(Text::copy_of(alloc, "2")?))?;
-    }
-    Ok(frames)
 }
 
 /// The frames that a take of at most so many entries carries. Each text is copied once.
@@ -121,7 +102,10 @@ fn frames_for(
     ensures { IfOk result (λ frames.
         AllZip IsSentAs (carried ping (handed state.now visit.client most)) frames.items) }
 {
-    let mut frames = first_frames(visit.alloc, ping)?;
+    let mut frames = Vec::new(visit.alloc);
+    if ping {
+        frames.push(WsFrame::Text(Text::copy_of(visit.alloc, "2")?))?;
+    }
     for index in 0..most {
         let Some(entry) = state.front(visit.client, index) else {
             return Ok(frames);
@@ -138,9 +122,8 @@ fn frame_take(visit: Visit, state: &mut State, line: &mut Line, most: usize) -> 
     ensures { SendsFor visit.client most visit.moment result state.old state.new line.old line.new }
 {
     let ping = line.is_ping_due();
-    match line.transport() {
-        Transport::Socket => {}
-        Transport::Polling | Transport::Probing => return Err(CoreFault::WrongTransport),
+    if line.transport() != Transport::Socket {
+        return Err(CoreFault::WrongTransport);
     }
     let frames = frames_for(visit, state, ping, most)?;
     if frames.is_empty() {

@@ -26,10 +26,8 @@ fn decide<A: App>(scene: &mut Scene, app: &A, who: &Who, arrived: &Arrived) -> W
     requires { IsActing who.now scene.old }
     ensures { Plays (Decides (A.policy app.now) who.now arrived.now) scene.old result scene.new }
 {
-    match app.decides(scene.visit.alloc, who, arrived) {
-        Ok(wanted) => act_all(scene, who, wanted, 0),
-        Err(_) => Err(CoreFault::Memory.into()),
-    }
+    let wanted = app.decides(scene.visit.alloc, who, arrived);
+    act_all(scene, who, wanted.or(Err(CoreFault::Memory))?, 0)
 }
 
 /// Ends the socket that leaves its namespace.

@@ -6,7 +6,6 @@ mod connect;
 mod departures;
 mod frames;
 mod joined;
-mod laws;
 mod lines;
 mod losing;
 mod packets;
@@ -15,5 +14,5 @@ mod takes;
 mod turns;
 mod upgrade;
 
-pub use laws::named_once;
+pub use connect::named_once;
 pub use server::Core;

@@ -1,13 +1,12 @@
 //! The lines of the open clients, and what each new one is told at its handshake.
 
-ghost use Rattle.std.specs.Prelude.{◌≡◌, ℕ, ◌==◌, false, Some, None, IfErr, IfSome, IfNone, OnOk, OnErr};
+ghost use Rattle.std.specs.Prelude.{◌≡◌, ℕ, ◌==◌, false, Some, None, IfSome, IfNone};
 ghost use Rattle.connection.specs.Line.{PlainLine};
 ghost use Rattle.dispatch.specs.Place.{line_of};
 ghost use Rattle.dispatch.specs.Takes.{IsOn};
 
 use connection::{Line, Timing, Transport};
 use eio_wire::Numbers;
-use events::CoreFault;
 use std::collections::BTreeMap;
 
 /// The lines of the open clients, by their ids.
@@ -18,19 +17,6 @@ pub(crate) type Lines = BTreeMap<u128, Line>;
 pub(crate) struct Handshake {
     pub(crate) timing: Timing,
     pub(crate) numbers: Numbers,
-}
-
-/// Gives the client a line.
-pub(crate) fn put(lines: &mut Lines, client: u128, line: Line) -> Result<(), CoreFault>
-    ensures own { OnOk result (line_of lines.new.entries client ≡ Some line) }
-    ensures others { (d : ℕ) → client == d ≡ false
-        → line_of lines.new.entries d ≡ line_of lines.old.entries d }
-    ensures unchanged { OnErr result
-        (line_of lines.new.entries client ≡ line_of lines.old.entries client) }
-    ensures memory { IfErr result (λ f. f ≡ CoreFault.Memory) }
-{
-    lines.insert(client, line)?;
-    Ok(())
 }
 
 /// Forgets the client's line.

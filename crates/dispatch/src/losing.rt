@@ -2,14 +2,13 @@
 //! server documentation, "Connection state recovery"), a client's heartbeat and its end (Engine.IO
 //! protocol 4, "Heartbeat"), and the sweep of what the hub keeps no longer.
 
-ghost use Rattle.std.specs.Prelude.{◌≡◌, ℕ, ◌==◌, true, false, List, None, Some};
+ghost use Rattle.std.specs.Prelude.{◌≡◌, ℕ, true, List};
 ghost use Rattle.journal.specs.Membership.{is_open};
 ghost use Rattle.connection.specs.Line.{PlainLine};
-ghost use Rattle.events.specs.Plain.{nothing_done};
 ghost use Rattle.dispatch.specs.Answers.{ForVisit};
 ghost use Rattle.dispatch.specs.Machine.{Loses};
 ghost use Rattle.dispatch.specs.Parking.{Parks};
-ghost use Rattle.dispatch.specs.Place.{line_of, place, Agree};
+ghost use Rattle.dispatch.specs.Place.{place, Agree};
 ghost use Rattle.dispatch.specs.Upkeep.{Ticks, Sweeps};
 
 use crate::lines::{Lines, forget};
@@ -27,36 +26,27 @@ pub(crate) fn tick(visit: Visit, state: &mut State, lines: &mut Lines) -> Answer
     let Some(line) = lines.get_mut(&visit.client) else {
         return Err(CoreFault::UnknownClient.at_once());
     };
-    match line.tick(visit.moment) {
-        Due::Nothing => Ok(Outcome::Ticked {
-            ping: false,
-            done: Done::nothing(visit.alloc),
-        }),
-        Due::SendPing => Ok(Outcome::Ticked {
-            ping: true,
-            done: Done::nothing(visit.alloc),
-        }),
-        Due::PingTimeout => match park_or_close(visit, state) {
-            Ok(_) => Ok(give_up(visit, lines, Cause::PingTimeout)),
-            Err(fault) => Err(fault.at_once()),
-        },
-        Due::ConnectTimeout => match commands::close(visit, state) {
-            Ok(()) => Ok(give_up(visit, lines, Cause::ConnectTimeout)),
-            Err(fault) => Err(fault.at_once()),
-        },
-    }
-}
-
-/// Forgets the line of a client that timed out.
-fn give_up(visit: Visit, lines: &mut Lines, cause: Cause) -> Outcome
-    ensures answer { result ≡ Outcome.Ticked false (record nothing_done { closed = Some cause }) }
-    ensures gone { line_of lines.new.entries visit.client ≡ None }
-    ensures others { (d : ℕ) → visit.client == d ≡ false
-        → line_of lines.new.entries d ≡ line_of lines.old.entries d }
-{
+    let cause = match line.tick(visit.moment) {
+        Due::Nothing => {
+            let done = Done::nothing(visit.alloc);
+            return Ok(Outcome::Ticked { ping: false, done });
+        }
+        Due::SendPing => {
+            let done = Done::nothing(visit.alloc);
+            return Ok(Outcome::Ticked { ping: true, done });
+        }
+        Due::PingTimeout => {
+            park_or_close(visit, state)?;
+            Cause::PingTimeout
+        }
+        Due::ConnectTimeout => {
+            commands::close(visit, state)?;
+            Cause::ConnectTimeout
+        }
+    };
     forget(lines, visit.client);
     let done = Done::closed(visit.alloc, cause);
-    Outcome::Ticked { ping: false, done }
+    Ok(Outcome::Ticked { ping: false, done })
 }
 
 /// Saves the sessions of a client, and says so, or closes it where they have no place.
@@ -80,9 +70,7 @@ pub(crate) fn lose(visit: Visit, state: &mut State, lines: &mut Lines) -> Answer
     ensures { ForVisit visit (λ now c _. Loses now c)
         state.old lines.old.entries result state.new lines.new.entries }
 {
-    let Some(_) = lines.get(&visit.client) else {
-        return Err(CoreFault::UnknownClient.at_once());
-    };
+    lines.get(&visit.client).ok_or(CoreFault::UnknownClient)?;
     let saved = park_or_close(visit, state)?;
     forget(lines, visit.client);
     let done = Done::nothing(visit.alloc);

@@ -7,7 +7,7 @@ ghost use Rattle.journal.specs.Membership.{is_open};
 ghost use Rattle.effects.specs.Effects.{IsOpenFor};
 ghost use Rattle.effects.specs.Runs.{Runs};
 ghost use Rattle.effects.specs.Scene.{seen, IsSameEvent, Plays};
-ghost use Rattle.dispatch.specs.Packets.{stage, Draws, IsReady, ClosesFor, Works, GoesOn, TakesBinary, Handles, HandlesOrBreaks, HandlesInTurn, BreaksAfter};
+ghost use Rattle.dispatch.specs.Packets.{stage, Draws, IsReady, ClosesFor, GoesOn, Handles, HandlesOrBreaks, HandlesInTurn, BreaksAfter};
 
 use crate::connect::connect;
 use crate::joined::serve_joined;
@@ -23,20 +23,7 @@ pub(crate) fn close_for(scene: &mut Scene, cause: Cause) -> Worked
     ensures { let client = scene.old.visit.client in
         Plays (λ now. ClosesFor client now cause) scene.old result scene.new }
 {
-    effects::close_for(scene, cause)?;
-    Ok(())
-}
-
-/// What a packet does that came whole.
-fn work<A: App, I: IdSource>(scene: &mut Scene, app: &A, ids: &mut I, packet: SioPacket) -> Worked
-    requires { IsReady scene.old }
-    ensures { Draws (Works (A.policy app.now) scene.old.visit.client packet)
-        scene.old (I.stream ids.old) result scene.new (I.stream ids.new) }
-{
-    if packet.header.kind == Kind::Connect {
-        return connect(scene, app, ids, packet.header);
-    }
-    serve_joined(scene, app, packet)
+    Ok(effects::close_for(scene, cause)?)
 }
 
 /// Goes on with what the assembler gave for a frame.
@@ -52,25 +39,14 @@ fn go_on<A: App, I: IdSource>(
         scene.old (I.stream ids.old) result scene.new (I.stream ids.new) }
 {
     match given {
-        Ok(Some(packet)) => work(scene, app, ids, packet),
+        Ok(Some(packet)) if packet.header.kind == Kind::Connect => {
+            connect(scene, app, ids, packet.header)
+        }
+        Ok(Some(packet)) => serve_joined(scene, app, packet),
         Ok(None) => Ok(()),
         Err(SioError::Memory) => Err(CoreFault::Memory.into()),
         Err(fault) => close_for(scene, Cause::of_sio(fault)),
     }
-}
-
-/// Takes a binary message. One that brings the awaited attachments over the bytes that may wait for
-/// the client closes it, and isn't kept.
-fn take_binary<A: App, I: IdSource>(scene: &mut Scene, app: &A, ids: &mut I, bytes: &[u8]) -> Worked
-    requires { IsReady scene.old }
-    ensures { Draws (TakesBinary (A.policy app.now) scene.old.visit.client bytes.now)
-        scene.old (I.stream ids.old) result scene.new (I.stream ids.new) }
-{
-    if scene.line.exceeds(bytes, scene.state.most_bytes()) {
-        return close_for(scene, Cause::TooLong);
-    }
-    let given = scene.line.binary(scene.visit.alloc, bytes);
-    go_on(scene, app, ids, given)
 }
 
 /// What a packet does.
@@ -94,7 +70,15 @@ fn handle<A: App, I: IdSource>(scene: &mut Scene, app: &A, ids: &mut I, packet: 
             let given = scene.line.text(scene.visit.alloc, text.as_str());
             go_on(scene, app, ids, given)
         }
-        Packet::Binary(bytes) => { take_binary(scene, app, ids, bytes.as_slice()) }
+        // Attachments of more bytes than may wait for the client aren't kept.
+        Packet::Binary(bytes) => {
+            let bytes = bytes.as_slice();
+            if scene.line.exceeds(bytes, scene.state.most_bytes()) {
+                return close_for(scene, Cause::TooLong);
+            }
+            let given = scene.line.binary(scene.visit.alloc, bytes);
+            go_on(scene, app, ids, given)
+        }
         Packet::Open(_) | Packet::Upgrade(_) | Packet::Noop(_) => Ok(()),
     }
 }

@@ -190,10 +190,8 @@ impl<C: Ledger, T: Ledger> Core<C, T> {
             IfOk result (λ clients. ListsRising nat_cmp (is_open h.base h.journal) clients.items) }
         ensures err { IfErr result (λ e. e ≡ at_once CoreFault.Memory) }
     {
-        match self.lines.keys().copied().collect(alloc) {
-            Ok(clients) => Ok(clients),
-            Err(_) => Err(CoreFault::Memory.at_once()),
-        }
+        let clients = self.lines.keys().copied().collect(alloc);
+        clients.or(Err(CoreFault::Memory.at_once()))
     }
 
     /// How many clients are open: each has a line.

@@ -1,7 +1,6 @@
 //! What a GET of a client carries away (Engine.IO protocol 4, "HTTP long-polling" and "Heartbeat").
 
-ghost use Rattle.std.specs.Prelude.{◌≡◌, ◌<◌, ◌++◌, true, [], ◌∷◌, length, IfOk, IfErr, OnOk, if◌then◌else◌};
-ghost use Rattle.eio_wire.specs.declared.packet.Packet.TheVariants.{Ping, Noop};
+ghost use Rattle.std.specs.Prelude.{◌≡◌, ◌<◌, ◌++◌, true, length, IfOk, IfErr, OnOk};
 ghost use Rattle.eio_wire.specs.Payload.{Payload};
 ghost use Rattle.journal.specs.Journal.{History};
 ghost use Rattle.journal.specs.Membership.{is_open};
@@ -32,17 +31,6 @@ fn push_entry(packets: &mut Vec<Packet>, entry: &Entry) -> Result<(), AllocError
     Ok(())
 }
 
-/// The packets before the entries: a ping where one is due.
-fn first_packets(alloc: Global, ping: bool) -> Result<Vec<Packet>, AllocError>
-    ensures { IfOk result (λ packets. packets.items ≡ (if ping then Ping [] ∷ [] else [])) }
-{
-    let mut packets = Vec::new(alloc);
-    if ping {
-        packets.push(Packet::Ping(Text::copy_of(alloc, "")?))?;
-    }
-    Ok(packets)
-}
-
 /// The packets that a take of at most so many entries carries.
 fn packets_for(
     visit: Visit,
@@ -54,7 +42,10 @@ fn packets_for(
     ensures { IfOk result (λ packets.
         packets.items ≡ carried ping (handed state.now visit.client most)) }
 {
-    let mut packets = first_packets(visit.alloc, ping)?;
+    let mut packets = Vec::new(visit.alloc);
+    if ping {
+        packets.push(Packet::Ping(Text::copy_of(visit.alloc, "")?))?;
+    }
     for index in 0..most {
         let Some(entry) = state.front(visit.client, index) else {
             return Ok(packets);

@@ -7,7 +7,7 @@ ghost use Rattle.dispatch.specs.Place.{line_of, place, Agree, IsClean};
 ghost use Rattle.dispatch.specs.Answers.{ClosesUnread, ForClient, ForVisit, OnLine};
 ghost use Rattle.dispatch.specs.Machine.{Opens, Begins, Ends, Takes, WorksOn, PostsFor};
 
-use crate::lines::{Handshake, Lines, forget, put, transport_of};
+use crate::lines::{Handshake, Lines, forget, transport_of};
 use crate::packets::handle_each;
 use crate::takes;
 use connection::{Line, Transport};
@@ -35,11 +35,11 @@ pub(crate) fn open(
     if let Some(_) = lines.get(&client) {
         return Err(CoreFault::IdTaken.at_once());
     }
-    let Ok(text) = open_text(alloc, client, !socket, &handshake.numbers) else {
+    let text = open_text(alloc, client, !socket, &handshake.numbers).or(Err(CoreFault::Memory))?;
+    let line = Line::open(alloc, visit.moment, handshake.timing, socket);
+    let Ok(_) = lines.insert(client, line) else {
         return Err(CoreFault::Memory.at_once());
     };
-    let line = Line::open(alloc, visit.moment, handshake.timing, socket);
-    put(lines, client, line)?;
     let text = Text::from_string(text);
     match state.open(alloc, client, visit.moment) {
         Ok(()) => Ok(Outcome::Opened(Opening { client, text })),

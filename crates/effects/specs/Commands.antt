@@ -1,20 +1,15 @@
 -- How an event uses the commands of the hub, and which of their refusals end it.
-use Rattle.std.specs.Prelude.{◌≡◌, ◌⊎◌, ℕ, ◌+◌, ◌==◌, ◌&&◌, min, Bool, true, false, List, length, Option, None, Some, Result, Ok, Err}
+use Rattle.std.specs.Prelude.{◌≡◌, ◌⊎◌, ℕ, ◌==◌, ◌&&◌, Bool, true, false, List, Option, None, Some, Result, Ok, Err}
 use Rattle.std.specs.List.{list_any}
-use Rattle.journal.specs.declared.answers.Swept.{Swept}
 use Rattle.journal.specs.declared.error.HubError.{HubError}
 use Rattle.journal.specs.declared.error.HubError.TheVariants as hub
 use Rattle.journal.specs.declared.error.RecoveryRefusal.{RecoveryRefusal}
 use Rattle.journal.specs.declared.socket.Socket.{Socket}
 use Rattle.journal.specs.declared.step.What.{What}
 use Rattle.journal.specs.declared.step.What.TheVariants as what
-use Rattle.journal.specs.Outboxes.{waiting}
 use Rattle.journal.specs.Plain.{PlainRecovery}
-use Rattle.journal.specs.Recovery.{recovery_of}
 use Rattle.journal.specs.Journal.{History, moment_at, with_step}
 use Rattle.journal.specs.Command.{refusal}
-use Rattle.journal.specs.Log.{log}
-use Rattle.journal.specs.Sessions.{sessions}
 use Rattle.journal.specs.Membership.{place_of, is_space, is_open, sockets, socket_of, is_connected, sid_of}
 use Rattle.events.specs.declared.app.Who.{Who}
 use Rattle.events.specs.declared.fault.CoreFault.{CoreFault}
@@ -70,10 +65,6 @@ pub record MayJoin (c : ℕ) (space : List ℕ) (h : History) : Type 0 where
 abbrev pub seat : Who → (pid : ℕ) → History → Socket
 seat who pid h = record { client = who.client; space = place_of h.limits who.space; sid = who.sid; pid = pid }
 
--- what brings a session back in a namespace
-abbrev pub return_of : (c : ℕ) → (space : List ℕ) → (pid offset : ℕ) → History → PlainRecovery
-return_of c space pid offset h = recovery_of h.base h.limits h.journal c (place_of h.limits space) pid offset
-
 -- the session can't come back, or what it missed has no place in the client's outbox
 abbrev pub CannotReturn : History → ℕ → What → Type 0
 CannotReturn h now what = ((why : RecoveryRefusal) × IsRefused h now what (hub.NotRecoverable why)) ⊎ IsRefused h now what hub.OutboxFull
@@ -83,12 +74,3 @@ abbrev pub Recovers : PlainRecovery → History → ℕ → Result (Option ℕ) 
 Recovers back h now (Ok (Some sid)) g = Makes h now (what.Recovered back) g × (sid ≡ back.socket.sid)
 Recovers back h now (Ok None) g = CannotReturn h now (what.Recovered back) × (g ≡ h)
 Recovers back h now (Err fault) g = StopsAt h now (what.Recovered back) fault × (g ≡ h)
-
--- the first entries that wait for a client are taken, at most so many
-abbrev pub took : (c most : ℕ) → History → What
-took c most h = what.Took c most (min most (length (waiting h.base h.limits h.journal c)))
-
--- so many entries of the log and so many saved sessions are gone
-pub record Drops (dropped : Swept) (before after : History) : Type 0 where
-  pub log : length (log before.base before.limits before.journal) ≡ length (log after.base after.limits after.journal) + dropped.log
-  pub saved : length (sessions before.base before.limits before.journal) ≡ length (sessions after.base after.limits after.journal) + dropped.saved

@@ -93,7 +93,8 @@ ChangesRooms what now s t =
 
 -- an event is sent
 abbrev pub Emits : Who → PlainEmission → ℕ → Scene → Scene → Type 0
-Emits who e now s t = Says who.client who.space e now (work s.history s.done) (work t.history t.done) × (t ≡ record s { history = t.history; done = t.done })
+Emits who e now s t = Says who.client who.space e now (work s.history s.done) (work t.history t.done)
+    × (t ≡ record s { history = t.history; done = t.done })
 
 -- the client is told this
 abbrev pub told_to : ℕ → Entry → What
@@ -125,7 +126,8 @@ IsInquiry space id q entry = IsPacket (Event, BinaryEvent) space id q.payload q.
 
 -- the client is told the question with this id, or its outbox has no place for it, or it ends the event
 abbrev pub TellsInquiry : Who → (id : ℕ) → inquiry.Inquiry → ℕ → History → Result Bool CoreFault → History → Type 0
-TellsInquiry who id q now h (Ok told) g = (entry : Entry) × IsInquiry who.space id q entry × DoesOr hub.OutboxFull h now (told_to who.client entry) (Ok told) g
+TellsInquiry who id q now h (Ok told) g = (entry : Entry) × IsInquiry who.space id q entry
+    × DoesOr hub.OutboxFull h now (told_to who.client entry) (Ok told) g
 TellsInquiry who id q now h (Err fault) g = (g ≡ h)
     × ((fault ≡ Memory) ⊎ ((entry : Entry) × IsInquiry who.space id q entry × StopsAt h now (told_to who.client entry) fault))
 
@@ -224,7 +226,8 @@ FailsToReply who id r now s fault t = (t ≡ s)
 -- the socket isn't disconnected; its client may have been told already
 abbrev pub FailsToDisconnect : Who → ℕ → Scene → CoreFault → Scene → Type 0
 FailsToDisconnect who now s fault t = ((fault ≡ Memory) × (t ≡ s)) ⊎ FailsAt (goodbye who) now s fault t
-    ⊎ ((between : History) × SaysGoodbye who now s.history between × FailsAt (what.Ended who.sid side.Server) now (record s { history = between }) fault t)
+    ⊎ ((between : History) × SaysGoodbye who now s.history between
+    × FailsAt (what.Ended who.sid side.Server) now (record s { history = between }) fault t)
 
 -- the sockets don't end
 abbrev pub FailsToEndAll : Who → PlainSelection → ℕ → Scene → CoreFault → Scene → Type 0
@@ -232,7 +235,8 @@ FailsToEndAll who m now s fault t = ((fault ≡ Memory) × (t ≡ s)) ⊎ FailsA
 
 -- the socket's book has no id left, or no memory
 abbrev pub HasNoId : PlainLine → (sid : ℕ) → CoreFault → Type 0
-HasNoId line sid fault = (fault ≡ Memory) ⊎ ((fault ≡ Spent) × ForEachHistory line (λ o h. ask_refusal 0 (book_calls sid h) ≡ Some ack.Spent))
+HasNoId line sid fault = (fault ≡ Memory)
+    ⊎ ((fault ≡ Spent) × ForEachHistory line (λ o h. ask_refusal 0 (book_calls sid h) ≡ Some ack.Spent))
 
 -- the question isn't asked, or is asked and forgotten, since nobody can be told
 abbrev pub FailsToAsk : Who → inquiry.Inquiry → ℕ → Scene → CoreFault → Scene → Type 0

@@ -7,7 +7,8 @@ Runs R [] s t = t ≡ s
 Runs {S} R (x ∷ xs) s t = (m : S) × R s x m × Runs R xs m t
 
 -- they lead there, or one of them fails, and those before it lead to where it does
-abbrev pub RunsOrFails : {S A E : Type 0} → (S → A → Result (Unit {0}) E → S → Type 0) → List A → S → Result (Unit {0}) E → S → Type 0
+abbrev pub RunsOrFails : {S A E : Type 0} → (S → A → Result (Unit {0}) E → S → Type 0)
+    → List A → S → Result (Unit {0}) E → S → Type 0
 RunsOrFails R xs s (Ok x) t = Runs (λ a x b. R a x (Ok tt) b) xs s t
 RunsOrFails {S} {A} R xs s (Err e) t =
     (done : ℕ) × (at : S) × Runs (λ a x b. R a x (Ok tt) b) (take done xs) s at × (x : A) × (slice_get xs done ≡ Some x) × R at x (Err e) t

@@ -9,10 +9,10 @@ ghost use Rattle.effects.specs.Runs.{Runs};
 ghost use Rattle.effects.specs.Scene.{seen, IsActing, DoesOrFails, IsSameEvent};
 
 use crate::ask::ask;
-use crate::rooms::{change, end_all, join_all, leave_all};
+use crate::rooms::{change, end_all};
 use crate::say::{is_unsendable, say};
 use crate::{Acted, Scene, Visit, commands};
-use events::{Cause, CoreFault, Effect, Reply, Stopped, Who, Worked};
+use events::{Cause, CoreFault, Effect, Reply, Selection, Stopped, Who, Worked};
 use journal::Side;
 use sio_wire::{Header, Kind, disconnect_text, write_header};
 use std::alloc::Global;
@@ -127,6 +127,7 @@ fn act_allowed(scene: &mut Scene, who: &Who, effect: Effect) -> Acted
         (λ now s f t. Fails who.now now s effect f t) scene.old result scene.new }
 {
     let Visit { alloc, moment, .. } = scene.visit;
+    let space = who.space.as_str();
     match effect {
         Effect::Join(room) => {
             let answer = scene.state.join(alloc, who.sid, room, moment);
@@ -146,8 +147,18 @@ fn act_allowed(scene: &mut Scene, who: &Who, effect: Effect) -> Acted
         },
         Effect::EmitAsk(inquiry) => ask(scene, who, inquiry),
         Effect::Disconnect => disconnect(scene, who),
-        Effect::AllJoin(selection, room) => join_all(scene, who, selection, room),
-        Effect::AllLeave(selection, room) => leave_all(scene, who, selection, room),
+        Effect::AllJoin(selection, room) => {
+            let Selection { rooms, excepted } = selection;
+            let state = &mut *scene.state;
+            let answer = state.sockets_join(alloc, space, rooms, excepted, room, moment);
+            change(answer, scene.tally)
+        }
+        Effect::AllLeave(selection, room) => {
+            let Selection { rooms, excepted } = selection;
+            let state = &mut *scene.state;
+            let answer = state.sockets_leave(alloc, space, rooms, excepted, room, moment);
+            change(answer, scene.tally)
+        }
         Effect::AllEnd(selection) => end_all(scene, who, selection),
     }
 }

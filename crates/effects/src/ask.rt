@@ -1,41 +1,14 @@
 //! Questions to a socket (Socket.IO protocol 5, "Acknowledgement").
 
-ghost use Rattle.std.specs.Prelude.{◌≡◌, ℕ, false, [], ◌∷◌, IfOk, IfErr, OnOk, OnErr};
-ghost use Rattle.connection.specs.History.{Asked, Answered};
-ghost use Rattle.connection.specs.Line.{PlainLine, Advances};
-ghost use Rattle.effects.specs.Effects.{is_unsendable, IsOpenFor, IsNextId, HasNoId, Asks, FailsToAsk, TellsInquiry};
+ghost use Rattle.std.specs.Prelude.{◌≡◌, false};
+ghost use Rattle.effects.specs.Effects.{is_unsendable, IsOpenFor, Asks, FailsToAsk, TellsInquiry};
 ghost use Rattle.effects.specs.Scene.{seen, DoesOrFails, IsSameEvent};
 
 use crate::act::{close_for, entry_of};
 use crate::{Acted, Scene, Visit, commands};
-use connection::{AckError, Line};
+use connection::AckError;
 use events::{Cause, CoreFault, Inquiry, Who};
 use sio_wire::Kind;
-use std::alloc::Global;
-use terms::Sid;
-
-/// Enters a question into the socket's book, and gives its id.
-fn enter(alloc: Global, line: &mut Line, sid: Sid, tag: u64, until: u64) -> Result<u64, CoreFault>
-    ensures id { IfOk result (λ id. IsNextId line.old sid id) }
-    ensures advances { OnOk result (Advances line.old (Asked sid tag until ∷ []) line.new) }
-    ensures err { IfErr result (λ f. HasNoId line.old sid f) }
-    ensures unchanged { OnErr result (Advances line.old [] line.new) }
-{
-    match line.ask(alloc, sid, tag, until) {
-        Ok(id) => Ok(id),
-        Err(AckError::Spent) => Err(CoreFault::Spent),
-        Err(_) => Err(CoreFault::Memory),
-    }
-}
-
-/// Forgets the question that was asked last.
-fn forget(line: &mut Line, sid: Sid, id: u64)
-    ensures { (l : PlainLine) (tag until : ℕ) → IsNextId l sid id
-        → Advances l (Asked sid tag until ∷ []) line.old
-        → Advances l (Answered sid id ∷ Asked sid tag until ∷ []) line.new }
-{
-    let _tag = line.answer(sid, id);
-}
 
 /// Tells the client the question with this id. Answers whether its outbox had a place for it.
 fn tell(scene: &mut Scene, who: &Who, id: u64, inquiry: Inquiry) -> Result<bool, CoreFault>
@@ -65,19 +38,17 @@ pub(crate) fn ask(scene: &mut Scene, who: &Who, inquiry: Inquiry) -> Acted
 {
     let Visit { alloc, moment, .. } = scene.visit;
     let until = moment.saturating_add(inquiry.wait);
-    let id = enter(alloc, scene.line, who.sid, inquiry.tag, until)?;
-    match tell(scene, who, id, inquiry) {
-        Ok(true) => {
-            scene.tally.count();
-            Ok(())
-        }
-        Ok(false) => {
-            forget(scene.line, who.sid, id);
-            close_for(scene, Cause::OutboxFull)
-        }
-        Err(fault) => {
-            forget(scene.line, who.sid, id);
-            Err(fault)
-        }
+    let id = match scene.line.ask(alloc, who.sid, inquiry.tag, until) {
+        Ok(id) => id,
+        Err(AckError::Spent) => return Err(CoreFault::Spent),
+        Err(_) => return Err(CoreFault::Memory),
+    };
+    let told = tell(scene, who, id, inquiry);
+    if let Ok(true) = told {
+        scene.tally.count();
+        return Ok(());
     }
+    let _tag = scene.line.answer(who.sid, id);
+    told?;
+    close_for(scene, Cause::OutboxFull)
 }

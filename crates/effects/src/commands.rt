@@ -7,7 +7,8 @@ ghost use Rattle.journal.specs.declared.step.What.{What};
 ghost use Rattle.journal.specs.Membership.{is_open, is_connected, sid_of};
 ghost use Rattle.events.specs.declared.app.Who.{Who};
 ghost use Rattle.events.specs.Fault.{IsFault, fault_of};
-ghost use Rattle.effects.specs.Commands.{DoesOrStops, DoesOr, IsSeated, MayJoin, seat, return_of, Recovers};
+ghost use Rattle.hub_state.specs.Returning.{return_of};
+ghost use Rattle.effects.specs.Commands.{DoesOrStops, DoesOr, IsSeated, MayJoin, seat, Recovers};
 ghost use Rattle.effects.specs.Effects.{told_to};
 
 use crate::{Acted, Visit};

@@ -2,7 +2,7 @@
 //! "Handshake").
 
 ghost use Rattle.std.specs.Prelude.{◌≡◌, IfOk, IfErr, string_bytes};
-ghost use Rattle.eio_wire.specs.Handshake.{open_packet_text, open_packet_with, upgrades_of};
+ghost use Rattle.eio_wire.specs.Handshake.{open_packet_text, upgrades_of};
 
 use crate::error::WireError;
 use std::alloc::Global;
@@ -31,27 +31,7 @@ pub fn open_text(
     ensures err { IfErr result (λ error. error ≡ WireError.Memory) }
 {
     let digits = id_text(client);
-    open_with(alloc, ascii_text(&digits), upgrades(polling), numbers)
-}
-
-/// The JSON list of the transports to which the client may upgrade.
-fn upgrades(polling: bool) -> &'static str
-    ensures { result.now ≡ upgrades_of polling }
-{
-    if polling { r#"["websocket"]"# } else { "[]" }
-}
-
-/// The text of the open packet with these parts.
-fn open_with(
-    alloc: Global,
-    id: &str,
-    upgrades: &str,
-    numbers: &Numbers,
-) -> Result<String, WireError>
-    ensures ok { IfOk result
-        (λ text. string_bytes text ≡ open_packet_with id.now upgrades.now numbers.now) }
-    ensures err { IfErr result (λ error. error ≡ WireError.Memory) }
-{
+    let (id, upgrades) = (ascii_text(&digits), upgrades(polling));
     let interval = numbers.ping_interval;
     let timeout = numbers.ping_timeout;
     let payload = numbers.max_payload;
@@ -59,4 +39,11 @@ fn open_with(
         "0{{\"sid\":\"{id}\",\"upgrades\":{upgrades},\"pingInterval\":{interval},\"pingTimeout\":{timeout},\"maxPayload\":{payload}}}"
     )?;
     Ok(text)
+}
+
+/// The JSON list of the transports to which the client may upgrade.
+fn upgrades(polling: bool) -> &'static str
+    ensures { result.now ≡ upgrades_of polling }
+{
+    if polling { r#"["websocket"]"# } else { "[]" }
 }

@@ -1,6 +1,6 @@
 //! One packet and its text (Engine.IO protocol 4, "Packet encoding").
 
-ghost use Rattle.std.specs.Prelude.{List, ℕ, ◌≡◌, ◌≢◌, ◌⊎◌, ◌∷◌, ◌++◌, ◌≤◌, ◌<◌, IfOk, IfErr, IfSome, IfNone, OnOk, length, slice_index, string_bytes};
+ghost use Rattle.std.specs.Prelude.{List, ℕ, ◌≡◌, ◌≢◌, ◌⊎◌, ◌∷◌, ◌++◌, ◌≤◌, ◌<◌, IfOk, IfErr, OnOk, length, slice_index, string_bytes};
 ghost use Rattle.terms.specs.Bytes.{IsBytes};
 ghost use Rattle.eio_wire.specs.declared.packet.Packet.{Packet};
 ghost use Rattle.eio_wire.specs.Base64.{base64_text};
@@ -41,9 +41,7 @@ pub fn read_packet(alloc: Global, text: &str) -> Result<Packet, WireError>
         ⊎ (IsNoPacket text.now × (error ≡ fault_of text.now))) }
     ensures never { IfErr result (λ error. error ≢ WireError.Separator) }
 {
-    let Some((kind, rest)) = split_type(text) else {
-        return Err(no_type(text));
-    };
+    let (kind, rest) = split_type(text)?;
     match kind {
         b'0' => Ok(Packet::Open(Text::copy_of(alloc, rest)?)),
         b'1' => Ok(Packet::Close(Text::copy_of(alloc, rest)?)),
@@ -57,31 +55,21 @@ pub fn read_packet(alloc: Global, text: &str) -> Result<Packet, WireError>
     }
 }
 
-/// The first byte and the text after it, where the text begins with an ASCII character.
-fn split_type(text: &str) -> Option<(u8, &str)>
-    ensures found { IfSome result (λ parts. text.now ≡ parts.0 ∷ parts.1.now) }
-    ensures none { IfNone result ((length text.now ≡ 0) ⊎ (128 ≤ slice_index text.now 0)) }
+/// The first byte and the text after it, where the text begins with an ASCII character; else what
+/// is wrong with the text.
+fn split_type(text: &str) -> Result<(u8, &str), WireError>
+    ensures found { IfOk result (λ parts. text.now ≡ parts.0 ∷ parts.1.now) }
+    ensures none { IfErr result (λ error. ((length text.now ≡ 0) ⊎ (128 ≤ slice_index text.now 0))
+        × (error ≡ fault_of text.now)) }
 {
     if text.is_empty() {
-        return None;
+        return Err(WireError::Empty);
     }
     let kind = text.as_bytes()[0];
     if kind >= 128 {
-        return None;
+        return Err(WireError::BadType);
     }
-    Some((kind, &text[1..]))
-}
-
-/// What is wrong with a text that begins with no ASCII character.
-fn no_type(text: &str) -> WireError
-    requires { (length text.now ≡ 0) ⊎ (128 ≤ slice_index text.now 0) }
-    ensures { result ≡ fault_of text.now }
-{
-    if text.is_empty() {
-        WireError::Empty
-    } else {
-        WireError::BadType
-    }
+    Ok((kind, &text[1..]))
 }
 
 /// The bytes that have this base64 text.
@@ -135,20 +123,12 @@ fn push_typed(text: &mut String, kind: &str, rest: &Text) -> Result<(), AllocErr
 }
 
 /// Adds a `b` and the base64 text of the bytes.
+#[tactic(auto, unfolding(crate::specs::Base64::base64_text))]
 fn push_binary(text: &mut String, bytes: &Bytes) -> Result<(), AllocError>
     ensures { OnOk result (IsBytes bytes.now
         × (string_bytes text.new ≡ string_bytes text.old ++ 98 ∷ base64_text bytes.now)) }
 {
     text.push_str("b")?;
-    push_base64(text, bytes)
-}
-
-/// Adds the base64 text of the bytes.
-fn push_base64(text: &mut String, bytes: &Bytes) -> Result<(), AllocError>
-    ensures bytes { IsBytes bytes.now }
-    ensures ok { OnOk result
-        (string_bytes text.new ≡ string_bytes text.old ++ base64_text bytes.now) }
-{
     STANDARD.encode_string(bytes.as_slice(), text)
 }
 

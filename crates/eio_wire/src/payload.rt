@@ -1,6 +1,6 @@
 //! Several packets in one text (Engine.IO protocol 4, "Payload encoding").
 
-ghost use Rattle.std.specs.Prelude.{List, All, length, ◌<◌, ℕ, ◌≡◌, ◌≢◌, ◌⊎◌, ◌++◌, IfOk, IfErr, OnOk, IsTrue, string_bytes, Contains, false};
+ghost use Rattle.std.specs.Prelude.{List, All, length, ◌<◌, ℕ, ◌≡◌, ◌≢◌, ◌⊎◌, ◌++◌, IfOk, IfErr, OnOk, IsTrue, string_bytes, false};
 ghost use Rattle.eio_wire.specs.declared.packet.Packet.{Packet};
 ghost use Rattle.eio_wire.specs.declared.error.WireError.{WireError};
 ghost use Rattle.eio_wire.specs.Packet.{Eio, IsTextFault, fault_of};
@@ -9,7 +9,6 @@ ghost use Rattle.eio_wire.specs.Payload.{Payload, HasFault, HasSeparator, HasWho
 use crate::error::WireError;
 use crate::packet::{Packet, push_packet, read_packet};
 use std::alloc::Global;
-use terms::Text;
 
 /// What stands between two packets: U+001E, the record separator.
 const SEPARATOR: char = '\u{1e}';
@@ -73,16 +72,8 @@ fn has_separator(packet: &Packet) -> bool
         | Packet::Pong(rest)
         | Packet::Message(rest)
         | Packet::Upgrade(rest)
-        | Packet::Noop(rest) => holds_separator(rest),
+        | Packet::Noop(rest) => rest.as_str().as_bytes().contains(&0x1e),
     }
-}
-
-/// Whether a separator stands in the text.
-fn holds_separator(rest: &Text) -> bool
-    ensures holds { IsTrue result → Contains rest.now 30 }
-    ensures whole { result ≡ false → IsWhole rest.now }
-{
-    rest.as_str().as_bytes().contains(&0x1e)
 }
 
 /// Packets have at most one payload, and a text is the payload of at most one list of packets. It

@@ -22,7 +22,7 @@ use Rattle.events.specs.declared.cause.Cause.TheVariants as cause
 use Rattle.events.specs.declared.fault.CoreFault.{CoreFault}
 use Rattle.events.specs.declared.fault.CoreFault.TheVariants.{Memory, UnknownClient}
 use Rattle.events.specs.App.{Policy}
-use Rattle.effects.specs.Commands.{Drops}
+use Rattle.hub_totals.specs.Pass.{Drops}
 use Rattle.effects.specs.Departed.{ended_since}
 use Rattle.events.specs.declared.event.Event.{Event}
 use Rattle.events.specs.declared.event.Event.TheVariants as event
@@ -59,10 +59,10 @@ abbrev pub OfOpen : Place → Type 0
 OfOpen s = (c : ℕ) (line : PlainLine) → s.lines c ≡ Some line → is_open s.history.base s.history.journal c ≡ true
 
 drops-alike : (dropped : Swept) (h k g m : History) → AreAlike h g → AreAlike k m → Drops dropped h k → Drops dropped g m
-drops-alike dropped h k g m first later drops = record {
-  log = ap (λ (l : List PlainLogged). length l) first.same.same_log ∙ drops.log ∙ sym (ap (λ (l : List PlainLogged). length l + dropped.log) later.same.same_log);
-  saved = ap (λ (l : List PlainSaved). length l) first.same.same_sessions ∙ drops.saved ∙ sym (ap (λ (l : List PlainSaved). length l + dropped.saved) later.same.same_sessions);
-}
+drops-alike dropped h k g m first later drops = (
+  ap (λ (l : List PlainLogged). length l) first.same.same_log ∙ drops.0 ∙ sym (ap (λ (l : List PlainLogged). length l + dropped.log) later.same.same_log),
+  ap (λ (l : List PlainSaved). length l) first.same.same_sessions ∙ drops.1 ∙ sym (ap (λ (l : List PlainSaved). length l + dropped.saved) later.same.same_sessions),
+)
 
 module _ (keeps : StaysSound) (now : ℕ) (s t : Place) (g : History) (alike : AreAlike s.history g) (answer : Answer) where
   still : t.history ≡ s.history → Grown s.history t.history g g

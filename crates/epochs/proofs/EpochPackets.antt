@@ -37,7 +37,8 @@ use Rattle.events.specs.declared.fault.CoreFault.{CoreFault}
 use Rattle.events.specs.declared.fault.CoreFault.TheVariants.{Memory}
 use Rattle.events.specs.declared.fault.Stopped.{Stopped}
 use Rattle.events.specs.App.{Policy}
-use Rattle.effects.specs.Commands.{Makes, IsRefused, StopsAt, CannotReturn, IsSeated, seat, return_of}
+use Rattle.hub_state.specs.Returning.{return_of}
+use Rattle.effects.specs.Commands.{Makes, IsRefused, StopsAt, CannotReturn, IsSeated, seat}
 use Rattle.effects.specs.Effects.{Scene, told_to, counted}
 use Rattle.effects.specs.Runs.{Runs}
 use Rattle.epochs.specs.Epochs.{AreAlike}

@@ -7,9 +7,9 @@ use arguments::task::{Task, read_arguments};
 use guarded::Guarded;
 use relay::{Presence, RelayApp};
 use script::play_script;
-use serving::{end_with, listen, processors, serve, wait_for_end};
 use std::process::ExitCode;
 use std::thread;
+use tcp_server::{end_with, listen, processors, serve, wait_for_end};
 use terms::Text;
 
 /// The program's name.

@@ -31,19 +31,16 @@ impl Loss {
     pub fn new(client: u128) -> Loss
         ensures { result ≡ record { client = client; left = most_tries } }
     {
-        Loss {
-            client,
-            left: TRIES,
-        }
+        let left = TRIES;
+        Loss { client, left }
     }
 
     /// What the core is told.
     pub fn event(&self) -> Event
         ensures { result ≡ Event.TransportLost self.now.client }
     {
-        Event::TransportLost {
-            client: self.client,
-        }
+        let client = self.client;
+        Event::TransportLost { client }
     }
 
     /// The core was told, and answered this.

@@ -156,9 +156,8 @@ impl Receivers {
     pub fn new(alloc: Global) -> Receivers
         ensures { result.lists ≡ [] }
     {
-        Receivers {
-            lists: Vec::new(alloc),
-        }
+        let lists = Vec::new(alloc);
+        Receivers { lists }
     }
 
     /// The lists, in the order of the broadcasts. A client may be in several of them.

@@ -7,8 +7,7 @@ ghost use Rattle.http_edge.specs.declared.error.EdgeError.{EdgeError};
 
 use crate::error::EdgeError;
 use crate::request::Request;
-use crate::stage::{Stage, Step};
-use crate::steps::{first_stage, step_of};
+use crate::stage::{Stage, Step, first_stage, step_of};
 use std::alloc::Global;
 use std::marker::Model;
 use std::mem;

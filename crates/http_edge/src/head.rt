@@ -94,14 +94,12 @@ fn head_of(
     let body_len = length_for(method.as_str(), bytes, fields)?;
     let target = text_from(alloc, found.path.of(bytes))?;
     let (path, query) = split_target(alloc, target.as_str())?;
-    let upgrade = asks_upgrade(bytes, fields);
-    let origin = origin_of(alloc, bytes, fields)?;
     Ok(Head {
         method,
         path,
         query,
-        upgrade,
-        origin,
+        upgrade: asks_upgrade(bytes, fields),
+        origin: origin_of(alloc, bytes, fields)?,
         len: found.len,
         body_len,
     })

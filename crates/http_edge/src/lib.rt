@@ -16,7 +16,6 @@ mod request;
 mod response;
 mod routes;
 mod stage;
-mod steps;
 mod wire;
 
 pub use error::EdgeError;

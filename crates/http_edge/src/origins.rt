@@ -42,13 +42,8 @@ fn access_of(named: &[String], origin: &Option<String>) -> Access
     ensures { result ≡ origins.access_of named.now (option_map string_bytes origin.now) }
 {
     match origin {
-        Some(origin) if !named.is_empty() => {
-            if is_named(named, origin.as_str()) {
-                Access::Granted
-            } else {
-                Access::Refused
-            }
-        }
+        Some(origin) if is_named(named, origin.as_str()) => Access::Granted,
+        Some(_) if !named.is_empty() => Access::Refused,
         _ => Access::Served,
     }
 }

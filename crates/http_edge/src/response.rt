@@ -31,30 +31,18 @@ pub enum Status {
 }
 
 impl Status {
-    /// The status as a number.
-    pub fn code(self) -> u16
-        ensures { result ≡ http.code_of self }
+    /// The status as a number, and its reason phrase.
+    pub fn line(self) -> (u16, &'static str)
+        ensures code { result.0 ≡ http.code_of self }
+        ensures reason { result.1.now ≡ http.reason self }
     {
         match self {
-            Status::Success => 200,
-            Status::NoContent => 204,
-            Status::BadRequest => 400,
-            Status::NotFound => 404,
-            Status::TooLarge => 413,
-            Status::Unavailable => 503,
-        }
-    }
-
-    fn reason(self) -> &'static str
-        ensures { result.now ≡ http.reason self }
-    {
-        match self {
-            Status::Success => "OK",
-            Status::NoContent => "No Content",
-            Status::BadRequest => "Bad Request",
-            Status::NotFound => "Not Found",
-            Status::TooLarge => "Payload Too Large",
-            Status::Unavailable => "Service Unavailable",
+            Status::Success => (200, "OK"),
+            Status::NoContent => (204, "No Content"),
+            Status::BadRequest => (400, "Bad Request"),
+            Status::NotFound => (404, "Not Found"),
+            Status::TooLarge => (413, "Payload Too Large"),
+            Status::Unavailable => (503, "Service Unavailable"),
         }
     }
 
@@ -90,10 +78,7 @@ pub fn write_response<W: Wire>(
     ensures broken { IfErr result (λ e. e ≡ Device → W.is_broken wire.new ≡ true) }
 {
     let text = answer_text(alloc, status, origin, body)?;
-    match write_all(wire, text.as_str().as_bytes()) {
-        Ok(()) => Ok(()),
-        Err(Broken) => Err(EdgeError::Device),
-    }
+    write_all(wire, text.as_str().as_bytes()).map_err(|_| EdgeError::Device)
 }
 
 // The bytes of an answer are text.
@@ -108,7 +93,8 @@ fn answer_text(
         string_bytes text ≡ http.answer status (option_map string_bytes origin.now) body.now) }
 {
     let mut text = String::new(alloc);
-    push_status_line(&mut text, status.code(), status.reason())?;
+    let (code, reason) = status.line();
+    push_status_line(&mut text, code, reason)?;
     push_content(&mut text, status, body.len())?;
     push_origin(&mut text, origin)?;
     push_field(&mut text, "Connection", "close")?;

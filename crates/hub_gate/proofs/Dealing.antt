@@ -5,7 +5,7 @@ use Rattle.std.proofs.lemmas.Bool.Decides.{nat_tests}
 use Rattle.std.proofs.lemmas.List.{length-set, get_or-set_same, get_or-set_other, append-nil, map-append}
 use Rattle.std.proofs.lemmas.Option.{slice_get_within, get_or_from_slice_get, slice_get-get_or}
 use Rattle.std.specs.List.{enumerate_from, slice_get}
-use Rattle.hub_gate.specs.Dealing.{of_worker}
+use Rattle.hub_gate.specs.Serving.{of_worker}
 
 -- each queue, with what is still to be dealt to it from this number on, is what it gets in all
 abbrev pub AreDue : {P : Type 0} → (workers number : ℕ) → (rest all : List P) → List (List P) → Type 0

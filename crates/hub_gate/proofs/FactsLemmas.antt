@@ -1,6 +1,5 @@
 -- What a core keeps, said of the history that its look-ups show.
-use Rattle.std.proofs.Common.{◌≡◌, ◌⊎◌, ℕ, ◌<◌, ◌≤◌, ◌&&◌, Bool, true, false, nat_lt, arith, inl, inr, refl, subst, sym, ◌∙◌}
-use Rattle.std.proofs.lemmas.Bool.Decides.{nat_tests}
+use Rattle.std.proofs.Common.{◌≡◌, subst, sym, ◌∙◌}
 use Rattle.room_maps.specs.Membership.{RoomSets}
 use Rattle.room_maps.specs.Mirror.{SocketMap, RoomMap, IsMirrored}
 use Rattle.journal.specs.Journal.{History}
@@ -32,19 +31,3 @@ kept-shown h s a b is legal casts sound mirrored = record {
   sound = subst (λ (k : History). IsSound k.base k.limits k.journal) is sound;
   casts = subst CastsOnce is casts;
 }
-
-long_by : (p q : Bool) (n least h bytes : ℕ) → nat_lt n least ≡ p → nat_lt h bytes ≡ q → (p && q) ≡ false → (least ≤ n) ⊎ (bytes ≤ h)
-long_by false q n least h bytes by also is = inl (grind (arith, nat_tests))
-long_by true false n least h bytes by also is = inr (grind (arith, nat_tests))
-long_by true true n least h bytes by also is = absurd (cc (is))
-
-pub long : (n least h bytes : ℕ) → (nat_lt n least && nat_lt h bytes) ≡ false → (least ≤ n) ⊎ (bytes ≤ h)
-long n least h bytes is = long_by (nat_lt n least) (nat_lt h bytes) n least h bytes refl refl is
-
-short_by : (p q : Bool) (n least h bytes : ℕ) → nat_lt n least ≡ p → nat_lt h bytes ≡ q → (p && q) ≡ true → (n < least) × (h < bytes)
-short_by true true n least h bytes by also is = (grind (arith, nat_tests), grind (arith, nat_tests))
-short_by true false n least h bytes by also is = absurd (cc (is))
-short_by false q n least h bytes by also is = absurd (cc (is))
-
-pub short : (n least h bytes : ℕ) → (nat_lt n least && nat_lt h bytes) ≡ true → (n < least) × (h < bytes)
-short n least h bytes is = short_by (nat_lt n least) (nat_lt h bytes) n least h bytes refl refl is

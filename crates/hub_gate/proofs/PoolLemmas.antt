@@ -9,7 +9,7 @@ use Rattle.std.specs.Vec.Iter.{into_iter_items}
 use Rattle.hub_totals.specs.Pass.{PlainPass, new_pass}
 use Rattle.hub_gate.specs.declared.peer.Queue.{Queue}
 use Rattle.hub_gate.specs.declared.worker.WorkerCounts.{WorkerCounts}
-use Rattle.hub_gate.specs.Dealing.{AreDealt, dealt}
+use Rattle.hub_gate.specs.Serving.{AreDealt, dealt}
 
 -- ---- two lists, place by place
 

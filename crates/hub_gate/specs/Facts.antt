@@ -1,5 +1,5 @@
--- What every core keeps, so that whoever takes its lock finds it.
-use Rattle.std.specs.Prelude.{◌≡◌, ◌⊎◌, ℕ, ◌≤◌, List, ◌∷◌, ◌++◌, length, is_some}
+-- What every core keeps, so that whoever takes its lock finds it; when a core is sealed, and what it is then.
+use Rattle.std.specs.Prelude.{◌≡◌, ◌⊎◌, ℕ, ◌<◌, ◌≤◌, List, ◌∷◌, ◌++◌, length, is_some, Option, None, Some, Result, Ok, Err}
 use Rattle.std.specs.Ordering.{nat_cmp}
 use Rattle.std.specs.BTreeMap.{get}
 use Rattle.room_maps.specs.Links.{is_linked}
@@ -12,8 +12,9 @@ use Rattle.journal.specs.Journal.{History, history}
 use Rattle.journal.specs.Membership.{rooms}
 use Rattle.journal.specs.Broadcast.{RightCast}
 use Rattle.journal.specs.Legal.{IsLegal, IsSound}
-use Rattle.journal.specs.Seal.{PlainEpoch}
+use Rattle.journal.specs.Seal.{PlainEpoch, SealsAs}
 use Rattle.journal.specs.Totals.{held}
+use Rattle.events.specs.declared.fault.CoreError.{CoreError}
 use Rattle.dispatch.specs.Place.{PlainCore, Agree, IsClean}
 
 -- a map of sockets to rooms and one of rooms to sockets hold what these hold: the same sockets, each with the same
@@ -23,9 +24,9 @@ pub record HoldSame (of_socket : SocketMap) (of_room : RoomMap) (these : SocketM
   pub rooms_of : (sid : ℕ) (room : List ℕ) → is_linked nat_cmp room_cmp of_socket sid room ≡ is_linked nat_cmp room_cmp these sid room
   pub sockets_in : (sid : ℕ) (room : List ℕ) → is_linked room_cmp nat_cmp of_room room sid ≡ is_linked room_cmp nat_cmp those room sid
 
--- two maps, of sockets to rooms and of rooms to sockets, hold the history's rooms and mirror each other; each socket is
--- in its own room, and no room is empty (Socket.IO server documentation, "Rooms"). They are those of the hub: `mirrors_of`
--- lends the two maps of a core that is lent, and says of them that they hold the history's rooms, so they hold what these do
+-- two maps, of sockets to rooms and of rooms to sockets, hold the history's rooms and mirror each other; each
+-- socket is in its own room, and no room is empty (Socket.IO server documentation, "Rooms"). They are those of the
+-- hub: `mirrors_of` lends the two maps of a core that is lent, which hold the history's rooms, so what these hold
 pub record HasMirror (h : History) : Type 0 where
   pub of_socket : SocketMap
   pub of_room : RoomMap
@@ -51,8 +52,28 @@ pub record IsSoundCore (core : PlainCore) : Type 0 where
   pub lines : Agree core.hub.history core.lines
   pub clean : IsClean core.hub.history
 
--- a base and a journal that a core had, with so many steps or so many bytes in their entries
+-- a journal has fewer steps than that, and entries of fewer bytes in them
+abbrev pub IsShort : (least bytes : ℕ) → List Step → Type 0
+IsShort least bytes journal = (length journal < least) × (held journal < bytes)
+
+-- a journal has at least so many steps, or entries of at least so many bytes in them
+abbrev pub IsLong : (least bytes : ℕ) → List Step → Type 0
+IsLong least bytes journal = (least ≤ length journal) ⊎ (bytes ≤ held journal)
+
+-- a base and a journal that a core had, which is long
 pub record IsOfCore (least bytes : ℕ) (epoch : PlainEpoch) : Type 0 where
   pub limits : Limits
   pub kept : IsKept (history epoch.base limits epoch.journal)
-  pub enough : (least ≤ length epoch.journal) ⊎ (bytes ≤ held epoch.journal)
+  pub enough : IsLong least bytes epoch.journal
+
+-- the epoch is all that the core had, what is said of the core stays the same, and so does all of it but the history
+pub record SealsCore (before : PlainCore) (epoch : PlainEpoch) (after : PlainCore) : Type 0 where
+  pub seals : SealsAs before.hub.history epoch after.hub.history
+  pub kept : after ≡ record before { hub = record before.hub { history = after.hub.history } }
+
+-- a core whose journal is short stays as it is, and one whose journal is long is sealed, or after an error as it was
+abbrev pub Seals : (least bytes : ℕ) → PlainCore → Result (Option PlainEpoch) CoreError → PlainCore → Type 0
+Seals least bytes before (Ok None) after = IsShort least bytes before.hub.history.journal × (after ≡ before)
+Seals least bytes before (Ok (Some epoch)) after =
+    IsLong least bytes before.hub.history.journal × SealsCore before epoch after
+Seals least bytes before (Err e) after = IsLong least bytes before.hub.history.journal × (after ≡ before)

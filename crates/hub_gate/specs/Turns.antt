@@ -28,11 +28,13 @@ abbrev pub desk : PlainPass → (ids : ℕ → ℕ) → Desk
 desk pass ids = record { pass = pass; ids = ids }
 
 module _ (policy : Policy) where
-  -- the event was applied to a core at its moment, with the worker's ids, and counted in its pass. The core was sound, and
-  -- is again; both times it had counted at least what the pass had, and by the turn its journal only grew, by the steps
-  -- that the pass counts
-  pub record Applied (event : Event) (now : ℕ) (before : PlainCore) (old : Desk) (got : Answer) (after : PlainCore) (new : Desk) : Type 0 where
-    pub does : Does policy now before.timing before.numbers event (place before.hub.history before.lines) old.ids got (place after.hub.history after.lines) new.ids
+  -- the event was applied to a core at its moment, with the worker's ids, and counted in its pass. The core was sound,
+  -- and is again; both times it had counted at least what the pass had, and by the turn its journal only grew, by the
+  -- steps that the pass counts
+  pub record Applied (event : Event) (now : ℕ)
+      (before : PlainCore) (old : Desk) (got : Answer) (after : PlainCore) (new : Desk) : Type 0 where
+    pub does : Does policy now before.timing before.numbers event
+        (place before.hub.history before.lines) old.ids got (place after.hub.history after.lines) new.ids
     pub settings : (after.timing ≡ before.timing) × (after.numbers ≡ before.numbers)
     pub handed : (c : ℕ) (turns : List Turn) → Handed c turns before.hub.history → Handed c ((event, got) ∷ turns) after.hub.history
     pub turns : (c : ℕ) → IsOf event old.ids c → TurnsFor c before.hub after.hub old.pass new.pass
@@ -63,7 +65,8 @@ module _ (policy : Policy) where
   -- the core was told that the client's connection is lost, up to three times until it accepted that
   pub record TellsLost (client now : ℕ) (old new : Desk) : Type 0 where
     pub attempts : List Attempt
-    pub told : FoldsTo (λ (d : Desk) (a : Attempt) (e : Desk). Applied policy (event.TransportLost client) now a.before d a.got a.after e) old attempts new
+    pub told : FoldsTo (λ (d : Desk) (a : Attempt) (e : Desk).
+        Applied policy (event.TransportLost client) now a.before d a.got a.after e) old attempts new
     pub tries : AreTries (map (λ a. a.got) attempts)
 
   -- where there is no such client, nothing was done
@@ -97,8 +100,14 @@ last_client known (r ∷ rounds) = last_client (option_map (λ c. (c, r.now)) (l
 abbrev pub IsUnheard : List Round → Type 0
 IsUnheard rounds = (before : List Round) × (last : Round) × (rounds ≡ before ++ last ∷ []) × (last.heard ≡ false)
 
-module _ {P : Type 0} (gives : P → Result (Option (Event × ℕ)) PeerFault → P → Type 0) (hears : P → Answer → Result (Unit {0}) PeerFault → P → Type 0)
-    (policy : Policy) where
+-- how peers give their next event, and how they hear an answer
+abbrev pub Gives : Type 0 → Type 1
+Gives P = P → Result (Option (Event × ℕ)) PeerFault → P → Type 0
+
+abbrev pub Hears : Type 0 → Type 1
+Hears P = P → Answer → Result (Unit {0}) PeerFault → P → Type 0
+
+module _ {P : Type 0} (gives : Gives P) (hears : Hears P) (policy : Policy) where
   -- the peer gave the event, it was applied to the core as it was lent, and the peer heard that very answer
   pub record Serves (old : P × Desk) (r : Round) (new : P × Desk) : Type 0 where
     pub asking : P
@@ -111,7 +120,8 @@ module _ {P : Type 0} (gives : P → Result (Option (Event × ℕ)) PeerFault �
   -- how it ends with a peer: it has no more events, or it fails, by its own fault or since its turns are spent
   abbrev pub Ends : (turns : ℕ) → List Round → P → (failed : Bool) → P → Type 0
   Ends turns rounds last false new = gives last (Ok None) new
-  Ends turns rounds last true new = ((fault : PeerFault) × gives last (Err fault) new) ⊎ ((new ≡ last) × (IsUnheard rounds ⊎ (length rounds ≡ turns)))
+  Ends turns rounds last true new = ((fault : PeerFault) × gives last (Err fault) new)
+      ⊎ ((new ≡ last) × (IsUnheard rounds ⊎ (length rounds ≡ turns)))
 
   -- the peer's events, and no others, were applied in turn, until it ended; so many of them at the most
   pub record Talks (turns : ℕ) (old : P × Desk) (failed : Bool) (lost : Option (ℕ × ℕ)) (new : P × Desk) : Type 0 where
@@ -141,13 +151,13 @@ pub record Handled (P : Type 0) : Type 0 where
 abbrev pub failures : {P : Type 0} → List (Handled P) → ℕ
 failures handled = sum_by (λ h. (if h.failed then 1 else 0)) handled
 
-module _ {P S : Type 0} (next_gives : S → Option P → S → Type 0) (gives : P → Result (Option (Event × ℕ)) PeerFault → P → Type 0) (hears : P → Answer → Result (Unit {0}) PeerFault → P → Type 0)
-    (policy : Policy) where
+module _ {P S : Type 0} (next_gives : S → Option P → S → Type 0) (gives : Gives P) (hears : Hears P) (policy : Policy) where
   -- the worker served all peers of its source, each with its desk as the one before left it, and counted them; the
   -- counts stay at the greatest usize
   pub record WorksOff (turns : ℕ) (source : S) (old : Desk) (peers faults : ℕ) (new : Desk) : Type 0 where
     pub handled : List (Handled P)
     pub given : Drains next_gives source (map (λ h. h.given) handled)
-    pub served : FoldsTo (λ (d : Desk) (h : Handled P) (e : Desk). ServesAll gives hears policy turns (h.given, d) h.failed (h.left, e)) old handled new
+    pub served : FoldsTo (λ (d : Desk) (h : Handled P) (e : Desk).
+        ServesAll gives hears policy turns (h.given, d) h.failed (h.left, e)) old handled new
     pub peers_is : peers ≡ min (length handled) 18446744073709551615
     pub faults_is : faults ≡ min (failures handled) 18446744073709551615

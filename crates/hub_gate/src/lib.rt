@@ -3,12 +3,10 @@
 
 mod locked;
 mod peer;
-mod pool;
 mod serve;
 mod worker;
 
 pub use locked::{Locked, Sealing, Turn, mirrors_of};
 pub use peer::{Open, PeerSource, Queue, Turnstile};
-pub use pool::Pool;
 pub use serve::{Report, ServeError, Settled, serve_peers};
-pub use worker::{WorkerCounts, run_worker};
+pub use worker::{Pool, WorkerCounts, run_worker};

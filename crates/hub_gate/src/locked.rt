@@ -1,15 +1,13 @@
 //! The one lock around a core.
 
-ghost use Rattle.std.specs.Prelude.{◌≡◌, ◌&&◌, nat_lt, length, IfOk, IfErr, IfSome};
+ghost use Rattle.std.specs.Prelude.{◌≡◌, IfOk, IfErr, IfSome};
 ghost use Rattle.std.specs.Sync.Mutex.{mutex_guard_value};
 ghost use Rattle.room_maps.specs.Mirror.{IsMirrored};
 ghost use Rattle.journal.specs.Membership.{rooms};
-ghost use Rattle.journal.specs.Totals.{held};
 ghost use Rattle.hub_totals.specs.Pass.{new_pass, AtLeast};
 ghost use Rattle.events.specs.declared.fault.CoreFault.{CoreFault};
 ghost use Rattle.events.specs.Answer.{at_once};
-ghost use Rattle.hub_gate.specs.Facts.{IsSoundCore, IsOfCore};
-ghost use Rattle.hub_gate.specs.Sealing.{Seals};
+ghost use Rattle.hub_gate.specs.Facts.{IsSoundCore, IsOfCore, Seals};
 
 use dispatch::Core;
 use events::{CoreError, CoreFault};
@@ -44,9 +42,8 @@ pub type Sealing<C, T> = Turn<C, T, Result<Option<Epoch>, CoreError>>;
 impl<C: Ledger, T: Ledger> Locked<C, T> {
     /// Puts a core under its lock.
     pub fn new(core: Core<C, T>) -> Locked<C, T> {
-        Locked {
-            core: Mutex::new(core),
-        }
+        let core = Mutex::new(core);
+        Locked { core }
     }
 
     /// The core without its lock.
@@ -82,7 +79,6 @@ impl<C: Ledger, T: Ledger> Locked<C, T> {
         let before = Snapshot::of(&*guard);
         let got = seal_if_long(alloc, &mut *guard, least, bytes);
         let after = Snapshot::of(&*guard);
-        drop(guard);
         Turn { before, got, after }
     }
 
@@ -119,15 +115,6 @@ pub(crate) fn note_facts<C: Ledger, T: Ledger>(core: &Core<C, T>)
     let _maps = mirrors_of(core);
 }
 
-/// Whether the journal has fewer steps, and entries of fewer bytes in them.
-fn is_short<C: Ledger, T: Ledger>(core: &Core<C, T>, least: usize, bytes: u64) -> bool
-    ensures { let journal = core.now.hub.history.journal in
-        result ≡ (nat_lt (length journal) least && nat_lt (held journal) bytes) }
-{
-    let state = core.hub().state();
-    state.steps().len() < least && state.held() < bytes
-}
-
 /// Seals the core where its journal has at least so many steps, or entries of at least so many
 /// bytes in them; else it does nothing.
 fn seal_if_long<C: Ledger, T: Ledger>(
@@ -142,7 +129,8 @@ fn seal_if_long<C: Ledger, T: Ledger>(
     ensures memory { IfErr result (λ e. e ≡ at_once CoreFault.Memory) }
 {
     note_facts(core);
-    if is_short(core, least, bytes) {
+    let state = core.hub().state();
+    if state.steps().len() < least && state.held() < bytes {
         return Ok(None);
     }
     let Ok(epoch) = core.seal(alloc) else {

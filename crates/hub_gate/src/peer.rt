@@ -1,6 +1,6 @@
 //! Whom a worker serves.
 
-ghost use Rattle.std.specs.Prelude.{◌≡◌};
+ghost use Rattle.std.specs.Prelude.{◌≡◌, ◌++◌, [], Option, IfNone, option_to_list};
 ghost use Rattle.std.specs.Vec.Iter.{into_iter_items};
 
 use std::alloc::Global;
@@ -28,8 +28,6 @@ impl Turnstile for Open {
 
 /// Where a worker's peers come from.
 pub trait PeerSource<P> {
-    ghost use Rattle.std.specs.Prelude.{Option};
-
     ghost next_gives: { Self → Option P → Self → Type 0 };
 
     /// The next peer, or `None` where no more come. It may wait.
@@ -48,16 +46,12 @@ impl<P> Queue<P> {
     pub fn new(peers: Vec<P>) -> Queue<P>
         ensures { into_iter_items result.peers ≡ peers.items }
     {
-        Queue {
-            peers: peers.into_iter(),
-        }
+        let peers = peers.into_iter();
+        Queue { peers }
     }
 }
 
 impl<P> PeerSource<P> for Queue<P> {
-    ghost use Rattle.std.specs.Prelude.{◌≡◌, ◌++◌, [], IfNone, option_to_list};
-    ghost use Rattle.std.specs.Vec.Iter.{into_iter_items};
-
     ghost next_gives = { λ s r t. (into_iter_items s.peers ≡ option_to_list r ++ into_iter_items t.peers)
         × IfNone r (into_iter_items s.peers ≡ []) };
 

@@ -3,12 +3,10 @@
 ghost use Rattle.std.specs.Prelude.{◌≡◌, ◌+◌, ◌<◌, ◌≤◌, [], IfOk, IfErr, OnOk, MatchResult, vec_len, vec_capacity, map, sum_by};
 ghost use Rattle.std.specs.List.{AllZip};
 ghost use Rattle.std.specs.Vec.Iter.{into_iter_items};
-ghost use Rattle.hub_gate.specs.Dealing.{AreDealt, Appends};
-ghost use Rattle.hub_gate.specs.Serving.{AreCounted, AreServed, IsFromStarting, IsLackingFor, IsRefused, WorksAs};
+ghost use Rattle.hub_gate.specs.Serving.{AreCounted, AreDealt, AreServed, IsFromStarting, IsLackingFor, IsRefused, WorksAs};
 
 use crate::peer::{Queue, Turnstile};
-use crate::pool::Pool;
-use crate::worker::{WorkerCounts, run_worker};
+use crate::worker::{Pool, WorkerCounts, run_worker};
 use dispatch::Core;
 use events::{App, IdSource, Peer};
 use hub_totals::{NotAll, Pass};
@@ -73,23 +71,15 @@ struct Job<C: Ledger, T: Ledger, P, I> {
 }
 
 /// What a worker began with, as whoever waits for its end knows it.
+#[derive(Drop)]
 struct Started<C: Ledger, T: Ledger, A, P, I> {
     job: Snapshot<Job<C, T, P, I>>,
     app: Snapshot<A>,
     turns: u64,
 }
 
-impl<C: Ledger, T: Ledger, A, P, I> Drop for Started<C, T, A, P, I> {
-    fn drop(self) {
-        let Self { job, app, turns } = self;
-    }
-}
-
 impl<C: Ledger, T: Ledger, A: App, P: Peer, I: IdSource> Promise<Finished<C, T>>
     for Started<C, T, A, P, I> {
-    ghost use Rattle.std.specs.Vec.Iter.{into_iter_items};
-    ghost use Rattle.hub_gate.specs.Serving.{WorksAs};
-
     ghost kept_by = { λ s finished. WorksAs P.gives P.hears (A.policy s.app.value)
         s.turns (into_iter_items s.job.value.queue.peers)
         (I.stream s.job.value.ids) finished.counts };
@@ -166,21 +156,10 @@ fn deal<P: Drop>(alloc: Global, peers: Vec<P>, workers: usize) -> Result<Vec<Vec
     let mut number = 0;
     for peer in peers {
         let worker = number % workers;
-        append(&mut queues, worker, peer)?;
+        queues[worker].push(peer)?;
         number += 1;
     }
     Ok(queues)
-}
-
-/// Puts a peer at the end of a worker's queue.
-fn append<P: Drop>(queues: &mut Vec<Vec<P>>, worker: usize, peer: P) -> Result<(), AllocError>
-    requires { worker < vec_len queues.old }
-    ensures len { OnOk result (vec_len queues.new ≡ vec_len queues.old) }
-    ensures given { OnOk result (Appends worker peer (map (λ q. q.items) queues.old.items)
-        (map (λ q. q.items) queues.new.items)) }
-{
-    queues[worker].push(peer)?;
-    Ok(())
 }
 
 /// A pass, a queue and a source of ids for each worker.

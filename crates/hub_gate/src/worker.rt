@@ -3,11 +3,11 @@
 ghost use Rattle.std.specs.Prelude.{◌≡◌, ◌+◌, option_map};
 ghost use Rattle.hub_gate.specs.Turns.{Applied, ServesAll, Talks, TellsLost, WorksOff, desk, lost_by};
 
-use crate::locked::{Turn, note_facts};
+use crate::locked::{Locked, Turn, note_facts};
 use crate::peer::{PeerSource, Turnstile};
-use crate::pool::Pool;
 use events::{Answered, App, Event, IdSource, Loss, Outcome, Peer, Telling};
 use hub_totals::Pass;
+use std::alloc::Global;
 use std::snapshot::Snapshot;
 use std::sync::Wait;
 use std::sync::ledger::Ledger;
@@ -39,6 +39,19 @@ fn lost_after(event: &Event, got: &Answered, now: u64) -> Option<(u128, u64)>
     }
 }
 
+/// What all workers of a pool share. It can be lent to any number of threads.
+#[derive(Drop)]
+pub struct Pool<'a, R, C: Ledger, T: Ledger, A, G> {
+    pub rt: &'a R,
+    pub alloc: Global,
+    pub locked: &'a Locked<C, T>,
+    pub app: &'a A,
+    /// What waits at the gate of each event.
+    pub gate: &'a G,
+    /// How many events a peer may have.
+    pub turns: u64,
+}
+
 impl<R: Wait, C: Ledger, T: Ledger, A: App, G: Turnstile> Pool<'_, R, C, T, A, G> {
     /// Applies one event to the core, under the lock. It may wait.
     fn apply<I: IdSource>(
@@ -58,7 +71,6 @@ impl<R: Wait, C: Ledger, T: Ledger, A: App, G: Turnstile> Pool<'_, R, C, T, A, G
         guard.audit(pass);
         note_facts(&*guard);
         let after = Snapshot::of(&*guard);
-        drop(guard);
         Turn { before, got, after }
     }
 

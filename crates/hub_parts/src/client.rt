@@ -1,10 +1,10 @@
 //! What a hub holds of a client: its sockets, and what waits for it.
 
-ghost use Rattle.std.specs.Prelude.{◌≡◌, ◌-◌, ◌<◌, ◌==◌, not, List, [], ◌∷◌, ◌++◌, length, take, filter, OnOk, OnErr, IfSome, IsSome, Some, None};
+ghost use Rattle.std.specs.Prelude.{◌≡◌, ◌-◌, ◌<◌, ◌==◌, not, List, [], ◌∷◌, ◌++◌, length, take, filter, OnOk, OnErr, IfSome, IsSome, None};
 ghost use Rattle.std.specs.List.{find, All};
 ghost use Rattle.std.specs.Ordering.{nat_cmp};
-ghost use Rattle.std.specs.Map.{lookup, keys_of, values_of};
-ghost use Rattle.std.specs.BTreeMap.{is_at, get};
+ghost use Rattle.std.specs.Map.{keys_of, values_of};
+ghost use Rattle.std.specs.BTreeMap.{get};
 ghost use Rattle.journal.specs.Plain.{PlainClient};
 ghost use Rattle.journal.specs.declared.socket.Socket.{Socket};
 ghost use Rattle.hub_parts.specs.Sockets.{IsIndex};
@@ -89,21 +89,36 @@ impl Sockets {
         ensures ok { OnOk result (self.new ≡ self.old ++ socket ∷ []) }
         ensures err { OnErr result (self.new ≡ self.old) }
     {
-        put(&mut self.by_serial, &mut self.by_place, socket)
+        let Some(serial) = next_serial(&self.by_serial) else {
+            return Err(AllocError);
+        };
+        let place = usize::from(socket.space);
+        self.by_serial.insert(serial, socket)?;
+        match self.by_place.insert(place, serial) {
+            Ok(_) => Ok(()),
+            Err(_) => {
+                self.by_serial.remove(&serial);
+                Err(AllocError)
+            }
+        }
     }
 
     /// Takes the newest socket away, where there is one, in the logarithm of the sockets.
     pub fn pop(&mut self)
         ensures { self.new ≡ take (length self.old - 1) self.old }
     {
-        take_newest(&mut self.by_serial, &mut self.by_place);
+        if let Some((_, socket)) = self.by_serial.pop_last() {
+            self.by_place.remove(&usize::from(socket.space));
+        }
     }
 
     /// Takes the socket at a place away, in the logarithm of the sockets.
     pub fn remove(&mut self, place: usize)
         ensures { self.new ≡ filter (λ (k : Socket). not (k.space == place)) self.old }
     {
-        take_at(&mut self.by_serial, &mut self.by_place, place);
+        if let Some(serial) = self.by_place.remove(&place) {
+            self.by_serial.remove(&serial);
+        }
     }
 }
 
@@ -115,56 +130,5 @@ fn next_serial(by_serial: &BTreeMap<u64, Socket>) -> Option<u64>
     match by_serial.last_key_value() {
         Some((last, _)) => last.checked_add(1),
         None => Some(0),
-    }
-}
-
-/// Puts a socket into both maps. Where the second growth is refused, the first is taken back.
-fn put(
-    by_serial: &mut BTreeMap<u64, Socket>,
-    by_place: &mut BTreeMap<usize, u64>,
-    socket: Socket,
-) -> Result<(), AllocError>
-    requires free { lookup (is_at (nat_cmp socket.space)) by_place.old.entries ≡ None }
-    requires mirrors { IsIndex by_serial.old.entries by_place.old.entries }
-    ensures sockets { OnOk result (values_of by_serial.new.entries
-        ≡ values_of by_serial.old.entries ++ socket ∷ []) }
-    ensures mirrors { IsIndex by_serial.new.entries by_place.new.entries }
-    ensures unchanged { OnErr result (by_serial.new.entries ≡ by_serial.old.entries) }
-{
-    let Some(serial) = next_serial(by_serial) else {
-        return Err(AllocError);
-    };
-    let place = usize::from(socket.space);
-    by_serial.insert(serial, socket)?;
-    match by_place.insert(place, serial) {
-        Ok(_) => Ok(()),
-        Err(_) => {
-            by_serial.remove(&serial);
-            Err(AllocError)
-        }
-    }
-}
-
-/// Takes the socket with the greatest serial out of both maps.
-fn take_newest(by_serial: &mut BTreeMap<u64, Socket>, by_place: &mut BTreeMap<usize, u64>)
-    requires mirrors { IsIndex by_serial.old.entries by_place.old.entries }
-    ensures sockets { let old = values_of by_serial.old.entries
-        in values_of by_serial.new.entries ≡ take (length old - 1) old }
-    ensures mirrors { IsIndex by_serial.new.entries by_place.new.entries }
-{
-    if let Some((_, socket)) = by_serial.pop_last() {
-        by_place.remove(&usize::from(socket.space));
-    }
-}
-
-/// Takes the socket at a place out of both maps.
-fn take_at(by_serial: &mut BTreeMap<u64, Socket>, by_place: &mut BTreeMap<usize, u64>, place: usize)
-    requires mirrors { IsIndex by_serial.old.entries by_place.old.entries }
-    ensures sockets { values_of by_serial.new.entries
-        ≡ filter (λ (k : Socket). not (k.space == place)) (values_of by_serial.old.entries) }
-    ensures mirrors { IsIndex by_serial.new.entries by_place.new.entries }
-{
-    if let Some(serial) = by_place.remove(&place) {
-        by_serial.remove(&serial);
     }
 }

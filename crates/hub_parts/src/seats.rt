@@ -67,8 +67,16 @@ impl Seats {
         ensures ok { OnOk result (WithSeat socket self.old self.new) }
         ensures err { OnErr result (SameSeats self.old self.new) }
     {
-        put(&mut self.by_sid, &mut self.by_space, socket)?;
-        Ok(())
+        let sid = socket.sid;
+        let space = u32::from(socket.space);
+        self.by_sid.insert(sid, socket)?;
+        match self.by_space.insert((space, sid)) {
+            Ok(_) => Ok(()),
+            Err(_) => {
+                self.by_sid.remove(&sid);
+                Err(AllocError)
+            }
+        }
     }
 
     /// Takes the socket with a session id out, if there is one. It takes the logarithm and no
@@ -76,7 +84,9 @@ impl Seats {
     pub fn remove(&mut self, sid: Sid)
         ensures { WithoutSeat sid self.old self.new }
     {
-        take(&mut self.by_sid, &mut self.by_space, sid);
+        if let Some(socket) = self.by_sid.remove(&sid) {
+            self.by_space.remove(&(u32::from(socket.space), sid));
+        }
     }
 
     /// The session ids of the sockets in the namespace at a place, rising. It takes the logarithm,
@@ -86,41 +96,6 @@ impl Seats {
             ListsRising nat_cmp (λ s. is_here space (get nat_cmp self.now s)) sids.items) }
     {
         sids_at(alloc, &self.by_space, space)
-    }
-}
-
-/// Puts a socket into both indexes. Where the second growth is refused, the first is taken back.
-fn put(
-    by_sid: &mut BTreeMap<Sid, Socket>,
-    by_space: &mut BTreeSet<(u32, Sid)>,
-    socket: Socket,
-) -> Result<(), AllocError>
-    requires free { get nat_cmp by_sid.old socket.sid ≡ None }
-    requires mirrors { IsIndex by_sid.old by_space.old }
-    ensures ok { OnOk result (WithSeat socket by_sid.old by_sid.new) }
-    ensures err { OnErr result (SameSeats by_sid.old by_sid.new) }
-    ensures mirrors { IsIndex by_sid.new by_space.new }
-{
-    let sid = socket.sid;
-    let space = u32::from(socket.space);
-    by_sid.insert(sid, socket)?;
-    match by_space.insert((space, sid)) {
-        Ok(_) => Ok(()),
-        Err(_) => {
-            by_sid.remove(&sid);
-            Err(AllocError)
-        }
-    }
-}
-
-/// Takes the socket with a session id out of both indexes.
-fn take(by_sid: &mut BTreeMap<Sid, Socket>, by_space: &mut BTreeSet<(u32, Sid)>, sid: Sid)
-    requires { IsIndex by_sid.old by_space.old }
-    ensures seats { WithoutSeat sid by_sid.old by_sid.new }
-    ensures mirrors { IsIndex by_sid.new by_space.new }
-{
-    if let Some(socket) = by_sid.remove(&sid) {
-        by_space.remove(&(u32::from(socket.space), sid));
     }
 }
 

@@ -1,5 +1,5 @@
 -- How a command changes what a state is kept in, and what its refusal says.
-use Rattle.std.specs.Prelude.{◌≡◌, ℕ, ◌+◌, ◌≤◌, ◌==◌, ◌||◌, true, false, List, Option, None, Result, OnOk, OnErr, IfErr, if◌then◌else◌}
+use Rattle.std.specs.Prelude.{◌≡◌, ℕ, ◌+◌, ◌≤◌, ◌==◌, ◌||◌, true, false, List, Option, None, Some, Result, Ok, Err, OnOk, OnErr, IfErr, if◌then◌else◌}
 use Rattle.std.specs.List.{find, list_any, AllByRecursion}
 use Rattle.std.specs.Option.{option_map}
 use Rattle.std.specs.Ordering.{nat_cmp}
@@ -75,6 +75,11 @@ OfEach h puts drops Holds =
 -- it is the same at each moment
 abbrev pub refusal_now : History → What → Option HubError
 refusal_now h what = refusal h (moment h.base h.journal) what
+
+-- a check says so: nothing where nothing speaks against the command, and else its refusal
+abbrev pub Reports : {X : Type 0} → Result X HubError → Option HubError → Type 0
+Reports (Ok x) refused = refused ≡ None
+Reports (Err e) refused = refused ≡ Some e
 
 -- the step, which may be made, was made, or nothing changed for want of memory
 abbrev pub MakesStep : {X : Type 0} → (old new : History) → ℕ → What → Result X HubError → Type 0

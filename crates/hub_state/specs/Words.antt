@@ -20,7 +20,7 @@ use Rattle.journal.specs.Outboxes.{waiting, answer}
 use Rattle.journal.specs.Totals.{is_spent}
 use Rattle.journal.specs.Refusals.{or_spent}
 use Rattle.journal.specs.Casting.{Tells}
-use Rattle.journal.specs.Dismissing.{ListsMatching, Dismisses}
+use Rattle.journal.specs.Dismissing.{Dismisses}
 
 -- whether the client is open
 abbrev pub opened : History → (client : ℕ) → Bool
@@ -102,11 +102,6 @@ TellsNow h b messages = Tells h.base h.limits h.journal b messages
 -- these are the sockets and the messages of the dismissal that is made now
 abbrev pub DismissesNow : History → PlainDismissal → List Socket → List PlainMessage → Type 0
 DismissesNow h d ks messages = Dismisses h.base h.limits h.journal d ks messages
-
--- these are the sockets that match now
-abbrev pub ListsMatches :
-    History → (space : ℕ) → (named excepted : List (List ℕ)) → List Socket → Type 0
-ListsMatches h space named excepted ks = ListsMatching h.base h.journal space named excepted ks
 
 -- these are the sockets of the namespace at a place that are in the room, rising
 abbrev pub ListsMembers : History → (place : ℕ) → (room : List ℕ) → List ℕ → Type 0

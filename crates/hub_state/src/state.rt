@@ -14,7 +14,7 @@ ghost use Rattle.journal.specs.Membership.{place_of, is_space, is_connected, sid
 ghost use Rattle.journal.specs.Outboxes.{total_size};
 ghost use Rattle.journal.specs.declared.step.Step.{Step};
 ghost use Rattle.journal.specs.declared.step.What.{What};
-ghost use Rattle.hub_state.specs.Changes.{OfEach};
+ghost use Rattle.hub_state.specs.Changes.{OfEach, Reports};
 ghost use Rattle.hub_state.specs.Counting.{counts_after};
 ghost use Rattle.hub_state.specs.Words.{fresh_log, spent_by, AllHear, opened, when_open, waits, logs, saves};
 
@@ -38,7 +38,7 @@ use hub_parts::{Client, Limits, Seats, Steps};
 use journal::{Base, Config, Counts, HubError, Step, Totals, What};
 use recovery::{PacketLog, Pid, SavedTable};
 use room_maps::Rooms;
-use std::alloc::{AllocError, Global};
+use std::alloc::Global;
 use std::collections::{BTreeMap, BTreeSet};
 use std::marker::Model;
 use terms::{Entry, Room, Sid};
@@ -148,15 +148,6 @@ impl Records {
     }
 }
 
-/// An empty log, as the limits say.
-fn empty_log(alloc: Global, config: &Config) -> Result<PacketLog, AllocError>
-    requires log { 1 ≤ config.now.log }
-    requires first { 1 ≤ config.now.first_offset }
-    ensures ok { IfOk result (λ log. log ≡ fresh_log config.now) }
-{
-    PacketLog::new(alloc, config.log, config.first_offset).map_err(|_| AllocError)
-}
-
 /// The state of a new hub.
 fn empty_base(alloc: Global, config: &Config) -> Base
     ensures { result ≡ empty_base config.now.first_offset }
@@ -191,7 +182,9 @@ impl State {
         if config.is_bad() {
             return Err(HubError::BadConfig);
         }
-        let log = empty_log(alloc, &config)?;
+        let log = PacketLog::new(alloc, config.log, config.first_offset).map_err(
+            |_| HubError::Memory,
+        )?;
         let limits = Limits::new(alloc, config)?;
         Ok(State::begin(alloc, limits, log))
     }
@@ -268,16 +261,16 @@ impl State {
         commands == u64::MAX || puts > u64::MAX - placed || drops > u64::MAX - dropped
     }
 
-    /// Spent, where a step that puts and drops so many can't be counted.
-    pub(crate) fn count_refusal(&self, puts: u64, drops: u64) -> Option<HubError>
-        ensures { OfEach self.now puts drops (λ what. result ≡ spent_by self.now what) }
+    /// Refused as `Spent`, where a step that puts and drops so many can't be counted.
+    pub(crate) fn may_count(&self, puts: u64, drops: u64) -> Result<(), HubError>
+        ensures { OfEach self.now puts drops (λ what. Reports result (spent_by self.now what)) }
     {
         // The type's invariant is known once a field is read.
         let _fields = &self.base;
         if self.passes(puts, drops) {
-            Some(HubError::Spent)
+            Err(HubError::Spent)
         } else {
-            None
+            Ok(())
         }
     }
 

@@ -12,7 +12,6 @@ use Rattle.journal.specs.Command.{refusal, is_found_late, IsErrorOf}
 use Rattle.journal.specs.Plain.{Limits, PlainCast, PlainCastDone}
 use Rattle.journal.specs.Casting.{refusal_of, IsCast, IsCastError}
 use Rattle.journal.specs.Totals as totals
-use Rattle.journal.specs.Totals.{handed_out, handed_out_by}
 use Rattle.hub_state.specs.Words.{logs, saves}
 use Rattle.hub_totals.specs.declared.books.NotAll.{NotAll}
 
@@ -45,7 +44,7 @@ pub record PlainBooks : Type 0 where
 
 -- the books of this history
 abbrev pub books_of : History → (rest : ℕ) → PlainBooks
-books_of h rest = record { commands = totals.commands h.base h.journal; taken = handed_out h.base h.journal; rest = rest }
+books_of h rest = record { commands = totals.commands h.base h.journal; taken = totals.handed_out h.base h.journal; rest = rest }
 
 -- a pass that has counted nothing
 abbrev pub new_pass : PlainPass
@@ -70,7 +69,7 @@ abbrev pub commands_of : PlainHub → ℕ
 commands_of hub = totals.commands hub.history.base hub.history.journal
 
 abbrev pub taken_of : PlainHub → ℕ
-taken_of hub = handed_out hub.history.base hub.history.journal
+taken_of hub = totals.handed_out hub.history.base hub.history.journal
 
 -- so many entries of the log and so many saved sessions are gone
 abbrev pub Drops : Swept → (before after : History) → Type 0
@@ -79,22 +78,28 @@ Drops swept h g =
 
 -- the pass with one command more, which did this
 abbrev pub with_command : What → PlainPass → PlainPass
-with_command what pass = record pass { commands = pass.commands + 1; taken = pass.taken + handed_out_by what }
+with_command what pass = record pass { commands = pass.commands + 1; taken = pass.taken + totals.handed_out_by what }
 
 -- the command that makes this step was answered as `Does` says; where it was accepted, its pass counts it, and else
 -- both hub and pass are as before
-abbrev pub DoesCounted : {X : Type 0} → (before after : PlainHub) → (old new : PlainPass) → ℕ → What → Result X HubError → Type 0
+abbrev pub DoesCounted : {X : Type 0}
+    → (before after : PlainHub) → (old new : PlainPass) → ℕ → What → Result X HubError → Type 0
 DoesCounted before after old new now what (Ok x) =
-    (refusal before.history (moment_at before.history now) what ≡ None) × (after ≡ record before { history = with_step before.history now what }) × (new ≡ with_command what old)
+    (refusal before.history (moment_at before.history now) what ≡ None)
+    × (after ≡ record before { history = with_step before.history now what }) × (new ≡ with_command what old)
 DoesCounted before after old new now what (Err e) =
-    IsErrorOf (is_found_late before.history.limits what) (refusal before.history (moment_at before.history now) what) e × (after ≡ before) × (new ≡ old)
+    IsErrorOf (is_found_late before.history.limits what) (refusal before.history (moment_at before.history now) what) e
+    × (after ≡ before) × (new ≡ old)
 
 -- the cast was answered as `CastDoes` says; where it was accepted, its pass counts it, and else both hub and pass are
 -- as before
-abbrev pub CastDoesCounted : (before after : PlainHub) → (old new : PlainPass) → ℕ → PlainCast → Result PlainCastDone HubError → Type 0
+abbrev pub CastDoesCounted : (before after : PlainHub)
+    → (old new : PlainPass) → ℕ → PlainCast → Result PlainCastDone HubError → Type 0
 CastDoesCounted before after old new now c (Ok done) =
-    (refusal_of before.history c ≡ None) × IsCast before.history after.history now c done × (after.rest ≡ before.rest) × (new ≡ record old { commands = old.commands + 1 })
-CastDoesCounted before after old new now c (Err e) = IsCastError before.history c (refusal_of before.history c) e × (after ≡ before) × (new ≡ old)
+    (refusal_of before.history c ≡ None) × IsCast before.history after.history now c done
+    × (after.rest ≡ before.rest) × (new ≡ record old { commands = old.commands + 1 })
+CastDoesCounted before after old new now c (Err e) =
+    IsCastError before.history c (refusal_of before.history c) e × (after ≡ before) × (new ≡ old)
 
 -- the pass rises by as much as the hub's totals
 pub record Rises (before after : PlainHub) (old new : PlainPass) : Type 0 where
@@ -106,9 +111,11 @@ pub record Rises (before after : PlainHub) (old new : PlainPass) : Type 0 where
 -- lacks of these, which isn't nothing
 abbrev pub Settles : PlainHub → PlainPass → Result Totals NotAll → Type 0
 Settles hub pass (Ok all) =
-    (all ≡ totals.totals hub.history.base hub.history.limits hub.history.journal) × (pass.commands ≡ commands_of hub) × (pass.taken ≡ taken_of hub)
+    (all ≡ totals.totals hub.history.base hub.history.limits hub.history.journal)
+    × (pass.commands ≡ commands_of hub) × (pass.taken ≡ taken_of hub)
 Settles hub pass (Err lack) =
-    (pass.commands + lack.commands ≡ commands_of hub) × (pass.taken + lack.taken ≡ taken_of hub) × (0 < lack.commands + lack.taken)
+    (pass.commands + lack.commands ≡ commands_of hub) × (pass.taken + lack.taken ≡ taken_of hub)
+    × (0 < lack.commands + lack.taken)
 
 -- the hub's totals are u64s, and at least what the pass has counted
 pub record AtLeast (hub : PlainHub) (pass : PlainPass) : Type 0 where

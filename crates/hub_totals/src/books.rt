@@ -1,9 +1,9 @@
 //! The counts of commands and of entries that were handed out, which a hub raises together with its
 //! passes: totals that several holders raise, and each holder's part of them.
 
-ghost use Rattle.std.specs.Prelude.{◌≡◌, ◌+◌, ◌-◌, ◌==◌, ◌<◌, ◌≤◌, min};
+ghost use Rattle.std.specs.Prelude.{◌≡◌, ◌+◌, ◌-◌, ◌<◌, ◌≤◌, min};
 ghost use Rattle.journal.specs.Totals as totals;
-ghost use Rattle.hub_totals.specs.Pass.{books_of, new_pass, GivesPass, IsBlankOf};
+ghost use Rattle.hub_totals.specs.Pass.{books_of, new_pass, GivesPass, IsBlankOf, PlainBooks, PlainCounter, PlainPart, PlainPass};
 
 use hub_state::State;
 use journal::{HubError, Totals};
@@ -20,9 +20,6 @@ struct Counter<L: Ledger> {
 }
 
 impl<L: Ledger> Model for Counter<L> {
-    ghost use Rattle.std.specs.Prelude.{◌≡◌, ◌<◌};
-    ghost use Rattle.hub_totals.specs.Pass.{PlainCounter};
-
     ghost Value = { PlainCounter };
 
     ghost view = { λ c. record { total = c.book.total; rest = c.parts } };
@@ -39,9 +36,6 @@ struct Part<L: Ledger> {
 }
 
 impl<L: Ledger> Model for Part<L> {
-    ghost use Rattle.std.specs.Prelude.{◌≡◌, ◌<◌, min};
-    ghost use Rattle.hub_totals.specs.Pass.{PlainPart};
-
     ghost Value = { PlainPart };
 
     ghost view = { λ p. record { amount = p.share.amount; parts = p.share.parts } };
@@ -129,9 +123,6 @@ impl<C: Ledger, T: Ledger> Drop for Pass<C, T> {
 }
 
 impl<C: Ledger, T: Ledger> Model for Pass<C, T> {
-    ghost use Rattle.std.specs.Prelude.{◌≡◌};
-    ghost use Rattle.hub_totals.specs.Pass.{PlainPass};
-
     ghost Value = { PlainPass };
 
     ghost view = { λ p. record
@@ -188,9 +179,6 @@ pub struct Books<C: Ledger, T: Ledger> {
 }
 
 impl<C: Ledger, T: Ledger> Model for Books<C, T> {
-    ghost use Rattle.std.specs.Prelude.{◌≡◌};
-    ghost use Rattle.hub_totals.specs.Pass.{PlainBooks};
-
     ghost Value = { PlainBooks };
 
     ghost view = { λ b. record

@@ -7,6 +7,7 @@ ghost use Rattle.journal.specs.ManySockets.{joining, leaving, dismissal};
 ghost use Rattle.journal.specs.Membership.{place_of};
 ghost use Rattle.journal.specs.Plain.{PlainCast, PlainCastDone};
 ghost use Rattle.journal.specs.Seal.{Seals};
+ghost use Rattle.journal.specs.Totals as totals;
 ghost use Rattle.journal.specs.declared.ending.Side.{Side};
 ghost use Rattle.journal.specs.declared.error.HubError.{HubError};
 ghost use Rattle.journal.specs.declared.step.What.{What};
@@ -46,16 +47,12 @@ pub struct Hub<C: Ledger, T: Ledger> {
 }
 
 impl<C: Ledger, T: Ledger> Model for Hub<C, T> {
-    ghost use Rattle.std.specs.Prelude.{◌≡◌};
-    ghost use Rattle.journal.specs.Totals.{commands, handed_out};
-    ghost use Rattle.hub_totals.specs.Pass.{PlainHub};
-
     ghost Value = { PlainHub };
 
     ghost view = { λ h. record { history = h.state; rest = h.books.rest } };
 
-    ghost invariant = { λ h. (h.books.commands ≡ commands h.state.base h.state.journal)
-        × (h.books.taken ≡ handed_out h.state.base h.state.journal) };
+    ghost invariant = { λ h. (h.books.commands ≡ totals.commands h.state.base h.state.journal)
+        × (h.books.taken ≡ totals.handed_out h.state.base h.state.journal) };
 }
 
 impl<C: Ledger, T: Ledger> Hub<C, T> {

@@ -1,8 +1,9 @@
 //! The state from which a journal begins, and a closed part of a hub's history.
 
-ghost use Rattle.std.specs.Prelude.{map};
+ghost use Rattle.std.specs.Prelude.{map, reverse};
 ghost use Rattle.std.specs.Arc.{arc_value};
 ghost use Rattle.journal.specs.Plain.{PlainBase, PlainBaseClient};
+ghost use Rattle.journal.specs.Seal.{PlainEpoch};
 
 use crate::step::Step;
 use crate::totals::Totals;
@@ -80,9 +81,6 @@ impl Drop for Epoch {
 }
 
 impl Model for Epoch {
-    ghost use Rattle.std.specs.Prelude.{reverse};
-    ghost use Rattle.journal.specs.Seal.{PlainEpoch};
-
     ghost Value = { PlainEpoch };
 
     ghost view = { λ e. record { base = e.base; journal = reverse e.steps.items } };

@@ -78,10 +78,7 @@ fn is_namespace(name: &str) -> bool
     ensures { result ≡ rules.is_namespace name.now }
 {
     let bytes = name.as_bytes();
-    if bytes.is_empty() {
-        return false;
-    }
-    bytes[0] == b'/' && !has_forbidden(bytes)
+    !bytes.is_empty() && bytes[0] == b'/' && !has_forbidden(bytes)
 }
 
 /// Whether a name is among these.

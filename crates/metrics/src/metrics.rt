@@ -119,14 +119,11 @@ fn connections_text(alloc: Global, loops: &[LoopCounts]) -> Result<String, Alloc
     ensures { IfOk result (λ text. string_bytes text ≡ metrics.connections_text loops.now) }
 {
     let mut text = String::new(alloc);
-    push_head(
-        &mut text,
-        "socketio_connections_total",
-        "counter",
-        "Connections that a loop was given.",
-    )?;
+    let name = "socketio_connections_total";
+    let help = "Connections that a loop was given.";
+    push_head(&mut text, name, "counter", help)?;
     for it in loops {
-        push_connections(&mut text, it)?;
+        push_labelled(&mut text, name, it.number, it.connections)?;
     }
     Ok(text)
 }
@@ -135,12 +132,9 @@ fn requests_text(alloc: Global, loops: &[LoopCounts]) -> Result<String, AllocErr
     ensures { IfOk result (λ text. string_bytes text ≡ metrics.requests_text loops.now) }
 {
     let mut text = String::new(alloc);
-    push_head(
-        &mut text,
-        "socketio_requests_total",
-        "counter",
-        "Requests that came whole to a loop.",
-    )?;
+    let name = "socketio_requests_total";
+    let help = "Requests that came whole to a loop.";
+    push_head(&mut text, name, "counter", help)?;
     for it in loops {
         push_requests(&mut text, it)?;
     }
@@ -151,14 +145,10 @@ fn refused_text(alloc: Global, refused: &[Refusals]) -> Result<String, AllocErro
     ensures { IfOk result (λ text. string_bytes text ≡ metrics.refused_text refused.now) }
 {
     let mut text = String::new(alloc);
-    push_head(
-        &mut text,
-        "socketio_refused_total",
-        "counter",
-        "What was refused, by reason.",
-    )?;
+    let name = "socketio_refused_total";
+    push_head(&mut text, name, "counter", "What was refused, by reason.")?;
     for it in refused {
-        push_refused(&mut text, it)?;
+        push_reason(&mut text, name, it.reason.label(), it.count)?;
     }
     Ok(text)
 }
@@ -184,35 +174,20 @@ fn push_row(
     write!(text, "{name} {number}\n")
 }
 
-fn push_connections(text: &mut String, it: &LoopCounts) -> Result<(), AllocError>
-    ensures { OnOk result (Adds text.old text.new (metrics.connections_of it.now)) }
-{
-    push_labelled(
-        text,
-        "socketio_connections_total",
-        it.number,
-        it.connections,
-    )
-}
-
 fn push_requests(text: &mut String, it: &LoopCounts) -> Result<(), AllocError>
     ensures { OnOk result (Adds text.old text.new (metrics.requests_of it.now)) }
 {
     push_labelled(text, "socketio_requests_total", it.number, it.requests)
 }
 
+/// Adds a number of a loop.
 fn push_labelled(text: &mut String, name: &str, number: u64, count: u64) -> Result<(), AllocError>
     ensures { OnOk result (Adds text.old text.new (metrics.of_loop name.now number count)) }
 {
     write!(text, "{name}{{loop=\"{number}\"}} {count}\n")
 }
 
-fn push_refused(text: &mut String, it: &Refusals) -> Result<(), AllocError>
-    ensures { OnOk result (Adds text.old text.new (metrics.refused_of it.now)) }
-{
-    push_reason(text, "socketio_refused_total", it.reason.label(), it.count)
-}
-
+/// Adds a number of a reason.
 fn push_reason(text: &mut String, name: &str, reason: &str, count: u64) -> Result<(), AllocError>
     ensures { OnOk result (Adds text.old text.new (metrics.for_reason name.now reason.now count)) }
 {

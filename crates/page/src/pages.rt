@@ -79,9 +79,7 @@ impl Page {
         if length > MOST_BYTES - self.size {
             return Err(PageError::TooLarge);
         }
-        if self.files.push(file).is_err() {
-            return Err(PageError::Memory);
-        }
+        self.files.push(file).map_err(|_| PageError::Memory)?;
         self.size += length;
         Ok(())
     }

@@ -1,18 +1,9 @@
 -- Rooms that a broadcast names, and what was missed past a place of a log that lies in two pieces.
 use Rattle.std.proofs.Common.{◌≡◌, ℕ, zero, suc, ◌==◌, ◌-◌, Bool, false, List, [], ◌∷◌, ◌++◌, length, drop, take, min, map, filter, refl, sym, ap, ◌∙◌, arith}
-use Rattle.std.proofs.lemmas.Bool.Decides.{nat_tests}
 use Rattle.std.proofs.lemmas.List.Elements.{filter-append}
 use Rattle.std.proofs.lemmas.List.{map-append, length-drop}
 use Rattle.std.proofs.Math.Seq.{take-length}
-use Rattle.terms.specs.Audience.{names_no_room}
 use Rattle.recovery.specs.PacketLog.{PlainLogged}
-
-pub no_room : (rooms : List (List ℕ)) → (length rooms == 0) ≡ names_no_room rooms
-no_room [] = refl
-no_room (room ∷ rooms) = some (length rooms)
-  where
-    some : (n : ℕ) → (suc n == 0) ≡ false
-    some n = grind (arith, nat_tests)
 
 -- the offsets of those that pass
 abbrev pub offsets_of : (PlainLogged → Bool) → List PlainLogged → List ℕ

@@ -7,8 +7,5 @@ ghost use Rattle.recovery.specs.Expiry as expiry;
 pub(crate) fn is_outdated(at: u64, keep: u64, now: u64) -> bool
     ensures { result ≡ expiry.is_outdated keep now at }
 {
-    match at.checked_add(keep) {
-        Some(end) => end < now,
-        None => false,
-    }
+    at.checked_add(keep).is_some_and(|end| end < now)
 }

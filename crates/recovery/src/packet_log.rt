@@ -53,7 +53,7 @@ impl Logged {
         ensures { result ≡ is_for space rooms.now self.now }
     {
         self.space == space
-            && (names_no_room(&self.rooms) || meets(&self.rooms, rooms))
+            && (self.rooms.is_empty() || meets(&self.rooms, rooms))
             && !meets(&self.excepted, rooms)
     }
 
@@ -70,13 +70,6 @@ impl Logged {
             entry: Arc::try_clone(&self.entry)?,
         })
     }
-}
-
-/// Whether a broadcast to these rooms is for everybody.
-fn names_no_room(rooms: &[Room]) -> bool
-    ensures { result ≡ addressed.names_no_room rooms.now }
-{
-    rooms.is_empty()
 }
 
 /// Whether some room stands in both lists.
@@ -161,7 +154,9 @@ impl PacketLog {
     {
         let offset = self.next.ok_or(RecoveryError::Spent)?;
         let at = self.last.max(at);
-        self.place(Logged {
+        self.next = offset.checked_add(1);
+        self.last = at;
+        self.ring.push_back(Logged {
             offset,
             at,
             space,
@@ -170,20 +165,6 @@ impl PacketLog {
             entry,
         });
         Ok(offset)
-    }
-
-    /// Puts an entry with the next offset at the end.
-    fn place(&mut self, entry: Logged)
-        requires next { self.old.next ≡ Some entry.offset }
-        requires small { entry.offset < 2 ^ 64 }
-        requires late { self.old.last ≤ entry.at }
-        ensures entry { self.new ≡ with_entry self.old entry }
-        ensures leads { (first : ℕ) (history : List LogCall)
-            → IsLogOf first history self.old → IsLogOf first (Pushed entry ∷ history) self.new }
-    {
-        self.next = entry.offset.checked_add(1);
-        self.last = entry.at;
-        self.ring.push_back(entry);
     }
 
     /// Drops the entries that were logged more than `keep` milliseconds before `now`, and says
@@ -262,9 +243,7 @@ impl PacketLog {
             → IsLogOf first history self.now
             → offsets.items ≡ missed offset space rooms.now (pushed history)) }
     {
-        let Some((front, back)) = self.later(offset) else {
-            return Err(RecoveryError::OffsetGone);
-        };
+        let (front, back) = self.later(offset).ok_or(RecoveryError::OffsetGone)?;
         let mut offsets = Vec::new(alloc);
         add_offsets(front, space, rooms, &mut offsets)?;
         add_offsets(back, space, rooms, &mut offsets)?;

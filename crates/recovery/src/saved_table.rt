@@ -175,19 +175,6 @@ impl SavedTable {
         self.look_up(pid).is_some()
     }
 
-    /// Why a session with this private id can't be saved.
-    fn save_refusal(&self, pid: Pid) -> Option<RecoveryError>
-        ensures { result ≡ save_refusal self.now pid }
-    {
-        if self.has_pid(pid) {
-            Some(RecoveryError::PidTaken)
-        } else if self.len() >= self.limit {
-            Some(RecoveryError::TableFull)
-        } else {
-            None
-        }
-    }
-
     /// Saves a session. Refused in this order: its private id is taken; the table is full. Then
     /// it is dropped.
     pub fn save(&mut self, _alloc: Global, saved: Saved) -> Result<(), RecoveryError>
@@ -199,22 +186,13 @@ impl SavedTable {
             ≡ (if saved.pid == pid then Some saved else session self.old pid)) }
         ensures unchanged { OnErr result (self.new ≡ self.old) }
     {
-        if let Some(refusal) = self.save_refusal(saved.pid) {
-            return Err(refusal);
+        if self.has_pid(saved.pid) {
+            return Err(RecoveryError::PidTaken);
         }
-        Ok(self.add(saved)?)
-    }
-
-    /// Adds a session whose private id is free.
-    fn add(&mut self, saved: Saved) -> Result<(), AllocError>
-        requires free { session self.old saved.pid ≡ None }
-        ensures saved { OnOk result (self.new ≡ table.saved self.old saved) }
-        ensures map { OnOk result ((pid : ℕ) → session self.new pid
-            ≡ (if saved.pid == pid then Some saved else session self.old pid)) }
-        ensures unchanged { OnErr result (self.new ≡ self.old) }
-    {
-        self.indexes.put(saved)?;
-        Ok(())
+        if self.len() >= self.limit {
+            return Err(RecoveryError::TableFull);
+        }
+        Ok(self.indexes.put(saved)?)
     }
 
     /// The session with this private id. Refused in this order: there is none; it is outdated.
@@ -236,16 +214,7 @@ impl SavedTable {
         ensures removed { self.new ≡ table.removed self.old pid }
         ensures unchanged { OnErr result (self.new ≡ self.old) }
     {
-        self.take_out(pid).ok_or(RecoveryError::UnknownPid)
-    }
-
-    /// Takes a session out of the table.
-    fn take_out(&mut self, pid: Pid) -> Option<Saved>
-        ensures answer { result ≡ session self.old pid }
-        ensures removed { self.new ≡ table.removed self.old pid }
-        ensures unchanged { IfNone result (self.new ≡ self.old) }
-    {
-        self.indexes.take(pid)
+        self.indexes.take(pid).ok_or(RecoveryError::UnknownPid)
     }
 
     /// Drops the sessions that were lost more than `keep` milliseconds before `now`, and says how
@@ -255,16 +224,8 @@ impl SavedTable {
         ensures swept { self.new ≡ table_swept self.old keep now }
     {
         let before = self.len();
-        self.take_out_outdated(keep, now);
-        before - self.len()
-    }
-
-    /// Takes all outdated sessions out of the table.
-    fn take_out_outdated(&mut self, keep: u64, now: u64)
-        ensures swept { self.new ≡ table_swept self.old keep now }
-        ensures fewer { length self.new.sessions ≤ length self.old.sessions }
-    {
         self.indexes.take_outdated(keep, now);
+        before - self.len()
     }
 
     /// Copies of all sessions, their private ids rising.
@@ -330,9 +291,7 @@ impl Indexes {
             (btree_map_len self.new.by_pid < btree_map_len self.old.by_pid) }
         ensures mirrors { HaveSameSessions self.new }
     {
-        let Some(saved) = self.by_pid.remove(&pid) else {
-            return None;
-        };
+        let saved = self.by_pid.remove(&pid)?;
         self.by_loss.remove(&(saved.lost_at, pid));
         self.by_sid.remove(&(saved.sid, pid));
         Some(saved)

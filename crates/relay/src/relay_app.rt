@@ -220,8 +220,6 @@ fn word_in(texts: &[Option<Text>]) -> Word
 fn room_in(texts: &[Option<Text>], place: usize) -> Option<Room>
     ensures { result ≡ room_in place texts.now }
 {
-    match texts.get(place) {
-        Some(Some(name)) => Room::read(name.as_str()),
-        _ => None,
-    }
+    let name = texts.get(place)?.as_ref()?;
+    Room::read(name.as_str())
 }

@@ -1,6 +1,7 @@
 -- Tests that hold together, or one of which does.
 use Rattle.std.proofs.Common.{◌≡◌, Bool, true, false, ◌&&◌, ◌||◌, not, refl, sym, ap, ◌∙◌, true≢false}
-use Rattle.std.specs.Prelude.{Result, Ok, Err, OnErr}
+use Rattle.std.specs.Prelude.{cond, Option, None, Some, Result, Ok, Err, OnErr}
+use Rattle.room_maps.specs.declared.error.RoomError.{RoomError}
 
 pub or_right : (b c : Bool) → c ≡ true → (b || c) ≡ true
 or_right true c e = refl
@@ -53,3 +54,13 @@ added_again_bool false x h = refl
 pub on_err : {T E : Type 0} (P : Type 0) (r : Result T E) → P → OnErr r P
 on_err P (Ok x) h = tt
 on_err P (Err e) h = h
+
+-- where nothing is refused, neither the first test holds nor the second
+pub first_fails : (b : Bool) (e : RoomError) (rest : Option RoomError) → cond b (Some e) rest ≡ None → b ≡ false
+first_fails true e rest h = absurd (cc h)
+first_fails false e rest h = refl
+
+pub second_fails : (b c : Bool) (e f : RoomError) (rest : Option RoomError) → cond b (Some e) (cond c (Some f) rest) ≡ None → c ≡ false
+second_fails true c e f rest h = absurd (cc h)
+second_fails false true e f rest h = absurd (cc h)
+second_fails false false e f rest h = refl

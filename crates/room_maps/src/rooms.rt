@@ -6,7 +6,7 @@ ghost use Rattle.std.specs.FinSet as set;
 ghost use Rattle.std.specs.Ordering.{nat_cmp};
 ghost use Rattle.terms.specs.Refusal.{ok_unless};
 ghost use Rattle.terms.specs.Listing.{ListsRising};
-ghost use Rattle.terms.specs.Room.{room_cmp, same_room, own_room};
+ghost use Rattle.terms.specs.Room.{room_cmp};
 ghost use Rattle.room_maps.specs.Links.{is_linked, HasNoEmptySet, IsUnchanged, AddsLink};
 ghost use Rattle.room_maps.specs.Membership.{RoomSets, room_sets_code, HasFewRooms, pair_cmp, no_sockets, is_socket, is_in, rooms_in, is_full, with_pair, without_pair, with_pairs, with_socket, with_socket_in, without_socket, enter_refusal, enter_all_refusal, join_refusal, leave_refusal, unknown_refusal, AreConsistent};
 ghost use Rattle.room_maps.specs.Membership as membership;
@@ -68,10 +68,9 @@ impl Rooms {
     pub fn is_in(&self, sid: Sid, room: Room) -> bool
         ensures { result ≡ is_in self.now sid room }
     {
-        match self.by_socket.get(&sid) {
-            Some(rooms) => rooms.contains(&room),
-            None => false,
-        }
+        self.by_socket
+            .get(&sid)
+            .is_some_and(|rooms| rooms.contains(&room))
     }
 
     fn is_socket(&self, sid: Sid) -> bool
@@ -161,7 +160,14 @@ impl Rooms {
         if let Some(refusal) = self.enter_all_refusal(sid, rooms) {
             return Err(refusal);
         }
-        Ok(self.add_socket_in(alloc, sid, rooms)?)
+        self.kept_facts();
+        self.add_socket(alloc, sid)?;
+        // A socket that can't have all its rooms ends again, which takes no memory.
+        if self.add_rooms(alloc, sid, rooms).is_err() {
+            self.take_socket(sid);
+            return Err(RoomError::Memory);
+        }
+        Ok(())
     }
 
     /// The socket is in one room more. Refused as `UnknownSocket`, `AlreadyIn`, `TooManyRooms`,
@@ -189,7 +195,8 @@ impl Rooms {
         if let Some(refusal) = self.leave_refusal(sid, room) {
             return Err(refusal);
         }
-        self.take(sid, room);
+        links::unlink(&mut self.by_socket, &sid, &room);
+        links::unlink(&mut self.by_room, &room, &sid);
         Ok(())
     }
 
@@ -217,20 +224,11 @@ impl Rooms {
         // So `enter_all` takes them all again.
         ensures few { IfOk result (λ rooms. membership.are_too_many sid rooms.items ≡ false) }
     {
-        if !self.is_socket(sid) {
+        let Some(rooms) = self.by_socket.get(&sid) else {
             return Err(RoomError::UnknownSocket);
-        }
+        };
         self.kept_facts();
-        Ok(self.room_list(alloc, sid)?)
-    }
-
-    fn room_list(&self, alloc: Global, sid: Sid) -> Result<Vec<Room>, AllocError>
-        ensures { IfOk result (λ rooms. ListsRising room_cmp (is_in self.now sid) rooms.items) }
-    {
-        match self.by_socket.get(&sid) {
-            Some(rooms) => links::list(alloc, rooms),
-            None => Ok(Vec::new(alloc)),
-        }
+        Ok(links::list(alloc, rooms)?)
     }
 
     /// The sockets in a room, rising by their ids. Refused for `Memory` alone. It takes the
@@ -240,15 +238,8 @@ impl Rooms {
             (λ sids. ListsRising nat_cmp (λ sid. is_in self.now sid room) sids.items) }
         ensures memory_alone { IfErr result (λ e. e ≡ RoomError.Memory) }
     {
-        Ok(self.member_list(alloc, room)?)
-    }
-
-    fn member_list(&self, alloc: Global, room: Room) -> Result<Vec<Sid>, AllocError>
-        ensures { IfOk result
-            (λ sids. ListsRising nat_cmp (λ sid. is_in self.now sid room) sids.items) }
-    {
         match self.by_room.get(&room) {
-            Some(members) => links::list(alloc, members),
+            Some(members) => Ok(links::list(alloc, members)?),
             None => Ok(Vec::new(alloc)),
         }
     }
@@ -267,22 +258,10 @@ impl Rooms {
             (is_addressed self.now rooms.now excepted.now) sids.items) }
         ensures memory_alone { IfErr result (λ e. e ≡ RoomError.Memory) }
     {
-        Ok(self.addressed_list(alloc, rooms, excepted)?)
-    }
-
-    fn addressed_list(
-        &self,
-        alloc: Global,
-        rooms: &[Room],
-        excepted: &[Room],
-    ) -> Result<Vec<Sid>, AllocError>
-        ensures { IfOk result (λ sids. ListsRising nat_cmp
-            (is_addressed self.now rooms.now excepted.now) sids.items) }
-    {
         if rooms.is_empty() {
-            lookup::sockets_but(alloc, &self.by_socket, excepted)
+            Ok(lookup::sockets_but(alloc, &self.by_socket, excepted)?)
         } else {
-            lookup::members_but(alloc, &self.by_socket, &self.by_room, rooms, excepted)
+            Ok(lookup::members_but(alloc, &self.by_socket, &self.by_room, rooms, excepted)?)
         }
     }
 
@@ -293,14 +272,7 @@ impl Rooms {
             (λ pairs. ListsRising pair_cmp (λ pair. is_in self.now pair.0 pair.1) pairs.items) }
         ensures memory_alone { IfErr result (λ e. e ≡ RoomError.Memory) }
     {
-        Ok(self.pair_list(alloc)?)
-    }
-
-    fn pair_list(&self, alloc: Global) -> Result<Vec<(Sid, Room)>, AllocError>
-        ensures { IfOk result
-            (λ pairs. ListsRising pair_cmp (λ pair. is_in self.now pair.0 pair.1) pairs.items) }
-    {
-        lookup::all_pairs(alloc, &self.by_socket)
+        Ok(lookup::all_pairs(alloc, &self.by_socket)?)
     }
 
     /// What every `Rooms` keeps. It has no effect.
@@ -339,14 +311,6 @@ impl Rooms {
         Ok(())
     }
 
-    fn take(&mut self, sid: Sid, room: Room)
-        requires { same_room (own_room sid) room ≡ false }
-        ensures { self.new ≡ without_pair self.old sid room }
-    {
-        links::unlink(&mut self.by_socket, &sid, &room);
-        links::unlink(&mut self.by_room, &room, &sid);
-    }
-
     fn take_socket(&mut self, sid: Sid)
         ensures { self.new ≡ without_socket self.old sid }
     {
@@ -379,24 +343,6 @@ impl Rooms {
             self.add_missing(alloc, sid, *room)?;
         }
         Ok(())
-    }
-
-    /// A socket that can't have all its rooms ends again, which takes no memory.
-    fn add_socket_in(&mut self, alloc: Global, sid: Sid, rooms: &[Room]) -> Result<(), AllocError>
-        requires unknown { is_socket self.old sid ≡ false }
-        requires few { membership.are_too_many sid rooms.now ≡ false }
-        ensures ok { OnOk result (self.new ≡ with_socket_in self.old sid rooms.now) }
-        ensures err { OnErr result (self.new ≡ self.old) }
-    {
-        self.kept_facts();
-        self.add_socket(alloc, sid)?;
-        match self.add_rooms(alloc, sid, rooms) {
-            Ok(()) => Ok(()),
-            Err(AllocError) => {
-                self.take_socket(sid);
-                Err(AllocError)
-            }
-        }
     }
 }
 

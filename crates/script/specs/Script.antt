@@ -5,29 +5,29 @@ use Rattle.std.specs.Borrow.{Bor}
 use Rattle.std.specs.declared.sync.ledger.Ledger.{Ghosts}
 use Rattle.std.specs.Io.KnownBytes.{Appends, Consumes}
 use Rattle.journal.specs.Config.{config_refusal}
+use Rattle.journal.specs.Plain.{Limits}
 use Rattle.events.specs.declared.fault.CoreFault.{CoreFault}
 use Rattle.events.specs.declared.fault.CoreFault.TheVariants.{BadConfig}
 use Rattle.events.specs.App.{Policy}
 use Rattle.script.specs.declared.script_line.Key.{Key}
 use Rattle.script.specs.declared.script_line.ScriptLine.{ScriptLine}
 use Rattle.script.specs.declared.script_line.ScriptLine.TheVariants as line
-use Rattle.script.specs.declared.setup.Setup.{Setup}
 use Rattle.script.specs.declared.run.Run.{Run}
 use Rattle.script.specs.declared.run.Run.TheVariants as run
 use Rattle.script.specs.Printing.{fault_name}
 use Rattle.script.specs.ScriptLine.{IsReadAs}
-use Rattle.script.specs.Setup.{USUAL, with_limit, limits_of, new_core}
+use Rattle.script.specs.Setup.{USUAL, with_limit, new_core}
 use Rattle.script.specs.Playing.{Server, new_server, server_of, Plays}
 
 -- how far a script has come: limits may be set, or the server is there, or there is none and nothing is answered any more
 pub data Stage : Type 0 where
-  Setting : Setup → Stage
+  Setting : Limits → Stage
   Playing : Server → Stage
   Over : Stage
 
 -- the stage of a run
 abbrev pub stage_of : {C T : Type 0} {of_c : Ghosts C} {of_t : Ghosts T} → Run C T of_c of_t → Stage
-stage_of (run.Setting setup ledgers) = Setting setup
+stage_of (run.Setting limits ledgers) = Setting limits
 stage_of (run.Playing play) = Playing (server_of play)
 stage_of run.Over = Over
 
@@ -35,14 +35,14 @@ stage_of run.Over = Over
 
 -- a limit is set, as long as there is no server
 abbrev pub Sets : Key → ℕ → Stage → (said : Option (List ℕ)) → Stage → Type 0
-Sets key number (Setting setup) said t = (said ≡ None) × (t ≡ Setting (with_limit key number setup))
+Sets key number (Setting limits) said t = (said ≡ None) × (t ≡ Setting (with_limit key number limits))
 Sets key number (Playing server) said t = (said ≡ Some (codes "bad line")) × (t ≡ Playing server)
 Sets key number Over said t = (said ≡ None) × (t ≡ Over)
 
 -- the first line that isn't about the limits makes the server, unless they allow none
 abbrev pub Begins : Stage → Option CoreFault → Stage → Type 0
-Begins (Setting setup) None t = (config_refusal (limits_of setup) ≡ None) × (t ≡ Playing (new_server (new_core setup)))
-Begins (Setting setup) (Some fault) t = (config_refusal (limits_of setup) ≢ None) × (fault ≡ BadConfig) × (t ≡ Over)
+Begins (Setting limits) None t = (config_refusal limits ≡ None) × (t ≡ Playing (new_server (new_core limits)))
+Begins (Setting limits) (Some fault) t = (config_refusal limits ≢ None) × (fault ≡ BadConfig) × (t ≡ Over)
 Begins (Playing server) fault t = (fault ≡ None) × (t ≡ Playing server)
 Begins Over fault t = (fault ≡ None) × (t ≡ Over)
 

@@ -10,8 +10,11 @@ use crate::faults::RunError;
 use crate::play::Play;
 use crate::printing::Answer;
 use crate::script_line::{Key, ScriptLine, read_line};
-use crate::setup::{Ledgers, Setup};
+use crate::setup::{Ledgers, set_limit, usual_limits};
+use dispatch::Core;
 use events::{App, CoreFault};
+use journal::Config;
+use settings::{NUMBERS, TIMING};
 use std::alloc::Global;
 use std::io;
 use std::io::{BufWriter, ErrorKind, Read, Write};
@@ -83,7 +86,7 @@ fn serve<C: Ledger, T: Ledger, A: App, R: Read, W: Write>(
         taken,
         of: PhantomData,
     };
-    let mut run: Run<C, T> = Run::Setting(Setup::usual(), ledgers);
+    let mut run: Run<C, T> = Run::Setting(usual_limits(alloc)?, ledgers);
     let mut line = Vec::new(alloc);
     let mut buffer = [0u8; READ_SIZE];
     for _ in 0..u64::MAX {
@@ -203,7 +206,7 @@ fn print_any<W: Write>(writer: &mut W, answer: Option<Answer<'_>>) -> Result<(),
 #[derive(Drop)]
 enum Run<C: Ledger, T: Ledger> {
     /// Limits may be set.
-    Setting(Setup, Ledgers<C, T>),
+    Setting(Config, Ledgers<C, T>),
     /// The server is there.
     Playing(Play<C, T>),
     /// There is no server, and nothing is answered any more.
@@ -238,8 +241,8 @@ impl<C: Ledger, T: Ledger> Run<C, T> {
             (stage_of self.old) (option_map answer_text result) (stage_of self.new) }
     {
         match self {
-            Run::Setting(setup, _) => {
-                setup.set(key, number);
+            Run::Setting(limits, _) => {
+                set_limit(limits, key, number);
                 None
             }
             Run::Playing(_) => Some(Answer::BadLine),
@@ -254,9 +257,9 @@ impl<C: Ledger, T: Ledger> Run<C, T> {
         ensures err { IsOkUnless result Memory }
     {
         match replace(self, Run::Over) {
-            Run::Setting(setup, ledgers) => {
-                let alloc = ledgers.alloc;
-                match setup.server(ledgers) {
+            Run::Setting(limits, ledgers) => {
+                let (alloc, commands, taken) = (ledgers.alloc, ledgers.commands, ledgers.taken);
+                match Core::new(alloc, limits, TIMING, NUMBERS, commands, taken) {
                     Ok((core, pass)) => *self = Run::Playing(Play::new(alloc, core, pass)),
                     Err(error) if error.fault == CoreFault::Memory => return Err(RunError::Memory),
                     Err(error) => return Ok(Some(error.fault)),

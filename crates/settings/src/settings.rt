@@ -35,7 +35,7 @@ pub const NUMBERS: Numbers = Numbers {
 };
 
 /// The namespaces.
-pub fn usual_spaces(alloc: Global) -> Result<Vec<Text>, AllocError>
+fn usual_spaces(alloc: Global) -> Result<Vec<Text>, AllocError>
     ensures { IfOk result (λ spaces. spaces.items ≡ usual.spaces) }
 {
     let mut spaces = Vec::new(alloc);
@@ -45,10 +45,9 @@ pub fn usual_spaces(alloc: Global) -> Result<Vec<Text>, AllocError>
 }
 
 /// The limits of the hub, with the namespaces.
-fn usual_hub(alloc: Global) -> Result<Config, AllocError>
+pub fn usual_hub(alloc: Global) -> Result<Config, AllocError>
     ensures { IfOk result (λ hub. hub ≡ usual.hub) }
 {
-    let spaces = usual_spaces(alloc)?;
     Ok(Config {
         clients: 10_000,
         capacity: 64,
@@ -57,7 +56,7 @@ fn usual_hub(alloc: Global) -> Result<Config, AllocError>
         saved: 4_096,
         keep: 120_000,
         first_offset: 1,
-        spaces,
+        spaces: usual_spaces(alloc)?,
     })
 }
 
@@ -139,14 +138,12 @@ impl Settings {
         ensures usual { IfOk result (λ s. (s.hub ≡ usual.hub) × (s.timing ≡ usual.timing)
             × (s.max_payload ≡ 1000000)) }
     {
-        let host = String::from_str(alloc, "127.0.0.1")?;
-        let hub = usual_hub(alloc)?;
         Ok(Settings {
-            host,
+            host: String::from_str(alloc, "127.0.0.1")?,
             port,
             workers,
             connections: None,
-            hub,
+            hub: usual_hub(alloc)?,
             timing: TIMING,
             max_payload: MOST_BYTES,
             together: 16,

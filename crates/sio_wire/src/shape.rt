@@ -40,17 +40,11 @@ fn read_tree(alloc: Global, text: &str) -> Result<Option<Value>, SioError>
     if text.is_empty() {
         return Ok(None);
     }
-    if has_separator(text.as_bytes()) {
+    // U+001E separates packets in a polling payload.
+    if text.as_bytes().contains(&0x1e) {
         return Err(SioError::BadJson);
     }
     Ok(Some(parse(alloc, text)?))
-}
-
-/// Whether U+001E, which separates packets in a polling payload, is in the text.
-fn has_separator(bytes: &[u8]) -> bool
-    ensures { IsTrue result ↔ Contains bytes.now 30 }
-{
-    bytes.contains(&0x1e)
 }
 
 /// Whether the packet type allows this payload with this acknowledgement id.

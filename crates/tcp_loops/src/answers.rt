@@ -74,7 +74,7 @@ impl<R: Wait + Clock + Copy + Drop, L: Log> EventLoop<'_, R, L> {
         self.pause(key, Pause::Done);
         if let Some(mut stream) = self.connections.take_stream(key) {
             // The loop hears no more of it.
-            let _ = self.poll.registry().deregister(stream.get_mut());
+            let _ = self.ears.poll.registry().deregister(stream.get_mut());
             let handed = Handed {
                 stream,
                 request,
@@ -95,7 +95,7 @@ impl<R: Wait + Clock + Copy + Drop, L: Log> EventLoop<'_, R, L> {
             return;
         };
         let (alloc, watch) = (self.base.alloc, self.base.watch);
-        connection.serve(alloc, request, target, watch, &self.base.rules, now);
+        connection.serve(alloc, request, target, watch, self.base.rules, now);
         connection.not_before = self.delays.delay(target, connection.token, now);
         self.connections.note_unsent(key);
     }

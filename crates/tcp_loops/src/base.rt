@@ -4,39 +4,26 @@ use events::Cause;
 use loop_rules::Notes;
 use metrics::Reason;
 use peers::Moments;
-use std::alloc::{AllocError, Global};
-use std::io;
+use std::alloc::Global;
 use std::rt::Clock;
 use std::sync::{Arc, Wait};
 use std::time::Instant;
+use std::{io, mem};
 use tcp_connections::Watch;
 use tcp_streams::{Ended, Handed, Inbox, Log, Rules, Shared};
 
 /// What a worker goes by: through it a loop, or the keeper, speaks to the others.
+#[derive(Drop)]
 pub struct Base<'a, R, L> {
     pub rt: R,
     pub alloc: Global,
     pub log: &'a L,
     /// Which worker it is.
     pub number: usize,
-    pub shared: Arc<Shared>,
-    pub rules: Arc<Rules>,
+    pub shared: &'a Arc<Shared>,
+    pub rules: &'a Rules,
     pub watch: Watch<R>,
-}
-
-/// Written out, so that a crate above takes the drop of all that lies in it by this one call.
-impl<R: Drop, L> Drop for Base<'_, R, L> {
-    fn drop(self) {
-        let Self {
-            rt: _,
-            alloc: _,
-            log: _,
-            number: _,
-            shared: _,
-            rules: _,
-            watch: _,
-        } = self;
-    }
+    begun: bool,
 }
 
 impl<'a, R: Clock + Copy, L> Base<'a, R, L> {
@@ -45,8 +32,8 @@ impl<'a, R: Clock + Copy, L> Base<'a, R, L> {
         rt: &R,
         alloc: Global,
         log: &'a L,
-        shared: Arc<Shared>,
-        rules: Arc<Rules>,
+        shared: &'a Arc<Shared>,
+        rules: &'a Rules,
     ) -> io::Result<Base<'a, R, L>> {
         let watch = Watch::new(*rt, Instant::now(rt)?);
         Ok(Base {
@@ -57,20 +44,13 @@ impl<'a, R: Clock + Copy, L> Base<'a, R, L> {
             shared,
             rules,
             watch,
+            begun: false,
         })
     }
 
     /// What the worker of this number goes by.
-    pub fn of_worker(&self, number: usize) -> Result<Base<'a, R, L>, AllocError> {
-        Ok(Base {
-            rt: self.rt,
-            alloc: self.alloc,
-            log: self.log,
-            number,
-            shared: Arc::try_clone(&self.shared)?,
-            rules: Arc::try_clone(&self.rules)?,
-            watch: self.watch,
-        })
+    pub fn of_worker(&self, number: usize) -> Base<'a, R, L> {
+        Base { number, ..*self }
     }
 
     /// The moment now.
@@ -80,6 +60,13 @@ impl<'a, R: Clock + Copy, L> Base<'a, R, L> {
 }
 
 impl<R: Wait + Clock, L: Log> Base<'_, R, L> {
+    /// The worker is asked for its next event. At the first time it has begun.
+    pub fn begin(&mut self) {
+        if !mem::replace(&mut self.begun, true) {
+            self.shared.note_begun(&self.rt);
+        }
+    }
+
     /// A connection was closed.
     pub fn note_closed(&self) {
         self.shared.note_closed(&self.rt);

@@ -56,10 +56,10 @@ pub fn workers_for<'a, R: Wait + Clock + Copy + Drop, L: Log, K: KeptCore>(
 ) -> Result<Vec<Worker<'a, R, L, K>>, AllocError> {
     let mut workers = Vec::new(base.alloc);
     for own in ears {
-        let own = EventLoop::new(base.of_worker(workers.len())?, own)?;
+        let own = EventLoop::new(base.of_worker(workers.len()), own)?;
         workers.push(Worker::Serves(own))?;
     }
-    let keeper = Keeper::new(base.of_worker(workers.len())?, core)?;
+    let keeper = Keeper::new(base.of_worker(workers.len()), core)?;
     workers.push(Worker::Keeps(keeper))?;
     Ok(workers)
 }
@@ -84,7 +84,7 @@ pub fn start_accepting<R: Threads + Wait + Clock + Copy + Drop + Send + 'static,
     base: &Base<'_, R, L>,
     mut acceptor: Box<Acceptor>,
 ) -> Result<JoinHandle<()>, ServerFault> {
-    let shared = Arc::try_clone(&base.shared)?;
+    let shared = Arc::try_clone(base.shared)?;
     let handle = base.rt;
     let accepting = thread::spawn(&base.rt, move || acceptor.accept_all(&handle, &shared));
     accepting.map_err(|_| ServerFault::Starting)

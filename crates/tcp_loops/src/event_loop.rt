@@ -1,11 +1,9 @@
 //! A loop that serves many connections: one peer, which brings the events of all of their clients.
 
 use crate::base::Base;
-use crossbeam_channel::Receiver;
 use events::{Answered, Event, Peer, PeerFault};
 use loop_rules::{Mail, Notes, Pause, Turn};
-use mio::net::TcpStream;
-use mio::{Events, Interest, Poll};
+use mio::{Events, Interest};
 use std::alloc::{AllocError, Global};
 use std::mem;
 use std::rt::Clock;
@@ -46,9 +44,7 @@ pub(crate) struct Current {
 #[derive(Drop)]
 pub struct EventLoop<'a, R, L> {
     pub(crate) base: Base<'a, R, L>,
-    pub(crate) poll: Poll,
-    /// The new connections.
-    streams: Receiver<TcpStream>,
+    pub(crate) ears: Ears,
     events: Events<Global>,
     pub(crate) connections: Connections<R>,
     mail: Mail<Handed>,
@@ -58,15 +54,11 @@ pub struct EventLoop<'a, R, L> {
     pub(crate) current: Current,
     /// The moment of the next beat.
     beat: u64,
-    begun: bool,
 }
 
 impl<R: Wait + Clock + Copy + Drop, L: Log> Peer for EventLoop<'_, R, L> {
     fn next(&mut self) -> Result<Option<(Event, u64)>, PeerFault> {
-        if !mem::replace(&mut self.begun, true) {
-            let base = &self.base;
-            base.shared.note_begun(&base.rt);
-        }
+        self.base.begin();
         for _ in 0..u64::MAX {
             if let Some(brought) = self.current.key.and_then(|key| self.step(key)) {
                 return Ok(Some(brought));
@@ -95,13 +87,11 @@ impl<R: Wait + Clock + Copy + Drop, L: Log> Peer for EventLoop<'_, R, L> {
 impl<'a, R: Wait + Clock + Copy + Drop, L: Log> EventLoop<'a, R, L> {
     /// A loop without connections.
     pub fn new(base: Base<'a, R, L>, ears: Ears) -> Result<EventLoop<'a, R, L>, AllocError> {
-        let Ears { poll, streams } = ears;
         let alloc = base.alloc;
         Ok(EventLoop {
             notes: Notes::new(alloc, base.rules.loops)?,
             base,
-            poll,
-            streams,
+            ears,
             events: Events::with_capacity(alloc, EVENTS)?,
             connections: Connections::new(alloc),
             mail: Mail::new(alloc),
@@ -113,7 +103,6 @@ impl<'a, R: Wait + Clock + Copy + Drop, L: Log> EventLoop<'a, R, L> {
                 left: 0,
             },
             beat: 0,
-            begun: false,
         })
     }
 
@@ -138,7 +127,8 @@ impl<'a, R: Wait + Clock + Copy + Drop, L: Log> EventLoop<'a, R, L> {
         }
         self.current.left = TURNS;
         let timeout = Duration::from_millis(self.time_to_sleep());
-        if self.poll.poll(&mut self.events, Some(timeout)).is_err() {
+        let waited = self.ears.poll.poll(&mut self.events, Some(timeout));
+        if waited.is_err() {
             return false;
         }
         for event in self.events.iter() {
@@ -212,7 +202,7 @@ impl<'a, R: Wait + Clock + Copy + Drop, L: Log> EventLoop<'a, R, L> {
     /// Adds the new connections.
     fn add_streams(&mut self) {
         for _ in 0..STREAMS {
-            let Ok(stream) = self.streams.try_recv(&self.base.rt) else {
+            let Ok(stream) = self.ears.streams.try_recv(&self.base.rt) else {
                 return;
             };
             let base = &self.base;
@@ -246,7 +236,7 @@ impl<'a, R: Wait + Clock + Copy + Drop, L: Log> EventLoop<'a, R, L> {
         let now = self.base.now();
         let token = self.connections.next_token();
         let interests = Interest::READABLE | Interest::WRITABLE;
-        let registry = self.poll.registry();
+        let registry = self.ears.poll.registry();
         registry.register(stream.get_mut(), token, interests).ok()?;
         self.connections.add(self.base.alloc, stream, token, now)
     }

@@ -44,7 +44,6 @@ pub struct Keeper<'a, R, L, K> {
     notes: Notes,
     /// The moment at which the totals are told next.
     report: u64,
-    begun: bool,
 }
 
 impl<'a, R: Wait + Clock + Copy, L: Log, K: KeptCore> Keeper<'a, R, L, K> {
@@ -58,7 +57,6 @@ impl<'a, R: Wait + Clock + Copy, L: Log, K: KeptCore> Keeper<'a, R, L, K> {
             client: 0,
             sweeps: false,
             report: 0,
-            begun: false,
         })
     }
 
@@ -140,10 +138,7 @@ impl<'a, R: Wait + Clock + Copy, L: Log, K: KeptCore> Keeper<'a, R, L, K> {
 
 impl<R: Wait + Clock + Copy, L: Log, K: KeptCore> Peer for Keeper<'_, R, L, K> {
     fn next(&mut self) -> Result<Option<(Event, u64)>, PeerFault> {
-        if !mem::replace(&mut self.begun, true) {
-            let base = &self.base;
-            base.shared.note_begun(&base.rt);
-        }
+        self.base.begin();
         for _ in 0..u64::MAX {
             if let Some(client) = self.clients.next() {
                 self.client = client;

@@ -1,8 +1,12 @@
-//! A server over TCP: a pool of threads serves its loops and who keeps time, over one locked core.
+//! A server over TCP: a pool of threads serves its loops and who keeps time, over one locked core. And
+//! any app as a program: a `main` reads the arguments, and starts the thread that waits for the end of
+//! standard input.
 #![tactic(auto)]
 
+mod program;
 mod server;
 mod watched_core;
 
+pub use program::{ErrorLog, end_with, listen, processors, serve, wait_for_end};
 pub use server::Server;
 pub use tcp_streams::{Ended, Log, ServerFault, Shared};

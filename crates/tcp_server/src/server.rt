@@ -7,7 +7,7 @@ ghost use Rattle.tcp_streams.specs.declared.fault.ServerFault.TheVariants.{BadSe
 
 use crate::watched_core::WatchedCore;
 use dispatch::Core;
-use events::{App, CoreError, CoreFault, IdSource, Peer};
+use events::{App, CoreFault, IdSource, Peer};
 use hub_gate::{Locked, Open, Pool, Report, ServeError, serve_peers};
 use hub_totals::Pass;
 use journal::Config;
@@ -113,7 +113,7 @@ impl<L: Log + Sync + Drop> Server<L> {
             rules,
             hub,
         } = self;
-        let base = Base::new(rt, alloc, &log, shared, rules)?;
+        let base = Base::new(rt, alloc, &log, &shared, &*rules)?;
         let (commands, taken) = (Blank::new(PARTS), Blank::new(PARTS));
         run_in::<Brand, Brand, R, L, A>(&base, app, acceptor, ears, hub, commands, taken)
     }
@@ -144,11 +144,7 @@ fn run_in<
         r.totals.taken ≡ sum_by (λ w. w.taken) r.workers.items) }
 {
     let (locked, mut pass, looks) = lock_core::<C, T>(
-        base.alloc,
-        hub,
-        &base.rules,
-        commands,
-        taken,
+        base.alloc, hub, base.rules, commands, taken,
     )?;
     let core = WatchedCore {
         locked: &*locked,
@@ -216,16 +212,11 @@ fn lock_core<C: Ledger, T: Ledger>(
     let made = Core::new(alloc, hub, rules.timing, rules.numbers, commands, taken);
     let (mut core, pass) = match made {
         Ok(made) => made,
-        Err(error) => return Err(refused(error)),
+        Err(error) if error.fault == CoreFault::Memory => {
+            return Err(ServerFault::Memory(AllocError));
+        }
+        Err(_) => return Err(ServerFault::BadSetting(Setting::Limits)),
     };
     let looks = core.new_pass().map_err(|_| ServerFault::Starting)?;
     Ok((Box::new(alloc, Locked::new(core))?, pass, looks))
-}
-
-/// Why there is no core.
-fn refused(error: CoreError) -> ServerFault {
-    match error.fault {
-        CoreFault::Memory => ServerFault::Memory(AllocError),
-        _ => ServerFault::BadSetting(Setting::Limits),
-    }
 }

@@ -1,6 +1,6 @@
 //! Bytes that contracts see as a list.
 
-ghost use Rattle.std.specs.Prelude.{◌≡◌, IfOk};
+ghost use Rattle.std.specs.Prelude.{◌≡◌, ℕ, List, IfOk};
 ghost use Rattle.terms.specs.Bytes.{IsBytes};
 
 use std::alloc::{AllocError, Global};
@@ -14,9 +14,6 @@ pub struct Bytes {
 }
 
 impl Model for Bytes {
-    ghost use Rattle.std.specs.Prelude.{List, ℕ};
-    ghost use Rattle.terms.specs.Bytes.{IsBytes};
-
     ghost Value = { List ℕ };
 
     ghost view = { λ b. b.items.items };
@@ -29,9 +26,8 @@ impl Bytes {
     pub fn copy_of(alloc: Global, items: &[u8]) -> Result<Bytes, AllocError>
         ensures { IfOk result (λ copy. copy ≡ items.now) }
     {
-        Ok(Bytes {
-            items: Vec::from_slice(alloc, items)?,
-        })
+        let items = Vec::from_slice(alloc, items)?;
+        Ok(Bytes { items })
     }
 
     /// The bytes of a `Vec`, which takes no memory.
@@ -62,8 +58,7 @@ impl Clone for Bytes {
     ghost is_clone = { λ source copy. copy ≡ source };
 
     fn clone(&self) -> Result<Bytes, AllocError> {
-        Ok(Bytes {
-            items: self.items.clone()?,
-        })
+        let items = self.items.clone()?;
+        Ok(Bytes { items })
     }
 }

@@ -1,6 +1,6 @@
 //! Attachments, and packets that wait to be sent.
 
-ghost use Rattle.std.specs.Prelude.{◌≡◌, [], ◌∷◌, ◌++◌, length, IsTrue, ◌↔◌, OnOk, OnErr};
+ghost use Rattle.std.specs.Prelude.{◌≡◌, ℕ, List, [], ◌∷◌, ◌++◌, length, IsTrue, ◌↔◌, OnOk, OnErr};
 
 use crate::bytes::Bytes;
 use crate::text::Text;
@@ -15,8 +15,6 @@ pub struct Attachments {
 }
 
 impl Model for Attachments {
-    ghost use Rattle.std.specs.Prelude.{List, ℕ};
-
     ghost Value = { List (List ℕ) };
 
     ghost view = { λ a. a.parts.items };
@@ -27,9 +25,8 @@ impl Attachments {
     pub fn new(alloc: Global) -> Attachments
         ensures { result ≡ [] }
     {
-        Attachments {
-            parts: Vec::new(alloc),
-        }
+        let parts = Vec::new(alloc);
+        Attachments { parts }
     }
 
     /// The attachments of a `Vec`, which takes no memory.
@@ -82,9 +79,8 @@ impl Clone for Attachments {
     ghost is_clone = { λ source copy. copy ≡ source };
 
     fn clone(&self) -> Result<Attachments, AllocError> {
-        Ok(Attachments {
-            parts: self.parts.clone()?,
-        })
+        let parts = self.parts.clone()?;
+        Ok(Attachments { parts })
     }
 }
 

@@ -1,8 +1,10 @@
-//! Numbers as lower-case hexadecimal digits of a fixed width.
+//! Numbers as lower-case hexadecimal digits of a fixed width, and session ids as 32 of them.
 
 ghost use Rattle.std.specs.Prelude.{◌≡◌, ◌≢◌, ◌<◌, ◌≤◌, ◌^◌, ℕ, IfSome, IfNone, length};
+ghost use Rattle.std.specs.Str.{IsAscii};
 ghost use Rattle.terms.specs.Hexadecimal.{hex_digits};
 ghost use Rattle.terms.specs.Hexadecimal as hexadecimal;
+ghost use Rattle.terms.specs.Ids.{id_digits};
 
 /// Writes the number's last digits over the text, one for each of its places.
 pub fn write_digits(number: u128, text: &mut [u8])
@@ -58,3 +60,31 @@ pub fn digits_differ()
     ensures { (width m n : ℕ)
         → m < 16 ^ width → n < 16 ^ width → hex_digits width m ≡ hex_digits width n → m ≡ n }
 {}
+
+/// The digits of an id, which are ASCII.
+pub fn id_text(id: u128) -> [u8; 32]
+    ensures digits { result ≡ id_digits id }
+    ensures ascii { IsAscii result }
+{
+    let mut text = [0; 32];
+    write_digits(id, &mut text);
+    text
+}
+
+/// The id that has these digits. Upper-case letters are no digits of an id.
+pub fn read_id(text: &str) -> Option<u128>
+    ensures some { IfSome result (λ id. text.now ≡ id_digits id) }
+    ensures none { IfNone result ((id : ℕ) → text.now ≢ id_digits id) }
+{
+    if text.len() != 32 {
+        return None;
+    }
+    read_digits(text.as_bytes())
+}
+
+/// Two ids have different digits. It has no effect.
+pub fn ids_differ()
+    ensures { (m n : ℕ) → m < 2 ^ 128 → n < 2 ^ 128 → id_digits m ≡ id_digits n → m ≡ n }
+{
+    digits_differ();
+}

@@ -1,13 +1,13 @@
 //! The names of rooms (Socket.IO server documentation, "Rooms").
 
-ghost use Rattle.std.specs.Prelude.{◌≡◌, ◌≤◌, ◌↔◌, length, IfSome, IsSome};
+ghost use Rattle.std.specs.Prelude.{◌≡◌, ◌≤◌, ◌↔◌, ℕ, List, length, take, IfSome, IsSome};
 ghost use Rattle.std.specs.Str.{IsUtf8};
 ghost use Rattle.std.specs.Ordering.{as_partial_cmp};
 ghost use Rattle.std.specs.Cmp.Rules.{comparing};
 ghost use Rattle.std.proofs.Common.{rules};
-ghost use Rattle.terms.specs.Room.{room_cmp, same_room, padded, own_room};
+ghost use Rattle.terms.specs.Room.{room_cmp, same_room, padded, own_room, HoldsName};
 
-use crate::hexadecimal::write_digits;
+use crate::hexadecimal::id_text;
 use crate::sid::Sid;
 use std::cmp::Ordering;
 use std::marker::Model;
@@ -24,9 +24,6 @@ pub struct Room {
 }
 
 impl Model for Room {
-    ghost use Rattle.std.specs.Prelude.{List, ℕ, length, take};
-    ghost use Rattle.terms.specs.Room.{padded, HoldsName};
-
     ghost Value = { List ℕ };
 
     ghost view = { λ r. take r.len r.bytes };
@@ -58,22 +55,16 @@ impl Room {
         if source.len() > MOST_BYTES {
             return None;
         }
-        Some(Room {
-            bytes: fill(source),
-            len: source.len() as u8,
-        })
+        let (bytes, len) = (fill(source), source.len() as u8);
+        Some(Room { bytes, len })
     }
 
     /// The room that a socket is in by itself: its id as 32 lower-case hexadecimal digits.
     pub fn own(sid: Sid) -> Room
         ensures { result ≡ own_room sid }
     {
-        let mut digits = [0u8; 32];
-        write_digits(sid.number(), &mut digits);
-        Room {
-            bytes: fill(&digits),
-            len: 32,
-        }
+        let bytes = fill(&id_text(sid.number()));
+        Room { bytes, len: 32 }
     }
 
     /// The bytes of the name, a text in UTF-8.

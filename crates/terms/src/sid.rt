@@ -1,6 +1,6 @@
 //! The ids of sockets.
 
-ghost use Rattle.std.specs.Prelude.{◌≡◌};
+ghost use Rattle.std.specs.Prelude.{◌≡◌, ℕ};
 
 use std::marker::Model;
 
@@ -9,8 +9,6 @@ use std::marker::Model;
 pub struct Sid(u128);
 
 impl Model for Sid {
-    ghost use Rattle.std.specs.Prelude.{ℕ};
-
     ghost Value = { ℕ };
 
     ghost view = { λ s. s.0 };

@@ -1,9 +1,11 @@
 //! A text that contracts see as its bytes.
 
-ghost use Rattle.std.specs.Prelude.{◌≡◌, IfOk, string_bytes};
+ghost use Rattle.std.specs.Prelude.{◌≡◌, ℕ, List, IfOk, string_bytes};
+ghost use Rattle.std.specs.Str.{IsAscii};
 
 use std::alloc::{AllocError, Global};
 use std::marker::Model;
+use std::str;
 
 /// A text. In a contract it is the list of its UTF-8 bytes, so that two texts are equal where
 /// their contents are.
@@ -13,8 +15,6 @@ pub struct Text {
 }
 
 impl Model for Text {
-    ghost use Rattle.std.specs.Prelude.{List, ℕ, string_bytes};
-
     ghost Value = { List ℕ };
 
     ghost view = { λ t. string_bytes t.text };
@@ -25,9 +25,8 @@ impl Text {
     pub fn copy_of(alloc: Global, text: &str) -> Result<Text, AllocError>
         ensures { IfOk result (λ copy. copy ≡ text.now) }
     {
-        Ok(Text {
-            text: String::from_str(alloc, text)?,
-        })
+        let text = String::from_str(alloc, text)?;
+        Ok(Text { text })
     }
 
     /// The text of a `String`, which takes no memory.
@@ -57,8 +56,18 @@ impl Clone for Text {
     ghost is_clone = { λ source copy. copy ≡ source };
 
     fn clone(&self) -> Result<Text, AllocError> {
-        Ok(Text {
-            text: self.text.clone()?,
-        })
+        let text = self.text.clone()?;
+        Ok(Text { text })
+    }
+}
+
+/// ASCII bytes as a text, which takes no memory.
+pub fn ascii_text(bytes: &[u8]) -> &str
+    requires { IsAscii bytes.now }
+    ensures { result.now ≡ bytes.now }
+{
+    match str::from_utf8(bytes) {
+        Ok(text) => text,
+        Err(_) => unreachable!(),
     }
 }

@@ -8,7 +8,7 @@ use terms::{Attachments, Bytes, Entry, Room, Sid, Text};
 /// A line's words. In lines that are repeated `*` is the number of times that they were played.
 #[derive(Clone, Copy)]
 pub struct Words<'a> {
-    words: [&'a str; 9],
+    line: &'a str,
     star: u64,
 }
 
@@ -38,22 +38,11 @@ fn parts(alloc: Global, list: &str) -> Result<Attachments, AllocError> {
 
 impl<'a> Words<'a> {
     pub fn of(line: &'a str, star: u64) -> Words<'a> {
-        let mut words = [""; 9];
-        let mut place = 0;
-        for word in line.split(' ') {
-            if place < 9 {
-                words[place] = word;
-                place += 1;
-            }
-        }
-        Words { words, star }
+        Words { line, star }
     }
 
     pub fn word(&self, place: usize) -> &'a str {
-        match self.words.get(place) {
-            Some(word) => *word,
-            None => "",
-        }
+        self.line.split(' ').nth(place).unwrap_or("")
     }
 
     pub fn number(&self, place: usize) -> u64 {

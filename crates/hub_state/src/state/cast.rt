@@ -17,7 +17,7 @@ ghost use Rattle.journal.specs.Log.{logged, next};
 ghost use Rattle.journal.specs.Journal.{moment_at};
 ghost use Rattle.journal.specs.Broadcast.{event_header};
 ghost use Rattle.journal.specs.declared.step.What.{What};
-ghost use Rattle.hub_state.specs.Changes.{MakesStep};
+ghost use Rattle.hub_state.specs.Changes.{Reports, MakesStep};
 ghost use Rattle.hub_state.specs.Sending.{done_of, IsCounted};
 ghost use Rattle.hub_state.specs.Words.{spent_by, TellsNow, AllHear};
 
@@ -86,11 +86,7 @@ fn push_logged(log: &mut PacketLog, entry: Option<Logged>)
 pub(crate) fn receivers(alloc: Global, messages: &[Message]) -> Result<Vec<u128>, AllocError>
     ensures ok { IfOk result (λ clients. clients.items ≡ map receiver_of messages.now) }
 {
-    let mut clients = Vec::with_capacity(alloc, messages.len())?;
-    for message in messages {
-        clients.push(message.client)?;
-    }
-    Ok(clients)
+    messages.iter().map(|message| message.client).collect(alloc)
 }
 
 /// What comes of a broadcast with these messages.
@@ -123,10 +119,8 @@ fn payload_of(alloc: Global, payload: Text, offset: Option<u64>) -> Result<Text,
     let Some(offset) = offset else {
         return Ok(payload);
     };
-    match with_offset(alloc, payload.as_str(), offset) {
-        Ok(text) => Ok(Text::from_string(text)),
-        Err(_) => Err(AllocError),
-    }
+    let text = with_offset(alloc, payload.as_str(), offset).map_err(|_| AllocError)?;
+    Ok(Text::from_string(text))
 }
 
 /// An event, or a binary one where there are attachments.
@@ -140,27 +134,6 @@ fn kind_of(attachments: usize) -> Kind
     }
 }
 
-/// The header of an event for the namespace with this name.
-fn header_of(
-    alloc: Global,
-    name: &str,
-    payload: Text,
-    attachments: usize,
-    offset: Option<u64>,
-) -> Result<Header, AllocError>
-    requires { attachments ≤ 32 }
-    ensures ok { IfOk result (λ h. h ≡ event_header name.now payload attachments offset) }
-{
-    let payload = payload_of(alloc, payload, offset)?;
-    Ok(Header {
-        kind: kind_of(attachments),
-        space: Text::copy_of(alloc, name)?,
-        id: None,
-        payload,
-        count: attachments as u32,
-    })
-}
-
 /// The text of an event for the namespace with this name.
 fn event_text(
     alloc: Global,
@@ -172,11 +145,15 @@ fn event_text(
     requires { attachments ≤ 32 }
     ensures ok { IfOk result (λ t. Plain (event_header name.now payload attachments offset) t) }
 {
-    let header = header_of(alloc, name, payload, attachments, offset)?;
-    match write_header(alloc, &header) {
-        Ok(text) => Ok(Text::from_string(text)),
-        Err(_) => Err(AllocError),
-    }
+    let header = Header {
+        kind: kind_of(attachments),
+        space: Text::copy_of(alloc, name)?,
+        id: None,
+        payload: payload_of(alloc, payload, offset)?,
+        count: attachments as u32,
+    };
+    let text = write_header(alloc, &header).map_err(|_| AllocError)?;
+    Ok(Text::from_string(text))
 }
 
 impl State {
@@ -190,10 +167,7 @@ impl State {
         if !logged {
             return Ok(None);
         }
-        match self.next_offset() {
-            Some(offset) => Ok(Some(offset)),
-            None => Err(HubError::Spent),
-        }
+        Ok(Some(self.next_offset().ok_or(HubError::Spent)?))
     }
 
     /// The offset of the next broadcast that is logged, or `None` where the greatest has been
@@ -233,12 +207,12 @@ impl State {
         Ok(done)
     }
 
-    /// Spent, where a broadcast with these messages can't be counted.
-    fn send_refusal(&self, broadcast: &Broadcast, messages: &[Message]) -> Option<HubError>
+    /// Refused as `Spent`, where a broadcast with these messages can't be counted.
+    fn may_send(&self, broadcast: &Broadcast, messages: &[Message]) -> Result<(), HubError>
         requires { TellsNow self.now broadcast.now messages.now }
-        ensures { result ≡ spent_by self.now (What.Cast broadcast.now) }
+        ensures { Reports result (spent_by self.now (What.Cast broadcast.now)) }
     {
-        self.count_refusal(messages.len() as u64, broadcast.dropped.len() as u64)
+        self.may_count(messages.len() as u64, broadcast.dropped.len() as u64)
     }
 
     /// The place of the namespace that a cast is for, and its offset.
@@ -285,26 +259,13 @@ impl State {
         self.aim(alloc, place, rooms, excepted, offset, entry)
     }
 
-    /// The broadcast that a cast asks for, and the messages for those whom it reaches.
-    fn make(&self, alloc: Global, cast: Cast) -> Result<(Broadcast, Vec<Message>), HubError>
-        ensures asked { IfOk result (λ both. IsCastOf self.now cast both.0) }
-        ensures accepted { IfOk result (λ _. refusal_of self.now cast ≡ None) }
-        ensures numbered { IfOk result (λ _. has_no_offset self.now cast.logged ≡ false) }
-        ensures tells { IfOk result (λ both. TellsNow self.now both.0 both.1.items) }
-        ensures refused { IfErr result (IsCastError self.now cast (refusal_of self.now cast)) }
-    {
-        let (place, offset) = self.judge(&cast)?;
-        Ok(self.build(alloc, place, offset, cast)?)
-    }
-
     /// Makes, puts and logs the broadcast that a cast asks for.
     fn make_and_send(&mut self, alloc: Global, cast: Cast, now: u64) -> Result<CastDone, HubError>
         ensures { CastDoes self.old self.new now cast result }
     {
-        let (broadcast, messages) = self.make(alloc, cast)?;
-        if let Some(refusal) = self.send_refusal(&broadcast, &messages) {
-            return Err(refusal);
-        }
+        let (place, offset) = self.judge(&cast)?;
+        let (broadcast, messages) = self.build(alloc, place, offset, cast)?;
+        self.may_send(&broadcast, &messages)?;
         let entry = log_entry(alloc, self.moment_at(now), &broadcast)?;
         self.send(alloc, broadcast, messages, entry, now)
     }

@@ -1,18 +1,17 @@
 //! Clients are opened and closed.
 
-ghost use Rattle.std.specs.Prelude.{◌≡◌, ℕ, ◌<◌, length, nat_le, ◌==◌, OnOk, OnErr, IfOk, IfErr, Some, if◌then◌else◌, None};
+ghost use Rattle.std.specs.Prelude.{◌≡◌, ℕ, length, nat_le, ◌==◌, IfOk, if◌then◌else◌, None};
 ghost use Rattle.std.specs.Ordering.{nat_cmp};
 ghost use Rattle.std.specs.BTreeMap.{get};
 ghost use Rattle.journal.specs.Membership.{open_clients, without_sockets};
 ghost use Rattle.journal.specs.Command.{Does};
 ghost use Rattle.journal.specs.Fields.{new_client, held_sockets, held_entries};
 ghost use Rattle.journal.specs.declared.step.What.{What};
-ghost use Rattle.hub_state.specs.Changes.{refusal_now, CanForget, WithoutSeats, WithoutPids};
+ghost use Rattle.hub_state.specs.Changes.{refusal_now, Reports, CanForget, WithoutSeats, WithoutPids};
 
 use crate::state::end::forget_all;
-use crate::state::note_departed::note;
 use crate::state::{NONE, State};
-use hub_parts::{Client, Outbox, Seats, Sockets, Steps};
+use hub_parts::{Client, Outbox, Seats, Sockets};
 use journal::{Config, Counts, HubError, What};
 use recovery::Pid;
 use room_maps::Rooms;
@@ -28,27 +27,6 @@ fn new_client(alloc: Global, config: &Config) -> Result<Client, AllocError>
         sockets: Sockets::new(alloc),
         outbox,
     })
-}
-
-/// Makes room for a step, and puts a new client into the map.
-fn put_new(
-    alloc: Global,
-    steps: &mut Steps,
-    clients: &mut BTreeMap<u128, Client>,
-    client: u128,
-    config: &Config,
-) -> Result<(), HubError>
-    ensures steps { steps.new.steps ≡ steps.old.steps }
-    ensures room { OnOk result (0 < steps.new.room) }
-    ensures ok { OnOk result ((q : ℕ) → get nat_cmp clients.new q
-        ≡ (if client == q then Some (new_client config.now) else get nat_cmp clients.old q)) }
-    ensures err { OnErr result (clients.new.entries ≡ clients.old.entries) }
-    ensures memory { IfErr result (λ e. e ≡ HubError.Memory) }
-{
-    steps.reserve()?;
-    let opened = new_client(alloc, config)?;
-    clients.insert(client, opened)?;
-    Ok(())
 }
 
 /// Forgets a client and its sockets, with their ids and rooms. It says how many entries waited for
@@ -90,16 +68,16 @@ impl State {
         self.limits.config().clients <= count
     }
 
-    fn open_refusal(&self, client: u128) -> Option<HubError>
-        ensures { result ≡ refusal_now self.now (What.Opened client) }
+    fn may_open(&self, client: u128) -> Result<(), HubError>
+        ensures { Reports result (refusal_now self.now (What.Opened client)) }
     {
         if self.is_open(client) {
-            return Some(HubError::IdTaken);
+            return Err(HubError::IdTaken);
         }
         if self.is_crowded() {
-            return Some(HubError::TooManyClients);
+            return Err(HubError::TooManyClients);
         }
-        self.count_refusal(0, 0)
+        self.may_count(0, 0)
     }
 
     /// Opens a client, with no sockets and an empty outbox. Refused as `IdTaken`,
@@ -108,28 +86,22 @@ impl State {
     pub fn open(&mut self, alloc: Global, client: u128, now: u64) -> Result<(), HubError>
         ensures { Does self.old self.new now (What.Opened client) result }
     {
-        if let Some(refusal) = self.open_refusal(client) {
-            return Err(refusal);
-        }
-        put_new(
-            alloc,
-            &mut self.records.steps,
-            &mut self.clients,
-            client,
-            self.limits.config(),
-        )?;
+        self.may_open(client)?;
+        self.records.steps.reserve()?;
+        let opened = new_client(alloc, self.limits.config())?;
+        self.clients.insert(client, opened)?;
         self.records.add(now, What::Opened(client), NONE);
         Ok(())
     }
 
-    fn close_refusal(&self, client: u128) -> Option<HubError>
-        ensures { result ≡ refusal_now self.now (What.Closed client) }
+    fn may_close(&self, client: u128) -> Result<(), HubError>
+        ensures { Reports result (refusal_now self.now (What.Closed client)) }
     {
         self.facts();
         if !self.is_open(client) {
-            return Some(HubError::UnknownClient);
+            return Err(HubError::UnknownClient);
         }
-        self.count_refusal(0, 0)
+        self.may_count(0, 0)
     }
 
     /// Closes a client: its sockets end, nothing of them is saved, and what waits for it is
@@ -139,12 +111,10 @@ impl State {
     pub fn close(&mut self, alloc: Global, client: u128, now: u64) -> Result<(), HubError>
         ensures { Does self.old self.new now (What.Closed client) result }
     {
-        if let Some(refusal) = self.close_refusal(client) {
-            return Err(refusal);
-        }
-        let ended = self.departed_by(alloc, &What::Closed(client))?;
+        self.may_close(client)?;
+        let mut ended = self.departed_by(alloc, &What::Closed(client))?;
         self.records.steps.reserve()?;
-        note(&mut self.departed, ended)?;
+        self.departed.append(&mut ended)?;
         let discards = forget_client(
             &mut self.clients,
             &mut self.seats,

@@ -1,6 +1,6 @@
 //! Sockets are connected (Socket.IO protocol 5, "Connection to a namespace").
 
-ghost use Rattle.std.specs.Prelude.{◌≡◌, ℕ, ◌+◌, ◌≤◌, ◌||◌, true, false, [], length, OnOk, OnErr, IfOk, IfErr, None, Some, nat_le, nat_lt, get_or};
+ghost use Rattle.std.specs.Prelude.{◌≡◌, ℕ, ◌≤◌, true, false, [], length, OnOk, OnErr, IfOk, IfErr, None, Some, get_or};
 ghost use Rattle.std.specs.Option.{option_map};
 ghost use Rattle.std.specs.Ordering.{nat_cmp};
 ghost use Rattle.std.specs.BTreeMap.{get};
@@ -10,7 +10,7 @@ ghost use Rattle.terms.specs.Entry.{entry_size};
 ghost use Rattle.sio_wire.specs.ConnectAnswer as connect_answer;
 ghost use Rattle.journal.specs.Membership.{place_of, is_space, is_connected, pid_of, sid_of, socket_of};
 ghost use Rattle.journal.specs.Sessions.{is_sid_saved, is_pid_saved};
-ghost use Rattle.journal.specs.Outboxes.{answer, total_size, is_full};
+ghost use Rattle.journal.specs.Outboxes.{is_full};
 ghost use Rattle.journal.specs.Outboxes as outboxes;
 ghost use Rattle.journal.specs.Refusals.{is_taken};
 ghost use Rattle.journal.specs.Command.{Does};
@@ -19,7 +19,7 @@ ghost use Rattle.journal.specs.declared.socket.Socket.{Socket};
 ghost use Rattle.journal.specs.declared.step.What.{What};
 ghost use Rattle.hub_parts.specs.Seats.{SameSeats, WithSeat, WithoutSeat};
 ghost use Rattle.hub_state.specs.Changes.{ChangesClient, SameClients, SamePids, WithPid, WithoutPid, IsNew, IsAlone, refusal_now, MakesStep};
-ghost use Rattle.hub_state.specs.Words.{opened, waits, saves, plain_entry, socket_for, answer_at};
+ghost use Rattle.hub_state.specs.Words.{opened, saves, plain_entry, socket_for, answer_at};
 
 use crate::state::deliver::{put_entry, shared_text};
 use crate::state::{NONE, State};
@@ -33,13 +33,6 @@ use std::collections::{BTreeMap, BTreeSet};
 use std::sync::Arc;
 use terms::{Entry, Room, Sid, Text};
 
-/// How many bytes the answer to a CONNECT to this namespace has.
-fn answer_size(name: &str) -> usize
-    ensures { (sid pid : ℕ) → result ≡ length (connect_answer.connected_text name.now sid pid) }
-{
-    if name == "/" { 84 } else { 85 + name.len() }
-}
-
 /// The answer to a CONNECT to this namespace, which outboxes may share.
 fn answer_to(alloc: Global, name: &str, sid: Sid, pid: Pid) -> Result<Arc<Entry>, AllocError>
     ensures ok { IfOk result (λ entry.
@@ -51,15 +44,6 @@ fn answer_to(alloc: Global, name: &str, sid: Sid, pid: Pid) -> Result<Arc<Entry>
     }
 }
 
-/// Makes a socket known by its private id.
-fn add_pid(pids: &mut BTreeSet<Pid>, pid: Pid) -> Result<(), AllocError>
-    ensures ok { OnOk result (WithPid pid pids.old pids.new) }
-    ensures err { OnErr result (SamePids pids.old pids.new) }
-{
-    pids.insert(pid)?;
-    Ok(())
-}
-
 /// Makes a socket known by both its ids, of which the session id is free.
 fn add_ids(seats: &mut Seats, pids: &mut BTreeSet<Pid>, socket: &Socket) -> Result<(), AllocError>
     requires free { get nat_cmp seats.old socket.now.sid ≡ None }
@@ -69,7 +53,7 @@ fn add_ids(seats: &mut Seats, pids: &mut BTreeSet<Pid>, socket: &Socket) -> Resu
     ensures same_pids { OnErr result (SamePids pids.old pids.new) }
 {
     seats.insert(*socket)?;
-    if add_pid(pids, socket.pid).is_err() {
+    if pids.insert(socket.pid).is_err() {
         seats.remove(socket.sid);
         return Err(AllocError);
     }
@@ -176,10 +160,11 @@ impl State {
         ensures refused { IfErr result (λ e. e ≡ HubError.UnknownNamespace) }
     {
         let _few = self.spaces();
-        match self.limits.place_of(space) {
-            Some(place) => Ok(place as u16),
-            None => Err(HubError::UnknownNamespace),
-        }
+        let place = self
+            .limits
+            .place_of(space)
+            .ok_or(HubError::UnknownNamespace)?;
+        Ok(place as u16)
     }
 
     /// The namespaces.
@@ -245,18 +230,6 @@ impl State {
             || (self.is_pid_connected(pid) || self.is_pid_saved(pid))
     }
 
-    /// Whether an open client's outbox has no place for an entry of this many bytes.
-    fn lacks(&self, client: u128, size: usize) -> bool
-        ensures { let h = self.now in opened h client ≡ true
-            → result ≡ (nat_le h.limits.capacity (length (waits h client))
-            || nat_lt h.limits.bytes (total_size (waits h client) + size)) }
-    {
-        match self.clients.get(&client) {
-            Some(known) => known.outbox.lacks(size),
-            None => false,
-        }
-    }
-
     /// The namespace at a place, or the empty text where there is none.
     pub fn name_at(&self, place: usize) -> &str
         ensures { result.now ≡ get_or self.now.limits.spaces place [] }
@@ -271,7 +244,8 @@ impl State {
     pub(crate) fn answer_size(&self, place: usize) -> usize
         ensures { (c sid pid : ℕ) → result ≡ entry_size (answer_at self.now c place sid pid) }
     {
-        answer_size(self.name_at(place))
+        let name = self.name_at(place);
+        if name == "/" { 84 } else { 85 + name.len() }
     }
 
     /// The answer to a CONNECT to the namespace at a place, which outboxes may share.
@@ -294,7 +268,10 @@ impl State {
             ≡ is_full h.base h.limits h.journal client (answer_at h client place sid pid) }
     {
         let size = self.answer_size(place);
-        self.lacks(client, size)
+        match self.clients.get(&client) {
+            Some(known) => known.outbox.lacks(size),
+            None => false,
+        }
     }
 
     /// The socket that is to be connected, or why it can't be.
@@ -318,9 +295,7 @@ impl State {
         if self.lacks_answer(client, place) {
             return Err(HubError::OutboxFull);
         }
-        if let Some(refusal) = self.count_refusal(1, 0) {
-            return Err(refusal);
-        }
+        self.may_count(1, 0)?;
         Ok(Socket {
             client,
             space,

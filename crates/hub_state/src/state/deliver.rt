@@ -1,6 +1,6 @@
 //! Entries are put into clients' outboxes and handed out.
 
-ghost use Rattle.std.specs.Prelude.{◌≡◌, ◌≤◌, true, false, length, min, take, string_bytes, IfOk, IfErr, IfSome, IfNone, None, Some};
+ghost use Rattle.std.specs.Prelude.{◌≡◌, ◌≤◌, true, false, length, min, take, string_bytes, IfOk, IfErr, IfSome, OnOk, None, Some};
 ghost use Rattle.std.specs.Ordering.{nat_cmp};
 ghost use Rattle.std.specs.BTreeMap.{get};
 ghost use Rattle.std.specs.Arc.{arc_value};
@@ -8,7 +8,7 @@ ghost use Rattle.journal.specs.Outboxes.{is_full, has_no_place};
 ghost use Rattle.journal.specs.Command.{Does};
 ghost use Rattle.journal.specs.Fields.{without_first, with_entry};
 ghost use Rattle.journal.specs.declared.step.What.{What};
-ghost use Rattle.hub_state.specs.Changes.{ChangesClient, refusal_now};
+ghost use Rattle.hub_state.specs.Changes.{ChangesClient, refusal_now, Reports};
 ghost use Rattle.hub_state.specs.Words.{opened, waits, plain_entry, told, took};
 
 use crate::state::aim::is_full;
@@ -27,16 +27,6 @@ fn hand_out(clients: &mut BTreeMap<u128, Client>, client: u128, count: usize)
     if let Some(known) = clients.get_mut(&client) {
         known.outbox.pop_first(count);
     }
-}
-
-/// An entry that two may hold.
-fn share(alloc: Global, entry: Entry) -> Result<(Arc<Entry>, Arc<Entry>), AllocError>
-    ensures first { IfOk result (λ both. arc_value both.0 ≡ entry) }
-    ensures second { IfOk result (λ both. arc_value both.1 ≡ entry) }
-{
-    let first = Arc::new(alloc, entry)?;
-    let second = Arc::try_clone(&first)?;
-    Ok((first, second))
 }
 
 /// An entry of a text alone, which outboxes may share.
@@ -68,18 +58,18 @@ impl State {
         is_full(&self.clients, client, entry)
     }
 
-    fn tell_refusal(&self, client: u128, entry: &Entry) -> Option<HubError>
-        ensures refusal { result ≡ refusal_now self.now (told client entry.now) }
+    fn may_tell(&self, client: u128, entry: &Entry) -> Result<(), HubError>
+        ensures refusal { Reports result (refusal_now self.now (told client entry.now)) }
         ensures place { let h = self.now
-            in IfNone result (is_full h.base h.limits h.journal client entry.now ≡ false) }
+            in OnOk result (is_full h.base h.limits h.journal client entry.now ≡ false) }
     {
         if !self.is_open(client) {
-            return Some(HubError::UnknownClient);
+            return Err(HubError::UnknownClient);
         }
         if self.is_full(client, entry) {
-            return Some(HubError::OutboxFull);
+            return Err(HubError::OutboxFull);
         }
-        self.count_refusal(1, 0)
+        self.may_count(1, 0)
     }
 
     /// Puts an entry at the end of a client's outbox. Refused as `UnknownClient`, `OutboxFull`,
@@ -93,10 +83,9 @@ impl State {
     ) -> Result<(), HubError>
         ensures { Does self.old self.new now (told client entry) result }
     {
-        if let Some(refusal) = self.tell_refusal(client, &entry) {
-            return Err(refusal);
-        }
-        let (entry, shared) = share(alloc, entry)?;
+        self.may_tell(client, &entry)?;
+        let entry = Arc::new(alloc, entry)?;
+        let shared = Arc::try_clone(&entry)?;
         let told = Message { client, entry };
         let added = Counts { placed: 1, ..NONE };
         self.records.write(now, What::Told(told), added)?;
@@ -113,14 +102,9 @@ impl State {
             refusal_now self.now (took self.now client most) ≡ Some e) }
     {
         self.facts();
-        let Some(waits) = self.waiting(client) else {
-            return Err(HubError::UnknownClient);
-        };
-        let number = most.min(waits);
-        match self.count_refusal(0, 0) {
-            Some(refusal) => Err(refusal),
-            None => Ok(number),
-        }
+        let waits = self.waiting(client).ok_or(HubError::UnknownClient)?;
+        self.may_count(0, 0)?;
+        Ok(most.min(waits))
     }
 
     /// Copies of the first entries that wait for a client.

@@ -9,7 +9,6 @@ ghost use Rattle.std.specs.BTreeMap.{get};
 ghost use Rattle.std.specs.Arc.{arc_value};
 ghost use Rattle.terms.specs.Listing.{ListsRising};
 ghost use Rattle.room_maps.specs.Membership as room_maps;
-ghost use Rattle.sio_wire.specs.Disconnect as disconnect;
 ghost use Rattle.journal.specs.Membership.{place_of, sid_of, is_space, without_sockets};
 ghost use Rattle.journal.specs.Outboxes as outboxes;
 ghost use Rattle.journal.specs.ManySockets.{dismissal};
@@ -20,14 +19,13 @@ ghost use Rattle.journal.specs.Fields.{without_place};
 ghost use Rattle.journal.specs.Casting.{receiver_of};
 ghost use Rattle.journal.specs.declared.socket.Socket.{Socket};
 ghost use Rattle.journal.specs.declared.step.What.{What};
-ghost use Rattle.hub_state.specs.Changes.{WithoutSeats, WithoutPids, MakesStep};
-ghost use Rattle.hub_state.specs.Words.{spent_by, plain_entry, DismissesNow, ListsMatches};
+ghost use Rattle.hub_state.specs.Changes.{WithoutSeats, WithoutPids, Reports, MakesStep};
+ghost use Rattle.hub_state.specs.Words.{spent_by, DismissesNow};
 
 use crate::state::aim::{messages_for, sockets_in};
 use crate::state::cast::{put_messages, receivers};
 use crate::state::deliver::shared_text;
 use crate::state::end::{drop_from, forget};
-use crate::state::note_departed::note;
 use crate::state::{NONE, State};
 use hub_parts::{Client, Seats};
 use journal::{Counts, Dismissal, Dismissed, HubError, Message, Socket, What};
@@ -38,17 +36,6 @@ use std::alloc::{AllocError, Global};
 use std::collections::{BTreeMap, BTreeSet};
 use std::sync::Arc;
 use terms::{Entry, Room, Sid};
-
-/// What a client is told whose socket in the namespace with this name is ended.
-fn farewell_to(alloc: Global, name: &str) -> Result<Arc<Entry>, AllocError>
-    ensures ok { IfOk result (λ entry.
-        arc_value entry ≡ plain_entry (disconnect.disconnect_text name.now)) }
-{
-    match disconnect_text(alloc, name) {
-        Ok(text) => shared_text(alloc, text),
-        Err(_) => Err(AllocError),
-    }
-}
 
 /// The ids of the sockets, in the same order.
 fn ids_of(alloc: Global, sockets: &[Socket]) -> Result<Vec<Sid>, AllocError>
@@ -109,23 +96,10 @@ impl State {
     fn farewell(&self, alloc: Global, place: usize) -> Result<Arc<Entry>, AllocError>
         ensures ok { IfOk result (λ e. arc_value e ≡ outboxes.farewell self.now.limits place) }
     {
-        farewell_to(alloc, self.name_at(place))
-    }
-
-    /// The connected sockets of the namespace at a place that are in one of the rooms, or where
-    /// none is named all, but for those in an excepted room, rising by their ids.
-    fn matching_sockets(
-        &self,
-        alloc: Global,
-        space: u16,
-        rooms: &[Room],
-        excepted: &[Room],
-    ) -> Result<Vec<Socket>, AllocError>
-        ensures ok { IfOk result (λ sockets.
-            ListsMatches self.now space rooms.now excepted.now sockets.items) }
-    {
-        let sids = self.listeners(alloc, space, rooms, excepted)?;
-        sockets_in(alloc, &self.seats, &sids, space)
+        match disconnect_text(alloc, self.name_at(place)) {
+            Ok(text) => shared_text(alloc, text),
+            Err(_) => Err(AllocError),
+        }
     }
 
     /// The dismissal that is asked for, the sockets that it ends, and what it tells their clients.
@@ -140,7 +114,8 @@ impl State {
             plan.0 ≡ dismissal self.now space rooms.items excepted.items) }
         ensures makes { IfOk result (λ p. DismissesNow self.now p.0 p.1.items p.2.items) }
     {
-        let sockets = self.matching_sockets(alloc, space, &rooms, &excepted)?;
+        let sids = self.listeners(alloc, space, &rooms, &excepted)?;
+        let sockets = sockets_in(alloc, &self.seats, &sids, space)?;
         let entry = self.farewell(alloc, usize::from(space))?;
         let (messages, _missing) = messages_for(alloc, &self.clients, &sockets, &entry)?;
         let ended = ids_of(alloc, &sockets)?;
@@ -155,11 +130,11 @@ impl State {
         Ok((dismissal, sockets, messages))
     }
 
-    /// Spent, where a dismissal can't be counted.
-    fn dismissal_refusal(&self, dismissal: &Dismissal) -> Option<HubError>
-        ensures { result ≡ spent_by self.now (What.AllEnded dismissal.now) }
+    /// Refused as `Spent`, where a dismissal can't be counted.
+    fn may_dismiss(&self, dismissal: &Dismissal) -> Result<(), HubError>
+        ensures { Reports result (spent_by self.now (What.AllEnded dismissal.now)) }
     {
-        self.count_refusal(dismissal.told.len() as u64, 0)
+        self.may_count(dismissal.told.len() as u64, 0)
     }
 
     /// Tells the clients and ends the sockets of a dismissal that may be made.
@@ -181,40 +156,15 @@ impl State {
         let placed = dismissal.told.len() as u64;
         let added = Counts { placed, ..NONE };
         let what = What::AllEnded(dismissal);
-        let ended = self.departed_by(alloc, &what)?;
+        let mut ended = self.departed_by(alloc, &what)?;
         self.records.steps.reserve()?;
-        note(&mut self.departed, ended)?;
+        self.departed.append(&mut ended)?;
         put_messages(&mut self.clients, messages);
         drop_all(&mut self.clients, &sockets, place);
         forget_each(&mut self.seats, &mut self.pids, &mut self.rooms, &sockets);
         self.rooms.kept_facts();
         self.records.add(now, what, added);
         Ok(())
-    }
-
-    fn dismiss_at(
-        &mut self,
-        alloc: Global,
-        space: u16,
-        rooms: Vec<Room>,
-        excepted: Vec<Room>,
-        now: u64,
-    ) -> Result<Dismissed, HubError>
-        requires { is_space self.old.limits space ≡ true }
-        ensures ended { let d = dismissal self.old space rooms.items excepted.items
-            in IfOk result (λ done. done.ended.items ≡ d.ended) }
-        ensures told { let d = dismissal self.old space rooms.items excepted.items
-            in IfOk result (λ done. done.told.items ≡ d.told) }
-        ensures does { let d = dismissal self.old space rooms.items excepted.items
-            in Does self.old self.new now (What.AllEnded d) result }
-    {
-        let (dismissal, sockets, messages) = self.plan(alloc, space, rooms, excepted)?;
-        let done = answer_of(alloc, &dismissal)?;
-        if let Some(refusal) = self.dismissal_refusal(&dismissal) {
-            return Err(refusal);
-        }
-        self.dismiss(alloc, dismissal, sockets, messages, now)?;
-        Ok(done)
     }
 
     /// Ends all connected sockets of a namespace that are in one of the rooms, or where none is
@@ -241,6 +191,10 @@ impl State {
             in Does self.old self.new now (What.AllEnded d) result }
     {
         let place = self.place_of(space)?;
-        self.dismiss_at(alloc, place, rooms, excepted, now)
+        let (dismissal, sockets, messages) = self.plan(alloc, place, rooms, excepted)?;
+        let done = answer_of(alloc, &dismissal)?;
+        self.may_dismiss(&dismissal)?;
+        self.dismiss(alloc, dismissal, sockets, messages, now)?;
+        Ok(done)
     }
 }

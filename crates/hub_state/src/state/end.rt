@@ -13,7 +13,6 @@ ghost use Rattle.hub_parts.specs.Seats.{WithoutSeat};
 ghost use Rattle.hub_state.specs.Changes.{ChangesClient, WithoutPid, WithoutSeats, WithoutPids, refusal_now};
 
 use crate::state::connect::drop_ids;
-use crate::state::note_departed::note;
 use crate::state::{NONE, State};
 use hub_parts::{Client, Seats, Sockets};
 use journal::{HubError, Side, Socket, What};
@@ -77,13 +76,9 @@ impl State {
         ensures accepted { IfOk result (λ _. refusal_now self.now (What.Ended sid by) ≡ None) }
         ensures refused { IfErr result (λ e. refusal_now self.now (What.Ended sid by) ≡ Some e) }
     {
-        let Some(socket) = self.socket_with(sid) else {
-            return Err(HubError::UnknownSocket);
-        };
-        match self.count_refusal(0, 0) {
-            Some(refusal) => Err(refusal),
-            None => Ok(socket),
-        }
+        let socket = self.socket_with(sid).ok_or(HubError::UnknownSocket)?;
+        self.may_count(0, 0)?;
+        Ok(socket)
     }
 
     /// Ends a socket alone, by this side: it leaves its client and all its rooms, and nothing is
@@ -93,9 +88,9 @@ impl State {
         ensures { Does self.old self.new now (What.Ended sid by) result }
     {
         let socket = self.ending(sid, by)?;
-        let ended = self.departed_by(alloc, &What::Ended(sid, by))?;
+        let mut ended = self.departed_by(alloc, &What::Ended(sid, by))?;
         self.records.steps.reserve()?;
-        note(&mut self.departed, ended)?;
+        self.departed.append(&mut ended)?;
         drop_from(&mut self.clients, socket.client, usize::from(socket.space));
         forget(&mut self.seats, &mut self.pids, &mut self.rooms, socket);
         self.rooms.kept_facts();

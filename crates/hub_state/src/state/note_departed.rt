@@ -1,7 +1,7 @@
 //! Sockets that end are noted (Socket.IO server documentation, "Server API": the events
 //! `disconnecting` and `disconnect`).
 
-ghost use Rattle.std.specs.Prelude.{◌≡◌, ◌++◌, map, true, IfOk, OnOk, OnErr};
+ghost use Rattle.std.specs.Prelude.{◌≡◌, map, true, IfOk};
 ghost use Rattle.std.specs.List.{AllByRecursion};
 ghost use Rattle.journal.specs.Membership.{is_space, rooms, sockets_of};
 ghost use Rattle.journal.specs.Sessions.{rooms_rising};
@@ -57,15 +57,6 @@ fn departing(
         })?;
     }
     Ok(list)
-}
-
-/// Notes sockets that end.
-pub(crate) fn note(departed: &mut Vec<Departed>, ended: Vec<Departed>) -> Result<(), AllocError>
-    ensures ok { OnOk result (departed.new.items ≡ departed.old.items ++ ended.items) }
-    ensures unchanged { OnErr result (departed.new.items ≡ departed.old.items) }
-{
-    let mut ended = ended;
-    departed.append(&mut ended)
 }
 
 impl State {

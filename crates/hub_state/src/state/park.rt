@@ -1,7 +1,7 @@
 //! Clients are lost, and their sockets' sessions are saved; what is outdated is dropped (Socket.IO
 //! server documentation, "Connection state recovery").
 
-ghost use Rattle.std.specs.Prelude.{◌≡◌, ◌-◌, ◌<◌, length, OnOk, OnErr, IfOk, IfErr, ◌+◌, max};
+ghost use Rattle.std.specs.Prelude.{◌≡◌, ◌-◌, length, OnOk, OnErr, IfOk, ◌+◌, max};
 ghost use Rattle.std.specs.Ordering.{nat_cmp};
 ghost use Rattle.std.specs.BTreeMap.{get};
 ghost use Rattle.recovery.specs.SavedTable as table;
@@ -12,14 +12,14 @@ ghost use Rattle.journal.specs.Command.{Does};
 ghost use Rattle.journal.specs.Fields.{held_sockets};
 ghost use Rattle.journal.specs.Parking.{lost_in, HasNoneOf, with_lost, without_lost};
 ghost use Rattle.journal.specs.declared.step.What.{What};
-ghost use Rattle.hub_state.specs.Changes.{refusal_now};
+ghost use Rattle.hub_state.specs.Changes.{refusal_now, Reports};
 ghost use Rattle.hub_state.specs.Words.{when_open, saves, logs};
 
 use crate::state::clients::forget_client;
-use crate::state::note_departed::{note, rooms_in};
+use crate::state::note_departed::rooms_in;
 use crate::state::recover::take_session;
 use crate::state::{NONE, State};
-use hub_parts::{Client, Limits, Sockets, Steps};
+use hub_parts::{Client, Limits, Sockets};
 use journal::{Counts, HubError, Socket, Swept, What};
 use recovery::{PacketLog, Saved, SavedTable};
 use room_maps::Rooms;
@@ -86,27 +86,22 @@ fn save_all(
     Ok(())
 }
 
-/// Makes room for a step, and saves the sessions of a client's sockets.
+/// Saves the sessions of a client's sockets.
 fn save_client(
-    steps: &mut Steps,
     saved: &mut SavedTable,
     clients: &BTreeMap<u128, Client>,
     rooms: &Rooms,
     alloc: Global,
     client: u128,
     at: u64,
-) -> Result<(), HubError>
+) -> Result<(), AllocError>
     requires { HasNoneOf (held_sockets (get nat_cmp clients.now client)) saved.old }
-    ensures steps { steps.new.steps ≡ steps.old.steps }
-    ensures room { OnOk result (0 < steps.new.room) }
     ensures saved { let held = held_sockets (get nat_cmp clients.now client)
         in OnOk result (saved.new ≡ with_lost rooms.now at held saved.old) }
     ensures unchanged { OnErr result (saved.new ≡ saved.old) }
-    ensures memory { IfErr result (λ e. e ≡ HubError.Memory) }
 {
-    steps.reserve()?;
     match clients.get(&client) {
-        Some(known) => Ok(save_all(saved, rooms, alloc, &known.sockets, at)?),
+        Some(known) => save_all(saved, rooms, alloc, &known.sockets, at),
         None => Ok(()),
     }
 }
@@ -141,17 +136,15 @@ impl State {
         self.limits.config().saved.saturating_sub(self.saved.len())
     }
 
-    fn park_refusal(&self, client: u128) -> Option<HubError>
-        ensures { result ≡ refusal_now self.now (What.Parked client) }
+    fn may_park(&self, client: u128) -> Result<(), HubError>
+        ensures { Reports result (refusal_now self.now (What.Parked client)) }
     {
         self.facts();
-        let Some(sockets) = self.socket_count(client) else {
-            return Some(HubError::UnknownClient);
-        };
+        let sockets = self.socket_count(client).ok_or(HubError::UnknownClient)?;
         if self.free_places() < sockets {
-            return Some(HubError::SavedFull);
+            return Err(HubError::SavedFull);
         }
-        self.count_refusal(0, 0)
+        self.may_count(0, 0)
     }
 
     /// Parks a client that was lost: the sessions of its sockets are saved with their rooms, its
@@ -163,15 +156,13 @@ impl State {
     pub fn park(&mut self, alloc: Global, client: u128, now: u64) -> Result<(), HubError>
         ensures { Does self.old self.new now (What.Parked client) result }
     {
-        if let Some(refusal) = self.park_refusal(client) {
-            return Err(refusal);
-        }
+        self.may_park(client)?;
         let at = now.max(self.records.last);
-        let ended = self.departed_by(alloc, &What::Parked(client))?;
+        let mut ended = self.departed_by(alloc, &What::Parked(client))?;
+        self.records.steps.reserve()?;
         let before = self.departed.len();
-        note(&mut self.departed, ended)?;
-        if let Err(refusal) = save_client(
-            &mut self.records.steps,
+        self.departed.append(&mut ended)?;
+        if let Err(AllocError) = save_client(
             &mut self.saved,
             &self.clients,
             &self.rooms,
@@ -180,7 +171,7 @@ impl State {
             at,
         ) {
             self.departed.truncate(before);
-            return Err(refusal);
+            return Err(HubError::Memory);
         }
         let discards = forget_client(
             &mut self.clients,
@@ -196,10 +187,10 @@ impl State {
         Ok(())
     }
 
-    fn sweep_refusal(&self) -> Option<HubError>
-        ensures { result ≡ refusal_now self.now What.Swept }
+    fn may_sweep(&self) -> Result<(), HubError>
+        ensures { Reports result (refusal_now self.now What.Swept) }
     {
-        self.count_refusal(0, 0)
+        self.may_count(0, 0)
     }
 
     /// Drops the entries of the log and the saved sessions that are older than the hub keeps them,
@@ -211,9 +202,7 @@ impl State {
             (length (logs self.old) ≡ length (logs self.new) + dropped.log)
             × (length (saves self.old) ≡ length (saves self.new) + dropped.saved)) }
     {
-        if let Some(refusal) = self.sweep_refusal() {
-            return Err(refusal);
-        }
+        self.may_sweep()?;
         let at = now.max(self.records.last);
         self.records.write(now, What::Swept, NONE)?;
         let swept = drop_outdated(&mut self.log, &mut self.saved, &self.limits, at);

@@ -4,7 +4,7 @@ ghost use Rattle.std.specs.Prelude.{◌≡◌, ℕ, ◌+◌, ◌^◌, ◌<◌, �
 ghost use Rattle.std.specs.Ordering.{nat_cmp};
 ghost use Rattle.std.specs.BTreeMap.{get};
 ghost use Rattle.std.specs.Arc.{arc_value};
-ghost use Rattle.recovery.specs.PacketLog.{stands, later_than};
+ghost use Rattle.recovery.specs.PacketLog.{later_than};
 ghost use Rattle.recovery.specs.SavedTable.{removed};
 ghost use Rattle.terms.specs.Entry.{entry_size};
 ghost use Rattle.journal.specs.Journal.{moment_at};
@@ -25,7 +25,7 @@ use crate::state::missed::{Found, put_missed};
 use crate::state::{NONE, State};
 use hub_parts::{Client, Outbox};
 use journal::{Counts, HubError, Recovery, RecoveryRefusal, Socket, What};
-use recovery::{Logged, Pid, Saved, SavedTable};
+use recovery::{Pid, Saved, SavedTable};
 use std::alloc::{AllocError, Global};
 use std::collections::BTreeMap;
 use std::sync::Arc;
@@ -83,15 +83,6 @@ impl State {
         self.saved.look_up(pid)
     }
 
-    /// The broadcasts of the log past this offset, in two pieces, or `None` where it isn't there.
-    fn later(&self, offset: u64) -> Option<(&[Logged], &[Logged])>
-        ensures stands { is_some result ≡ stands offset (logs self.now) }
-        ensures later { IfSome result (λ pieces.
-            pieces.0.now ++ pieces.1.now ≡ later_than offset (logs self.now)) }
-    {
-        self.log.later(offset)
-    }
-
     /// The session with a private id, with what the log has past an offset, or why it can't come
     /// back at this moment.
     fn found(&self, pid: Pid, place: usize, offset: u64, at: u64) -> Result<Found<'_>, HubError>
@@ -112,7 +103,7 @@ impl State {
         if session.is_outdated(keep, at) {
             return Err(HubError::NotRecoverable(RecoveryRefusal::Expired));
         }
-        let Some((front, back)) = self.later(offset) else {
+        let Some((front, back)) = self.log.later(offset) else {
             return Err(HubError::NotRecoverable(RecoveryRefusal::OffsetGone));
         };
         Ok(Found {
@@ -198,10 +189,8 @@ impl State {
         let Some(puts) = self.put_count(client, found, offset) else {
             return Err(HubError::OutboxFull);
         };
-        match self.count_refusal(puts, 0) {
-            Some(refusal) => Err(refusal),
-            None => Ok(found),
-        }
+        self.may_count(puts, 0)?;
+        Ok(found)
     }
 
     /// The recovery of a session at a client, and what it puts: the answer to the CONNECT, and then

@@ -1,37 +1,26 @@
 //! Sockets join and leave rooms, alone or all of a namespace that match (Socket.IO server
 //! documentation, "Rooms", and "Server API", `socketsJoin` and `socketsLeave`).
 
-ghost use Rattle.std.specs.Prelude.{◌≡◌, None, ℕ, true, not, filter, IfOk, false, [], ◌∷◌, ◌++◌, OnOk, IfErr, Err, if◌then◌else◌};
+ghost use Rattle.std.specs.Prelude.{◌≡◌, None, ℕ, true, not, filter, IfOk, false, IfErr, Err};
 ghost use Rattle.std.specs.Ordering.{nat_cmp};
 ghost use Rattle.std.specs.BTreeMap.{get};
-ghost use Rattle.room_maps.specs.Membership as room_maps;
 ghost use Rattle.room_maps.specs.Membership.{is_in};
-ghost use Rattle.journal.specs.Membership.{rooms, place_of, is_space, sockets, sid_of, matches};
+ghost use Rattle.journal.specs.Membership.{place_of, is_space, sockets, sid_of, matches};
 ghost use Rattle.journal.specs.Command.{Does, refusal};
 ghost use Rattle.journal.specs.Journal.{moment_at};
 ghost use Rattle.journal.specs.ManySockets as many;
 ghost use Rattle.journal.specs.ManySockets.{ListsSockets, RightJoining, RightLeaving};
-ghost use Rattle.journal.specs.Casting.{is_here};
+ghost use Rattle.journal.specs.Casting as casting;
 ghost use Rattle.journal.specs.declared.step.What.{What};
-ghost use Rattle.hub_state.specs.Changes.{refusal_now, MakesStep};
+ghost use Rattle.hub_state.specs.Changes.{refusal_now, Reports, MakesStep};
 ghost use Rattle.hub_state.specs.Words.{ListsMembers};
 
 use crate::state::{NONE, State};
 use hub_parts::Seats;
 use journal::{HubError, RoomChange, What};
-use room_maps::{RoomError, Rooms};
+use room_maps::Rooms;
 use std::alloc::{AllocError, Global};
 use terms::{Room, Sid};
-
-/// Takes a socket out of a room that it may leave.
-fn take_out(rooms: &mut Rooms, sid: Sid, room: Room)
-    requires { room_maps.leave_refusal rooms.old sid room ≡ None }
-    ensures left { rooms.new ≡ room_maps.without_pair rooms.old sid room }
-    ensures agree { room_maps.AreConsistent rooms.new }
-{
-    let _left = rooms.leave(sid, room);
-    rooms.kept_facts();
-}
 
 /// Keeps the sockets that aren't in the room.
 fn keep_outside(sids: &mut Vec<Sid>, inside: &Rooms, room: Room)
@@ -47,71 +36,44 @@ fn keep_inside(sids: &mut Vec<Sid>, inside: &Rooms, room: Room)
     sids.retain(|sid| inside.is_in(*sid, room));
 }
 
-/// Adds the id of a socket, where this is in the namespace at a place.
-fn add_here(kept: &mut Vec<Sid>, seats: &Seats, sid: Sid, place: usize) -> Result<(), AllocError>
-    ensures ok { OnOk result (kept.new.items ≡ kept.old.items
-        ++ (if is_here place (get nat_cmp seats.now sid) then sid ∷ [] else [])) }
+/// Whether the socket with an id is in the namespace at a place.
+fn is_here(seats: &Seats, sid: Sid, space: u16) -> bool
+    ensures { result ≡ casting.is_here space (get nat_cmp seats.now sid) }
 {
-    if let Some(socket) = seats.get(sid) {
-        if usize::from(socket.space) == place {
-            kept.push(sid)?;
-        }
-    }
-    Ok(())
+    matches!(seats.get(sid), Some(socket) if socket.space == space)
 }
 
-/// Those of the sockets with these ids that are in the namespace at a place, in the same order.
-pub(crate) fn keep_here(
-    alloc: Global,
-    seats: &Seats,
-    sids: &[Sid],
-    place: usize,
-) -> Result<Vec<Sid>, AllocError>
-    ensures ok { IfOk result (λ kept. kept.items
-        ≡ filter (λ s. is_here place (get nat_cmp seats.now s)) sids.now) }
+/// Keeps the sockets that are in the namespace at a place.
+fn keep_here(sids: &mut Vec<Sid>, seats: &Seats, space: u16)
+    ensures { sids.new.items
+        ≡ filter (λ s. casting.is_here space (get nat_cmp seats.now s)) sids.old.items }
 {
-    let mut kept = Vec::new(alloc);
-    for sid in sids {
-        add_here(&mut kept, seats, *sid, place)?;
-    }
-    Ok(kept)
+    sids.retain(|sid| is_here(seats, *sid, space));
 }
 
 impl State {
-    fn rooms_refuse_join(&self, sid: Sid, room: Room) -> Option<RoomError>
-        ensures { result ≡ room_maps.join_refusal (rooms self.now.base self.now.journal) sid room }
-    {
-        self.rooms.join_refusal(sid, room)
-    }
-
-    fn rooms_refuse_leave(&self, sid: Sid, room: Room) -> Option<RoomError>
-        ensures { result ≡ room_maps.leave_refusal (rooms self.now.base self.now.journal) sid room }
-    {
-        self.rooms.leave_refusal(sid, room)
-    }
-
-    fn join_refusal(&self, sid: Sid, room: Room) -> Option<HubError>
-        ensures { result ≡ refusal_now self.now (What.Joined sid room) }
+    fn may_join(&self, sid: Sid, room: Room) -> Result<(), HubError>
+        ensures { Reports result (refusal_now self.now (What.Joined sid room)) }
     {
         if !self.is_connected(sid) {
-            return Some(HubError::UnknownSocket);
+            return Err(HubError::UnknownSocket);
         }
-        if let Some(refusal) = self.rooms_refuse_join(sid, room) {
-            return Some(HubError::RoomRefused(refusal));
+        if let Some(refusal) = self.rooms.join_refusal(sid, room) {
+            return Err(HubError::RoomRefused(refusal));
         }
-        self.count_refusal(0, 0)
+        self.may_count(0, 0)
     }
 
-    fn leave_refusal(&self, sid: Sid, room: Room) -> Option<HubError>
-        ensures { result ≡ refusal_now self.now (What.Left sid room) }
+    fn may_leave(&self, sid: Sid, room: Room) -> Result<(), HubError>
+        ensures { Reports result (refusal_now self.now (What.Left sid room)) }
     {
         if !self.is_connected(sid) {
-            return Some(HubError::UnknownSocket);
+            return Err(HubError::UnknownSocket);
         }
-        if let Some(refusal) = self.rooms_refuse_leave(sid, room) {
-            return Some(HubError::RoomRefused(refusal));
+        if let Some(refusal) = self.rooms.leave_refusal(sid, room) {
+            return Err(HubError::RoomRefused(refusal));
         }
-        self.count_refusal(0, 0)
+        self.may_count(0, 0)
     }
 
     /// A socket joins a room. Refused as `UnknownSocket`, `RoomRefused`, `Spent`, then for
@@ -119,9 +81,7 @@ impl State {
     pub fn join(&mut self, alloc: Global, sid: Sid, room: Room, now: u64) -> Result<(), HubError>
         ensures { Does self.old self.new now (What.Joined sid room) result }
     {
-        if let Some(refusal) = self.join_refusal(sid, room) {
-            return Err(refusal);
-        }
+        self.may_join(sid, room)?;
         self.records.steps.reserve()?;
         if self.rooms.join(alloc, sid, room).is_err() {
             return Err(HubError::Memory);
@@ -136,11 +96,10 @@ impl State {
     pub fn leave(&mut self, _alloc: Global, sid: Sid, room: Room, now: u64) -> Result<(), HubError>
         ensures { Does self.old self.new now (What.Left sid room) result }
     {
-        if let Some(refusal) = self.leave_refusal(sid, room) {
-            return Err(refusal);
-        }
+        self.may_leave(sid, room)?;
         self.records.write(now, What::Left(sid, room), NONE)?;
-        take_out(&mut self.rooms, sid, room);
+        let _left = self.rooms.leave(sid, room);
+        self.rooms.kept_facts();
         Ok(())
     }
 
@@ -157,8 +116,9 @@ impl State {
             (matches h.base h.journal space rooms.now excepted.now)
             (sockets h.base h.journal) sids.items) }
     {
-        let sids = self.listeners(alloc, space, rooms, excepted)?;
-        keep_here(alloc, &self.seats, &sids, usize::from(space))
+        let mut sids = self.listeners(alloc, space, rooms, excepted)?;
+        keep_here(&mut sids, &self.seats, space);
+        Ok(sids)
     }
 
     /// The change that is made where all that match join a room.
@@ -209,27 +169,27 @@ impl State {
         })
     }
 
-    fn joining_refusal(&self, change: &RoomChange) -> Option<HubError>
+    fn may_all_join(&self, change: &RoomChange) -> Result<(), HubError>
         requires known { is_space self.now.limits change.now.space ≡ true }
         requires right { RightJoining self.now.base self.now.journal change.now }
-        ensures { (at : ℕ) → result ≡ refusal self.now at (What.AllJoined change.now) }
+        ensures { (at : ℕ) → Reports result (refusal self.now at (What.AllJoined change.now)) }
     {
         if let Some(refusal) = self.rooms.join_all_refusal(&change.changed, change.room) {
-            return Some(HubError::RoomRefused(refusal));
+            return Err(HubError::RoomRefused(refusal));
         }
-        self.count_refusal(0, 0)
+        self.may_count(0, 0)
     }
 
-    fn leaving_refusal(&self, change: &RoomChange) -> Option<HubError>
+    fn may_all_leave(&self, change: &RoomChange) -> Result<(), HubError>
         requires known { is_space self.now.limits change.now.space ≡ true }
         requires right { RightLeaving self.now.base self.now.journal change.now }
-        ensures { (at : ℕ) → result ≡ refusal self.now at (What.AllLeft change.now) }
+        ensures { (at : ℕ) → Reports result (refusal self.now at (What.AllLeft change.now)) }
     {
         self.rooms.kept_facts();
         if let Some(refusal) = self.rooms.leave_all_refusal(&change.changed, change.room) {
-            return Some(HubError::RoomRefused(refusal));
+            return Err(HubError::RoomRefused(refusal));
         }
-        self.count_refusal(0, 0)
+        self.may_count(0, 0)
     }
 
     /// Makes a change that may be made: its sockets join the room.
@@ -303,9 +263,7 @@ impl State {
     {
         let place = self.place_of(space)?;
         let change = self.joining(alloc, place, rooms, excepted, room)?;
-        if let Some(refusal) = self.joining_refusal(&change) {
-            return Err(refusal);
-        }
+        self.may_all_join(&change)?;
         self.join_all(alloc, change, now)
     }
 
@@ -332,20 +290,8 @@ impl State {
     {
         let place = self.place_of(space)?;
         let change = self.leaving(alloc, place, rooms, excepted, room)?;
-        if let Some(refusal) = self.leaving_refusal(&change) {
-            return Err(refusal);
-        }
+        self.may_all_leave(&change)?;
         self.leave_all(alloc, change, now)
-    }
-
-    /// The sockets of a namespace that are in a room, rising.
-    fn members_at(&self, alloc: Global, place: usize, room: Room) -> Result<Vec<Sid>, AllocError>
-        ensures ok { IfOk result (λ sids. ListsMembers self.now place room sids.items) }
-    {
-        let Ok(sids) = self.rooms.members_of(alloc, room) else {
-            return Err(AllocError);
-        };
-        keep_here(alloc, &self.seats, &sids, place)
     }
 
     /// The connected sockets of a namespace that are in a room, rising by their ids. Refused as
@@ -360,6 +306,10 @@ impl State {
             → IfErr result (λ e. e ≡ HubError.Memory) }
     {
         let place = self.place_of(space)?;
-        Ok(self.members_at(alloc, usize::from(place), room)?)
+        let Ok(mut sids) = self.rooms.members_of(alloc, room) else {
+            return Err(HubError::Memory);
+        };
+        keep_here(&mut sids, &self.seats, place);
+        Ok(sids)
     }
 }

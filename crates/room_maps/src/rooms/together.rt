@@ -94,7 +94,9 @@ impl Rooms {
         if let Some(refusal) = self.join_all_refusal(sids, room) {
             return Err(refusal);
         }
-        Ok(self.add_outsiders(alloc, sids, room)?)
+        let outside = self.outsiders(alloc, sids, room)?;
+        self.add_members(alloc, &outside, room)?;
+        Ok(outside)
     }
 
     /// The sockets aren't in the room any more, all of them or none. One that isn't in it stays as
@@ -119,7 +121,9 @@ impl Rooms {
         if let Some(refusal) = self.leave_all_refusal(sids, room) {
             return Err(refusal);
         }
-        Ok(self.take_insiders(alloc, sids, room)?)
+        let inside = self.insiders(alloc, sids, room)?;
+        self.take_members(&inside, room);
+        Ok(inside)
     }
 
     /// Those of the sockets that aren't in the room, rising.
@@ -148,42 +152,6 @@ impl Rooms {
         Ok(lookup::rising(inside))
     }
 
-    /// Adds those of the sockets that aren't in the room, and answers them.
-    fn add_outsiders(
-        &mut self,
-        alloc: Global,
-        sids: &[Sid],
-        room: Room,
-    ) -> Result<Vec<Sid>, AllocError>
-        requires { join_all_refusal self.old sids.now room ≡ None }
-        ensures ok { OnOk result (self.new ≡ with_members self.old sids.now room) }
-        ensures changed { IfOk result (λ changed. ListsRising nat_cmp
-            (λ sid. is_named sids.now sid && not (is_in self.old sid room)) changed.items) }
-        ensures err { OnErr result (self.new ≡ self.old) }
-    {
-        let outside = self.outsiders(alloc, sids, room)?;
-        self.add_members(alloc, &outside, room)?;
-        Ok(outside)
-    }
-
-    /// Takes those of the sockets that are in the room out of it, and answers them.
-    fn take_insiders(
-        &mut self,
-        alloc: Global,
-        sids: &[Sid],
-        room: Room,
-    ) -> Result<Vec<Sid>, AllocError>
-        requires { leave_all_refusal self.old sids.now room ≡ None }
-        ensures ok { OnOk result (self.new ≡ without_members self.old sids.now room) }
-        ensures changed { IfOk result (λ changed. ListsRising nat_cmp
-            (λ sid. is_named sids.now sid && is_in self.old sid room) changed.items) }
-        ensures err { OnErr result (self.new ≡ self.old) }
-    {
-        let inside = self.insiders(alloc, sids, room)?;
-        self.take_members(&inside, room);
-        Ok(inside)
-    }
-
     /// Adds sockets that aren't in the room. Where a growth is refused, all are taken out again,
     /// which takes no memory.
     fn add_members(&mut self, alloc: Global, sids: &[Sid], room: Room) -> Result<(), AllocError>
@@ -194,13 +162,11 @@ impl Rooms {
         ensures err { OnErr result (self.new ≡ self.old) }
     {
         self.kept_facts();
-        match self.add_each(alloc, sids, room) {
-            Ok(()) => Ok(()),
-            Err(AllocError) => {
-                self.take_members(sids, room);
-                Err(AllocError)
-            }
+        if self.add_each(alloc, sids, room).is_err() {
+            self.take_members(sids, room);
+            return Err(AllocError);
         }
+        Ok(())
     }
 
     /// Adds the sockets. Where a growth is refused, those before it stay.

@@ -109,7 +109,7 @@ fn goes<C: Ledger, T: Ledger>(
             true
         }
         IsIdle(idle) => peer.is_idle() == idle && peer.client() == Some(client),
-        Writes(end) => peer.wire().get_ref().written.as_slice().ends_with(end),
+        Writes(end) => peer.wire_mut().get_mut().written.as_slice().ends_with(end),
         Probe => server
             .apply(alloc, &RelayApp, &Event::Probe { client }, 0)
             .is_ok(),

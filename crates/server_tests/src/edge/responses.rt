@@ -68,7 +68,7 @@ fn answered(
 ) -> (Result<(), EdgeError>, bool) {
     let mut wire = OnStream::new(Spoken::silent(alloc, step, room));
     let answer = write_response(alloc, &mut wire, status, origin, body);
-    let written = wire.get_ref().written.as_slice();
+    let written = wire.get_mut().written.as_slice();
     let is_right = match answer {
         Ok(()) => written == want,
         Err(_) => want.starts_with(written),

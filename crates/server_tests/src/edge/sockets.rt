@@ -326,7 +326,7 @@ impl OnServer for ComesEarly {
         let rest = Vec::from_slice(alloc, FRAME).ok()?;
         let mut peer = accepted(alloc, self.head, rest, "close")?;
         let end = serve(alloc, server, &mut peer, 1_000);
-        let written = peer.stream().get_ref().written.as_slice();
+        let written = peer.stream_mut().get_mut().written.as_slice();
         let mut text = format!(in alloc; "{end:?}").ok()?;
         write_frames(&mut text, written.strip_prefix(SWITCHES).unwrap_or(&[])).ok()?;
         Some(is_open && text.as_str() == "Failed(Ended) opened connected closed")

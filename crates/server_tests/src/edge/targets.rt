@@ -15,7 +15,7 @@ const REFUSED: Said = Some((400, "{\"code\":3,\"message\":\"Bad request\"}"));
 
 fn said(reply: Option<Reply<'static>>) -> Said {
     let reply = reply?;
-    Some((reply.status.code(), reply.body))
+    Some((reply.status.line().0, reply.body))
 }
 
 #[test]

@@ -1,6 +1,7 @@
 use Rattle.std.proofs.Common.{◌≡◌, ℕ, List, inl, inr, refl, ap, subst, Option, Some, Ok, Err, rules}
 use Rattle.journal.specs.Journal.{History}
-use Rattle.effects.specs.Commands.{return_of, Recovers}
+use Rattle.hub_state.specs.Returning.{return_of}
+use Rattle.effects.specs.Commands.{Recovers}
 use Rattle.effects.specs.Effects.{scene}
 use Rattle.effects.specs.Scene.{seen}
 use Rattle.dispatch.specs.Packets.{stage, Names, AsksApp}

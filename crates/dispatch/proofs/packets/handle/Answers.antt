@@ -1,6 +1,6 @@
-use Rattle.std.proofs.Common.{ℕ, List, subst, rules}
+use Rattle.std.proofs.Common.{rules}
 use Rattle.effects.specs.Scene.{seen}
-use Rattle.dispatch.specs.Packets.{stage, TakesBinary}
+use Rattle.dispatch.specs.Packets.{stage}
 use Rattle.dispatch.proofs.PacketLemmas.{takes-text}
 use Rattle.dispatch.proofs.packets.handle.Goals as goal
 
@@ -19,13 +19,4 @@ returns-in-Message g c =
           took.advances
           took.fault
           c.go_on.ensures.1),
-    )
-
-pub returns-in-Binary : goal.returns-in-Binary
-returns-in-Binary g c =
-    let start = stage (seen c.args.scene.now) (g.I.IdSource.stream c.args.ids.now) in
-    let end = stage (seen c.take_binary.new.scene) (g.I.IdSource.stream c.take_binary.new.ids) in (
-      search rules,
-      rw c.in-Binary.is
-          (subst (λ (bytes : List ℕ). TakesBinary (g.A.App.policy c.args.app.now) c.args.scene.now.visit.client bytes c.args.scene.now.visit.moment start c.take_binary.result end) c.as_slice.ensures.value c.take_binary.ensures.1),
     )

@@ -1,34 +1,49 @@
-use Rattle.std.proofs.Common.{◌∙◌, ap, rules}
+use Rattle.std.proofs.Common.{◌≡◌, ◌∙◌, ap, Ok, Err, false, rules}
 use Rattle.journal.specs.Journal.{History}
 use Rattle.effects.specs.declared.scene.Tally.{Tally}
 use Rattle.effects.specs.Effects.{scene}
 use Rattle.effects.specs.Scene.{seen}
-use Rattle.effects.proofs.AskLemmas.{asks-full, asks-open, asks-untold}
+use Rattle.effects.proofs.AskLemmas.{forgets, asks-full, asks-open, asks-untold}
 use Rattle.effects.proofs.ask.ask.Goals as goal
+use Rattle.effects.proofs.ask.ask.Goals.{in-Ok+else-told, in-Err-1}
 
-pub returns-in-Ok-false : goal.returns-in-Ok-false
-returns-in-Ok-false c =
+pub returns-in_err-told : goal.returns-in_err-told
+returns-in_err-told c =
     let old = c.args.scene.now in
-    let tell = c.in-Ok-false.ensures in
-    let told = rw c.in-Ok-false.field-0-test at tell.tells in
-    let vain = rw c.saturating_add-until.ensures at (c.forget.ensures old.line.now c.args.inquiry.tag c.saturating_add-until.result c.in_ok-id.ensures.id (rw (← tell.kept.0) at c.in_ok-id.ensures.advances)) in
-    let asked = ap (λ (h : History). scene h c.forget.new.line c.tell.new.scene.tally.now) told.2.1 ∙ ap (λ (t : Tally). scene old.state.now c.forget.new.line t) tell.kept.1 in
-    let middle = scene c.tell.new.scene.state.now c.forget.new.line c.tell.new.scene.tally.now in record {
-      same = search rules;
-      ok = asks-full c.args.who.now c.args.inquiry old.visit.moment c.in_ok-id.id (seen old) middle (seen c.close_for.new.scene)
-          c.in_ok-id.ensures.id vain asked c.close_for.result told.0 told.1 told.2.0 (rw (tell.same.visit, ← c.requires.own) at c.close_for.ensures.ok);
-      err = asks-open c.args.who.now c.args.inquiry old.visit.moment c.in_ok-id.id (seen old) middle (seen c.close_for.new.scene)
-          c.in_ok-id.ensures.id vain asked c.close_for.result told.0 told.1 told.2.0 (rw (tell.same.visit, ← c.requires.own) at c.close_for.ensures.err);
-    }
-
-pub returns-in-Err : goal.returns-in-Err
-returns-in-Err c =
-    let old = c.args.scene.now in
-    let tell = c.in-Err.ensures in
-    let vain = rw c.saturating_add-until.ensures at (c.forget-in-Err.ensures old.line.now c.args.inquiry.tag c.saturating_add-until.result c.in_ok-id.ensures.id (rw (← tell.kept.0) at c.in_ok-id.ensures.advances)) in
-    let asked = ap (λ (h : History). scene h c.forget-in-Err.new.line c.tell.new.scene.tally.now) tell.tells.0 ∙ ap (λ (t : Tally). scene old.state.now c.forget-in-Err.new.line t) tell.kept.1 in
-    let middle = scene c.tell.new.scene.state.now c.forget-in-Err.new.line c.tell.new.scene.tally.now in record {
+    let tell = c.tell-told.ensures in
+    let fault = c.in_err-told.field-0.0 in
+    let failed : c.from_residual.result ≡ Err fault = search rules in
+    let answer : c.tell-told.result ≡ Err fault = elim c.match-told.branch [
+      | in-Ok+else-told w ↦ absurd (cc (w.told-is, c.in_err-told.was))
+      | in-Err-1 w ↦ search rules
+    ] in
+    let tells = rw answer at tell.tells in
+    let vain = rw c.saturating_add-until.ensures at (forgets old.line.now c.tell-told.new.scene.line.now c.answer-tag.new.self c.args.who.now.sid c.in-Ok.id c.args.inquiry.tag c.saturating_add-until.result c.answer-tag.result
+    c.in-Ok.ensures.id (rw (← tell.kept.0) at c.in-Ok.ensures.advances) c.answer-tag.ensures.answer c.answer-tag.ensures.advances) in
+    let asked = ap (λ (h : History). scene h c.answer-tag.new.self c.tell-told.new.scene.tally.now) tells.0 ∙ ap (λ (t : Tally). scene old.state.now c.answer-tag.new.self t) tell.kept.1 in
+    let middle = scene c.tell-told.new.scene.state.now c.answer-tag.new.self c.tell-told.new.scene.tally.now in
+    rw failed (record {
       same = search rules;
       ok = tt;
-      err = asks-untold c.args.who.now c.args.inquiry old.visit.moment c.in_ok-id.id (seen old) middle middle c.in_ok-id.ensures.id vain asked c.in-Err.fault tell.tells.1;
+      err = asks-untold c.args.who.now c.args.inquiry old.visit.moment c.in-Ok.id (seen old) middle middle c.in-Ok.ensures.id vain asked fault tells.1;
+    })
+
+pub returns : goal.returns
+returns c =
+    let old = c.args.scene.now in
+    let tell = c.tell-told.ensures in
+    let answer : c.tell-told.result ≡ Ok false = elim c.match-told.branch [
+      | in-Ok+else-told w ↦ search rules
+      | in-Err-1 w ↦ absurd (cc (w.told-is, c.in_ok-told.was))
+    ] in
+    let told = rw answer at tell.tells in
+    let vain = rw c.saturating_add-until.ensures at (forgets old.line.now c.tell-told.new.scene.line.now c.answer-tag.new.self c.args.who.now.sid c.in-Ok.id c.args.inquiry.tag c.saturating_add-until.result c.answer-tag.result
+    c.in-Ok.ensures.id (rw (← tell.kept.0) at c.in-Ok.ensures.advances) c.answer-tag.ensures.answer c.answer-tag.ensures.advances) in
+    let asked = ap (λ (h : History). scene h c.answer-tag.new.self c.tell-told.new.scene.tally.now) told.2.1 ∙ ap (λ (t : Tally). scene old.state.now c.answer-tag.new.self t) tell.kept.1 in
+    let middle = scene c.tell-told.new.scene.state.now c.answer-tag.new.self c.tell-told.new.scene.tally.now in record {
+      same = search rules;
+      ok = asks-full c.args.who.now c.args.inquiry old.visit.moment c.in-Ok.id (seen old) middle (seen c.close_for.new.scene)
+          c.in-Ok.ensures.id vain asked c.close_for.result told.0 told.1 told.2.0 (rw (tell.same.visit, ← c.requires.own) at c.close_for.ensures.ok);
+      err = asks-open c.args.who.now c.args.inquiry old.visit.moment c.in-Ok.id (seen old) middle (seen c.close_for.new.scene)
+          c.in-Ok.ensures.id vain asked c.close_for.result told.0 told.1 told.2.0 (rw (tell.same.visit, ← c.requires.own) at c.close_for.ensures.err);
     }

@@ -1,3 +1,4 @@
+use Rattle.std.proofs.Common.{rules}
 use Rattle.eio_wire.proofs.PacketLemmas.{data_separator, whole_binary}
 use Rattle.eio_wire.proofs.payload.has_separator.Goals as goal
 
@@ -6,4 +7,4 @@ returns-in-Binary-clause-whole c = λ _ text h.
     whole_binary c.in-Binary.field-0 text (rw c.in-Binary.is at h).1
 
 pub returns-in-Open-clause-holds : goal.returns-in-Open-clause-holds
-returns-in-Open-clause-holds c = λ found. data_separator c.args.packet.now c.in-Open.rest c.in-Open.is (c.holds_separator.ensures.holds found)
+returns-in-Open-clause-holds c = λ found. data_separator c.args.packet.now c.in-Open.rest c.in-Open.is (search (rules, found))

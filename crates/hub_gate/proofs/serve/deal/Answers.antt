@@ -1,5 +1,8 @@
-use Rattle.std.proofs.Common.{map, arith, refl, ◌∙◌}
-use Rattle.std.proofs.lemmas.Option.{slice_get_within}
+use Rattle.std.proofs.Common.{◌≡◌, ◌%◌, List, Some, map, option_map, arith, ap, refl, ◌∙◌}
+use Rattle.std.proofs.Math.ListN.{set}
+use Rattle.std.proofs.lemmas.List.{map-set}
+use Rattle.std.proofs.lemmas.Option.{slice_get_read, slice_get_within, slice_get-map}
+use Rattle.std.specs.List.{slice_get}
 use Rattle.std.specs.Vec.Iter.{into_iter_items}
 use Rattle.hub_gate.proofs.Dealing.{due_ends, due_more, empty_more, nothing_left}
 use Rattle.hub_gate.proofs.serve.deal.Goals as goal
@@ -14,13 +17,17 @@ pub loop-peer-preserved : goal.loop-peer-preserved
 loop-peer-preserved g c =
     let at = c.loop-peer in
     let steps = c.in-Some.ensures.steps in
-    let given = c.in_ok-append.ensures.given in
-    let queues = map (λ q. q.items) at.queues.items in
+    let all = at.queues in
+    let queues = map (λ q. q.items) all.items in
+    let worker = at.number % c.args.workers in
+    let found = slice_get_read all.items all.len worker c.index_mut.result.now all.ok.0 (omega (arith, at.invariant.count)) c.index_mut.ensures.value in
+    let was : slice_get queues worker ≡ Some c.index_mut.result.now.items = slice_get-map (λ v. v.items) all.items worker ∙ ap (option_map (λ v. v.items)) found in
+    let given = map-set (λ v. v.items) all.items worker c.push-in-loop-peer.new.self ∙ ap (λ xs. set queues worker xs) c.in_ok-push-2.ensures.items in
     record {
-      count = c.in_ok-append.ensures.len ∙ at.invariant.count;
+      count = at.invariant.count;
       number = omega (arith, at.invariant.number, steps.1);
-      due = rw given.new_is (due_more c.args.workers at.number c.in-Some.peer (into_iter_items c.next.new.self) (into_iter_items c.into_iter-peer-iterator.result) queues _ given.queue refl
-          (slice_get_within queues _ given.queue given.was) given.was (rw steps.0 at at.invariant.due));
+      due = rw given (due_more c.args.workers at.number c.in-Some.peer (into_iter_items c.next.new.self) (into_iter_items c.into_iter-peer-iterator.result) queues worker _ refl
+          (slice_get_within queues worker _ was) was (rw steps.0 at at.invariant.due));
     }
 
 pub returns-clause-dealt : goal.returns-clause-dealt

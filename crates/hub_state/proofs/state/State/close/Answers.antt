@@ -10,7 +10,7 @@ invariant_of-self-2 c =
     rw (c.add.ensures.steps, c.add.ensures.last, c.reserve.ensures.same, c.add.ensures.counts)
     (plus (closed _ _ c.args.client c.forget_client-discards.result c.args.now _ _ _ _ _ _ _ _ _ _ _ _ _ (hub-of c.self.inside c.self.invariant) (search rules) c.forget_client-discards.ensures.discards c.forget_client-discards.ensures.clients
     c.forget_client-discards.ensures.seats c.forget_client-discards.ensures.pids c.forget_client-discards.ensures.rooms c.kept_facts.ensures)
-    (some-depart _ _ _ _ _ _ c.self.invariant.4 (rw (← c.self.view_is) at c.in_ok-ended.ensures.ok) c.in_ok-note.ensures.ok))
+    (some-depart _ _ _ _ _ _ c.self.invariant.4 (rw (← c.self.view_is) at c.in_ok-ended.ensures.ok) c.in_ok-append.ensures.items))
 
 pub add-requires-clause-counted : goal.add-requires-clause-counted
 add-requires-clause-counted c =

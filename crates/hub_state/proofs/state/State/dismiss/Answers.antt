@@ -58,4 +58,4 @@ invariant_of-self-2 c =
     (get nat_cmp c.self.inside.clients) (get nat_cmp c.put_messages.new.clients) (get nat_cmp c.drop_all.new.clients) (get nat_cmp c.self.inside.seats) (get nat_cmp c.forget_each.new.seats)
     (sorted.contains nat_cmp c.self.inside.pids) (sorted.contains nat_cmp c.forget_each.new.pids) c.self.inside.rooms c.forget_each.new.rooms c.self.inside.saved c.self.inside.log c.self.inside.records.counts
     (hub-of c.self.inside c.self.invariant) known room c.put_messages.ensures drops gone.seats gone.pids gone.rooms c.kept_facts.ensures)
-    (some-depart _ _ _ _ _ _ c.self.invariant.4 (rw (← c.self.view_is) at c.in_ok-ended.ensures.ok) c.in_ok-note.ensures.ok))
+    (some-depart _ _ _ _ _ _ c.self.invariant.4 (rw (← c.self.view_is) at c.in_ok-ended.ensures.ok) c.in_ok-append.ensures.items))

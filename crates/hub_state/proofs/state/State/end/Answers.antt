@@ -15,7 +15,7 @@ invariant_of-self-2 c =
     = subst (λ p. (q : ℕ) → get nat_cmp c.drop_from.new.clients q ≡ (if c.in_ok-socket.socket.client == q then option_map (without_place p) (find q) else find q)) c.from.ensures c.drop_from.ensures in
     rw (c.add.ensures.steps, c.add.ensures.last, c.reserve.ensures.same, c.add.ensures.counts)
     (plus (ended _ _ c.args.sid c.args.by c.in_ok-socket.socket c.args.now _ _ _ _ _ _ _ _ _ _ _ _ _ (hub-of c.self.inside c.self.invariant) (search rules) found dropped c.forget.ensures.seats c.forget.ensures.pids c.forget.ensures.rooms c.kept_facts.ensures)
-    (some-depart _ _ _ _ _ _ c.self.invariant.4 (rw (← c.self.view_is) at c.in_ok-ended.ensures.ok) c.in_ok-note.ensures.ok))
+    (some-depart _ _ _ _ _ _ c.self.invariant.4 (rw (← c.self.view_is) at c.in_ok-ended.ensures.ok) c.in_ok-append.ensures.items))
 
 pub add-requires-clause-counted : goal.add-requires-clause-counted
 add-requires-clause-counted c = can_end _ _ _ _ c.self.invariant.3 c.self.invariant.2 c.args.sid c.args.by (search rules)

@@ -1,4 +1,6 @@
-use Rattle.std.proofs.Common.{rules, refl}
+use Rattle.std.proofs.Common.{rules, refl, ◌≡◌, ◌==◌, ℕ, Some, if◌then◌else◌}
+use Rattle.std.specs.Ordering.{nat_cmp}
+use Rattle.std.specs.BTreeMap.{get}
 use Rattle.journal.proofs.CommandLemmas.{opened, can_open}
 use Rattle.hub_state.proofs.DepartLemmas.{hub-of, none-departs, plus}
 use Rattle.hub_state.proofs.state.State.open.Goals as goal
@@ -6,8 +8,10 @@ use Rattle.hub_state.proofs.state.State.open.Goals as goal
 pub invariant_of-self-2 : goal.invariant_of-self-2
 invariant_of-self-2 c =
     let hub = hub-of c.self.inside c.self.invariant in
-    rw (c.add.ensures.steps, c.add.ensures.last, c.put_new.ensures.steps, c.add.ensures.counts)
-    (plus (opened _ _ c.args.client c.args.now _ _ _ _ _ _ _ _ _ _ hub (search rules) _ refl (rw c.config.ensures at c.in_ok-put_new.ensures.ok))
+    let new = rw c.config.ensures at c.in_ok-opened.ensures.ok in
+    let put : (q : ℕ) → get nat_cmp c.insert.new.self q ≡ (if c.args.client == q then Some c.in_ok-opened.opened else get nat_cmp c.self.inside.clients q) = λ q. search rules in
+    rw (c.add.ensures.steps, c.add.ensures.last, c.reserve.ensures.same, c.add.ensures.counts)
+    (plus (opened _ _ c.args.client c.args.now _ _ _ _ _ _ _ _ _ _ hub (search rules) _ new put)
     (none-departs _ _ _ _ c.self.invariant.4 refl))
 
 pub add-requires-clause-counted : goal.add-requires-clause-counted

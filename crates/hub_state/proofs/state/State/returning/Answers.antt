@@ -1,4 +1,4 @@
-use Rattle.std.proofs.Common.{rules, arith, ◌≡◌, ◌∙◌, refl, true, None}
+use Rattle.std.proofs.Common.{rules, arith, ◌≡◌, ◌∙◌, refl, sym, true, None, Err}
 use Rattle.journal.specs.declared.step.What.TheVariants.{Recovered}
 use Rattle.journal.specs.Membership.{is_open, is_space, socket_of, place_of}
 use Rattle.journal.specs.Recovery.{recovery_of}
@@ -18,8 +18,8 @@ returns-in_default-clause-refused c =
     let accepted = rw is at found.accepted in
     has-no-place h.base h.limits h.journal c.args.client place c.args.pid c.args.offset c.args.at c.in_ok-found.found.session.now known has_space alone accepted found.session c.in_default.ensures.none
 
-pub returns-in-Some-count_refusal-clause-refused : goal.returns-in-Some-count_refusal-clause-refused
-returns-in-Some-count_refusal-clause-refused c =
+pub returns-in_err-may_count-clause-refused : goal.returns-in_err-may_count-clause-refused
+returns-in_err-may_count-clause-refused c =
     let h = c.args.self.now in
     let found = c.in_ok-found.ensures in
     let place = place_of h.limits c.args.space.now in
@@ -29,12 +29,13 @@ returns-in-Some-count_refusal-clause-refused c =
     let free : socket_of h.base h.journal c.args.client c.from-place.result ≡ None = search rules in
     let alone : socket_of h.base h.journal c.args.client place ≡ None = rw is at free in
     let accepted = rw is at found.accepted in
-    by-count h.base h.limits h.journal c.args.client place c.args.pid c.args.offset c.args.at c.in_ok-found.found.session.now known has_space alone accepted found.session
+    let failed : c.from_residual-in_err-may_count.result ≡ Err c.in_err-may_count.field-0.0 = search rules in
+    rw failed (by-count h.base h.limits h.journal c.args.client place c.args.pid c.args.offset c.args.at c.in_ok-found.found.session.now known has_space alone accepted found.session
     c.in-Some.puts c.in-Some.ensures.place c.in-Some.ensures.count _
-    (λ placed. c.in-Some-count_refusal.ensures (Recovered (recovery_of h.base h.limits h.journal c.args.client place c.args.pid c.args.offset)) placed refl (omega arith))
+    (λ placed. sym (c.in_err-may_count.ensures (Recovered (recovery_of h.base h.limits h.journal c.args.client place c.args.pid c.args.offset)) placed refl (omega arith))))
 
-pub returns-in-None-clause-accepted : goal.returns-in-None-clause-accepted
-returns-in-None-clause-accepted c =
+pub returns-clause-accepted : goal.returns-clause-accepted
+returns-clause-accepted c =
     let h = c.args.self.now in
     let found = c.in_ok-found.ensures in
     let place = place_of h.limits c.args.space.now in
@@ -46,4 +47,4 @@ returns-in-None-clause-accepted c =
     let accepted = rw is at found.accepted in
     by-count h.base h.limits h.journal c.args.client place c.args.pid c.args.offset c.args.at c.in_ok-found.found.session.now known has_space alone accepted found.session
     c.in-Some.puts c.in-Some.ensures.place c.in-Some.ensures.count _
-    (λ placed. c.in-None.ensures (Recovered (recovery_of h.base h.limits h.journal c.args.client place c.args.pid c.args.offset)) placed refl (omega arith))
+    (λ placed. sym (c.in_ok-may_count.ensures (Recovered (recovery_of h.base h.limits h.journal c.args.client place c.args.pid c.args.offset)) placed refl (omega arith)))

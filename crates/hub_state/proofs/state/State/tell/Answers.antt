@@ -6,8 +6,8 @@ use Rattle.hub_state.proofs.state.State.tell.Goals as goal
 pub invariant_of-self-2 : goal.invariant_of-self-2
 invariant_of-self-2 c =
     let hub = hub-of c.self.inside c.self.invariant in
-    rw (c.in_ok-write.ensures.steps, c.in_ok-write.ensures.last, c.in_ok-write.ensures.counts, c.in_ok-entry.ensures.first)
-    (plus (told _ _ (record { client = c.args.client; entry = c.args.entry }) c.args.now _ _ _ _ _ _ _ _ _ _ hub (search rules) (rw c.in_ok-entry.ensures.second at c.put_entry.ensures))
+    rw (c.in_ok-write.ensures.steps, c.in_ok-write.ensures.last, c.in_ok-write.ensures.counts, c.in_ok-entry.ensures.ok)
+    (plus (told _ _ (record { client = c.args.client; entry = c.args.entry }) c.args.now _ _ _ _ _ _ _ _ _ _ hub (search rules) (rw (c.in_ok-shared.ensures, c.in_ok-entry.ensures.ok) at c.put_entry.ensures))
     (none-departs _ _ _ _ c.self.invariant.4 refl))
 
 pub write-requires : goal.write-requires

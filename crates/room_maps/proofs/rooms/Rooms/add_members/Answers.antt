@@ -2,8 +2,8 @@ use Rattle.std.proofs.Common.{◌∙◌}
 use Rattle.room_maps.proofs.TogetherLemmas.{without_members-absent, not_own_room}
 use Rattle.room_maps.proofs.rooms.Rooms.add_members.Goals as goal
 
-pub returns-in-Err-clause-err : goal.returns-in-Err-clause-err
-returns-in-Err-clause-err c =
+pub returns-then-is_err-clause-err : goal.returns-then-is_err-clause-err
+returns-then-is_err-clause-err c =
     c.take_members.ensures ∙ c.add_each.ensures.others ∙ without_members-absent c.args.self.now c.args.sids.now c.args.room c.requires.absent
 
 pub take_members-requires : goal.take_members-requires

@@ -1,0 +1,92 @@
+use Rattle.std.proofs.Common.{◌≡◌, [], ◌∷◌, ◌++◌, Result, Ok, Err, is_ok, is_err, None, true, false, arith, refl, inl, inr, length-append, sym, ◌∙◌}
+use Rattle.std.proofs.lemmas.Fn.{FoldsTo-push}
+use Rattle.hub_gate.specs.Turns.{Round, Serves}
+use Rattle.hub_gate.proofs.Rounds.{last_client-push}
+use Rattle.hub_gate.proofs.worker.Pool.talk.Goals as goal
+
+heard : {A E : Type 0} (reply : Result A E) → is_err reply ≡ false → true ≡ is_ok reply
+heard (Ok a) is = refl
+heard (Err e) is = absurd (cc (is))
+
+unheard : {A E : Type 0} (reply : Result A E) → is_err reply ≡ true → false ≡ is_ok reply
+unheard (Ok a) is = absurd (cc (is))
+unheard (Err e) is = refl
+
+pub turns-init : goal.turns-init
+turns-init g c = record { rounds = []; talks = refl; count = refl; lost_is = refl }
+
+pub turns-preserved : goal.turns-preserved
+turns-preserved g c =
+    let before = c.turns.invariant in
+    let r : Round = record { event = c.in-Some.event; now = c.in-Some.now; before = c.apply-done.result.before.value; got = c.apply-done.result.got; after = c.apply-done.result.after.value; heard = true } in
+    let gave = rw c.in-Some.is at c.in-Ok.ensures in
+    record {
+      rounds = before.rounds ++ r ∷ [];
+      talks = FoldsTo-push (Serves g.P.Peer.gives g.P.Peer.hears (g.A.App.policy c.args.self.now.app.now)) _ before.rounds _ r _ before.talks (record {
+        asking = c.next.new.self;
+        gave = gave;
+        applied = c.apply-done.ensures;
+        reply = c.answer.result;
+        heard_is = heard c.answer.result (sym c.is_err.ensures.value ∙ c.if-is_err.false);
+        told = c.answer.ensures;
+      });
+      count = omega (arith, length-append before.rounds (r ∷ []), before.count);
+      lost_is = c.lost_after-lost.ensures ∙ sym (last_client-push None before.rounds r);
+    }
+
+pub returns-in_default : goal.returns-in_default
+returns-in_default g c =
+    let before = c.turns.invariant in
+    record {
+      rounds = before.rounds;
+      last = c.turns.peer;
+      talks = before.talks;
+      within = omega (arith, before.count);
+      ends = inl (c.in_default.field-0, c.in_default.ensures);
+      lost_is = before.lost_is;
+    }
+
+pub returns-in_default-given : goal.returns-in_default-given
+returns-in_default-given g c =
+    let before = c.turns.invariant in
+    record {
+      rounds = before.rounds;
+      last = c.turns.peer;
+      talks = before.talks;
+      within = omega (arith, before.count);
+      ends = rw c.in_default-given.is at c.in-Ok.ensures;
+      lost_is = before.lost_is;
+    }
+
+pub returns-then-is_err : goal.returns-then-is_err
+returns-then-is_err g c =
+    let before = c.turns.invariant in
+    let r : Round = record { event = c.in-Some.event; now = c.in-Some.now; before = c.apply-done.result.before.value; got = c.apply-done.result.got; after = c.apply-done.result.after.value; heard = false } in
+    let gave = rw c.in-Some.is at c.in-Ok.ensures in
+    record {
+      rounds = before.rounds ++ r ∷ [];
+      last = c.answer.new.self;
+      talks = FoldsTo-push (Serves g.P.Peer.gives g.P.Peer.hears (g.A.App.policy c.args.self.now.app.now)) _ before.rounds _ r _ before.talks (record {
+        asking = c.next.new.self;
+        gave = gave;
+        applied = c.apply-done.ensures;
+        reply = c.answer.result;
+        heard_is = unheard c.answer.result (sym c.is_err.ensures.value ∙ c.if-is_err.true);
+        told = c.answer.ensures;
+      });
+      within = omega (arith, length-append before.rounds (r ∷ []), before.count);
+      ends = inr (refl, inl (before.rounds, r, refl, refl));
+      lost_is = c.lost_after-lost.ensures ∙ sym (last_client-push None before.rounds r);
+    }
+
+pub returns : goal.returns
+returns g c =
+    let before = c.turns.invariant in
+    record {
+      rounds = before.rounds;
+      last = c.turns.peer;
+      talks = before.talks;
+      within = omega (arith, before.count);
+      ends = inr (refl, inr (omega (arith, before.count)));
+      lost_is = before.lost_is;
+    }
