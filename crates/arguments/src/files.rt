@@ -64,25 +64,19 @@ pub fn read_folder<R: Files + AllocGlobal + Clone + Drop>(
     let entries = fs::read_dir(rt, folder).map_err(|error| fault_at(alloc, folder, &error))?;
     for entry in entries {
         let entry = entry.map_err(|error| fault_at(alloc, folder, &error))?;
-        add_entry(rt, &mut page, entry.file_name(), entry.path())?;
+        let (path, room) = (entry.path(), MOST_BYTES - page.size());
+        let read = read_file(rt, path, room).map_err(|error| fault_at(
+            alloc,
+            path.as_str(),
+            &error,
+        ))?;
+        if let Some(bytes) = read {
+            let name = Text::copy_of(alloc, entry.file_name())?;
+            let bytes = Bytes::from_vec(bytes);
+            page.add(File { name, bytes })?;
+        }
     }
     Ok(page)
-}
-
-/// Adds an entry of a folder, if it is a file.
-fn add_entry<R: Files + AllocGlobal>(
-    rt: &R,
-    page: &mut Page,
-    name: &str,
-    path: Path<'_>,
-) -> Result<(), FileFault> {
-    let (alloc, room) = (rt.alloc(), MOST_BYTES - page.size());
-    let read = read_file(rt, path, room).map_err(|error| fault_at(alloc, path.as_str(), &error))?;
-    if let Some(bytes) = read {
-        let (name, bytes) = (Text::copy_of(alloc, name)?, Bytes::from_vec(bytes));
-        page.add(File { name, bytes })?;
-    }
-    Ok(())
 }
 
 /// The bytes of a file, but just one more than there is room for where it has more. Nothing where it

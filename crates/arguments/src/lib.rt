@@ -6,4 +6,3 @@ mod files;
 pub mod options;
 pub mod refused;
 pub mod task;
-mod texts;

@@ -1,8 +1,7 @@
 //! What a program is asked to do.
 
 use crate::files::{FileFault, read_folder, read_token};
-use crate::options::{Options, read_options, server};
-use crate::texts::{is_origin, is_path};
+use crate::options::{Options, read_settings, server};
 use clap::error::ErrorKind;
 use clap::{ArgMatches, Command, Error};
 use journal::Config;
@@ -112,7 +111,14 @@ fn right_options<R: Files + AllocGlobal + Clone + Drop>(
     processors: usize,
 ) -> Result<Box<Options>, Error> {
     let alloc = rt.alloc();
-    let mut options = read_options(alloc, matches, processors)?;
+    let options = Options {
+        settings: read_settings(alloc, matches, processors)?,
+        token: None,
+        tell_left: matches.get_flag("tell-left"),
+        until_eof: matches.get_flag("until-eof"),
+        verbose: matches.get_flag("verbose"),
+    };
+    let mut options = Box::new(alloc, options)?;
     let mut wrong = wrong_option(alloc, &mut options.settings)?;
     if wrong.is_none() {
         wrong = read_files(rt, matches, &mut options)?;
@@ -157,22 +163,17 @@ fn wrong_option(alloc: Global, settings: &mut Settings) -> Result<Option<String>
         };
         return Ok(Some(message));
     }
-    match wrong_text(settings) {
-        Some((name, text, why)) => Ok(Some(format!(in alloc; "--{name} {text:?}: {why}")?)),
-        None => Ok(None),
-    }
-}
-
-/// The option whose text is none of its kind, with the text and what is told of it, if there is one.
-fn wrong_text(settings: &Settings) -> Option<(&'static str, &str, &'static str)> {
     for origin in settings.origins.iter() {
-        if !is_origin(origin.as_str()) {
-            return Some(("origin", origin.as_str(), WRONG_ORIGIN));
+        let origin = origin.as_str();
+        if !is_origin(origin) {
+            return Ok(Some(format!(in alloc; "--origin {origin:?}: {WRONG_ORIGIN}")?));
         }
     }
-    match &settings.metrics {
-        Some(path) if !is_path(path.as_str()) => Some(("metrics", path.as_str(), WRONG_PATH)),
-        _ => None,
+    match settings.metrics.as_ref().map(|path| path.as_str()) {
+        Some(path) if !is_path(path) => {
+            Ok(Some(format!(in alloc; "--metrics {path:?}: {WRONG_PATH}")?))
+        }
+        _ => Ok(None),
     }
 }
 
@@ -186,6 +187,30 @@ fn wrong_space(hub: &mut Config) -> Option<Text> {
         wrong = hub.spaces.pop();
     }
     wrong
+}
+
+/// Whether a browser may name this origin (RFC 6454, section 6.2), or it is `*`, which stands for all.
+fn is_origin(text: &str) -> bool {
+    match text.split_once("://") {
+        Some((scheme, host)) => is_part(scheme) && is_part(host),
+        None => text == "*" || text == "null",
+    }
+}
+
+fn is_part(text: &str) -> bool {
+    let is_allowed = |byte: u8| {
+        byte.is_ascii_lowercase()
+            || byte.is_ascii_digit()
+            || matches!(byte, b'+' | b'-' | b'.' | b'_' | b':' | b'[' | b']')
+    };
+    !text.is_empty() && text.bytes().all(is_allowed)
+}
+
+/// Whether a request may have this path (RFC 9112, section 3.2.1), and it isn't the socket's.
+fn is_path(text: &str) -> bool {
+    let is_allowed = |byte: u8| byte.is_ascii_graphic() && !matches!(byte, b'?' | b'#');
+    let is_socket = text == "/socket.io" || text == "/socket.io/";
+    text.starts_with('/') && text.bytes().all(is_allowed) && !is_socket
 }
 
 /// `event_server` with its subcommands.

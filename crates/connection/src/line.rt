@@ -17,7 +17,7 @@ use sio_wire::{Assembler, SioError, SioPacket};
 use std::alloc::Global;
 use std::collections::BTreeMap;
 use std::marker::Model;
-use terms::Sid;
+use terms::{Sid, let_go};
 
 /// A client's line: its assembler and its clock, whether a GET of it waits and whether it is due a
 /// ping, and the questions to its sockets. All moments are milliseconds of one clock.
@@ -38,13 +38,7 @@ pub struct Line {
 /// Written out, so that a crate above takes the drop of all that lies in it by this one call.
 impl Drop for Line {
     fn drop(self) {
-        let Self {
-            assembler: _,
-            clock: _,
-            getting: _,
-            ping: _,
-            books: _,
-        } = self;
+        let_go!(self; assembler, clock, getting, ping, books);
     }
 }
 

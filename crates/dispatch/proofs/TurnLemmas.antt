@@ -139,6 +139,16 @@ agree-each h g follows lines agree d = agree d ∙ sym (open-others (d + 1) h g 
 pub not-again : (h : History) (now c : ℕ) → is_open h.base h.journal c ≡ true → StopsAt h now (Opened c) IdTaken
 not-again h now c is = inr (hub.IdTaken, rw is refl, tt, refl)
 
+-- a client's line that was put and forgotten again leaves the lines as they were
+pub put-forgotten : (c : ℕ) (old with_line new : List (ℕ × PlainLine)) → line_of old c ≡ None → line_of new c ≡ None
+    → ((d : ℕ) → c == d ≡ false → line_of with_line d ≡ line_of old d) → ((d : ℕ) → c == d ≡ false → line_of new d ≡ line_of with_line d)
+    → (d : ℕ) → line_of new d ≡ line_of old d
+put-forgotten c old with_line new none gone put forgotten d = on (c == d) refl
+  where
+    on : (b : Bool) → (c == d) ≡ b → line_of new d ≡ line_of old d
+    on true is = let same : c ≡ d = grind (arith, nat_tests, is) in subst (λ (e : ℕ). line_of new e ≡ line_of old e) same (gone ∙ sym none)
+    on false is = forgotten d is ∙ put d is
+
 -- an event that ends with an error between two of its packets
 pub ends-with : (policy : Policy) (now c : ℕ) (packets : List Packet) (line : PlainLine)
     (s t : Place) (ids left : ℕ → ℕ) (e : CoreError) (m : Stage)

@@ -26,14 +26,11 @@ pub(crate) fn tick(visit: Visit, state: &mut State, lines: &mut Lines) -> Answer
     let Some(line) = lines.get_mut(&visit.client) else {
         return Err(CoreFault::UnknownClient.at_once());
     };
-    let cause = match line.tick(visit.moment) {
-        Due::Nothing => {
-            let done = Done::nothing(visit.alloc);
-            return Ok(Outcome::Ticked { ping: false, done });
-        }
-        Due::SendPing => {
-            let done = Done::nothing(visit.alloc);
-            return Ok(Outcome::Ticked { ping: true, done });
+    let due = line.tick(visit.moment);
+    let cause = match due {
+        Due::Nothing | Due::SendPing => {
+            let (ping, done) = (due == Due::SendPing, Done::nothing(visit.alloc));
+            return Ok(Outcome::Ticked { ping, done });
         }
         Due::PingTimeout => {
             park_or_close(visit, state)?;

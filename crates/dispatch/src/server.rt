@@ -31,6 +31,7 @@ use std::alloc::{AllocError, Global};
 use std::collections::BTreeMap;
 use std::marker::Model;
 use std::sync::ledger::{Blank, Ledger};
+use terms::let_go;
 
 /// The hub, and a line for each of its open clients. In a contract it is the hub's value, the lines
 /// by their clients, and what each new client is told. Each core has a line for just the open
@@ -44,11 +45,7 @@ pub struct Core<C: Ledger, T: Ledger> {
 /// Written out, so that a crate above takes the drop of all that lies in it by this one call.
 impl<C: Ledger, T: Ledger> Drop for Core<C, T> {
     fn drop(self) {
-        let Self {
-            hub: _,
-            lines: _,
-            told: _,
-        } = self;
+        let_go!(self; hub, lines, told);
     }
 }
 

@@ -79,20 +79,7 @@ fn noop(alloc: Global, line: &mut Line) -> Taken
     Ok(Outcome::Payload(text))
 }
 
-/// Counts the entries that are handed out, where there are some.
-fn count_entries(visit: Visit, state: &mut State, most: usize) -> Acted
-    requires { is_open state.old.base state.old.journal visit.client ≡ true }
-    ensures ok { OnOk result (Counts visit.client most visit.moment state.old state.new) }
-    ensures err { IfErr result (λ f. FailsToCount visit.client most visit.moment state.old f
-        × (state.new ≡ state.old)) }
-{
-    if most > 0 && state.front(visit.client, 0).is_some() {
-        state.take_away(visit.alloc, visit.client, most, visit.moment)?;
-    }
-    Ok(())
-}
-
-/// Counts the entries that are handed out, and then a ping that was due.
+/// Counts the entries that are handed out, where there are some, and then a ping that was due.
 pub(crate) fn count(
     visit: Visit,
     state: &mut State,
@@ -106,7 +93,9 @@ pub(crate) fn count(
     ensures err { IfErr result (λ f. FailsToCount visit.client most visit.moment state.old f
         × (state.new ≡ state.old) × (line.new ≡ line.old)) }
 {
-    count_entries(visit, state, most)?;
+    if most > 0 && state.front(visit.client, 0).is_some() {
+        state.take_away(visit.alloc, visit.client, most, visit.moment)?;
+    }
     if ping {
         line.carry_ping();
     }

@@ -5,7 +5,7 @@ use Rattle.std.specs.FinSet as set
 use Rattle.std.proofs.lemmas.Bool.{eqb-true, eq-eqb}
 use Rattle.terms.specs.Room.{same_room, own_room}
 use Rattle.room_maps.specs.Membership.{RoomSets, is_socket, is_in, rooms_in, with_pair, without_pair, with_members, without_members, with_socket, with_socket_in, without_socket, is_full, are_too_many, AreConsistent}
-use Rattle.room_maps.proofs.MembershipLemmas.{same_rooms, with_pair-again, few_with_pair, few_without_pair, few_without_members, few_without_socket, few_with_socket, few_of_new}
+use Rattle.room_maps.proofs.MembershipLemmas.{same_rooms, with_pair-again, few_with_pair, few_without_pair, few_without_socket, few_with_socket, few_of_new}
 use Rattle.room_maps.proofs.MembershipLaws.{is_socket-with_pair, is_in-with_pair, is_socket-without_pair, is_in-without_pair, is_socket-with_members, is_in-with_members, is_socket-without_members, is_in-without_members, is_socket-with_socket, is_in-with_socket, is_socket-with_socket_in, is_in-with_socket_in, is_socket-without_socket, is_in-without_socket}
 use Rattle.room_maps.proofs.OrderLemmas.{same_room_is, same_room_itself}
 use Rattle.journal.specs.declared.socket.Socket.{Socket}
@@ -84,9 +84,16 @@ module _ (v : RoomSets) (fine : AreConsistent v) where
     own_rooms = λ q is. is_in-without_members v sids room q (own_room q)
         ∙ outside (list_any (nat_eq q) sids && same_room room (own_room q)) (is_in v q (own_room q)) (apart (list_any (nat_eq q) sids) (same_room room (own_room q)) (other q)) (fine.own_rooms q (sym (is_socket-without_members v sids room q) ∙ is));
     known = λ q w is. is_socket-without_members v sids room q ∙ fine.known q w (both-true (not (list_any (nat_eq q) sids && same_room room w)) (is_in v q w) (sym (is_in-without_members v sids room q w) ∙ is)).1;
-    few_rooms = few_without_members v sids room fine.few_rooms;
+    few_rooms = λ q. few q (list_any (nat_eq q) sids) refl;
   }
     where
+      few : (q : ℕ) (b : Bool) → list_any (nat_eq q) sids ≡ b → set.len (rooms_in (without_members v sids room) q) ≤ 256
+      few q false e = let same = same_rooms v (without_members v sids room) q (λ w. is_in-without_members v sids room q w ∙ ap (λ (b : Bool). not (b && same_room room w) && is_in v q w) e) in let bound = fine.few_rooms q in omega (arith, same, bound)
+      few q true e =
+          let same = same_rooms (without_pair v q room) (without_members v sids room) q
+          (λ w. is_in-without_members v sids room q w ∙ ap (λ (b : Bool). not (b && same_room room w) && is_in v q w) (e ∙ sym (itself q)) ∙ sym (is_in-without_pair v q room q w)) in
+          let bound = few_without_pair v q room fine.few_rooms q in omega (arith, same, bound)
+
       apart : (a b : Bool) → (a ≡ true → b ≡ false) → (a && b) ≡ false
       apart true b h = h refl
       apart false b h = refl

@@ -1,7 +1,8 @@
 -- A text of one to nine digits.
-use Rattle.std.proofs.Common.{◌≡◌, ◌<◌, ◌^◌, ℕ, List, [], ◌∷◌, get_or, suc, zero, Result, Err, true, refl, rules, arith}
+use Rattle.std.proofs.Common.{◌≡◌, ◌<◌, ◌^◌, ℕ, List, [], ◌∷◌, get_or, suc, zero, Result, Ok, Err, None, true, refl, rules, arith}
 use Rattle.std.specs.Prelude.{All, IsTrue, IsUtf8}
 use Rattle.std.specs.Char.{is_ascii_digit}
+use Rattle.std.specs.Result.{result_ok}
 use Rattle.std.specs.Str.{all_ascii_digits}
 use Rattle.std.specs.Str.Parse.{digits_value, ParsesUnsigned}
 use Rattle.std.proofs.lemmas.List.Elements.{All-head, All-tail}
@@ -19,13 +20,17 @@ digits_test (b ∷ bs) all =
     rw first (digits_test bs (All-tail (λ x. IsTrue (is_ascii_digit x)) b bs all))
 
 -- such a text is read
-pub length_parses : {E : Type 0} (text : List ℕ) (r : Result ℕ E) (e : E) → IsLength text → ParsesUnsigned 64 10 text r → r ≡ Err e → ⊥
+length_parses : {E : Type 0} (text : List ℕ) (r : Result ℕ E) (e : E) → IsLength text → ParsesUnsigned 64 10 text r → r ≡ Err e → ⊥
 length_parses text r e len parses failed =
     let digits = digits_test text len.2 in
     let small : digits_value 10 text < 10 ^ 9 = digits_value_short own text 9 digits len.1 in
     let fits : digits_value 10 text < 2 ^ 64 = omega (arith, small) in
     let given = parse_gives own 64 text r parses digits len.0 fits in
     cc
+
+pub length_given : {E : Type 0} (text : List ℕ) (r : Result ℕ E) → IsLength text → ParsesUnsigned 64 10 text r → result_ok r ≡ None → ⊥
+length_given text (Ok n) len parses none = absurd (search (rules, none))
+length_given text (Err e) len parses none = length_parses text (Err e) e len parses refl
 
 -- and is text
 ascii_at : (text : List ℕ) → All (λ b. IsTrue (is_ascii_digit b)) text → (i : ℕ) → get_or text i 0 < 128

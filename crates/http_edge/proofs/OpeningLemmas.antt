@@ -44,6 +44,11 @@ part bytes piece m unended = record {
   may = m.may;
 }
 
+-- nothing was to be judged
+pub rests_judged : (before after : Line) (piece bytes : List ℕ) → (after ≡ Blank) ⊎ ((before ≢ Blank) × EndsNoLine piece) → IsJudged before piece after bytes
+rests_judged before after piece bytes (inl blank) = inl blank
+rests_judged before after piece bytes (inr rests) = inr (inl rests)
+
 still_may : (bytes piece : List ℕ) (line after : Line) → line ≡ walk Blank bytes → after ≡ walk Blank (bytes ++ piece) → (HasBegun bytes → MayBegin bytes)
     → IsJudged line piece after (bytes ++ piece) → HasBegun (bytes ++ piece) → MayBegin (bytes ++ piece)
 still_may bytes piece line after before is may (inl blank) begun = absurd (none_begun (bytes ++ piece) (sym is ∙ blank) begun)

@@ -1,5 +1,6 @@
 -- A walk over the pairs of a query.
-use Rattle.std.proofs.Common.{◌≡◌, ℕ, List, [], ◌∷◌, Option, None, Some, refl, is_some, true, false, option_map}
+use Rattle.std.proofs.Common.{◌≡◌, ℕ, List, [], ◌∷◌, Option, None, Some, refl, true, false}
+use Rattle.std.specs.Prelude.{bytes_eq}
 use Rattle.std.specs.Option.{option_or}
 use Rattle.form_urlencoded.specs.Form.{DecodesTo}
 use Rattle.http_edge.specs.Routes.{first_among, under}
@@ -10,17 +11,13 @@ pub first_step : (key name value n v : List ℕ) (all rest : List (List ℕ × L
 unfolding first_among
 first_step key name value n v all rest is left right = rw (is, left.2, right.2) refl
 
--- a pair that answers ends the walk
-pub answered : {X Y : Type 0} (f : X → Y) (o : Option X) (own rest all whole : Option Y) → true ≡ is_some o → option_map f o ≡ own
-    → all ≡ option_or own rest → all ≡ whole → option_map f o ≡ whole
-answered f (Some x) own rest all whole some is step same = rw (← same, step, ← is) refl
-answered f None own rest all whole some is step same = cc
+-- a pair with this key ends the walk
+pub answered : (key n v : List ℕ) (rest all whole : Option (List ℕ)) → bytes_eq n key ≡ true → all ≡ option_or (under key n v) rest → all ≡ whole → Some v ≡ whole
+answered key n v rest all whole is step same = rw (← same, step, is) refl
 
--- one that does not leaves the answer to the rest
-pub passed : {X Y : Type 0} (f : X → Y) (o : Option X) (own rest all whole : Option Y) → false ≡ is_some o → option_map f o ≡ own
-    → all ≡ option_or own rest → all ≡ whole → rest ≡ whole
-passed f None own rest all whole none is step same = rw (← same, step, ← is) refl
-passed f (Some x) own rest all whole none is step same = cc
+-- one with another leaves the answer to the rest
+pub passed : (key n v : List ℕ) (rest all whole : Option (List ℕ)) → bytes_eq n key ≡ false → all ≡ option_or (under key n v) rest → all ≡ whole → rest ≡ whole
+passed key n v rest all whole is step same = rw (← same, step, is) refl
 
 -- no pair is left
 pub no_more : (key : List ℕ) (all : List (List ℕ × List ℕ)) (whole : Option (List ℕ)) → all ≡ [] → first_among key all ≡ whole → None ≡ whole

@@ -62,10 +62,7 @@ fn read_length(text: &[u8]) -> Option<usize>
     let Ok(digits) = std::str::from_utf8(text) else {
         return None;
     };
-    match digits.parse::<usize>() {
-        Ok(number) => Some(number),
-        Err(_) => None,
-    }
+    digits.parse().ok()
 }
 
 // The length of a body that the fields name.

@@ -1,9 +1,9 @@
 //! A head, read by `httparse` (RFC 9112, sections 2, 3 and 5).
 
-ghost use Rattle.std.specs.Prelude.{◌≡◌, ◌⊎◌, ◌≤◌, ℕ, true, false, length, map, All, IfOk, IfErr, OnOk, OnErr, IsUtf8, ◌<◌, codes, bytes_eq, string_bytes};
+ghost use Rattle.std.specs.Prelude.{◌≡◌, ◌⊎◌, false, length, IfOk, IfErr, OnOk, IsUtf8, ◌<◌, string_bytes};
 ghost use Rattle.httparse.specs.Grammar.{RequestHead, MayBecomeRequest};
-ghost use Rattle.httparse.specs.Spans.{IsRequestWithin, IsRequestOf, IsRequestAt, IsHeaderWithin, RequestOverflows, header_bytes};
-ghost use Rattle.http_edge.specs.Request.{NamesLength, IsTargetOf};
+ghost use Rattle.httparse.specs.Spans.{IsRequestWithin, IsRequestOf, IsRequestAt, RequestOverflows};
+ghost use Rattle.http_edge.specs.Request.{IsTargetOf};
 ghost use Rattle.http_edge.specs.Reading.{HasEmptyLine, HasNoHead, LacksLength, NamesTooMuch, IsFault};
 ghost use Rattle.http_edge.specs.Head.{IsHeadOf, HasParsed};
 ghost use Rattle.http_edge.specs.declared.error.EdgeError.TheVariants.{Memory, BadHead, HeadTooLong, NoLength, BodyTooLong};
@@ -52,26 +52,6 @@ fn split_target(alloc: Global, target: &str) -> Result<(String, String), AllocEr
     }
 }
 
-// The length of the body that belongs to a head.
-fn length_for(method: &str, bytes: &[u8], fields: &[HeaderSpan]) -> Result<usize, EdgeError>
-    requires { All (IsHeaderWithin (length bytes.now)) fields.now }
-    ensures posted { bytes_eq method.now (codes "POST") ≡ true → IfOk result
-        (λ n. NamesLength (map (header_bytes bytes.now) fields.now) n × (n ≤ 1000000)) }
-    ensures other { let posts = bytes_eq method.now (codes "POST")
-        in (posts ≡ false → IfOk result (λ n. n ≡ 0)) × OnErr result (posts ≡ true) }
-    ensures unnamed { IfErr result
-        (λ e. e ≡ NoLength → (n : ℕ) → ¬ NamesLength (map (header_bytes bytes.now) fields.now) n) }
-    ensures too_long { IfErr result (λ e. e ≡ BodyTooLong
-        → (n : ℕ) × NamesLength (map (header_bytes bytes.now) fields.now) n × (1000000 < n)) }
-    ensures kinds { IfErr result (λ e. (e ≡ NoLength) ⊎ (e ≡ BodyTooLong)) }
-{
-    if method == "POST" {
-        body_length(bytes, fields)
-    } else {
-        Ok(0)
-    }
-}
-
 // What is kept of the head that the spans show.
 fn head_of(
     alloc: Global,
@@ -91,7 +71,10 @@ fn head_of(
 {
     let fields = &spans[..found.headers];
     let method = text_from(alloc, found.method.of(bytes))?;
-    let body_len = length_for(method.as_str(), bytes, fields)?;
+    let body_len = match method.as_str() {
+        "POST" => body_length(bytes, fields)?,
+        _ => 0,
+    };
     let target = text_from(alloc, found.path.of(bytes))?;
     let (path, query) = split_target(alloc, target.as_str())?;
     Ok(Head {

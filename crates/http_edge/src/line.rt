@@ -1,7 +1,7 @@
 //! Looks for the empty line that ends a head (RFC 9112, section 2.1), each byte once.
 
 ghost use Rattle.std.specs.Prelude.{◌≡◌, ◌≢◌, ◌⊎◌, true, false};
-ghost use Rattle.http_edge.specs.declared.line.Line.TheVariants.{Blank, Empty};
+ghost use Rattle.http_edge.specs.declared.line.Line.TheVariants.{Blank};
 ghost use Rattle.http_edge.specs.Reading.{EndsNoLine};
 ghost use Rattle.http_edge.specs.Line.{next, walk};
 
@@ -52,13 +52,5 @@ impl Line {
             → (self ≡ Blank) ⊎ ((before ≢ Blank) × EndsNoLine piece.now) }
     {
         self != Line::Blank && (before == Line::Blank || piece.contains(&b'\n'))
-    }
-
-    /// Has the empty line come?
-    pub(crate) fn is_empty_line(self) -> bool
-        ensures yes { result ≡ true → self ≡ Empty }
-        ensures none_yet { result ≡ false → self ≢ Empty }
-    {
-        matches!(self, Line::Empty)
     }
 }

@@ -60,12 +60,9 @@ fn is_named(named: &[String], origin: &str) -> bool
 fn target_for(access: Access, method: &str, target: Target) -> Target
     ensures { result ≡ origins.target_for access method.now target }
 {
-    match access {
-        Access::Served => target,
-        Access::Refused => Target::Refuse(Refusal::BadRequest),
-        Access::Granted => match target {
-            Target::Refuse(_) if method == "OPTIONS" => Target::Preflight,
-            _ => target,
-        },
+    match (access, target) {
+        (Access::Refused, _) => Target::Refuse(Refusal::BadRequest),
+        (Access::Granted, Target::Refuse(_)) if method == "OPTIONS" => Target::Preflight,
+        _ => target,
     }
 }

@@ -116,21 +116,13 @@ fn push_content(text: &mut String, status: Status, length: usize) -> Result<(), 
         (string_bytes text.new ≡ string_bytes text.old ++ http.content status length) }
 {
     if status == Status::NoContent {
-        push_permission(text)?;
+        push_field(text, "Access-Control-Allow-Methods", "GET, POST")?;
+        push_field(text, "Access-Control-Allow-Headers", "Content-Type")?;
+        push_field(text, "Access-Control-Max-Age", "7200")?;
     } else {
         push_field(text, "Content-Type", status.media_type())?;
         push_length(text, length)?;
     }
-    Ok(())
-}
-
-/// Adds what a page of another origin may ask.
-fn push_permission(text: &mut String) -> Result<(), AllocError>
-    ensures { OnOk result (string_bytes text.new ≡ string_bytes text.old ++ http.permission) }
-{
-    push_field(text, "Access-Control-Allow-Methods", "GET, POST")?;
-    push_field(text, "Access-Control-Allow-Headers", "Content-Type")?;
-    push_field(text, "Access-Control-Max-Age", "7200")?;
     Ok(())
 }
 

@@ -1,15 +1,13 @@
 //! What a request asks for: the routes of Engine.IO's one path.
 
 ghost use Rattle.std.specs.Prelude.{◌≡◌, Option, Some, None, IfOk, IfErr, option_map, string_bytes};
-ghost use Rattle.std.specs.Cow.{cow_str_bytes};
 ghost use Rattle.http_edge.specs.Routes as routes;
-ghost use Rattle.http_edge.specs.Routes.{IsRouted, GivesId, value_of, is_value, under};
+ghost use Rattle.http_edge.specs.Routes.{IsRouted, value_of, is_value};
 ghost use Rattle.http_edge.specs.declared.error.EdgeError.TheVariants.{Memory};
 
 use crate::error::EdgeError;
 use crate::request::Request;
-use std::alloc::{AllocError, Global};
-use std::borrow::CowStr;
+use std::alloc::Global;
 use terms::read_id;
 
 /// Why a request is answered by status 400.
@@ -70,17 +68,9 @@ pub fn route(alloc: Global, request: &Request) -> Result<Target, EdgeError>
     let transport = first_value(alloc, query, "transport")?;
     let sid = first_value(alloc, query, "sid")?;
     let version = first_value(alloc, query, "EIO")?;
-    Ok(choose(request, &transport, id_given(&sid), &version))
-}
-
-// The id that the `sid` of a query is: no `sid`, one that is no id, or an id.
-fn id_given(sid: &Option<String>) -> Option<Option<u128>>
-    ensures { GivesId (option_map string_bytes sid.now) result }
-{
-    match sid {
-        None => None,
-        Some(text) => Some(read_id(text.as_str())),
-    }
+    // No `sid`, one that is no id, or an id.
+    let id = sid.as_ref().map(|text| read_id(text.as_str()));
+    Ok(choose(request, &transport, id, &version))
 }
 
 // The row of the table.
@@ -133,27 +123,10 @@ fn first_value(alloc: Global, query: &[u8], key: &str) -> Result<Option<String>,
     ensures kinds { IfErr result (λ e. e ≡ Memory) }
 {
     for pair in form_urlencoded::parse(alloc, query) {
-        let value = value_under(alloc, pair?, key)?;
-        if value.is_some() {
-            return Ok(value);
+        let (name, value) = pair?;
+        if name.as_str() == key {
+            return Ok(Some(value.into_owned(alloc)?));
         }
     }
     Ok(None)
-}
-
-// The pair's value, where its name is the key.
-fn value_under(
-    alloc: Global,
-    pair: (CowStr<'_>, CowStr<'_>),
-    key: &str,
-) -> Result<Option<String>, AllocError>
-    ensures { IfOk result (λ value. option_map string_bytes value
-        ≡ under key.now (cow_str_bytes pair.entry.0) (cow_str_bytes pair.entry.1)) }
-{
-    let (name, value) = pair;
-    if name.as_str() == key {
-        Ok(Some(value.into_owned(alloc)?))
-    } else {
-        Ok(None)
-    }
 }

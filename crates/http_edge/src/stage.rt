@@ -1,8 +1,7 @@
 //! How far a request has come, and what its next bytes lead to.
 
-ghost use Rattle.std.specs.Prelude.{◌≡◌, ◌≤◌, ◌<◌, ◌++◌, ◌+◌, [], ℕ, List, Ok, Err, length, IfOk, IfErr, OnOk};
-ghost use Rattle.http_edge.specs.Reading.{HasEmptyLine, IsRequestIn, IsFault};
-ghost use Rattle.http_edge.specs.Head.{Begins, IsJudged, Decided};
+ghost use Rattle.std.specs.Prelude.{◌≡◌, ◌<◌, ◌++◌, ◌+◌, [], ℕ, List, Ok, Err};
+ghost use Rattle.http_edge.specs.Head.{Begins};
 ghost use Rattle.http_edge.specs.Stages.{StepsTo, so_far};
 ghost use Rattle.http_edge.specs.declared.error.EdgeError.{EdgeError};
 
@@ -98,37 +97,17 @@ impl Opening {
         let room = HEAD_LIMIT - bytes.len();
         let after = line.after_all(&piece[..room.min(piece.len())]);
         bytes.extend_from_slice(piece)?;
-        let ended = after.is_empty_line();
+        let ended = after == Line::Empty;
         if !ended && piece.len() < room {
-            judge_due(&bytes, line, piece, after)?;
+            // So a head has at most 102 looks, in whatever pieces it comes.
+            if after.is_due(line, piece) {
+                judge(&bytes)?;
+            }
             return Ok(Step::More(Stage::Opening(Opening { bytes, line: after })));
         }
-        let head = head_in(alloc, &bytes, ended)?;
+        let head = find_head(alloc, &bytes[..HEAD_LIMIT.min(bytes.len())], ended)?;
         filled(alloc, bytes, head)
     }
-}
-
-// Judges the bytes, the last of which are this piece, where the start line has begun in it or a
-// line has ended. So a head has at most 102 looks, in whatever pieces it comes.
-fn judge_due(bytes: &[u8], before: Line, piece: &[u8], after: Line) -> Result<(), EdgeError>
-    requires short { length bytes.now < 16384 }
-    requires unended { ¬ HasEmptyLine bytes.now }
-    ensures judged { OnOk result (IsJudged before piece.now after bytes.now) }
-    ensures fault { IfErr result (λ e. IsFault e bytes.now) }
-{
-    if after.is_due(before, piece) {
-        judge(bytes)?;
-    }
-    Ok(())
-}
-
-// The head at the front of the bytes, which has ended or has to.
-fn head_in(alloc: Global, bytes: &[u8], ended: bool) -> Result<Head, EdgeError>
-    requires { Decided ended bytes.now }
-    ensures head { IfOk result (λ head. Begins head bytes.now) }
-    ensures fault { IfErr result (λ e. IsFault e bytes.now) }
-{
-    find_head(alloc, &bytes[..HEAD_LIMIT.min(bytes.len())], ended)
 }
 
 impl Filling {
@@ -149,21 +128,11 @@ fn filled(alloc: Global, bytes: Vec<u8>, head: Head) -> Result<Step, EdgeError>
     if bytes.len() - head.len < head.body_len {
         return Ok(Step::More(Stage::Filling(Filling { bytes, head })));
     }
-    Ok(Step::Done(request_of(alloc, &bytes, head)?))
-}
-
-// The request at the front of the bytes, whose body is whole.
-fn request_of(alloc: Global, bytes: &[u8], head: Head) -> Result<Request, EdgeError>
-    requires begins { Begins head bytes.now }
-    requires whole { head.len + head.body_len ≤ length bytes.now }
-    ensures asked { IfOk result (λ q. IsRequestIn q bytes.now) }
-    ensures fault { IfErr result (λ e. IsFault e bytes.now) }
-{
     let end = head.len + head.body_len;
     let Ok(text) = std::str::from_utf8(&bytes[head.len..end]) else {
         return Err(EdgeError::NotUtf8);
     };
-    Ok(Request {
+    Ok(Step::Done(Request {
         body: String::from_str(alloc, text)?,
         rest: Vec::from_slice(alloc, &bytes[end..])?,
         head: Vec::from_slice(alloc, &bytes[..head.len])?,
@@ -172,5 +141,5 @@ fn request_of(alloc: Global, bytes: &[u8], head: Head) -> Result<Request, EdgeEr
         query: head.query,
         upgrade: head.upgrade,
         origin: head.origin,
-    })
+    }))
 }

@@ -94,13 +94,9 @@ impl<S: Read + Write> Wire for OnStream<S> {
         if self.broken {
             return Err(Broken);
         }
-        match self.stream.read(buf) {
-            Ok(count) => Ok(count),
-            Err(_) => {
-                self.broken = true;
-                Err(Broken)
-            }
-        }
+        let read = self.stream.read(buf);
+        self.broken = read.is_err();
+        read.map_err(|_| Broken)
     }
 
     fn write(&mut self, buf: &[u8]) -> Result<usize, Broken> {

@@ -1,5 +1,5 @@
 -- Which peers each worker of a pool is dealt, what the pool reports, and when it is refused.
-use Rattle.std.specs.Prelude.{◌≡◌, ℕ, ◌<◌, ◌≤◌, ◌%◌, ◌==◌, List, Some, Result, Ok, Err, filter, length, map, min, slice_get}
+use Rattle.std.specs.Prelude.{◌≡◌, ℕ, ◌<◌, ◌≤◌, ◌%◌, ◌==◌, List, Some, Ok, Err, filter, length, map, min, slice_get}
 use Rattle.std.specs.List.{FoldsTo, enumerate_from}
 use Rattle.journal.specs.declared.totals.Totals.{Totals}
 use Rattle.hub_totals.specs.declared.books.NotAll.{NotAll}

@@ -134,9 +134,7 @@ pub fn serve_peers<
     let Ok(queues) = deal(pool.alloc, peers, workers) else {
         return Err(ServeError::Memory);
     };
-    let Ok(counts) = Vec::with_capacity(pool.alloc, workers) else {
-        return Err(ServeError::Memory);
-    };
+    let counts = Vec::with_capacity(pool.alloc, workers).or(Err(ServeError::Memory))?;
     let jobs = make_jobs(pool, queues, ids)?;
     let finished = run_all(pool, jobs)?;
     let workers = gather(pass, finished, counts);

@@ -30,13 +30,11 @@ pub struct WorkerCounts {
 fn lost_after(event: &Event, got: &Answered, now: u64) -> Option<(u128, u64)>
     ensures { result ≡ option_map (λ c. (c, now)) (lost_by event.now got.now) }
 {
-    if let Some(client) = event.client() {
-        return Some((client, now));
-    }
-    match got {
-        Ok(Outcome::Opened(opening)) => Some((opening.client, now)),
+    let opened = match got {
+        Ok(Outcome::Opened(opening)) => Some(opening.client),
         _ => None,
-    }
+    };
+    Some((event.client().or(opened)?, now))
 }
 
 /// What all workers of a pool share. It can be lent to any number of threads.
@@ -66,11 +64,12 @@ impl<R: Wait, C: Ledger, T: Ledger, A: App, G: Turnstile> Pool<'_, R, C, T, A, G
             result.after.value (desk pass.new (I.stream ids.new)) }
     {
         let mut guard = self.locked.look(self.rt, pass);
-        let before = Snapshot::of(&*guard);
-        let got = guard.apply(self.alloc, pass, self.app, event, now, ids);
-        guard.audit(pass);
-        note_facts(&*guard);
-        let after = Snapshot::of(&*guard);
+        let core = &mut *guard;
+        let before = Snapshot::of(core);
+        let got = core.apply(self.alloc, pass, self.app, event, now, ids);
+        core.audit(pass);
+        note_facts(core);
+        let after = Snapshot::of(core);
         Turn { before, got, after }
     }
 

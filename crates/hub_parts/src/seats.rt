@@ -95,7 +95,9 @@ impl Seats {
         ensures { IfOk result (λ sids.
             ListsRising nat_cmp (λ s. is_here space (get nat_cmp self.now s)) sids.items) }
     {
-        sids_at(alloc, &self.by_space, space)
+        let place = u32::from(space);
+        let least = Sid::new(0);
+        sids_between(alloc, &self.by_space, (place, least), (place + 1, least))
     }
 }
 
@@ -113,18 +115,4 @@ fn sids_between(
         in sids.items ≡ map (λ q. q.1) (inside by_space.now)) }
 {
     by_space.range(from..to).map(|(_, sid)| *sid).collect(alloc)
-}
-
-/// The session ids that stand at a place, rising.
-fn sids_at(
-    alloc: Global,
-    by_space: &BTreeSet<(u32, Sid)>,
-    space: u16,
-) -> Result<Vec<Sid>, AllocError>
-    ensures { IfOk result (λ sids.
-        ListsRising nat_cmp (λ s. sorted.contains seat_cmp by_space.now (space, s)) sids.items) }
-{
-    let place = u32::from(space);
-    let least = Sid::new(0);
-    sids_between(alloc, by_space, (place, least), (place + 1, least))
 }

@@ -1,5 +1,5 @@
 -- What a step adds to the sockets that ended.
-use Rattle.std.proofs.Common.{◌≡◌, ℕ, Bool, true, false, List, [], ◌++◌, ◌∷◌, refl, sym, ap, ◌∙◌, append-nil, Option, None, Some, if◌then◌else◌}
+use Rattle.std.proofs.Common.{◌≡◌, ℕ, Bool, true, false, List, [], ◌++◌, ◌∷◌, refl, sym, ap, subst, ◌∙◌, append-nil, Option, None, Some, if◌then◌else◌}
 use Rattle.std.specs.List.{AllByRecursion}
 use Rattle.std.specs.Ordering.{nat_cmp}
 use Rattle.std.specs.BTreeMap.{get}
@@ -7,7 +7,12 @@ use Rattle.std.specs.BTreeSet as sorted
 use Rattle.journal.specs.declared.step.Step.{Step}
 use Rattle.journal.specs.declared.socket.Socket.{Socket}
 use Rattle.journal.specs.Plain.{PlainBase, PlainClient, Limits}
-use Rattle.journal.specs.Fields.{client_at, held_sockets}
+use Rattle.journal.specs.Fields.{Fields, Counted, client_at, held_sockets}
+use Rattle.journal.specs.Legal.{IsLegal, IsSound}
+use Rattle.journal.specs.declared.totals.Counts.{Counts}
+use Rattle.room_maps.specs.Membership.{RoomSets}
+use Rattle.recovery.specs.SavedTable.{TableContents}
+use Rattle.recovery.specs.PacketLog.{LogContents}
 use Rattle.journal.specs.Outboxes.{waiting}
 use Rattle.journal.specs.Membership.{is_open, sockets, sockets_of}
 use Rattle.journal.proofs.HubLemmas.{sockets_of-none}
@@ -18,12 +23,22 @@ use Rattle.hub_state.specs.Inside.{Describes}
 
 -- what the state says beside it
 pub hub-of : (h : Inside) → Describes h
-    → IsHub h.base h.limits (get nat_cmp h.clients) (get nat_cmp h.seats) (sorted.contains nat_cmp h.pids) h.rooms h.saved h.log h.records.last h.records.counts (h.records.steps.steps)
+    → IsHub h.base h.limits (get nat_cmp h.clients) (get nat_cmp h.live.seats) (sorted.contains nat_cmp h.live.pids) h.live.rooms h.saved h.log h.records.last h.records.counts (h.records.steps.steps)
 hub-of h holds = (holds.0, holds.1, holds.2, holds.3)
 
 -- and this too
 pub plus : {A B C D E : Type 0} → A × B × C × D → E → A × B × C × D × E
 plus hub more = (hub.0, hub.1, hub.2, hub.3, more)
+
+-- the same of what is written down of the commands, in other words
+pub recorded : (base : PlainBase) (limits : Limits) (find : ℕ → Option PlainClient) (seat : ℕ → Option Socket) (is_pid : ℕ → Bool) (sets : RoomSets) (table : TableContents) (packets : LogContents) (list : List PlainDeparted)
+    (newest new : ℕ) (counts counted : Counts) (journal steps : List Step) → new ≡ newest → counted ≡ counts → steps ≡ journal
+    → Fields base limits find seat is_pid sets table packets newest journal × IsLegal base limits journal × IsSound base limits journal × Counted base limits counts journal × (list ≡ departed base journal)
+    → Fields base limits find seat is_pid sets table packets new steps × IsLegal base limits steps × IsSound base limits steps × Counted base limits counted steps × (list ≡ departed base steps)
+recorded base limits find seat is_pid sets table packets list newest new counts counted journal steps last count is hub =
+    subst (λ n. Fields base limits find seat is_pid sets table packets n steps × IsLegal base limits steps × IsSound base limits steps × Counted base limits counted steps × (list ≡ departed base steps)) (sym last)
+    (subst (λ k. Fields base limits find seat is_pid sets table packets newest steps × IsLegal base limits steps × IsSound base limits steps × Counted base limits k steps × (list ≡ departed base steps)) (sym count)
+    (subst (λ js. Fields base limits find seat is_pid sets table packets newest js × IsLegal base limits js × IsSound base limits js × Counted base limits counts js × (list ≡ departed base js)) (sym is) hub))
 
 -- a step that ends none
 pub none-departs : (base : PlainBase) (before : List Step) (step : Step) (list : List PlainDeparted) → list ≡ departed base before → departed_by base before step.what ≡ [] → list ≡ departed base (step ∷ before)

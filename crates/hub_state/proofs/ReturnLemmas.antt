@@ -103,9 +103,9 @@ pub record ComesBack (hub : Inside) (r : PlainRecovery) (k : Socket) (es : List 
   pub entries : es ≡ answer hub.limits r.socket ∷ entries_of (log hub.base hub.limits (hub.records.steps.steps)) r.missed
   pub counts : CanCount hub.records.counts (length es) 0 0 0
   pub alone : find (λ (l : Socket). l.space == k.space) (held_sockets (get nat_cmp hub.clients k.client)) ≡ None
-  pub free : get nat_cmp hub.seats r.socket.sid ≡ None
-  pub unused : sorted.contains nat_cmp hub.pids r.socket.pid ≡ false
-  pub new : is_socket hub.rooms r.socket.sid ≡ false
+  pub free : get nat_cmp hub.live.seats r.socket.sid ≡ None
+  pub unused : sorted.contains nat_cmp hub.live.pids r.socket.pid ≡ false
+  pub new : is_socket hub.live.rooms r.socket.sid ≡ false
   pub few : are_too_many r.socket.sid r.rooms ≡ false
   pub place : have_no_place hub.limits (waiting hub.base hub.limits (hub.records.steps.steps) k.client) es ≡ false
 
@@ -146,9 +146,9 @@ pub came-back : (hub : Inside) (r : PlainRecovery) (k : Socket) (es : List Entry
     → Describes hub → ComesBack hub r k es now → n ≡ length es
     → ((q : ℕ) → mid q ≡ (if k.client == q then option_map (plus_socket k) (get nat_cmp hub.clients q) else get nat_cmp hub.clients q))
     → ((q : ℕ) → new q ≡ (if k.client == q then option_map (with_entries es) (mid q) else mid q))
-    → ((s : ℕ) → seat s ≡ (if r.socket.sid == s then Some r.socket else get nat_cmp hub.seats s))
-    → ((p : ℕ) → is_pid p ≡ ((r.socket.pid == p) || sorted.contains nat_cmp hub.pids p))
-    → sets ≡ room_maps.with_socket_in hub.rooms r.socket.sid r.rooms → AreConsistent sets
+    → ((s : ℕ) → seat s ≡ (if r.socket.sid == s then Some r.socket else get nat_cmp hub.live.seats s))
+    → ((p : ℕ) → is_pid p ≡ ((r.socket.pid == p) || sorted.contains nat_cmp hub.live.pids p))
+    → sets ≡ room_maps.with_socket_in hub.live.rooms r.socket.sid r.rooms → AreConsistent sets
     → table ≡ removed hub.saved k.pid
     → IsHub hub.base hub.limits new seat is_pid sets table hub.log (max now hub.records.last) (record { commands = hub.records.counts.commands + 1; placed = hub.records.counts.placed + n; dropped = hub.records.counts.dropped + 0; taken = hub.records.counts.taken + 0; discarded = hub.records.counts.discarded + 0 })
     (record { at = max now hub.records.last; what = Recovered r } ∷ hub.records.steps.steps)
@@ -156,5 +156,5 @@ came-back hub r k es now n mid new seat is_pid sets table holds b number first s
     let find = get nat_cmp hub.clients in
     let clients = subst (λ (k : Socket). (q : ℕ) → new q ≡ (if k.client == q then option_map (with_return k es) (find q) else find q)) b.same (returned find mid new k.client k es first second) in
     let out' = out ∙ ap (λ (k : Socket). removed hub.saved k.pid) b.same in
-    recovered hub.base hub.limits r now hub.records.last n find new (get nat_cmp hub.seats) seat (sorted.contains nat_cmp hub.pids) is_pid hub.rooms sets hub.saved table hub.log hub.records.counts (hub.records.steps.steps) es
+    recovered hub.base hub.limits r now hub.records.last n find new (get nat_cmp hub.live.seats) seat (sorted.contains nat_cmp hub.live.pids) is_pid hub.live.rooms sets hub.saved table hub.log hub.records.counts (hub.records.steps.steps) es
     (hub-of hub holds) b.accepted b.right b.entries number clients seats pids rooms consistent out'

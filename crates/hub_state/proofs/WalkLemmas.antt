@@ -1,29 +1,8 @@
--- A walk over the sockets of a client, and walks that gather what each gives, or keep what passes.
-use Rattle.std.proofs.Common.{◌≡◌, ℕ, ◌+◌, ◌<◌, Bool, Bor, List, [], ◌∷◌, ◌++◌, length, take, map, filter, cond, true, false, refl, if◌then◌else◌, get_or, sym, ◌∙◌, ap, Option, None, Some}
-use Rattle.std.specs.Prelude.{slice_index_or}
+-- Walks that gather what each gives, or keep what passes.
+use Rattle.std.proofs.Common.{◌≡◌, ℕ, ◌+◌, ◌<◌, Bool, List, [], ◌∷◌, ◌++◌, length, take, map, filter, cond, true, false, refl, if◌then◌else◌, get_or, sym, ◌∙◌, ap}
 use Rattle.std.specs.List.{flat_map}
 use Rattle.std.proofs.lemmas.List.{take_more, flat_map_more, map_more}
 use Rattle.std.proofs.lemmas.List.Elements.{filter_more}
-use Rattle.std.specs.Iterator.{Yields}
-use Rattle.std.specs.Map.Iter.{TakesFirst, deref}
-use Rattle.std.proofs.Math.Seq.{take-length}
-use Rattle.std.proofs.lemmas.Option.{get_or_from_slice_get}
-use Rattle.std.proofs.lemmas.Map.Iter.{iter_turn, iter_end}
-use Rattle.journal.specs.declared.socket.Socket.{Socket}
-
--- the next socket
-pub turn : (all : List Socket) (xs : List (Bor Socket)) (s t u : List Socket) (r : Option (Bor Socket)) → s ≡ all → Yields (TakesFirst (deref {X = Socket})) s xs t → (x : Bor Socket) → r ≡ Some x → TakesFirst (deref {X = Socket}) t r u
-    → (length xs < length all) × (x.now ≡ slice_index_or all (length xs) x.now)
-turn all xs s t u r start y x is step =
-    let at = iter_turn (deref {X = Socket}) all xs s t u r start y x is step in
-    (at.0, sym (get_or_from_slice_get all (length xs) x.now x.now at.1))
-
--- no socket is left
-pub whole : (all : List Socket) (xs : List (Bor Socket)) (s t u : List Socket) (r : Option (Bor Socket)) → s ≡ all → Yields (TakesFirst (deref {X = Socket})) s xs t → r ≡ None → TakesFirst (deref {X = Socket}) t r u
-    → take (length xs) all ≡ all
-whole all xs s t u r start y is step =
-    let at = iter_end (deref {X = Socket}) all xs s t u r start y is step in
-    ap (λ n. take n all) at.1 ∙ take-length all
 
 -- one more is gathered
 pub gathered : {X A : Type 0} (f : X → List A) (xs : List X) (i : ℕ) (x : X) (old new : List A) → i < length xs → x ≡ get_or xs i x

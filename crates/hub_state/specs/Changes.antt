@@ -9,14 +9,16 @@ use Rattle.journal.specs.declared.error.HubError.{HubError}
 use Rattle.journal.specs.declared.error.HubError.TheVariants.{Memory}
 use Rattle.journal.specs.declared.socket.Socket.{Socket}
 use Rattle.journal.specs.declared.step.What.{What}
-use Rattle.room_maps.specs.Membership.{RoomSets, is_socket}
+use Rattle.room_maps.specs.Membership.{RoomSets, is_socket, with_socket_in, AreConsistent}
 use Rattle.journal.specs.Plain.{PlainClient}
 use Rattle.journal.specs.Journal.{History, moment, with_step}
 use Rattle.journal.specs.Totals.{placed_by, dropped_by, handed_out_by, discarded_by, waiting_in_all}
 use Rattle.journal.specs.Legal.{EachTwo, AreApart}
 use Rattle.journal.specs.Fields.{held_sockets}
 use Rattle.journal.specs.Command.{refusal}
-use Rattle.hub_parts.specs.Seats.{SeatMap}
+use Rattle.journal.specs.Membership.{without_sockets}
+use Rattle.hub_parts.specs.Seats.{SeatMap, SameSeats, WithSeat}
+use Rattle.hub_state.specs.declared.state.Live.{Live}
 
 -- ---- the maps
 
@@ -38,8 +40,18 @@ abbrev pub WithPid : ℕ → BTreeSet ℕ → BTreeSet ℕ → Type 0
 WithPid pid old new = (p : ℕ) → contains nat_cmp new p ≡ ((pid == p) || contains nat_cmp old p)
 
 -- no socket has one of the socket's ids
-abbrev pub IsNew : Socket → SeatMap → BTreeSet ℕ → Type 0
-IsNew socket seats pids = (get nat_cmp seats socket.sid ≡ None) × (contains nat_cmp pids socket.pid ≡ false)
+abbrev pub IsNew : Socket → Live → Type 0
+IsNew socket known = (get nat_cmp known.seats socket.sid ≡ None) × (contains nat_cmp known.pids socket.pid ≡ false)
+
+-- the same sockets in the same rooms
+abbrev pub SameLive : (old new : Live) → Type 0
+SameLive old new = SameSeats old.seats new.seats × SamePids old.pids new.pids × (new.rooms ≡ old.rooms)
+
+-- one socket more, in its own room and in these
+abbrev pub WithSocket : Socket → (inside : List (List ℕ)) → (old new : Live) → Type 0
+WithSocket socket inside old new =
+    WithSeat socket old.seats new.seats × WithPid socket.pid old.pids new.pids
+    × (new.rooms ≡ with_socket_in old.rooms socket.sid inside) × AreConsistent new.rooms
 
 -- the socket's client has none at the socket's place
 abbrev pub IsAlone : Socket → BTreeMap ℕ PlainClient → Type 0
@@ -58,6 +70,11 @@ WithoutSeats sockets old new =
 abbrev pub WithoutPids : List Socket → BTreeSet ℕ → BTreeSet ℕ → Type 0
 WithoutPids sockets old new =
     (p : ℕ) → contains nat_cmp new p ≡ (if list_any (λ (k : Socket). k.pid == p) sockets then false else contains nat_cmp old p)
+
+-- without the sockets of a list
+abbrev pub WithoutSockets : List Socket → (old new : Live) → Type 0
+WithoutSockets sockets old new =
+    WithoutSeats sockets old.seats new.seats × WithoutPids sockets old.pids new.pids × (new.rooms ≡ without_sockets old.rooms sockets)
 
 -- the rooms know these sockets, of which no two share an id: so they can be forgotten one by one
 abbrev pub CanForget : List Socket → RoomSets → Type 0

@@ -14,7 +14,7 @@ history_of h = record { base = h.base; limits = h.limits; journal = h.records.st
 
 abbrev pub Describes : Inside → Type 0
 Describes h =
-    Fields h.base h.limits (get nat_cmp h.clients) (get nat_cmp h.seats) (sorted.contains nat_cmp h.pids) h.rooms h.saved h.log h.records.last (h.records.steps.steps)
+    Fields h.base h.limits (get nat_cmp h.clients) (get nat_cmp h.live.seats) (sorted.contains nat_cmp h.live.pids) h.live.rooms h.saved h.log h.records.last (h.records.steps.steps)
     × IsLegal h.base h.limits (h.records.steps.steps)
     × IsSound h.base h.limits (h.records.steps.steps)
     × Counted h.base h.limits h.records.counts (h.records.steps.steps)

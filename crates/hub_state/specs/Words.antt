@@ -4,14 +4,14 @@ use Rattle.std.specs.Ordering.{nat_cmp}
 use Rattle.terms.specs.Listing.{ListsRising}
 use Rattle.terms.specs.declared.entry.Entry.{Entry}
 use Rattle.room_maps.specs.Membership.{RoomSets, is_in}
-use Rattle.recovery.specs.PacketLog.{PlainLogged, LogContents, IsRun, number_of}
+use Rattle.recovery.specs.PacketLog.{PlainLogged, IsRun, number_of}
 use Rattle.recovery.specs.SavedTable.{PlainSaved}
 use Rattle.continuity.specs.Truly.{HearsWhatIsDue}
 use Rattle.journal.specs.declared.error.HubError.{HubError}
 use Rattle.journal.specs.declared.socket.Socket.{Socket}
 use Rattle.journal.specs.declared.step.What.{What}
 use Rattle.journal.specs.declared.step.What.TheVariants.{Told, Took}
-use Rattle.journal.specs.Plain.{Limits, PlainBroadcast, PlainDismissal, PlainMessage}
+use Rattle.journal.specs.Plain.{PlainBroadcast, PlainDismissal, PlainMessage}
 use Rattle.journal.specs.Journal.{History}
 use Rattle.journal.specs.Membership.{is_open, is_in_space, place_of, rooms}
 use Rattle.journal.specs.Sessions.{sessions}
@@ -45,11 +45,6 @@ logs h = log h.base h.limits h.journal
 -- the log's offsets follow one another, up to that before the next
 abbrev pub RunsOn : History → Type 0
 RunsOn h = IsRun (number_of (next h.base h.journal)) (logs h)
-
--- the log of a new hub
-abbrev pub fresh_log : Limits → LogContents
-fresh_log limits =
-    record { limit = limits.log; next = Some limits.first_offset; last = 0; entries = [] }
 
 -- the saved sessions
 abbrev pub saves : History → List PlainSaved

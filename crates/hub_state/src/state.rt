@@ -16,7 +16,7 @@ ghost use Rattle.journal.specs.declared.step.Step.{Step};
 ghost use Rattle.journal.specs.declared.step.What.{What};
 ghost use Rattle.hub_state.specs.Changes.{OfEach, Reports};
 ghost use Rattle.hub_state.specs.Counting.{counts_after};
-ghost use Rattle.hub_state.specs.Words.{fresh_log, spent_by, AllHear, opened, when_open, waits, logs, saves};
+ghost use Rattle.hub_state.specs.Words.{spent_by, AllHear, opened, when_open, waits, logs, saves};
 
 mod aim;
 mod cast;
@@ -41,7 +41,7 @@ use room_maps::Rooms;
 use std::alloc::Global;
 use std::collections::{BTreeMap, BTreeSet};
 use std::marker::Model;
-use terms::{Entry, Room, Sid};
+use terms::{Entry, Room, Sid, let_go};
 
 /// What a hub holds. In a contract it is its base, its limits and its journal, the newest step
 /// first: all else is what these say.
@@ -50,9 +50,7 @@ pub struct State {
     base: Base,
     records: Records,
     clients: BTreeMap<u128, Client>,
-    seats: Seats,
-    pids: BTreeSet<Pid>,
-    rooms: Rooms,
+    live: Live,
     /// The sessions that may come back.
     saved: SavedTable,
     /// The broadcasts that a session which comes back may have missed.
@@ -64,18 +62,7 @@ pub struct State {
 /// Written out, so that a crate above takes the drop of all that lies in it by this one call.
 impl Drop for State {
     fn drop(self) {
-        let Self {
-            limits: _,
-            base: _,
-            records: _,
-            clients: _,
-            seats: _,
-            pids: _,
-            rooms: _,
-            saved: _,
-            log: _,
-            departed: _,
-        } = self;
+        let_go!(self; limits, base, records, clients, live, saved, log, departed);
     }
 }
 
@@ -88,6 +75,14 @@ impl Model for State {
     ghost view = { history_of };
 
     ghost invariant = { Describes };
+}
+
+/// The connected sockets by both their ids, and the rooms that they are in.
+#[derive(Drop)]
+pub(crate) struct Live {
+    seats: Seats,
+    pids: BTreeSet<Pid>,
+    rooms: Rooms,
 }
 
 /// What is written down of the commands.
@@ -186,38 +181,30 @@ impl State {
             |_| HubError::Memory,
         )?;
         let limits = Limits::new(alloc, config)?;
-        Ok(State::begin(alloc, limits, log))
-    }
-
-    /// A hub with an empty base and an empty log.
-    fn begin(alloc: Global, limits: Limits, log: PacketLog) -> State
-        requires few { length limits.spaces ≤ 65536 }
-        requires log { log ≡ fresh_log limits }
-        ensures { result
-            ≡ record { base = empty_base limits.first_offset; limits = limits; journal = [] } }
-    {
         let config = limits.config();
         let base = empty_base(alloc, config);
         let saved = SavedTable::new(alloc, config.saved);
-        let rooms = Rooms::new(alloc);
-        rooms.kept_facts();
+        let live = Live {
+            seats: Seats::new(alloc),
+            pids: BTreeSet::new(alloc),
+            rooms: Rooms::new(alloc),
+        };
+        live.rooms.kept_facts();
         let records = Records {
             steps: Steps::new(alloc),
             last: 0,
             counts: NONE,
         };
-        State {
+        Ok(State {
             limits,
             base,
             records,
             clients: BTreeMap::new(alloc),
-            seats: Seats::new(alloc),
-            pids: BTreeSet::new(alloc),
-            rooms,
+            live,
             saved,
             log,
             departed: Vec::new(alloc),
-        }
+        })
     }
 
     /// What holds of every hub: its journal is legal, each of its broadcasts reached whom it was
@@ -335,7 +322,7 @@ impl State {
     )
         ensures { IsMirrored (rooms self.now.base self.now.journal) result.0.now result.1.now }
     {
-        self.rooms.mirrors()
+        self.live.rooms.mirrors()
     }
 
     /// Whether the client is open.
@@ -349,7 +336,7 @@ impl State {
     pub fn is_connected(&self, sid: Sid) -> bool
         ensures { result ≡ is_connected sid_of self.now.base self.now.journal sid }
     {
-        self.seats.contains_key(sid)
+        self.live.seats.contains_key(sid)
     }
 
     /// How many entries wait for a client, or `None` where it isn't open.

@@ -1,7 +1,7 @@
 //! What a hub counts.
 
 /// The counts of a hub, from its first step on.
-#[derive(Clone, Copy, Debug, PartialEq, Eq)]
+#[derive(Clone, Copy, Debug, Default, PartialEq, Eq)]
 pub struct Totals {
     /// The commands that were accepted.
     pub commands: u64,

@@ -1,13 +1,10 @@
 -- What others hand to a loop.
-use Rattle.std.specs.Prelude.{◌≡◌, ◌⊎◌, ◌+◌, ◌++◌, ℕ, Bool, true, ◌&&◌, cond, nat_eq, not, List, vec_len}
+use Rattle.std.specs.Prelude.{◌≡◌, ◌⊎◌, ◌+◌, ◌++◌, ℕ, Bool, true, cond, List, vec_len}
 use Rattle.loop_rules.specs.declared.mailbox.Mail.{Mail}
 
 -- how much was handed in
 abbrev pub count : {H : Type 0} → Mail H → ℕ
 count mail = vec_len mail.handed + vec_len mail.woken + cond mail.everyone 1 0
-
-abbrev pub is_empty : {H : Type 0} → Mail H → Bool
-is_empty mail = nat_eq (vec_len mail.handed) 0 && nat_eq (vec_len mail.woken) 0 && not mail.everyone
 
 -- a loop that is asleep has read all
 abbrev pub IsUnread : {H : Type 0} → Mail H → Bool → Type 0

@@ -1,7 +1,7 @@
 //! How long a connection may take.
 
 ghost use Rattle.std.specs.Prelude.{◌≡◌};
-ghost use Rattle.loop_rules.specs.Deadlines.{is_stuck, overdue_at};
+ghost use Rattle.loop_rules.specs.Deadlines.{overdue_at};
 
 /// How long a request may take to come, in milliseconds.
 const REQUEST: u64 = 10_000;
@@ -51,25 +51,19 @@ pub enum Overdue {
     Look,
 }
 
-/// Whether none of what is to be sent has gone for too long.
-fn is_stuck(stalled: Option<u64>) -> bool
-    ensures { result ≡ is_stuck stalled }
-{
-    matches!(stalled, Some(time) if time >= STALL)
-}
-
 /// What is to be done with a connection that has been so long at this part, and whose bytes to be
 /// sent have not gone on for so long, if there are any.
 pub fn find_overdue(part: Part, age: u64, stalled: Option<u64>) -> Overdue
     ensures { result ≡ overdue_at part age stalled }
 {
+    let is_stuck = matches!(stalled, Some(time) if time >= STALL);
     match part {
         Part::Request if age >= REQUEST => Overdue::Close,
         Part::Waits if age >= WAIT => Overdue::GiveUp,
         Part::Knocks if age >= PROBE => Overdue::Cut,
         Part::Knocks => Overdue::Look,
-        Part::Served if is_stuck(stalled) => Overdue::Fail,
-        Part::Sends if is_stuck(stalled) => Overdue::Close,
+        Part::Served if is_stuck => Overdue::Fail,
+        Part::Sends if is_stuck => Overdue::Close,
         Part::Ends if age >= END => Overdue::Close,
         _ => Overdue::Nothing,
     }

@@ -39,12 +39,6 @@ impl<H> Mail<H> {
             everyone: false,
         }
     }
-
-    fn is_empty(&self) -> bool
-        ensures { result ≡ mails.is_empty self.now }
-    {
-        self.handed.is_empty() && self.woken.is_empty() && !self.everyone
-    }
 }
 
 impl<H: Drop> Mailbox<H> {
@@ -105,9 +99,10 @@ impl<H: Drop> Mailbox<H> {
         ensures asleep { self.new.asleep ≡ result }
         ensures mail { self.new.mail ≡ self.old.mail }
     {
-        let sleeps = nothing_beside && self.mail.is_empty();
-        self.asleep = sleeps;
-        sleeps
+        let mail = &self.mail;
+        let is_empty = mail.handed.is_empty() && mail.woken.is_empty() && !mail.everyone;
+        self.asleep = nothing_beside && is_empty;
+        self.asleep
     }
 
     /// Takes all that was handed in, in place of a mail that is empty.

@@ -44,9 +44,6 @@ pub fn owner_of(target: Target, loops: usize, own: usize) -> usize
 pub fn dealt_to(given: u64, together: u64, loops: usize) -> usize
     ensures { result ≡ dealt_to loops together given }
 {
-    if loops == 0 {
-        return 0;
-    }
     let turns = given / together.max(1);
-    (turns % (loops as u64)) as usize
+    turns.checked_rem(loops as u64).unwrap_or(0) as usize
 }

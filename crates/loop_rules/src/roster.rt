@@ -45,13 +45,6 @@ impl Takers {
         matches!(self.of(client), Some(taker) if taker == key)
     }
 
-    /// Whether there was no memory to list one.
-    pub fn has_unlisted(&self) -> bool
-        ensures { result ≡ self.now.unlisted }
-    {
-        self.unlisted
-    }
-
     /// What is put for this client goes to this connection from now on.
     pub fn list(&mut self, client: u128, key: usize)
         ensures listed { (taker_of self.new client ≡ Some key) ⊎ (self.new.unlisted ≡ true) }
@@ -85,9 +78,10 @@ pub struct Roster {
 impl Roster {
     /// There is no connection yet.
     pub fn new(alloc: Global) -> Roster {
-        let rota = Rota::new(alloc);
-        let takers = Takers::new(alloc);
-        Roster { rota, takers }
+        Roster {
+            rota: Rota::new(alloc),
+            takers: Takers::new(alloc),
+        }
     }
 
     /// Something was put for a client of this loop: the connection to which that goes is called.
@@ -99,7 +93,7 @@ impl Roster {
     {
         match self.takers.of(client) {
             Some(key) => self.rota.call(key),
-            None if self.takers.has_unlisted() => self.rota.call_all(),
+            None if self.takers.unlisted => self.rota.call_all(),
             None => {}
         }
     }

@@ -37,15 +37,6 @@ impl Model for Rota {
         (deque_len r.ready + deque_len r.again) (deque_capacity r.ready) (deque_capacity r.again) };
 }
 
-impl LookState {
-    /// Whether it is its turn.
-    fn has_turn(self) -> bool
-        ensures { result ≡ rotas.has_turn self }
-    {
-        matches!(self, LookState::Looks { .. } | LookState::Stirred { .. })
-    }
-}
-
 /// Makes room for so many keys in a queue, and tells whether there was memory for it.
 fn make_room(queue: &mut VecDeque<usize>, most: usize) -> bool
     ensures same { DequeUnchanged queue.old queue.new }
@@ -91,17 +82,10 @@ impl Rota {
         ensures again { self.new.again ≡ self.old.again }
     {
         let count = self.looks.len();
-        key < count || (key == count && self.grow())
-    }
-
-    /// Makes a place for one more connection, and tells whether there was memory for it.
-    fn grow(&mut self) -> bool
-        ensures more { IsTrue result → length self.new.looks ≡ length self.old.looks + 1 }
-        ensures same { (k : ℕ) → look_of self.new.looks k ≡ look_of self.old.looks k }
-        ensures ready { self.new.ready ≡ self.old.ready }
-        ensures again { self.new.again ≡ self.old.again }
-    {
-        let most = self.looks.len().saturating_add(1);
+        if key != count {
+            return key < count;
+        }
+        let most = count.saturating_add(1);
         if !make_room(&mut self.ready, most) || !make_room(&mut self.again, most) {
             return false;
         }
@@ -123,13 +107,7 @@ impl Rota {
         ensures state { self.new ≡ rotas.called_at key self.old }
         ensures looks { key < length self.old.looks → will_look (look_of self.new.looks key) ≡ true }
     {
-        if key >= self.looks.len() {
-            return;
-        }
-        let mut look = self.looks[key];
-        let queues = look.call();
-        self.looks[key] = look;
-        if queues {
+        if key < self.looks.len() && self.looks[key].call() {
             self.ready.push_back_reserved(key);
         }
     }
@@ -150,9 +128,7 @@ impl Rota {
         ensures state { self.new ≡ rotas.begun_at self.old.ready self.old }
     {
         let key = self.ready.pop_front()?;
-        let mut look = self.looks[key];
-        look.begin();
-        self.looks[key] = look;
+        self.looks[key].begin();
         Some(key)
     }
 
@@ -161,7 +137,7 @@ impl Rota {
         ensures { result ≡ rotas.turn_of (look_of self.now.looks key) }
     {
         let look = self.look(key);
-        look.has_turn().then_some(look)
+        matches!(look, LookState::Looks { .. } | LookState::Stirred { .. }).then_some(look)
     }
 
     /// The connection whose turn it is stands so from now on.

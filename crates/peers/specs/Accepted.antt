@@ -1,6 +1,5 @@
 -- A WebSocket that was accepted.
 use Rattle.std.specs.Prelude.{◌≡◌, ℕ, List, [], false, Some}
-use Rattle.tungstenite.specs.declared.protocol.WebSocketConfig.{WebSocketConfig}
 use Rattle.tungstenite.specs.Heads.{Heard}
 use Rattle.tungstenite.specs.Socket.{Socket, IsFresh}
 use Rattle.websocket.specs.declared.protocol.config.Role.TheVariants as role
@@ -15,7 +14,3 @@ pub record BeginsWith {S : Type 0} (rest : List ℕ) (socket : Socket S) : Type 
 -- a message and a frame have at most so many bytes, and a client's frames are masked
 abbrev pub HasMostBytes : ℕ → FrameConfig → Type 0
 HasMostBytes most config = (config.max_message_size ≡ Some most) × (config.max_frame_size ≡ Some most) × (config.accept_unmasked_frames ≡ false)
-
-abbrev pub HasSocketLimits : WebSocketConfig → Type 0
-HasSocketLimits config =
-    (config.max_message_size ≡ Some 1048576) × (config.max_frame_size ≡ Some 1048576) × (config.accept_unmasked_frames ≡ false)

@@ -9,8 +9,6 @@ use Rattle.events.specs.Answer.{Answer}
 use Rattle.events.specs.declared.peer.PeerFault.{PeerFault}
 use Rattle.peers.specs.declared.socket_stage.Phase.{Phase}
 use Rattle.peers.specs.declared.socket_stage.Phase.TheVariants as phase
-use Rattle.peers.specs.declared.socket_heard.Sending.{Sending}
-use Rattle.peers.specs.declared.socket_heard.Sending.TheVariants as send
 use Rattle.peers.specs.declared.socket_stage.SocketStage.{SocketStage}
 use Rattle.peers.specs.declared.socket_stage.SocketStage.TheVariants as stage
 use Rattle.peers.specs.Turning.{client_of}
@@ -78,11 +76,6 @@ after (stage.Losing c) got = over c
 after other got = other
 
 -- ---- what is sent
-
-abbrev pub frames_of : Sending → List WsFrame
-frames_of send.Nothing = []
-frames_of (send.Text text) = frame.Text text.now ∷ []
-frames_of (send.Frames frames) = frames.now
 
 -- the open packet, the answer to a probe, and what was taken
 abbrev pub to_send : SocketStage → Answer → List WsFrame

@@ -1,7 +1,6 @@
 -- What one message adds to a WebSocket's output (RFC 6455, section 5.2).
 use Rattle.std.specs.Prelude.{ℕ, List, Option}
 use Rattle.std.specs.Io.KnownBytes.{Appends}
-use Rattle.tungstenite.specs.Content.{Content, text, binary}
 use Rattle.tungstenite.specs.Connection.{whole_header, IsMaskOf}
 use Rattle.tungstenite.specs.Frame.{encode_frame}
 use Rattle.websocket.specs.declared.protocol.config.Role.{Role}
@@ -10,11 +9,6 @@ use Rattle.websocket.specs.declared.protocol.frame.coding.OpCode.TheVariants.{Da
 use Rattle.websocket.specs.declared.protocol.frame.coding.Data.TheVariants as kind
 use Rattle.events.specs.declared.event.WsFrame.{WsFrame}
 use Rattle.events.specs.declared.event.WsFrame.TheVariants as frame
-
--- the message that a frame stands for
-abbrev pub message_of : WsFrame → Content
-message_of (frame.Text t) = text t
-message_of (frame.Bytes b) = binary b
 
 abbrev pub opcode_of : WsFrame → OpCode
 opcode_of (frame.Text t) = Data kind.Text

@@ -1,7 +1,7 @@
 //! The opening handshake (RFC 6455, section 4.2).
 
 ghost use Rattle.std.specs.Prelude.{IfSome};
-ghost use Rattle.peers.specs.Accepted.{BeginsWith, HasMostBytes, HasSocketLimits};
+ghost use Rattle.peers.specs.Accepted.{BeginsWith, HasMostBytes};
 
 use http_edge::Replay;
 use std::alloc::Global;
@@ -19,15 +19,6 @@ const READ_SIZE: usize = 1_024;
 /// A WebSocket over a stream of which the head of its request was read before.
 pub type AcceptedSocket<S> = WebSocket<Replay<S>, NoMask>;
 
-fn socket_config() -> WebSocketConfig
-    ensures { HasSocketLimits result }
-{
-    WebSocketConfig::default()
-        .read_buffer_size(READ_SIZE)
-        .max_message_size(Some(LONGEST))
-        .max_frame_size(Some(LONGEST))
-}
-
 /// Answers the request whose head was read, and gives its WebSocket; else the stream is dropped. The
 /// bytes that were read past the head are the first that the WebSocket has.
 pub fn accept_socket<S: Read + Write + Drop>(
@@ -40,7 +31,11 @@ pub fn accept_socket<S: Read + Write + Drop>(
     ensures limits { IfSome result (λ socket. HasMostBytes 1048576 socket.conn.config) }
 {
     let replay = Replay::new(head, stream);
-    let config = Some(socket_config());
+    let config = WebSocketConfig::default()
+        .read_buffer_size(READ_SIZE)
+        .max_message_size(Some(LONGEST))
+        .max_frame_size(Some(LONGEST));
+    let config = Some(config);
     let accepted = server::start(alloc, replay, NoCallback, config)
         .handshake()
         .ok()?;

@@ -1,36 +1,31 @@
 //! One frame of a WebSocket is sent (RFC 6455, section 5.2).
 
-ghost use Rattle.std.specs.Prelude.{◌≡◌, ◌⊎◌, [], OnOk, IfErr, IfOk};
+ghost use Rattle.std.specs.Prelude.{◌≡◌, ◌⊎◌, [], OnOk, IfErr, IsOkAnd};
 ghost use Rattle.tungstenite.specs.Connection.{write_step};
 ghost use Rattle.tungstenite.specs.Socket.{Writes, content_of};
 ghost use Rattle.events.specs.declared.event.WsFrame.TheVariants as frames;
 ghost use Rattle.events.specs.declared.peer.PeerFault.TheVariants.{Memory, Device};
-ghost use Rattle.peers.specs.Sent.{AddsFrame, message_of};
+ghost use Rattle.peers.specs.Sent.{AddsFrame};
 
 use events::{PeerFault, WsFrame};
 use std::alloc::{AllocError, Global};
 use std::io::{Read, Write};
 use tungstenite::{Error, MaskKeys, Message, WebSocket};
 
-fn message_for(alloc: Global, frame: &WsFrame) -> Result<Message, AllocError>
-    ensures { IfOk result (λ m. content_of m ≡ message_of frame.now) }
-{
-    match frame {
-        WsFrame::Text(text) => Message::text(alloc, text.as_str()),
-        WsFrame::Bytes(bytes) => Message::binary(alloc, bytes.as_slice()),
-    }
-}
-
-/// Sends one message. Where memory was refused, nothing has changed.
+/// Sends one message, if there was memory for it. Where memory was refused, nothing has changed.
 fn send_message<S: Read + Write + Drop, K: MaskKeys + Drop>(
     socket: &mut WebSocket<S, K>,
-    message: Message,
+    message: Result<Message, AllocError>,
 ) -> Result<(), PeerFault>
-    ensures wrote { OnOk result (Writes S.contents socket.old socket.new (write_step socket.old.conn (content_of message))) }
+    ensures wrote { OnOk result (IsOkAnd message (λ m. Writes S.contents socket.old socket.new
+        (write_step socket.old.conn (content_of m)))) }
     ensures clean { OnOk result (socket.new.output ≡ []) }
     ensures kinds { IfErr result (λ e. (e ≡ Memory) ⊎ (e ≡ Device)) }
     ensures unsent { IfErr result (λ e. e ≡ Memory → socket.new ≡ socket.old) }
 {
+    let Ok(message) = message else {
+        return Err(PeerFault::Memory);
+    };
     match socket.send(message) {
         Ok(()) => Ok(()),
         Err(Error::OutOfMemory) => Err(PeerFault::Memory),
@@ -52,9 +47,9 @@ pub fn send_frame<S: Read + Write + Drop, K: MaskKeys + Drop>(
     ensures kinds { IfErr result (λ e. (e ≡ Memory) ⊎ (e ≡ Device)) }
     ensures unsent { IfErr result (λ e. e ≡ Memory → socket.new ≡ socket.old) }
 {
-    match message_for(alloc, frame) {
-        Ok(message) => send_message(socket, message),
-        Err(AllocError) => Err(PeerFault::Memory),
+    match frame {
+        WsFrame::Text(text) => send_text(alloc, socket, text.as_str()),
+        WsFrame::Bytes(bytes) => send_message(socket, Message::binary(alloc, bytes.as_slice())),
     }
 }
 
@@ -71,8 +66,5 @@ pub fn send_text<S: Read + Write + Drop, K: MaskKeys + Drop>(
     ensures kinds { IfErr result (λ e. (e ≡ Memory) ⊎ (e ≡ Device)) }
     ensures unsent { IfErr result (λ e. e ≡ Memory → socket.new ≡ socket.old) }
 {
-    match Message::text(alloc, text) {
-        Ok(message) => send_message(socket, message),
-        Err(AllocError) => Err(PeerFault::Memory),
-    }
+    send_message(socket, Message::text(alloc, text))
 }

@@ -14,6 +14,7 @@ use http_edge::{EdgeError, Wire, write_response};
 use std::alloc::Global;
 use std::marker::Model;
 use std::mem;
+use terms::let_go;
 
 /// Serves one request over HTTP: its event, the takes of a GET that waits, and the answer. A GET that
 /// waits pauses before it asks again, and before it is answered by a lone noop packet. In a contract
@@ -31,14 +32,7 @@ pub struct PollPeer<W, M> {
 /// Written out, so that a crate above takes the drop of all that lies in it by this one call.
 impl<W: Drop, M: Drop> Drop for PollPeer<W, M> {
     fn drop(self) {
-        let Self {
-            alloc: _,
-            wire: _,
-            moments: _,
-            stage: _,
-            most: _,
-            origin: _,
-        } = self;
+        let_go!(self; alloc, wire, moments, stage, most, origin);
     }
 }
 
@@ -101,7 +95,7 @@ impl<W, M> PollPeer<W, M> {
     pub fn is_idle(&self) -> bool
         ensures { result ≡ is_idle self.now.stage }
     {
-        self.stage.is_idle()
+        matches!(self.stage, PollStage::Waits { .. })
     }
 
     /// A GET that waits asks no more: its next event is its last one. Else nothing changes.
@@ -109,7 +103,13 @@ impl<W, M> PollPeer<W, M> {
         ensures { self.new ≡ record self.old { stage = given_up self.old.stage } }
     {
         let stage = mem::replace(&mut self.stage, PollStage::Opening);
-        self.stage = stage.given_up();
+        self.stage = match stage {
+            PollStage::Begun { client } | PollStage::Waits { client, .. } => PollStage::Ends {
+                client,
+            },
+            PollStage::Taking { client, .. } => PollStage::Taking { client, left: 0 },
+            other => other,
+        };
     }
 
     /// The wire.
@@ -128,23 +128,6 @@ impl<W, M> PollPeer<W, M> {
     }
 }
 
-impl<W, M: Drop> PollPeer<W, M> {
-    /// The wire, as it is now.
-    pub fn into_wire(self) -> W
-        ensures { result ≡ self.wire }
-    {
-        let Self {
-            alloc: _,
-            wire,
-            moments: _,
-            stage: _,
-            most: _,
-            origin: _,
-        } = self;
-        wire
-    }
-}
-
 impl<W: Wire, M: Moments> Peer for PollPeer<W, M> {
     ghost use Rattle.peers.specs.Polled.{Gives, Hears};
 
@@ -153,7 +136,8 @@ impl<W: Wire, M: Moments> Peer for PollPeer<W, M> {
     ghost hears = { Hears W.written W.is_broken M.pauses };
 
     fn next(&mut self) -> Result<Option<(Event, u64)>, PeerFault> {
-        pause_if(&mut self.moments, self.stage.is_idle());
+        let waits = self.is_idle();
+        pause_if(&mut self.moments, waits);
         let stage = mem::replace(&mut self.stage, PollStage::Opening);
         let (next, event) = stage.next(self.most);
         self.stage = next;

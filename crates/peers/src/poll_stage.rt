@@ -86,63 +86,27 @@ impl PollStage {
         }
     }
 
-    /// The stage of a GET that was begun, when its event was refused; this one where it waits on.
-    fn refused(client: u128, fault: CoreFault, on: Self) -> Self
-        ensures { result ≡ polling.after_refusal client fault on }
-    {
-        if waits_on(fault) {
-            on
-        } else {
-            Self::Over(Some(client))
-        }
-    }
-
-    /// The stage of a GET that found nothing, and may ask so often again.
-    fn wait(client: u128, left: u32) -> Self
-        ensures { result ≡ polling.waits client left }
-    {
-        if left == 0 {
-            Self::Ends { client }
-        } else {
-            Self::Waits { client, left }
-        }
-    }
-
     /// The stage once the event got this answer.
     pub(crate) fn after(self, got: &Answered) -> Self
         ensures { result ≡ polling.after self got.now }
     {
-        match self {
-            Self::Opening => match got {
-                Ok(Outcome::Opened(opening)) => Self::Over(Some(opening.client)),
-                _ => Self::Over(None),
-            },
-            Self::Posting { client } => Self::Over(Some(client)),
-            Self::Beginning { client } => match got {
-                Ok(Outcome::Begun) => Self::Begun { client },
-                _ => Self::Over(Some(client)),
-            },
-            Self::Taking { client, left } => match got {
-                Ok(Outcome::Nothing) => Self::wait(client, left),
-                Ok(_) => Self::Over(Some(client)),
-                Err(error) => Self::refused(client, error.fault, Self::wait(client, left)),
-            },
-            Self::Ending { client } => match got {
-                Ok(_) => Self::Over(Some(client)),
-                Err(error) => Self::refused(client, error.fault, Self::Ends { client }),
-            },
-            other => other,
-        }
-    }
-
-    /// A GET that waits, or asks, asks no more.
-    pub(crate) fn given_up(self) -> Self
-        ensures { result ≡ polling.given_up self }
-    {
-        match self {
-            Self::Begun { client } | Self::Waits { client, .. } => Self::Ends { client },
-            Self::Taking { client, .. } => Self::Taking { client, left: 0 },
-            other => other,
+        let waits = matches!(got, Err(error) if waits_on(error.fault));
+        let finds_nothing = waits || matches!(got, Ok(Outcome::Nothing));
+        match (self, got) {
+            (Self::Opening, Ok(Outcome::Opened(opening))) => Self::Over(Some(opening.client)),
+            (Self::Opening, _) => Self::Over(None),
+            (Self::Beginning { client }, Ok(Outcome::Begun)) => Self::Begun { client },
+            (Self::Taking { client, left: 0 }, _) if finds_nothing => Self::Ends { client },
+            (Self::Taking { client, left }, _) if finds_nothing => Self::Waits { client, left },
+            (Self::Ending { client }, _) if waits => Self::Ends { client },
+            (
+                Self::Posting { client }
+                | Self::Beginning { client }
+                | Self::Taking { client, .. }
+                | Self::Ending { client },
+                _,
+            ) => Self::Over(Some(client)),
+            (other, _) => other,
         }
     }
 
@@ -163,12 +127,5 @@ impl PollStage {
             | Self::Ending { client } => Some(*client),
             Self::Over(client) => *client,
         }
-    }
-
-    /// Whether a GET waits which has asked and will ask again.
-    pub(crate) fn is_idle(&self) -> bool
-        ensures { result ≡ polling.is_idle self.now }
-    {
-        matches!(self, Self::Waits { .. })
     }
 }

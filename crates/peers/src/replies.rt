@@ -1,6 +1,6 @@
 //! The answers over HTTP.
 
-ghost use Rattle.std.specs.Prelude.{◌≡◌, [], option_map};
+ghost use Rattle.std.specs.Prelude.{◌≡◌, [], Some, cond, option_map};
 ghost use Rattle.peers.specs.Replies as replies;
 ghost use Rattle.peers.specs.Replies.{answer_to, plain_reply};
 
@@ -21,11 +21,11 @@ pub fn reply_to_fault(fault: EdgeError) -> Option<Reply<'static>>
     ensures { option_map plain_reply result ≡ replies.of_edge fault }
 {
     match fault {
-        EdgeError::Memory => Some(empty(Status::Unavailable)),
+        EdgeError::Memory => empty(Status::Unavailable),
         EdgeError::Device | EdgeError::EarlyEnd | EdgeError::TurnsSpent => None,
-        EdgeError::BodyTooLong => Some(empty(Status::TooLarge)),
+        EdgeError::BodyTooLong => empty(Status::TooLarge),
         EdgeError::BadHead | EdgeError::HeadTooLong | EdgeError::NoLength | EdgeError::NotUtf8 => {
-            Some(refused(Refusal::BadRequest))
+            refused(Refusal::BadRequest)
         }
     }
 }
@@ -35,25 +35,11 @@ pub fn reply_to_target(target: Target) -> Option<Reply<'static>>
     ensures { option_map plain_reply result ≡ replies.of_target target }
 {
     match target {
-        Target::NotFound => Some(empty(Status::NotFound)),
-        Target::Refuse(refusal) => Some(refused(refusal)),
-        Target::Preflight => Some(empty(Status::NoContent)),
+        Target::NotFound => empty(Status::NotFound),
+        Target::Refuse(refusal) => refused(refusal),
+        Target::Preflight => empty(Status::NoContent),
         _ => None,
     }
-}
-
-fn empty(status: Status) -> Reply<'static>
-    ensures { plain_reply result ≡ record { status = status; body = [] } }
-{
-    Reply { status, body: "" }
-}
-
-fn refused(refusal: Refusal) -> Reply<'static>
-    ensures { plain_reply result ≡ replies.refused refusal }
-{
-    let status = Status::BadRequest;
-    let body = refusal_body(refusal);
-    Reply { status, body }
 }
 
 fn success(body: &str) -> Reply<'_>
@@ -63,48 +49,42 @@ fn success(body: &str) -> Reply<'_>
     Reply { status, body }
 }
 
-/// The answer where an event was refused.
-fn reply_to_refusal(fault: CoreFault) -> Option<Reply<'static>>
-    ensures { option_map plain_reply result ≡ replies.of_refusal fault }
+fn empty(status: Status) -> Option<Reply<'static>>
+    ensures { option_map plain_reply result ≡ Some (record { status = status; body = [] }) }
 {
-    match fault {
-        CoreFault::UnknownClient => Some(refused(Refusal::UnknownSession)),
-        CoreFault::WrongTransport => Some(refused(Refusal::BadRequest)),
-        fault if waits_on(fault) => Some(empty(Status::Unavailable)),
-        _ => None,
-    }
+    Some(Reply { status, body: "" })
 }
 
-/// The answer to a GET that was begun, where an event was refused.
-fn reply_to_begun(fault: CoreFault) -> Option<Reply<'static>>
-    ensures { option_map plain_reply result ≡ replies.of_begun fault }
+fn refused(refusal: Refusal) -> Option<Reply<'static>>
+    ensures { option_map plain_reply result ≡ Some (replies.refused refusal) }
+{
+    let (status, body) = (Status::BadRequest, refusal_body(refusal));
+    Some(Reply { status, body })
+}
+
+/// The answer where an event was refused, of a GET that was begun or of another request.
+fn reply_to_refusal(fault: CoreFault, begun: bool) -> Option<Reply<'static>>
+    ensures { option_map plain_reply result
+        ≡ cond begun (replies.of_begun fault) (replies.of_refusal fault) }
 {
     match fault {
-        CoreFault::UnknownClient => Some(success("1")),
-        CoreFault::WrongTransport => Some(refused(Refusal::BadRequest)),
+        CoreFault::UnknownClient if begun => Some(success("1")),
+        CoreFault::UnknownClient => refused(Refusal::UnknownSession),
+        CoreFault::WrongTransport => refused(Refusal::BadRequest),
+        fault if !begun && waits_on(fault) => empty(Status::Unavailable),
         _ => None,
     }
 }
 
 /// The answer to a POST: it is refused where its client was closed since nothing of it was read.
-fn reply_to_post(done: &Done) -> Reply<'static>
-    ensures { plain_reply result ≡ replies.of_post done.now }
+fn reply_to_post(done: &Done) -> Option<Reply<'static>>
+    ensures { option_map plain_reply result ≡ Some (replies.of_post done.now) }
 {
     match done.closed {
         Some(Cause::Empty | Cause::BadType | Cause::BadBase64) if done.packets == 0 => {
             refused(Refusal::BadRequest)
         }
-        _ => success("ok"),
-    }
-}
-
-/// The answer to a GET that isn't begun, since another one waits.
-fn reply_to_begin(done: &Done) -> Option<Reply<'static>>
-    ensures { option_map plain_reply result ≡ replies.of_begin done.now }
-{
-    match done.closed {
-        Some(Cause::DoubleGet) => Some(refused(Refusal::BadRequest)),
-        _ => None,
+        _ => Some(success("ok")),
     }
 }
 
@@ -114,16 +94,20 @@ pub(crate) fn reply_to<'g>(stage: &PollStage, got: &'g Answered) -> Option<Reply
 {
     match (stage, got) {
         (PollStage::Opening, Ok(Outcome::Opened(opening))) => Some(success(opening.text.as_str())),
-        (PollStage::Posting { .. }, Ok(Outcome::Done(done))) => Some(reply_to_post(done)),
-        (PollStage::Beginning { .. }, Ok(Outcome::Done(done))) => reply_to_begin(done),
+        (PollStage::Posting { .. }, Ok(Outcome::Done(done))) => reply_to_post(done),
+        // Another GET waits.
+        (PollStage::Beginning { .. }, Ok(Outcome::Done(done))) => match done.closed {
+            Some(Cause::DoubleGet) => refused(Refusal::BadRequest),
+            _ => None,
+        },
         (PollStage::Taking { .. }, Ok(Outcome::Payload(text))) => Some(success(text.as_str())),
         (PollStage::Ending { .. }, Ok(Outcome::Done(_))) => Some(success(NOOP)),
         (
             PollStage::Opening | PollStage::Posting { .. } | PollStage::Beginning { .. },
             Err(error),
-        ) => reply_to_refusal(error.fault),
+        ) => reply_to_refusal(error.fault, false),
         (PollStage::Taking { .. } | PollStage::Ending { .. }, Err(error)) => {
-            reply_to_begun(error.fault)
+            reply_to_refusal(error.fault, true)
         }
         _ => None,
     }

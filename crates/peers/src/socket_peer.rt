@@ -2,7 +2,7 @@
 
 ghost use Rattle.std.specs.Prelude.{◌≡◌, [], OnOk, IfErr, ◌⊎◌};
 ghost use Rattle.events.specs.declared.peer.PeerFault.TheVariants.{Memory, Device};
-ghost use Rattle.peers.specs.Heard.{frames_of};
+ghost use Rattle.peers.specs.Heard.{to_send};
 ghost use Rattle.peers.specs.Turning.{client_of, first_stage, has_read_nothing, is_idle};
 ghost use Rattle.peers.specs.Spoken.{AddsFrames, Sends};
 
@@ -10,12 +10,12 @@ use crate::frame::{send_frame, send_text};
 use crate::incoming::read_incoming;
 use crate::moments::Moments;
 use crate::requests::SocketRequest;
-use crate::socket_heard::{Sending, after, to_send, unsent};
-use crate::socket_stage::{Incoming, SocketStage};
-use events::{Answered, Event, Peer, PeerFault, WsFrame};
+use crate::socket_stage::{Incoming, Phase, SocketStage};
+use events::{Answered, Event, Outcome, Peer, PeerFault, WsFrame};
 use std::alloc::Global;
 use std::io::{Read, Write};
 use std::marker::Model;
+use terms::let_go;
 use tungstenite::{NoMask, WebSocket};
 
 /// Serves one WebSocket by turns: a read, a take of what waits, and a look at what is due. A client
@@ -31,12 +31,7 @@ pub struct SocketPeer<S, M> {
 /// Written out, so that a crate above takes the drop of all that lies in it by this one call.
 impl<S: Drop, M: Drop> Drop for SocketPeer<S, M> {
     fn drop(self) {
-        let Self {
-            alloc: _,
-            socket: _,
-            moments: _,
-            stage: _,
-        } = self;
+        let_go!(self; alloc, socket, moments, stage);
     }
 }
 
@@ -59,11 +54,15 @@ impl<S: Drop, M> SocketPeer<S, M> {
         ensures { result
             ≡ record { stage = first_stage request; socket = socket; moments = moments } }
     {
+        let stage = match request {
+            SocketRequest::Open => SocketStage::Opens,
+            SocketRequest::Probe { client } => SocketStage::begin(client, Phase::Knocks),
+        };
         SocketPeer {
             alloc,
             socket,
             moments,
-            stage: SocketStage::first(request),
+            stage,
         }
     }
 
@@ -79,7 +78,7 @@ impl<S: Drop, M> SocketPeer<S, M> {
     pub fn is_idle(&self) -> bool
         ensures { result ≡ is_idle self.now.stage }
     {
-        self.stage.is_idle()
+        matches!(self.stage, SocketStage::Reads { idle: true, .. })
     }
 
     /// Whether what waits is being taken, after a read that brought nothing at all: where fewer entries
@@ -87,7 +86,7 @@ impl<S: Drop, M> SocketPeer<S, M> {
     pub fn has_read_nothing(&self) -> bool
         ensures { result ≡ has_read_nothing self.now.stage }
     {
-        self.stage.has_read_nothing()
+        matches!(self.stage, SocketStage::Taking { idle: true, .. })
     }
 
     /// The stream of the socket.
@@ -121,18 +120,26 @@ fn send_frames<S: Read + Write + Drop>(
     Ok(())
 }
 
-/// Sends what an answer asks for.
+/// Sends what the answer to an event asks for.
 fn send<S: Read + Write + Drop>(
     alloc: Global,
     socket: &mut WebSocket<S, NoMask>,
-    what: Sending<'_>,
+    stage: SocketStage,
+    got: &Answered,
 ) -> Result<(), PeerFault>
-    ensures { Sends S.contents (frames_of what.entry) socket.old result socket.new }
+    ensures { Sends S.contents (to_send stage got.now) socket.old result socket.new }
 {
-    match what {
-        Sending::Nothing => Ok(()),
-        Sending::Text(text) => send_text(alloc, socket, text),
-        Sending::Frames(frames) => send_frames(alloc, socket, frames),
+    match (stage, got) {
+        (SocketStage::Opening, Ok(Outcome::Opened(opened))) => {
+            send_text(alloc, socket, opened.text.as_str())
+        }
+        (SocketStage::Probing { .. }, Ok(Outcome::Probed(text))) => {
+            send_text(alloc, socket, text.as_str())
+        }
+        (SocketStage::Taking { .. }, Ok(Outcome::Frames(list))) => {
+            send_frames(alloc, socket, list.as_slice())
+        }
+        _ => Ok(()),
     }
 }
 
@@ -158,13 +165,19 @@ impl<S: Read + Write + Drop, M: Moments> Peer for SocketPeer<S, M> {
     }
 
     fn answer(&mut self, got: &Answered) -> Result<(), PeerFault> {
-        let sent = send(self.alloc, &mut self.socket, to_send(self.stage, got));
-        let stage = after(self.stage, got);
-        let (stage, heard) = match sent {
-            Ok(()) => (stage, Ok(())),
-            Err(fault) => unsent(stage, fault),
-        };
-        self.stage = stage;
-        heard
+        let sent = send(self.alloc, &mut self.socket, self.stage, got);
+        self.stage = self.stage.after(got);
+        match (sent, self.stage) {
+            (Ok(()), _) => Ok(()),
+            // A probe is lost, and else the peer has failed.
+            (Err(_), SocketStage::Reads { client, at, .. }) if matches!(at, Phase::Probes) => {
+                self.stage = SocketStage::Loses { client };
+                Ok(())
+            }
+            (Err(fault), stage) => {
+                self.stage = SocketStage::Over(stage.client());
+                Err(fault)
+            }
+        }
     }
 }

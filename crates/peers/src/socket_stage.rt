@@ -3,9 +3,8 @@
 ghost use Rattle.std.specs.Prelude.{◌≡◌, false};
 ghost use Rattle.peers.specs.declared.socket_stage.SocketStage.TheVariants as stages;
 ghost use Rattle.peers.specs.Turning as turning;
-ghost use Rattle.peers.specs.Turning.{with_event, with_fault, without_fault};
+ghost use Rattle.peers.specs.Turning.{with_event, without_fault};
 
-use crate::requests::SocketRequest;
 use events::{Event, PeerFault, WsFrame};
 
 /// The most entries of one take of a WebSocket.
@@ -72,17 +71,6 @@ pub(crate) enum SocketStage {
     Over(Option<u128>),
 }
 
-/// Whether a read brought nothing to be worked on, and then whether it was nothing at all.
-fn rests(incoming: &Incoming) -> Option<bool>
-    ensures { result ≡ turning.rests incoming.now }
-{
-    match incoming {
-        Incoming::Nothing => Some(true),
-        Incoming::Control => Some(false),
-        _ => None,
-    }
-}
-
 /// Whether it is just this text.
 fn says(incoming: &Incoming, word: &str) -> bool
     ensures { result ≡ turning.says word.now incoming.now }
@@ -94,16 +82,6 @@ fn says(incoming: &Incoming, word: &str) -> bool
 type Step = (SocketStage, Result<Option<Event>, PeerFault>);
 
 impl SocketStage {
-    /// The stage at first.
-    pub(crate) fn first(request: SocketRequest) -> Self
-        ensures { result ≡ turning.first_stage request }
-    {
-        match request {
-            SocketRequest::Open => Self::Opens,
-            SocketRequest::Probe { client } => Self::begin(client, Phase::Knocks),
-        }
-    }
-
     /// The first turn of a client that has come so far.
     pub(crate) fn begin(client: u128, at: Phase) -> Self
         ensures { result ≡ stages.Reads client at false }
@@ -132,37 +110,27 @@ impl SocketStage {
         Self::Taking { client, idle }.with(Event::FrameTake { client, most })
     }
 
-    /// What follows a read of a client that speaks over the WebSocket.
-    fn spoken(client: u128, incoming: Incoming) -> Step
-        ensures { result ≡ with_fault (turning.speaks client incoming) }
-    {
-        match incoming {
-            Incoming::Nothing => Self::take(client, true),
-            Incoming::Control => Self::take(client, false),
-            Incoming::Frame(frame) => Self::Framed { client }.with(Event::Frame { client, frame }),
-            Incoming::Gone(fault) => (Self::Over(Some(client)), Err(fault)),
-        }
-    }
-
     /// What follows a read.
     fn after_read(client: u128, at: Phase, incoming: Incoming) -> Step
         ensures { result ≡ turning.after_read client at incoming }
     {
-        if matches!(at, Phase::Speaks) {
-            return Self::spoken(client, incoming);
-        }
-        if let Some(idle) = rests(&incoming) {
-            return Self::tick(client, at, idle);
-        }
-        match at {
-            Phase::Knocks if says(&incoming, PROBE) => {
+        match (at, incoming) {
+            (Phase::Speaks, Incoming::Nothing) => Self::take(client, true),
+            (Phase::Speaks, Incoming::Control) => Self::take(client, false),
+            (Phase::Speaks, Incoming::Frame(frame)) => {
+                Self::Framed { client }.with(Event::Frame { client, frame })
+            }
+            (Phase::Speaks, Incoming::Gone(fault)) => (Self::Over(Some(client)), Err(fault)),
+            (_, Incoming::Nothing) => Self::tick(client, at, true),
+            (_, Incoming::Control) => Self::tick(client, at, false),
+            (Phase::Knocks, said) if says(&said, PROBE) => {
                 Self::Probing { client }.with(Event::Probe { client })
             }
-            Phase::Knocks => (Self::Over(Some(client)), Ok(None)),
-            _ if says(&incoming, UPGRADE) => {
+            (Phase::Knocks, _) => (Self::Over(Some(client)), Ok(None)),
+            (Phase::Probes, said) if says(&said, UPGRADE) => {
                 Self::Upgrading { client }.with(Event::Upgraded { client })
             }
-            _ => Self::Losing { client }.with(Event::ProbeLost { client }),
+            (Phase::Probes, _) => Self::Losing { client }.with(Event::ProbeLost { client }),
         }
     }
 
@@ -186,20 +154,6 @@ impl SocketStage {
         ensures { result ≡ turning.reads self }
     {
         matches!(self, Self::Reads { .. })
-    }
-
-    /// Whether the last turn brought nothing.
-    pub(crate) fn is_idle(self) -> bool
-        ensures { result ≡ turning.is_idle self }
-    {
-        matches!(self, Self::Reads { idle: true, .. })
-    }
-
-    /// Whether what waits is being taken, after a read that brought nothing at all.
-    pub(crate) fn has_read_nothing(self) -> bool
-        ensures { result ≡ turning.has_read_nothing self }
-    {
-        matches!(self, Self::Taking { idle: true, .. })
     }
 
     /// Whose WebSocket it is, once that is known.

@@ -277,6 +277,16 @@ filter_less p (x ∷ xs) = at (p x) (filter_less p xs)
 
 -- ---- a sweep
 
+-- one session less
+pub taken_fewer : (es : List (ℕ × PlainSaved)) (test : ℕ → Bool) (s : PlainSaved) → lookup test es ≡ Some s → length (values_of (remove_entry test es)) < length (values_of es)
+taken_fewer [] test s found = absurd (cc)
+taken_fewer (e ∷ es) test s found = at (test e.0) found (taken_fewer es test s)
+  where
+    at : (b : Bool) → cond b (Some e.1) (lookup test es) ≡ Some s → (lookup test es ≡ Some s → length (values_of (remove_entry test es)) < length (values_of es))
+        → length (values_of (cond b es (e ∷ remove_entry test es))) < length (e.1 ∷ values_of es)
+    at true found rest = omega arith
+    at false found rest = let less = rest found in omega (arith, less)
+
 -- the taken session was outdated, so the same sessions are alive
 pub alive_kept : (es : List (ℕ × PlainSaved)) (test : ℕ → Bool) (s : PlainSaved) (keep now : ℕ) → lookup test es ≡ Some s → is_alive keep now s ≡ false
     → filter (is_alive keep now) (values_of (remove_entry test es)) ≡ filter (is_alive keep now) (values_of es)

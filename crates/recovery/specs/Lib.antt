@@ -2,4 +2,3 @@ pub mod Expiry
 pub mod PacketLog
 pub mod Missed
 pub mod SavedTable
-pub mod Mirrors

@@ -9,7 +9,7 @@ ghost use Rattle.recovery.specs.PacketLog.{LogCall, LogContents, PlainLogged, Pu
 ghost use Rattle.recovery.specs.Missed.{missed, missed_refusal, is_for, is_one_of};
 
 use crate::error::RecoveryError;
-use crate::expiry::is_outdated;
+use crate::saved_table::is_outdated;
 use circular_buffer::HeapCircularBuffer;
 use std::alloc::{AllocError, Global};
 use std::marker::Model;

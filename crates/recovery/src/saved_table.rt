@@ -1,20 +1,16 @@
 //! The lost sessions that may come back (Socket.IO server documentation, "Connection state
 //! recovery").
 
-ghost use Rattle.std.specs.Prelude.{◌≡◌, ℕ, ◌+◌, ◌<◌, ◌≤◌, ◌==◌, if◌then◌else◌, length, [], map, filter, IfOk, IfErr, IfSome, IfNone, IsOkAnd, OnOk, OnErr, OnSome, Some, None, option_copied, is_some};
+ghost use Rattle.std.specs.Prelude.{◌≡◌, ℕ, ◌+◌, ◌<◌, ◌==◌, if◌then◌else◌, length, [], map, filter, IfOk, IfErr, IfSome, IfNone, IsOkAnd, OnOk, OnErr, Some, None, option_copied, is_some};
 ghost use Rattle.std.specs.Bool.{OnTrue, OnFalse};
 ghost use Rattle.std.specs.Ordering.{nat_cmp};
-ghost use Rattle.std.specs.List.{list_any};
 ghost use Rattle.std.specs.List.Sorted.{IsStrictlySortedBy};
-ghost use Rattle.std.specs.Map.{lookup, values_of, remove_entry};
-ghost use Rattle.std.specs.BTreeMap.{is_at, insert_entry, btree_map_len};
+ghost use Rattle.std.specs.Map.{values_of};
 ghost use Rattle.recovery.specs.Expiry as expiry;
-ghost use Rattle.recovery.specs.Mirrors.{HaveSameSessions};
 ghost use Rattle.recovery.specs.SavedTable.{PlainSaved, TableContents, IsTable, session, save_refusal, find_refusal, or_unknown, table_swept, is_alive};
 ghost use Rattle.recovery.specs.SavedTable as table;
 
 use crate::error::RecoveryError;
-use crate::expiry::is_outdated;
 use std::alloc::{AllocError, Global};
 use std::collections::{BTreeMap, BTreeSet};
 use std::marker::Model;
@@ -81,6 +77,13 @@ impl Model for Saved {
     } };
 }
 
+/// Whether more than `keep` milliseconds lie between the two moments. Their sum never wraps.
+pub(crate) fn is_outdated(at: u64, keep: u64, now: u64) -> bool
+    ensures { result ≡ expiry.is_outdated keep now at }
+{
+    at.checked_add(keep).is_some_and(|end| end < now)
+}
+
 impl Saved {
     /// Whether it was lost more than `keep` milliseconds before `now`.
     pub fn is_outdated(&self, keep: u64, now: u64) -> bool
@@ -108,12 +111,6 @@ impl Saved {
 #[derive(Drop)]
 pub struct SavedTable {
     limit: usize,
-    indexes: Indexes,
-}
-
-/// The sessions by their private ids, and two indexes of them.
-#[derive(Drop)]
-struct Indexes {
     by_pid: BTreeMap<Pid, Saved>,
     /// The moment at which each was lost, and its private id.
     by_loss: BTreeSet<(u64, Pid)>,
@@ -124,10 +121,9 @@ struct Indexes {
 impl Model for SavedTable {
     ghost Value = { TableContents };
 
-    ghost view = { λ t. record { limit = t.limit; sessions = values_of t.indexes.by_pid.entries } };
+    ghost view = { λ t. record { limit = t.limit; sessions = values_of t.by_pid.entries } };
 
-    ghost invariant = { λ t. IsTable
-        t.indexes.by_pid.entries t.indexes.by_loss.keys t.indexes.by_sid.keys };
+    ghost invariant = { λ t. IsTable t.by_pid.entries t.by_loss.keys t.by_sid.keys };
 }
 
 impl SavedTable {
@@ -137,11 +133,9 @@ impl SavedTable {
     {
         SavedTable {
             limit,
-            indexes: Indexes {
-                by_pid: BTreeMap::new(alloc),
-                by_loss: BTreeSet::new(alloc),
-                by_sid: BTreeSet::new(alloc),
-            },
+            by_pid: BTreeMap::new(alloc),
+            by_loss: BTreeSet::new(alloc),
+            by_sid: BTreeSet::new(alloc),
         }
     }
 
@@ -149,7 +143,7 @@ impl SavedTable {
     pub fn len(&self) -> usize
         ensures { result ≡ length self.now.sessions }
     {
-        self.indexes.by_pid.len()
+        self.by_pid.len()
     }
 
     /// Whether a session with this session id is in the table, outdated or not. It takes the
@@ -157,14 +151,19 @@ impl SavedTable {
     pub fn has_sid(&self, sid: Sid) -> bool
         ensures { result ≡ table.has_sid self.now sid }
     {
-        self.indexes.has_sid(sid)
+        // No private id comes before 0, so the first pair from here on has the session id if any
+        // has.
+        match self.by_sid.range((sid, Pid::new(0))..).next() {
+            Some((first, _)) => *first == sid,
+            None => false,
+        }
     }
 
     /// The session with this private id, outdated or not. It takes the logarithm of the sessions.
     pub fn look_up(&self, pid: Pid) -> Option<&Saved>
         ensures { option_copied result ≡ session self.now pid }
     {
-        self.indexes.by_pid.get(&pid)
+        self.by_pid.get(&pid)
     }
 
     /// Whether a session with this private id is in the table, outdated or not. It takes the
@@ -186,13 +185,25 @@ impl SavedTable {
             ≡ (if saved.pid == pid then Some saved else session self.old pid)) }
         ensures unchanged { OnErr result (self.new ≡ self.old) }
     {
-        if self.has_pid(saved.pid) {
+        let (sid, pid, lost_at) = (saved.sid, saved.pid, saved.lost_at);
+        if self.has_pid(pid) {
             return Err(RecoveryError::PidTaken);
         }
         if self.len() >= self.limit {
             return Err(RecoveryError::TableFull);
         }
-        Ok(self.indexes.put(saved)?)
+        self.by_pid.insert(pid, saved)?;
+        // Where a growth is refused, those before it are taken back.
+        let Ok(_) = self.by_loss.insert((lost_at, pid)) else {
+            self.by_pid.remove(&pid);
+            return Err(RecoveryError::Memory);
+        };
+        let Ok(_) = self.by_sid.insert((sid, pid)) else {
+            self.by_loss.remove(&(lost_at, pid));
+            self.by_pid.remove(&pid);
+            return Err(RecoveryError::Memory);
+        };
+        Ok(())
     }
 
     /// The session with this private id. Refused in this order: there is none; it is outdated.
@@ -214,7 +225,12 @@ impl SavedTable {
         ensures removed { self.new ≡ table.removed self.old pid }
         ensures unchanged { OnErr result (self.new ≡ self.old) }
     {
-        self.indexes.take(pid).ok_or(RecoveryError::UnknownPid)
+        let Some(saved) = self.by_pid.remove(&pid) else {
+            return Err(RecoveryError::UnknownPid);
+        };
+        self.by_loss.remove(&(saved.lost_at, pid));
+        self.by_sid.remove(&(saved.sid, pid));
+        Ok(saved)
     }
 
     /// Drops the sessions that were lost more than `keep` milliseconds before `now`, and says how
@@ -224,8 +240,23 @@ impl SavedTable {
         ensures swept { self.new ≡ table_swept self.old keep now }
     {
         let before = self.len();
-        self.indexes.take_outdated(keep, now);
+        'first: while self.take_first_outdated(keep, now) {}
         before - self.len()
+    }
+
+    /// Takes the session that was lost first, if it is outdated, and says whether it was.
+    fn take_first_outdated(&mut self, keep: u64, now: u64) -> bool
+        ensures alive { self.new.limit ≡ self.old.limit × (filter (is_alive keep now)
+            self.new.sessions ≡ filter (is_alive keep now) self.old.sessions) }
+        ensures fewer { OnTrue result (length self.new.sessions < length self.old.sessions) }
+        ensures none_left { let left = self.new.sessions
+            in OnFalse result (filter (is_alive keep now) left ≡ left) }
+    {
+        let Some(first) = self.by_loss.first() else {
+            return false;
+        };
+        let (lost_at, pid) = *first;
+        is_outdated(lost_at, keep, now) && self.remove(pid).is_ok()
     }
 
     /// Copies of all sessions, their private ids rising.
@@ -235,98 +266,7 @@ impl SavedTable {
             (map (λ (saved : PlainSaved). saved.pid) self.now.sessions) }
         ensures memory { IfErr result (λ error. error ≡ RecoveryError.Memory) }
     {
-        Ok(copy_all(alloc, &self.indexes.by_pid)?)
-    }
-}
-
-impl Indexes {
-    /// Whether a session has this session id.
-    fn has_sid(&self, sid: Sid) -> bool
-        requires mirrors { HaveSameSessions self.now }
-        ensures { result ≡ list_any
-            (λ (saved : PlainSaved). saved.sid == sid) (values_of self.now.by_pid.entries) }
-    {
-        // No private id comes before 0, so the first pair from here on has the session id if any
-        // has.
-        match self.by_sid.range((sid, Pid::new(0))..).next() {
-            Some((first, _)) => *first == sid,
-            None => false,
-        }
-    }
-
-    /// Puts a session in. Where a growth is refused, those before it are taken back.
-    fn put(&mut self, saved: Saved) -> Result<(), AllocError>
-        requires free { lookup (is_at (nat_cmp saved.pid)) self.old.by_pid.entries ≡ None }
-        requires mirrors { HaveSameSessions self.old }
-        ensures entries { OnOk result (self.new.by_pid.entries
-            ≡ insert_entry nat_cmp self.old.by_pid.entries saved.pid saved) }
-        ensures map { OnOk result ((pid : ℕ) → lookup (is_at (nat_cmp pid)) self.new.by_pid.entries
-            ≡ (if is_at (nat_cmp saved.pid) pid then Some saved
-            else lookup (is_at (nat_cmp pid)) self.old.by_pid.entries)) }
-        ensures mirrors { HaveSameSessions self.new }
-        ensures unchanged { OnErr result (self.new.by_pid.entries ≡ self.old.by_pid.entries) }
-    {
-        let (sid, pid, lost_at) = (saved.sid, saved.pid, saved.lost_at);
-        self.by_pid.insert(pid, saved)?;
-        let Ok(_) = self.by_loss.insert((lost_at, pid)) else {
-            self.by_pid.remove(&pid);
-            return Err(AllocError);
-        };
-        let Ok(_) = self.by_sid.insert((sid, pid)) else {
-            self.by_loss.remove(&(lost_at, pid));
-            self.by_pid.remove(&pid);
-            return Err(AllocError);
-        };
-        Ok(())
-    }
-
-    /// Takes a session out.
-    fn take(&mut self, pid: Pid) -> Option<Saved>
-        requires mirrors { HaveSameSessions self.old }
-        ensures answer { result ≡ lookup (is_at (nat_cmp pid)) self.old.by_pid.entries }
-        ensures entries { self.new.by_pid.entries
-            ≡ remove_entry (is_at (nat_cmp pid)) self.old.by_pid.entries }
-        ensures unchanged { IfNone result (self.new.by_pid.entries ≡ self.old.by_pid.entries) }
-        ensures fewer { OnSome result
-            (btree_map_len self.new.by_pid < btree_map_len self.old.by_pid) }
-        ensures mirrors { HaveSameSessions self.new }
-    {
-        let saved = self.by_pid.remove(&pid)?;
-        self.by_loss.remove(&(saved.lost_at, pid));
-        self.by_sid.remove(&(saved.sid, pid));
-        Some(saved)
-    }
-
-    /// Takes the session that was lost first, if it is outdated, and says whether it was.
-    fn take_first_outdated(&mut self, keep: u64, now: u64) -> bool
-        requires mirrors { HaveSameSessions self.old }
-        ensures alive { filter (is_alive keep now) (values_of self.new.by_pid.entries)
-            ≡ filter (is_alive keep now) (values_of self.old.by_pid.entries) }
-        ensures fewer { OnTrue result
-            (btree_map_len self.new.by_pid < btree_map_len self.old.by_pid) }
-        ensures none_left { let left = values_of self.new.by_pid.entries
-            in OnFalse result (filter (is_alive keep now) left ≡ left) }
-        ensures mirrors { HaveSameSessions self.new }
-    {
-        let Some(first) = self.by_loss.first() else {
-            return false;
-        };
-        let (lost_at, pid) = *first;
-        if !is_outdated(lost_at, keep, now) {
-            return false;
-        }
-        self.take(pid);
-        true
-    }
-
-    /// Takes all outdated sessions, those lost first before the others.
-    fn take_outdated(&mut self, keep: u64, now: u64)
-        requires mirrors { HaveSameSessions self.old }
-        ensures alive { values_of self.new.by_pid.entries
-            ≡ filter (is_alive keep now) (values_of self.old.by_pid.entries) }
-        ensures mirrors { HaveSameSessions self.new }
-    {
-        'first: while self.take_first_outdated(keep, now) {}
+        Ok(copy_all(alloc, &self.by_pid)?)
     }
 }
 

@@ -55,17 +55,3 @@ unlink_more {R = R} o ys y k w was =
     ap (λ e. not (e && w) && (not (list_any (eq_by_cmp R k) ys && w) && was)) ((eq_by_cmp_equiv o).symm y k)
     ∙ unlink_bool (eq_by_cmp R k y) (list_any (eq_by_cmp R k) ys) w was
     ∙ ap (λ b. not (b && w) && was) (sym (list_any-append (eq_by_cmp R k) ys (y ∷ [])))
-
-value_bool : (w e y o : Bool) → (not (w && e) && (not (w && y) && o)) ≡ (not (w && (y || (e || false))) && o)
-value_bool false e y o = refl
-value_bool true true true o = refl
-value_bool true true false o = refl
-value_bool true false true o = refl
-value_bool true false false o = refl
-
-pub unlink_value_more : {V : Type 0} {S : V → V → Ordering} (o : IsTotalOrder S) (ys : List V) (y v : V) (w was : Bool)
-    → (not (w && eq_by_cmp S y v) && (not (w && list_any (eq_by_cmp S v) ys) && was)) ≡ (not (w && list_any (eq_by_cmp S v) (ys ++ y ∷ [])) && was)
-unlink_value_more {S = S} o ys y v w was =
-    ap (λ e. not (w && e) && (not (w && list_any (eq_by_cmp S v) ys) && was)) ((eq_by_cmp_equiv o).symm y v)
-    ∙ value_bool w (eq_by_cmp S v y) (list_any (eq_by_cmp S v) ys) was
-    ∙ ap (λ b. not (w && b) && was) (sym (list_any-append (eq_by_cmp S v) ys (y ∷ [])))

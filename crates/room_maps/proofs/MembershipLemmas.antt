@@ -151,9 +151,6 @@ few_of_less v n q r true few h =
 pub few_without_pair : (v : RoomSets) (s : ℕ) (r : List ℕ) → HasFewRooms v → HasFewRooms (without_pair v s r)
 few_without_pair v s r few q = few_of_less v (without_pair v s r) q r (eq_by_cmp nat_cmp s q) few (is_in-without_pair v s r q)
 
-pub few_without_members : (v : RoomSets) (sids : List ℕ) (r : List ℕ) → HasFewRooms v → HasFewRooms (without_members v sids r)
-few_without_members v sids r few q = few_of_less v (without_members v sids r) q r (is_named sids q) few (is_in-without_members v sids r q)
-
 pub few_without_socket : (v : RoomSets) (s : ℕ) → HasFewRooms v → HasFewRooms (without_socket v s)
 few_without_socket v s few q =
     elim (eq_by_cmp nat_cmp s q) as (λ b. eq_by_cmp nat_cmp s q ≡ b → set.len (rooms_in (without_socket v s) q) ≤ 256) [

@@ -13,12 +13,12 @@ use Rattle.std.specs.BTreeMap as tree
 use Rattle.std.proofs.lemmas.Map.Made.{is_some-lookup}
 use Rattle.terms.specs.Room.{room_cmp, same_room, own_room}
 use Rattle.room_maps.specs.Links.{is_linked, is_in_some, HasNoEmptySet, IsUnchanged, AddsLink}
-use Rattle.room_maps.specs.Membership.{pair_cmp, RoomSets, is_named, rooms_in, with_pair, with_socket, without_pair, without_members, without_socket, no_sockets, HasFewRooms, AreConsistent}
+use Rattle.room_maps.specs.Membership.{pair_cmp, RoomSets, rooms_in, with_pair, with_socket, without_pair, without_socket, no_sockets, HasFewRooms, AreConsistent}
 use Rattle.room_maps.specs.Mirror.{SocketMap, RoomMap, rooms_at, pairs_at, sockets_of, pairs_of, sets_of, Mirror, IsMirrored}
 use Rattle.room_maps.proofs.BooleanLemmas.{or_right, and_comm, both_true, right, left, not_both, same_bool}
 use Rattle.room_maps.proofs.OrderLemmas.{pair_cmp_total, room_cmp-IsAntisymmetric, pair_cmp-IsAntisymmetric, then-eq, nat_tied, room_tied, nat_itself, room_itself, eq-pair, same_room-cmp, list_any-map, list_any-and, list_any-flat_map, list_any-at, len-from_sorted}
 use Rattle.room_maps.proofs.LinksLemmas.{linked_key, filled_by, some_link, keys_of_links, none_linked}
-use Rattle.room_maps.proofs.MembershipLemmas.{contains-rooms_in, is_in-without_members}
+use Rattle.room_maps.proofs.MembershipLemmas.{contains-rooms_in}
 
 any_room : (r : List ℕ) (o : Option (BTreeSet (List ℕ))) → list_any (eq_by_cmp room_cmp r) (rooms_at o) ≡ is_in_some room_cmp o r
 any_room r None = refl
@@ -263,28 +263,6 @@ module _ (a n : SocketMap) (b : RoomMap) (s : ℕ) (r : List ℕ) (h : Mirror a 
       → HasNoEmptySet room_cmp m
       → Mirror n m (pairs_of n)
   mirror_without_pair = mirror_left a n b (eq_by_cmp nat_cmp s) r h removes apart_from fn
-
--- several sockets leave a room
-module _ (a n : SocketMap) (b : RoomMap) (sids : List ℕ) (r : List ℕ) (h : Mirror a b (pairs_of a))
-    (removes : (q : ℕ) (w : List ℕ) → is_linked nat_cmp room_cmp n q w ≡ (not (is_named sids q && eq_by_cmp room_cmp r w) && is_linked nat_cmp room_cmp a q w))
-    (apart : (q : ℕ) → is_named sids q ≡ true → same_room (own_room q) r ≡ false)
-    (fn : HasNoEmptySet nat_cmp n) where
-  pub sets_without_members : sets_of n ≡ without_members (sets_of a) sids r
-  sets_without_members i = record {
-    sockets = sockets_stay a n b (is_named sids) r h removes apart fn i;
-    pairs =
-        same_set pair_cmp_total pair_cmp-IsAntisymmetric (pairs_of n) (without_members (sets_of a) sids r).pairs
-        (λ q. contains-pairs_of n q.0 q.1
-        ∙ removes q.0 q.1
-        ∙ ap (λ b. not (is_named sids q.0 && eq_by_cmp room_cmp r q.1) && b) (sym (contains-pairs_of a q.0 q.1))
-        ∙ sym (is_in-without_members (sets_of a) sids r q.0 q.1)) i;
-  }
-
-  pub mirror_without_members : (m : RoomMap)
-      → ((w : List ℕ) (q : ℕ) → is_linked room_cmp nat_cmp m w q ≡ (not (eq_by_cmp room_cmp r w && is_named sids q) && is_linked room_cmp nat_cmp b w q))
-      → HasNoEmptySet room_cmp m
-      → Mirror n m (pairs_of n)
-  mirror_without_members = mirror_left a n b (is_named sids) r h removes apart fn
 
 -- ---- a socket ends
 

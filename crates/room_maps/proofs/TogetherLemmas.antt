@@ -10,11 +10,11 @@ use Rattle.terms.specs.Listing.{ListsRising}
 use Rattle.terms.specs.Refusal.{first_refusal}
 use Rattle.room_maps.specs.declared.error.RoomError.{RoomError}
 use Rattle.terms.specs.Room.{room_cmp, same_room, own_room}
-use Rattle.room_maps.specs.Membership.{RoomSets, is_socket, is_in, is_full, is_named, with_pair, with_members, without_members, has_unknown, has_full, has_own_room, join_all_refusal, leave_all_refusal, AreConsistent}
+use Rattle.room_maps.specs.Membership.{RoomSets, is_socket, is_in, is_full, is_named, with_pair, without_pair, with_members, without_members, has_unknown, has_full, has_own_room, join_all_refusal, leave_all_refusal, AreConsistent}
 use Rattle.room_maps.proofs.BooleanLemmas.{left, right, same_bool}
 use Rattle.room_maps.proofs.OrderLemmas.{nat_tied, nat_itself, room_tied, room_itself, same_room_is}
 use Rattle.room_maps.proofs.AddressedLemmas.{contains-filter}
-use Rattle.room_maps.proofs.MembershipLemmas.{same_sets, is_in-with_pair, is_in-with_members, is_in-without_members, same_rooms}
+use Rattle.room_maps.proofs.MembershipLemmas.{same_sets, is_in-with_pair, is_in-without_pair, is_in-with_members, is_in-without_members, same_rooms}
 
 -- ---- one after another
 
@@ -46,6 +46,26 @@ with_members-more v sids s r =
     ∙ ap (λ b. (b && eq_by_cmp room_cmp r w) || ((is_named sids q && eq_by_cmp room_cmp r w) || is_in v q w)) ((eq_by_cmp_equiv nat_cmp_total).symm q s)
     ∙ ap (λ b. (eq_by_cmp nat_cmp s q && eq_by_cmp room_cmp r w) || b) (sym (is_in-with_members v sids r q w))
     ∙ sym (is_in-with_pair (with_members v sids r) s r q w))
+
+pub without_members-none : (v : RoomSets) (r : List ℕ) → without_members v [] r ≡ v
+without_members-none v r = same_sets (without_members v [] r) v (λ q. refl) (λ q w. is_in-without_members v [] r q w)
+
+one_less_bool : (a c e o : Bool) → (not ((a || (c || false)) && e) && o) ≡ (not (c && e) && (not (a && e) && o))
+one_less_bool false true e o = refl
+one_less_bool false false e o = refl
+one_less_bool true false e o = refl
+one_less_bool true true true o = refl
+one_less_bool true true false o = refl
+
+pub without_members-more : (v : RoomSets) (sids : List ℕ) (s : ℕ) (r : List ℕ) → without_members v (sids ++ s ∷ []) r ≡ without_pair (without_members v sids r) s r
+without_members-more v sids s r =
+    same_sets (without_members v (sids ++ s ∷ []) r) (without_pair (without_members v sids r) s r) (λ q. refl)
+    (λ q w. is_in-without_members v (sids ++ s ∷ []) r q w
+    ∙ ap (λ b. not (b && eq_by_cmp room_cmp r w) && is_in v q w) (list_any-append (eq_by_cmp nat_cmp q) sids (s ∷ []))
+    ∙ one_less_bool (is_named sids q) (eq_by_cmp nat_cmp q s) (eq_by_cmp room_cmp r w) (is_in v q w)
+    ∙ ap (λ b. not (b && eq_by_cmp room_cmp r w) && (not (is_named sids q && eq_by_cmp room_cmp r w) && is_in v q w)) ((eq_by_cmp_equiv nat_cmp_total).symm q s)
+    ∙ ap (λ b. not (eq_by_cmp nat_cmp s q && eq_by_cmp room_cmp r w) && b) (sym (is_in-without_members v sids r q w))
+    ∙ sym (is_in-without_pair (without_members v sids r) s r q w))
 
 -- one who isn't in the room yet has as much place as before
 pub is_full-with_members : (v : RoomSets) (sids : List ℕ) (r : List ℕ) (s : ℕ) → is_in (with_members v sids r) s r ≡ false → is_full (with_members v sids r) s ≡ is_full v s

@@ -3,7 +3,6 @@
 ghost use Rattle.std.specs.Prelude.{◌≡◌, ◌&&◌, not, OnOk, OnErr, IfOk};
 ghost use Rattle.std.specs.Ordering.{eq_by_cmp};
 ghost use Rattle.std.specs.BTreeSet as sorted;
-ghost use Rattle.std.specs.List.{list_any};
 ghost use Rattle.std.specs.List.Sorted.{IsStrictlySortedBy};
 ghost use Rattle.room_maps.specs.Links.{is_linked, HasNoEmptySet, IsUnchanged, AddsLink};
 
@@ -71,38 +70,6 @@ pub(crate) fn unlink_all<K: Ord + Drop, V: Ord + Drop>(
 {
     for key in keys {
         unlink(map, &key, value);
-    }
-}
-
-/// Takes the value away from the sets of these keys.
-pub(crate) fn unlink_keys<K: Ord + Drop, V: Ord + Drop>(
-    map: &mut BTreeMap<K, BTreeSet<V>>,
-    keys: &[K],
-    value: &V,
-)
-    ensures links { (k : K) (v : V) → is_linked K.cmp V.cmp map.new k v
-        ≡ (not (list_any (eq_by_cmp K.cmp k) keys.now && eq_by_cmp V.cmp value.now v)
-        && is_linked K.cmp V.cmp map.old k v) }
-    ensures filled { HasNoEmptySet K.cmp map.old → HasNoEmptySet K.cmp map.new }
-{
-    for key in keys {
-        unlink(map, key, value);
-    }
-}
-
-/// Takes these values away from the set of the key.
-pub(crate) fn unlink_values<K: Ord + Drop, V: Ord + Drop>(
-    map: &mut BTreeMap<K, BTreeSet<V>>,
-    key: &K,
-    values: &[V],
-)
-    ensures links { (k : K) (v : V) → is_linked K.cmp V.cmp map.new k v
-        ≡ (not (eq_by_cmp K.cmp key.now k && list_any (eq_by_cmp V.cmp v) values.now)
-        && is_linked K.cmp V.cmp map.old k v) }
-    ensures filled { HasNoEmptySet K.cmp map.old → HasNoEmptySet K.cmp map.new }
-{
-    for value in values {
-        unlink(map, key, value);
     }
 }
 

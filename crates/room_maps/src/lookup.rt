@@ -55,25 +55,6 @@ pub(crate) fn sockets_but(
         .collect(alloc)
 }
 
-/// Adds the sockets of a set but those in an excepted room.
-fn add_chosen(
-    sids: &mut Vec<Sid>,
-    by_socket: &SocketMap,
-    members: &BTreeSet<Sid>,
-    excepted: &[Room],
-) -> Result<(), AllocError>
-    ensures { OnOk result (sids.new.items ≡ sids.old.items ++ filter
-        (λ sid. not (is_in_one_of by_socket.now excepted.now sid)) members.now.keys) }
-{
-    sids.extend(
-        members
-            .iter()
-            .copied()
-            .filter(|sid| !is_in_any(by_socket, *sid, excepted)),
-    )?;
-    Ok(())
-}
-
 /// Adds the members of a room but those in an excepted one.
 fn add_members(
     sids: &mut Vec<Sid>,
@@ -87,29 +68,16 @@ fn add_members(
         || (is_linked room_cmp nat_cmp by_room.now room sid
         && not (is_in_one_of by_socket.now excepted.now sid)))) }
 {
-    match by_room.get(&room) {
-        Some(members) => add_chosen(sids, by_socket, members, excepted),
-        None => Ok(()),
-    }
-}
-
-/// The members of each room but those in an excepted one, room after room.
-fn all_members(
-    alloc: Global,
-    by_socket: &SocketMap,
-    by_room: &RoomMap,
-    rooms: &[Room],
-    excepted: &[Room],
-) -> Result<Vec<Sid>, AllocError>
-    ensures { IfOk result (λ sids. (sid : ℕ) → list_any (eq_by_cmp nat_cmp sid) sids.items
-        ≡ (is_member_of_one by_room.now rooms.now sid
-        && not (is_in_one_of by_socket.now excepted.now sid))) }
-{
-    let mut sids = Vec::new(alloc);
-    for room in rooms {
-        add_members(&mut sids, by_socket, by_room, *room, excepted)?;
-    }
-    Ok(sids)
+    let Some(members) = by_room.get(&room) else {
+        return Ok(());
+    };
+    sids.extend(
+        members
+            .iter()
+            .copied()
+            .filter(|sid| !is_in_any(by_socket, *sid, excepted)),
+    )?;
+    Ok(())
 }
 
 /// The sockets in one of the rooms but those in an excepted one, rising. It walks the members of
@@ -124,7 +92,10 @@ pub(crate) fn members_but(
     ensures { IfOk result (λ r. ListsRising nat_cmp (λ s. is_member_of_one by_room.now rooms.now s
         && not (is_in_one_of by_socket.now excepted.now s)) r.items) }
 {
-    let sids = all_members(alloc, by_socket, by_room, rooms, excepted)?;
+    let mut sids = Vec::new(alloc);
+    for room in rooms {
+        add_members(&mut sids, by_socket, by_room, *room, excepted)?;
+    }
     Ok(rising(sids))
 }
 

@@ -6,7 +6,7 @@ ghost use Rattle.std.specs.FinSet as set;
 ghost use Rattle.std.specs.Ordering.{nat_cmp};
 ghost use Rattle.terms.specs.Refusal.{ok_unless};
 ghost use Rattle.terms.specs.Listing.{ListsRising};
-ghost use Rattle.terms.specs.Room.{room_cmp};
+ghost use Rattle.terms.specs.Room.{room_cmp, same_room, own_room};
 ghost use Rattle.room_maps.specs.Links.{is_linked, HasNoEmptySet, IsUnchanged, AddsLink};
 ghost use Rattle.room_maps.specs.Membership.{RoomSets, room_sets_code, HasFewRooms, pair_cmp, no_sockets, is_socket, is_in, rooms_in, is_full, with_pair, without_pair, with_pairs, with_socket, with_socket_in, without_socket, enter_refusal, enter_all_refusal, join_refusal, leave_refusal, unknown_refusal, AreConsistent};
 ghost use Rattle.room_maps.specs.Membership as membership;
@@ -79,13 +79,13 @@ impl Rooms {
         self.by_socket.contains_key(&sid)
     }
 
-    /// How many rooms the socket is in.
-    fn room_count(&self, sid: Sid) -> usize
-        ensures { result ≡ set.len (rooms_in self.now sid) }
+    /// Whether the socket is in as many rooms as it may be.
+    fn is_full(&self, sid: Sid) -> bool
+        ensures { result ≡ is_full self.now sid }
     {
         match self.by_socket.get(&sid) {
-            Some(rooms) => rooms.len(),
-            None => 0,
+            Some(rooms) => rooms.len() >= MOST_ROOMS,
+            None => false,
         }
     }
 
@@ -97,7 +97,7 @@ impl Rooms {
             Some(RoomError::UnknownSocket)
         } else if self.is_in(sid, room) {
             Some(RoomError::AlreadyIn)
-        } else if self.room_count(sid) >= MOST_ROOMS {
+        } else if self.is_full(sid) {
             Some(RoomError::TooManyRooms)
         } else {
             None
@@ -195,8 +195,7 @@ impl Rooms {
         if let Some(refusal) = self.leave_refusal(sid, room) {
             return Err(refusal);
         }
-        links::unlink(&mut self.by_socket, &sid, &room);
-        links::unlink(&mut self.by_room, &room, &sid);
+        self.take(sid, room);
         Ok(())
     }
 
@@ -309,6 +308,15 @@ impl Rooms {
     {
         add_pair(alloc, &mut self.by_socket, &mut self.by_room, sid, room)?;
         Ok(())
+    }
+
+    /// Takes the socket out of a room that isn't its own one.
+    fn take(&mut self, sid: Sid, room: Room)
+        requires { same_room (own_room sid) room ≡ false }
+        ensures { self.new ≡ without_pair self.old sid room }
+    {
+        links::unlink(&mut self.by_socket, &sid, &room);
+        links::unlink(&mut self.by_room, &room, &sid);
     }
 
     fn take_socket(&mut self, sid: Sid)

@@ -3,7 +3,7 @@
 ghost use Rattle.std.specs.Prelude.{◌≡◌, ◌<◌, IfOk, OnOk, IsOkUnless, None, Some, Ok, option_map, length};
 ghost use Rattle.std.specs.BTreeMap.{get_by_text};
 ghost use Rattle.script.specs.declared.faults.RunError.TheVariants.{Memory};
-ghost use Rattle.script.specs.Playing.{new_server, server_of, Happens, Asks, IsOfNone, Names, NamesOpened, Opens, AsksMembers, Seals, RepliesForClient, Replies, Plays, told};
+ghost use Rattle.script.specs.Playing.{new_server, server_of, Happens, Asks, IsOfNone, NamesOpened, Opens, AsksMembers, RepliesForClient, Replies, Plays, told};
 ghost use Rattle.script.specs.Printing.{answer_text, done_text};
 
 use crate::faults::RunError;
@@ -83,7 +83,10 @@ impl<C: Ledger, T: Ledger> Play<C, T> {
             ScriptLine::OpenSocket(name) => self.open(app, name, true),
             ScriptLine::Members(space, room) => self.members(space, room),
             ScriptLine::Totals => Ok(Answer::Totals(self.core.hub().state().totals())),
-            ScriptLine::Seal => self.seal(),
+            ScriptLine::Seal => match self.core.seal(self.alloc) {
+                Ok(epoch) => Ok(Answer::Sealed(epoch.steps.len())),
+                Err(_) => Err(RunError::Memory),
+            },
             ScriptLine::Sweep => self.tell(app, "", &Event::Sweep),
             other => self.reply_for_client(app, other),
         }
@@ -153,20 +156,10 @@ impl<C: Ledger, T: Ledger> Play<C, T> {
             (NamesOpened name.now answer.now (server_of self.old) (server_of self.new)) }
         ensures err { IsOkUnless result Memory }
     {
-        match answer {
-            Ok(Outcome::Opened(opening)) => self.call(name, opening.client),
-            _ => Ok(()),
+        if let Ok(Outcome::Opened(opening)) = answer {
+            let key = String::from_str(self.alloc, name)?;
+            self.clients.insert(key, opening.client)?;
         }
-    }
-
-    /// From now on the name stands for this client.
-    fn call(&mut self, name: &str, client: u128) -> Result<(), RunError>
-        ensures names { OnOk result
-            (Names name.now client (server_of self.old) (server_of self.new)) }
-        ensures err { IsOkUnless result Memory }
-    {
-        let key = String::from_str(self.alloc, name)?;
-        self.clients.insert(key, client)?;
         Ok(())
     }
 
@@ -184,18 +177,6 @@ impl<C: Ledger, T: Ledger> Play<C, T> {
             Ok(sids) if sids.is_empty() => Ok(Answer::Members(None)),
             Ok(sids) => Ok(Answer::Members(Some(id_list(self.alloc, &sids)?))),
             Err(HubError::UnknownNamespace) => Ok(Answer::UnknownNamespace),
-            Err(_) => Err(RunError::Memory),
-        }
-    }
-
-    /// Ends an epoch.
-    fn seal(&mut self) -> Reply<'static>
-        ensures seals { IfOk result (λ answer.
-            Seals (server_of self.old) (answer_text answer) (server_of self.new)) }
-        ensures err { IsOkUnless result Memory }
-    {
-        match self.core.seal(self.alloc) {
-            Ok(epoch) => Ok(Answer::Sealed(epoch.steps.len())),
             Err(_) => Err(RunError::Memory),
         }
     }

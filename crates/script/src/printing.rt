@@ -160,36 +160,22 @@ impl fmt::Display for Answer<'_> {
             Answer::NotSaved => f.write_str("ok, not saved: SavedFull"),
             Answer::Members(Some(ids)) => write!(f, "members{}", ids.as_str()),
             Answer::Members(None) => f.write_str("members -"),
-            Answer::Totals(totals) => write!(f, "{}", Counted(*totals)),
+            Answer::Totals(counted) => write!(
+                f,
+                "commands {}, placed {}, dropped {}, taken {}, discarded {}, waiting {}",
+                counted.commands,
+                counted.placed,
+                counted.dropped,
+                counted.taken,
+                counted.discarded,
+                counted.waiting
+            ),
             Answer::Sealed(steps) => write!(f, "sealed {steps}"),
             Answer::Swept(swept) => write!(f, "swept log {}, saved {}", swept.log, swept.saved),
             Answer::Refused(fault) => write!(f, "refused: {}", fault_name(*fault)),
             Answer::UnknownNamespace => f.write_str("refused: UnknownNamespace"),
             Answer::BadLine => f.write_str("bad line"),
         }
-    }
-}
-
-/// What the server has counted, as it is printed.
-#[derive(Clone, Copy)]
-struct Counted(Totals);
-
-impl fmt::Display for Counted {
-    ghost use Rattle.script.specs.Printing.{totals_text};
-
-    ghost output = { λ counted. Some (totals_text counted.0) };
-
-    fn fmt<W: fmt::Write>(&self, f: &mut fmt::Formatter<W>) -> fmt::Result {
-        let commands = self.0.commands;
-        let placed = self.0.placed;
-        let dropped = self.0.dropped;
-        let taken = self.0.taken;
-        let discarded = self.0.discarded;
-        let waiting = self.0.waiting;
-        write!(
-            f,
-            "commands {commands}, placed {placed}, dropped {dropped}, taken {taken}, discarded {discarded}, waiting {waiting}"
-        )
     }
 }
 

@@ -10,11 +10,11 @@ use crate::faults::RunError;
 use crate::play::Play;
 use crate::printing::Answer;
 use crate::script_line::{Key, ScriptLine, read_line};
-use crate::setup::{Ledgers, set_limit, usual_limits};
+use crate::setup::{Ledgers, set_limit};
 use dispatch::Core;
 use events::{App, CoreFault};
 use journal::Config;
-use settings::{NUMBERS, TIMING};
+use settings::{NUMBERS, TIMING, usual_hub};
 use std::alloc::Global;
 use std::io;
 use std::io::{BufWriter, ErrorKind, Read, Write};
@@ -86,7 +86,10 @@ fn serve<C: Ledger, T: Ledger, A: App, R: Read, W: Write>(
         taken,
         of: PhantomData,
     };
-    let mut run: Run<C, T> = Run::Setting(usual_limits(alloc)?, ledgers);
+    // A server's usual limits, for fewer clients.
+    let mut limits = usual_hub(alloc)?;
+    limits.clients = 1024;
+    let mut run: Run<C, T> = Run::Setting(limits, ledgers);
     let mut line = Vec::new(alloc);
     let mut buffer = [0u8; READ_SIZE];
     for _ in 0..u64::MAX {

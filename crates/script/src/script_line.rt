@@ -1,7 +1,7 @@
 //! One line of a script.
 
 ghost use Rattle.std.specs.Prelude.{◌≡◌, ◌≢◌, ◌++◌, ◌∷◌, ◌↔◌, ℕ, List, IsTrue, IfSome, IfNone, option_map};
-ghost use Rattle.script.specs.ScriptLine.{name_in, IsName, IsNumber, IsWord, IsSilent, IsReadAs, ReadsAs, Spells, IsNoServerLine, IsNoClientLine, IsNoOpenLine, IsNoTakeLine, IsNoNoticeLine, IsNoSendingLine, SPACE, key_text, notice_text};
+ghost use Rattle.script.specs.ScriptLine.{name_in, IsName, IsNumber, IsWord, IsSilent, IsReadAs, Spells, IsNoServerLine, IsNoClientLine, IsNoOpenLine, IsNoTakeLine, IsNoNoticeLine, IsNoSendingLine, SPACE, key_text, notice_text};
 
 /// How many entries a `take` hands out at most that names no number.
 const MOST_TAKEN: usize = 64;
@@ -88,15 +88,9 @@ pub(crate) fn name_in(line: ScriptLine<'_>) -> Option<&str>
 pub fn read_line(line: &[u8]) -> ScriptLine<'_>
     ensures { IsReadAs line.now result }
 {
-    match str::from_utf8(line) {
-        Ok(text) => read_text(text),
-        Err(_) => ScriptLine::Bad,
-    }
-}
-
-fn read_text(text: &str) -> ScriptLine<'_>
-    ensures { ReadsAs text.now result }
-{
+    let Ok(text) = str::from_utf8(line) else {
+        return ScriptLine::Bad;
+    };
     if is_silent(text) {
         return ScriptLine::Nothing;
     }
@@ -177,11 +171,7 @@ fn read_notice(text: &str) -> Option<ScriptLine<'_>>
 {
     let (word, name) = text.split_once(' ')?;
     let notice = notice_of(word)?;
-    if is_name(name) {
-        Some(ScriptLine::Notice(notice, name))
-    } else {
-        None
-    }
+    is_name(name).then_some(ScriptLine::Notice(notice, name))
 }
 
 /// A line by which a client sends something.

@@ -1,12 +1,11 @@
 //! What a script's server is made with.
 
-ghost use Rattle.std.specs.Prelude.{◌≡◌, IfOk};
-ghost use Rattle.script.specs.Setup.{USUAL, with_limit};
+ghost use Rattle.std.specs.Prelude.{◌≡◌};
+ghost use Rattle.script.specs.Setup.{with_limit};
 
 use crate::script_line::Key;
 use journal::Config;
-use settings::usual_hub;
-use std::alloc::{AllocError, Global};
+use std::alloc::Global;
 use std::marker::PhantomData;
 use std::sync::ledger::{Blank, Ledger};
 
@@ -20,15 +19,6 @@ pub(crate) struct Ledgers<C: Ledger, T: Ledger> {
     ghost commands_of: { (commands.name ≡ C.name)
         × (commands.parts ≡ C.parts) × (commands.parts ≡ 65536) },
     ghost taken_of: { (taken.name ≡ T.name) × (taken.parts ≡ T.parts) × (taken.parts ≡ 65536) },
-}
-
-/// The limits where nothing was set: a server's usual ones, for fewer clients.
-pub(crate) fn usual_limits(alloc: Global) -> Result<Config, AllocError>
-    ensures { IfOk result (λ limits. limits ≡ USUAL) }
-{
-    let mut limits = usual_hub(alloc)?;
-    limits.clients = 1024;
-    Ok(limits)
 }
 
 /// Sets one limit.

@@ -1,5 +1,5 @@
-//! Tests of the server: the core with its lock and its scripts, HTTP and the peers, and whole
-//! servers over loopback. They are one crate, since the proof of each crate of tests reads all
+//! Tests of the server: its parts, the core with its lock and its scripts, HTTP and the peers, and
+//! whole servers over loopback. They are one crate, since the proof of each crate of tests reads all
 //! libraries that it reaches.
 #![tactic(auto)]
 
@@ -9,3 +9,5 @@ mod cores;
 mod edge;
 #[cfg(test)]
 mod loops;
+#[cfg(test)]
+mod parts;

@@ -34,20 +34,13 @@ pub const NUMBERS: Numbers = Numbers {
     max_payload: MOST_BYTES,
 };
 
-/// The namespaces.
-fn usual_spaces(alloc: Global) -> Result<Vec<Text>, AllocError>
-    ensures { IfOk result (λ spaces. spaces.items ≡ usual.spaces) }
-{
-    let mut spaces = Vec::new(alloc);
-    spaces.push(Text::copy_of(alloc, "/")?)?;
-    spaces.push(Text::copy_of(alloc, "/admin")?)?;
-    Ok(spaces)
-}
-
 /// The limits of the hub, with the namespaces.
 pub fn usual_hub(alloc: Global) -> Result<Config, AllocError>
     ensures { IfOk result (λ hub. hub ≡ usual.hub) }
 {
+    let mut spaces = Vec::new(alloc);
+    spaces.push(Text::copy_of(alloc, "/")?)?;
+    spaces.push(Text::copy_of(alloc, "/admin")?)?;
     Ok(Config {
         clients: 10_000,
         capacity: 64,
@@ -56,7 +49,7 @@ pub fn usual_hub(alloc: Global) -> Result<Config, AllocError>
         saved: 4_096,
         keep: 120_000,
         first_offset: 1,
-        spaces: usual_spaces(alloc)?,
+        spaces,
     })
 }
 

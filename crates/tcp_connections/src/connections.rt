@@ -3,19 +3,19 @@
 ghost use Rattle.std.specs.Prelude.{IsTrue};
 ghost use Rattle.loop_rules.specs.Rotas.{IsQuiet};
 
-use crate::tcp_connection::{Connection, Mode, Sent};
-use events::Answered;
-use loop_rules::{LookState, Overdue, Part, Roster, Turn, Verdict};
-use mio::Token;
+use crate::tcp_connection::{Connection, Mode};
+use loop_rules::{Overdue, Part, Roster};
 use mio::event::Event;
+use mio::{Interest, Registry, Token};
 use slab::Slab;
 use std::alloc::Global;
 use std::rt::Clock;
 use tcp_streams::Stream;
+use terms::let_go;
 
 /// The connections of a loop. Each has a key.
-pub struct Connections<R> {
-    slots: Slab<Box<Connection<R>>>,
+pub struct Connections<'a, R> {
+    slots: Slab<Box<Connection<'a, R>>>,
     generation: u32,
     /// Those that have something to do, and the clients that are listed with theirs.
     pub roster: Roster,
@@ -26,21 +26,15 @@ pub struct Connections<R> {
 }
 
 /// Written out, so that a crate above takes the drop of all that lies in it by this one call.
-impl<R: Drop> Drop for Connections<R> {
+impl<R: Drop> Drop for Connections<'_, R> {
     fn drop(self) {
-        let Self {
-            slots: _,
-            generation: _,
-            roster: _,
-            unsent: _,
-            overlooked: _,
-        } = self;
+        let_go!(self; slots, generation, roster, unsent, overlooked);
     }
 }
 
-impl<R: Clock + Drop> Connections<R> {
+impl<'a, R: Clock + Drop> Connections<'a, R> {
     /// None yet.
-    pub fn new(alloc: Global) -> Connections<R> {
+    pub fn new(alloc: Global) -> Connections<'a, R> {
         Connections {
             slots: Slab::new(alloc),
             generation: 0,
@@ -60,53 +54,47 @@ impl<R: Clock + Drop> Connections<R> {
         self.slots.capacity()
     }
 
-    /// The token of the next connection: its key, and what tells it from an earlier one with that key.
-    pub fn next_token(&mut self) -> Token {
+    /// Adds a connection of which nothing was read yet, and has its stream's readiness told. Its
+    /// token is its key, and what tells it from an earlier one with that key. None where it fails.
+    pub fn add(
+        &mut self,
+        alloc: Global,
+        registry: &Registry,
+        mut stream: Stream,
+        now: u64,
+    ) -> Option<usize> {
         self.generation = self.generation.wrapping_add(1) & 0x7fff_ffff;
-        let key = self.slots.vacant_key() & 0xffff_ffff;
-        Token(((self.generation as usize) << 32) | key)
-    }
-
-    /// Adds a connection of which nothing was read yet, for which the next token was given. None where
-    /// there is no memory for it.
-    pub fn add(&mut self, alloc: Global, stream: Stream, token: Token, now: u64) -> Option<usize> {
+        let key = self.slots.vacant_key();
+        let token = Token(((self.generation as usize) << 32) | (key & 0xffff_ffff));
+        let interests = Interest::READABLE | Interest::WRITABLE;
+        registry.register(&mut stream.inner, token, interests).ok()?;
         let connection = Connection::new(alloc, stream, token, now)?;
-        if !self.roster.rota.admit(self.slots.vacant_key()) {
+        if !self.roster.rota.admit(key) {
             return None;
         }
         self.slots.insert(connection).ok()
     }
 
     /// The connection with this key.
-    pub fn get_mut(&mut self, key: usize) -> Option<&mut Connection<R>> {
+    pub fn get_mut(&mut self, key: usize) -> Option<&mut Connection<'a, R>> {
         let connection = self.slots.get_mut(key)?;
         Some(connection)
     }
 
     /// The key of the connection with this token, if it is still there.
-    fn key_of(&self, token: Token) -> Option<usize> {
+    pub fn key_of(&self, token: Token) -> Option<usize> {
         let key = token.0 & 0xffff_ffff;
         (self.slots.get(key)?.token == token).then_some(key)
     }
 
     /// Takes a connection out.
-    fn take(&mut self, key: usize) -> Option<Box<Connection<R>>> {
+    pub fn take(&mut self, key: usize) -> Option<Box<Connection<'a, R>>> {
         let connection = self.slots.try_remove(key)?;
         self.roster.rota.dismiss(key);
         if let Some(client) = connection.stage.client() {
             self.roster.takers.release(client, key);
         }
         Some(connection)
-    }
-
-    /// Closes a connection, and tells whether it was there.
-    pub fn close(&mut self, key: usize) -> bool {
-        self.take(key).is_some()
-    }
-
-    /// Takes a connection out whose request was read, and leaves its stream of it.
-    pub fn take_stream(&mut self, key: usize) -> Option<Stream> {
-        self.take(key)?.stage.take_stream()
     }
 
     /// What is put for this client goes to this connection from now on.
@@ -131,21 +119,6 @@ impl<R: Clock + Drop> Connections<R> {
         self.roster.rota.is_quiet() && !self.overlooked
     }
 
-    /// An event of a connection was answered in its turn. Answers what follows.
-    pub fn follow(&mut self, key: usize, turn: &mut Turn, got: &Answered, now: u64) -> Verdict {
-        let Some(connection) = self.get_mut(key) else {
-            return Verdict::Rests;
-        };
-        match connection.hear(got, now) {
-            Some(found) => {
-                let full = connection.is_full();
-                self.roster.rota.follow(key, turn, found, full)
-            }
-            // Its next event tells so.
-            None => Verdict::GoesOn,
-        }
-    }
-
     /// It may have bytes to send.
     pub fn note_unsent(&mut self, key: usize) {
         if let Some(connection) = self.slots.get_mut(key) {
@@ -163,21 +136,6 @@ impl<R: Clock + Drop> Connections<R> {
         Some(key)
     }
 
-    /// Sends the bytes of a connection, and tells whether it is over.
-    pub fn send(&mut self, key: usize, now: u64) -> bool {
-        let Some(connection) = self.get_mut(key) else {
-            return false;
-        };
-        match connection.send(now) {
-            Sent::Nothing => {}
-            // It may be served again, if it waits for that.
-            Sent::Fits if self.roster.rota.look(key) != LookState::Full => {}
-            Sent::Fits | Sent::Queue => self.roster.rota.call(key),
-            Sent::Remove => return true,
-        }
-        false
-    }
-
     /// A stream is ready: its connection is queued, or its bytes are to be sent.
     pub fn note(&mut self, event: &Event) {
         let Some(key) = self.key_of(event.token()) else {
@@ -192,13 +150,6 @@ impl<R: Clock + Drop> Connections<R> {
         }
         if event.is_writable() {
             self.note_unsent(key);
-        }
-    }
-
-    /// Queues the connection with this token, if it is still there.
-    pub fn queue(&mut self, token: Token) {
-        if let Some(key) = self.key_of(token) {
-            self.roster.rota.call(key);
         }
     }
 

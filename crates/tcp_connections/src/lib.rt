@@ -10,5 +10,5 @@ mod watch;
 
 pub use connections::Connections;
 pub use delays::Delays;
-pub use tcp_connection::{Connection, Mode, Next};
+pub use tcp_connection::{Connection, Mode, Next, Sent};
 pub use watch::Watch;

@@ -5,56 +5,72 @@ use events::{Answered, Event, Peer, PeerFault};
 use http_edge::{EdgeError, Gathered, OnStream, Replay, Request, Target, write_response};
 use loop_rules::Pause;
 use peers::{
-    PollPeer, PollRequest, Reply, SocketPeer, SocketRequest, accept_socket, reply_to_fault,
-    reply_to_target,
+    PollPeer, PollRequest, Reply, SocketPeer, SocketRequest, accept_socket, reply_to_target,
 };
 use std::alloc::Global;
-use std::io::ErrorKind;
+use std::io::{ErrorKind, Read, Write};
 use std::rt::Clock;
-use std::sync::Arc;
 use std::{io, mem};
-use tcp_streams::{Download, Reading, Rules, Stream, asks_for_file, read_request};
+use tcp_streams::{Rules, Stream};
 
-type Poller<R> = PollPeer<OnStream<Stream>, Watch<R>>;
+/// How many bytes one read asks for.
+const READ: usize = 8_192;
 
-type Speaker<R> = SocketPeer<Replay<Stream>, Watch<R>>;
+/// How many such reads one turn makes.
+const READS: usize = 16;
+
+/// How many bytes of a file are put into a connection's buffer at a time.
+const PIECE: usize = 65_536;
 
 /// Who serves a connection.
 #[derive(Drop)]
-pub enum Stage<R> {
+pub enum Stage<'a, R> {
     /// Nobody yet: its request is coming.
     Gathering { stream: Stream, gathered: Gathered },
     /// A request over HTTP.
-    Polling(Box<Poller<R>>),
+    Polling(Box<PollPeer<OnStream<Stream>, Watch<R>>>),
     /// A WebSocket.
-    Speaking(Box<Speaker<R>>),
-    /// Nobody any more.
-    Answered(Stream),
-    /// Nobody any more, while a file goes out.
-    Downloading { stream: Stream, download: Download },
+    Speaking(Box<SocketPeer<Replay<Stream>, Watch<R>>>),
+    /// Nobody any more, while this rest of a file goes out, piece by piece.
+    Answered { stream: Stream, rest: &'a [u8] },
     /// Its stream was handed on, or dropped.
     Gone,
 }
 
-impl<R: Clock + Drop> Stage<R> {
+/// What the peer says that serves a connection, or this where none does.
+macro_rules! of_peer {
+    ($stage:expr, $peer:ident => $said:expr, $other:expr) => {
+        match $stage {
+            Stage::Polling($peer) => $said,
+            Stage::Speaking($peer) => $said,
+            _ => $other,
+        }
+    };
+}
+
+/// Writes the next piece of what is left of a file. A client that reads slowly has no more than one
+/// piece in memory.
+fn write_piece(stream: &mut Stream, rest: &mut &[u8]) -> io::Result<()> {
+    let (piece, left) = rest.split_at(rest.len().min(PIECE));
+    let _ = stream.write(piece)?;
+    *rest = left;
+    Ok(())
+}
+
+impl<'a, R: Clock + Drop> Stage<'a, R> {
     /// The stream, if it is still here.
     pub fn stream(&mut self) -> Option<&mut Stream> {
         match self {
-            Stage::Gathering { stream, .. } | Stage::Downloading { stream, .. } => Some(stream),
+            Stage::Gathering { stream, .. } | Stage::Answered { stream, .. } => Some(stream),
             Stage::Polling(peer) => Some(peer.wire_mut().get_mut()),
             Stage::Speaking(peer) => Some(peer.stream_mut().get_mut()),
-            Stage::Answered(stream) => Some(stream),
             Stage::Gone => None,
         }
     }
 
     /// Whose connection it is, once that is known.
     pub fn client(&self) -> Option<u128> {
-        match self {
-            Stage::Polling(peer) => peer.client(),
-            Stage::Speaking(peer) => peer.client(),
-            _ => None,
-        }
+        of_peer!(self, peer => peer.client(), None)
     }
 
     /// Whether it is a WebSocket.
@@ -69,28 +85,7 @@ impl<R: Clock + Drop> Stage<R> {
 
     /// Whether it has nothing to do until something comes for it.
     pub fn is_idle(&self) -> bool {
-        match self {
-            Stage::Polling(peer) => peer.is_idle(),
-            Stage::Speaking(peer) => peer.is_idle(),
-            _ => true,
-        }
-    }
-
-    /// Whether a WebSocket takes what waits after a read that brought nothing at all.
-    pub fn has_read_nothing(&self) -> bool {
-        matches!(self, Stage::Speaking(peer) if peer.has_read_nothing())
-    }
-
-    /// Whether a file has pieces that are not written yet.
-    pub fn has_more(&self) -> bool {
-        matches!(self, Stage::Downloading { download, .. } if !download.is_over())
-    }
-
-    /// A GET that waits asks no more.
-    pub fn give_up(&mut self) {
-        if let Stage::Polling(peer) = self {
-            peer.give_up();
-        }
+        of_peer!(self, peer => peer.is_idle(), true)
     }
 
     /// The stream, which nobody has any more then. None where somebody serves it.
@@ -103,38 +98,57 @@ impl<R: Clock + Drop> Stage<R> {
 
     /// The next event, if there is one.
     pub fn next(&mut self) -> Result<Option<(Event, u64)>, PeerFault> {
-        match self {
-            Stage::Polling(peer) => peer.next(),
-            Stage::Speaking(peer) => peer.next(),
-            _ => Ok(None),
-        }
+        of_peer!(self, peer => peer.next(), Ok(None))
     }
 
     /// Hears the answer to an event, and tells whether it could.
     pub fn answer(&mut self, got: &Answered) -> bool {
-        match self {
-            Stage::Polling(peer) => peer.answer(got).is_ok(),
-            Stage::Speaking(peer) => peer.answer(got).is_ok(),
-            _ => true,
-        }
+        of_peer!(self, peer => peer.answer(got).is_ok(), true)
     }
 
     /// Sends what is unsent, and the next piece of a file where nothing is. Answers how many bytes went.
     pub fn send(&mut self) -> io::Result<usize> {
-        if let Stage::Downloading { stream, download } = self {
+        if let Stage::Answered { stream, rest } = self {
             if stream.unsent() == 0 {
-                download.write_piece(stream)?;
+                write_piece(stream, rest)?;
             }
         }
         self.stream().ok_or(ErrorKind::NotConnected)?.send()
     }
 
-    /// Reads what has come of the request.
-    pub fn read(&mut self, alloc: Global) -> Result<Reading, EdgeError> {
-        match self {
-            Stage::Gathering { stream, gathered } => read_request(alloc, stream, gathered),
-            _ => Ok(Reading::Pauses(Pause::Done)),
+    /// Reads what has come of the request, which pauses where that is not whole.
+    pub fn read(&mut self, alloc: Global) -> Result<Result<Box<Request>, Pause>, EdgeError> {
+        let Stage::Gathering { stream, gathered } = self else {
+            return Ok(Err(Pause::Done));
+        };
+        let mut bytes = [0; READ];
+        for _ in 0..READS {
+            let count = match stream.read(&mut bytes) {
+                Ok(0) => return Err(EdgeError::EarlyEnd),
+                Ok(count) => count,
+                Err(error) if error.kind() == ErrorKind::WouldBlock => return Ok(Err(Pause::Done)),
+                Err(_) => return Err(EdgeError::Device),
+            };
+            if let Some(request) = gathered.feed(alloc, &bytes[..count])? {
+                return Ok(Ok(Box::new(alloc, request)?));
+            }
         }
+        Ok(Err(Pause::More))
+    }
+
+    /// Reads and forgets what comes. None where it has ended.
+    pub fn drain(&mut self) -> Option<Pause> {
+        let stream = self.stream()?;
+        let mut bytes = [0; READ];
+        for _ in 0..READS {
+            match stream.read(&mut bytes) {
+                Ok(0) => return None,
+                Ok(_) => {}
+                Err(error) if error.kind() == ErrorKind::WouldBlock => return Some(Pause::Done),
+                Err(_) => return None,
+            }
+        }
+        Some(Pause::More)
     }
 
     /// Answers by this, if by anything, which pages of this origin may read. Nobody serves it then.
@@ -142,7 +156,8 @@ impl<R: Clock + Drop> Stage<R> {
         if let (Some(stream), Some(reply)) = (self.take_stream(), reply) {
             let mut wire = OnStream::new(stream);
             if write_response(alloc, &mut wire, reply.status, origin, reply.body).is_ok() {
-                *self = Stage::Answered(wire.into_stream());
+                let stream = wire.into_stream();
+                *self = Stage::Answered { stream, rest: &[] };
             }
         }
     }
@@ -154,16 +169,16 @@ impl<R: Clock + Drop> Stage<R> {
         request: Box<Request>,
         target: Target,
         watch: Watch<R>,
-        rules: &Rules,
+        rules: &'a Rules,
     ) -> Option<()> {
-        if matches!(target, Target::NotFound) && asks_for_file(&rules.page, &request) {
-            let Ok(page) = Arc::try_clone(&rules.page) else {
-                self.reply(alloc, &None, reply_to_fault(EdgeError::Memory));
-                return None;
-            };
+        if let (Target::NotFound, Some(file)) = (target, rules.file_for(&request)) {
             let mut stream = self.take_stream()?;
-            let download = Download::begin(alloc, &mut stream, page, request).ok()?;
-            *self = Stage::Downloading { stream, download };
+            let head = file.head(alloc, &request.origin).ok()?;
+            let _ = stream.write(head.as_str().as_bytes()).ok()?;
+            let is_head = request.method.as_str() == "HEAD";
+            let mut rest = if is_head { &[] } else { file.bytes.as_slice() };
+            write_piece(&mut stream, &mut rest).ok()?;
+            *self = Stage::Answered { stream, rest };
             return None;
         }
         if let Some(reply) = reply_to_target(target) {

@@ -10,7 +10,7 @@ use peers::{FRAMES_PER_TAKE, PROBE, UPGRADE};
 use std::alloc::Global;
 use std::net::Shutdown;
 use std::rt::Clock;
-use tcp_streams::{Rules, Stream, drain};
+use tcp_streams::{Rules, Stream};
 
 /// A connection with more bytes unsent than this is not served until they have gone.
 const MOST_UNSENT: usize = 65_536;
@@ -35,7 +35,7 @@ pub enum Mode {
 
 /// One connection.
 #[derive(Drop)]
-pub struct Connection<R> {
+pub struct Connection<'a, R> {
     /// Tells it from an earlier one with the same key.
     pub token: Token,
     /// It stands in the list of those with bytes to send.
@@ -49,13 +49,11 @@ pub struct Connection<R> {
     moved: u64,
     /// It waits for this moment before it is served.
     pub not_before: u64,
-    /// How many bytes at the most its WebSocket has read and not brought.
-    unread: usize,
     /// Its last event takes what waits, where all that was read was brought and the stream had no more.
     dry: bool,
     /// The moment at which it was last asked what is due.
     asked: u64,
-    pub stage: Stage<R>,
+    pub stage: Stage<'a, R>,
 }
 
 /// What a connection does next.
@@ -65,9 +63,7 @@ pub enum Next {
     Brings(Event, u64),
     /// It asks what is due, a moment after that was asked.
     AsksAgain,
-    /// Its turn is over.
     Pauses(Pause),
-    /// It failed.
     Fails,
 }
 
@@ -83,7 +79,7 @@ pub enum Sent {
     Remove,
 }
 
-impl<R: Clock + Drop> Connection<R> {
+impl<'a, R: Clock + Drop> Connection<'a, R> {
     /// Its request is coming. None where there is no memory for it.
     pub fn new(alloc: Global, stream: Stream, token: Token, now: u64) -> Option<Box<Self>> {
         let gathered = Gathered::new(alloc);
@@ -95,7 +91,6 @@ impl<R: Clock + Drop> Connection<R> {
             since: now,
             moved: now,
             not_before: 0,
-            unread: 0,
             dry: false,
             asked: 0,
             stage: Stage::Gathering { stream, gathered },
@@ -123,7 +118,11 @@ impl<R: Clock + Drop> Connection<R> {
             find_overdue(part, now.saturating_sub(self.since), stalled)
         };
         match overdue {
-            Overdue::GiveUp => self.stage.give_up(),
+            Overdue::GiveUp => {
+                if let Stage::Polling(peer) = &mut self.stage {
+                    peer.give_up();
+                }
+            }
             Overdue::Cut => self.cut(),
             Overdue::Fail => {
                 self.cut();
@@ -141,15 +140,14 @@ impl<R: Clock + Drop> Connection<R> {
         request: Box<Request>,
         target: Target,
         watch: Watch<R>,
-        rules: &Rules,
+        rules: &'a Rules,
         now: u64,
     ) {
-        self.unread = request.rest.len();
         self.mode = Mode::Serves;
         self.since = now;
         if let Some(stream) = self.stage.stream() {
-            // The head, and the rest with it.
-            let _ = stream.take_read();
+            // What stands after the head is not brought yet.
+            stream.unbrought = request.rest.len();
         }
         let served = self.stage.serve(alloc, request, target, watch, rules);
         if served.is_none() {
@@ -165,7 +163,7 @@ impl<R: Clock + Drop> Connection<R> {
         if self.not_before > now {
             return Next::Pauses(Pause::Early);
         }
-        if self.stage.is_waiting() && self.drain().is_none() {
+        if self.stage.is_waiting() && self.stage.drain().is_none() {
             self.fail(now);
             return Next::Fails;
         }
@@ -184,12 +182,22 @@ impl<R: Clock + Drop> Connection<R> {
 
     /// Brings an event, unless it asks what is due, a moment after that was asked.
     fn bring(&mut self, event: Event, moment: u64) -> Next {
-        let read = self.stage.stream().map_or(0, |stream| stream.take_read());
-        let unread = self.unread.saturating_add(read);
-        let left = |length| left_after_message(unread, length);
-        self.unread = message_length(&event).map_or(unread, left);
+        let length = match &event {
+            Event::Frame { frame, .. } => match frame {
+                WsFrame::Text(text) => Some(text.as_str().len()),
+                WsFrame::Bytes(bytes) => Some(bytes.as_slice().len()),
+            },
+            Event::Probe { .. } => Some(PROBE.len()),
+            Event::Upgraded { .. } => Some(UPGRADE.len()),
+            _ => None,
+        };
+        if let (Some(stream), Some(length)) = (self.stage.stream(), length) {
+            stream.unbrought = left_after_message(stream.unbrought, length);
+        }
+        let has_read_nothing =
+            matches!(&self.stage, Stage::Speaking(peer) if peer.has_read_nothing());
         self.dry = matches!(event, Event::FrameTake { .. })
-            && (self.stage.has_read_nothing() || self.has_brought_all());
+            && (has_read_nothing || self.has_brought_all());
         if matches!(event, Event::Tick { .. }) {
             if moment < self.asked.saturating_add(DUE) {
                 return Next::AsksAgain;
@@ -201,7 +209,8 @@ impl<R: Clock + Drop> Connection<R> {
 
     /// Whether it brought all that it read, and its stream has no more, as far as is known.
     pub fn has_brought_all(&mut self) -> bool {
-        self.unread == 0 && self.stage.stream().is_none_or(|stream| stream.is_drained())
+        let stream = self.stage.stream();
+        stream.is_none_or(|stream| stream.unbrought == 0 && stream.drained)
     }
 
     /// Hears the answer to its event, and tells what that says of its look. It fails where it could not.
@@ -229,10 +238,8 @@ impl<R: Clock + Drop> Connection<R> {
     /// It has failed: its client is lost, if it has one.
     fn fail(&mut self, now: u64) {
         self.since = now;
-        self.mode = match self.stage.client() {
-            Some(client) => Mode::Loses(Loss::new(client)),
-            None => Mode::Closes,
-        };
+        let client = self.stage.client();
+        self.mode = client.map_or(Mode::Closes, |client| Mode::Loses(Loss::new(client)));
     }
 
     /// Where its client is lost: the core was told so, and answered this. Where it refused, it is told
@@ -258,27 +265,26 @@ impl<R: Clock + Drop> Connection<R> {
         if count > 0 || left == 0 {
             self.moved = now;
         }
+        let has_more = matches!(&self.stage, Stage::Answered { rest, .. } if !rest.is_empty());
         match left {
             // The next piece of a file has its turn after those of others.
-            0 if self.stage.has_more() => Sent::Queue,
-            0 if matches!(self.mode, Mode::Closes) => self.part(now),
-            0..=MOST_UNSENT if !self.stage.has_more() => Sent::Fits,
+            0 if has_more => Sent::Queue,
+            // A request over HTTP was read whole, and its stream is closed at once; else it is read
+            // on, since a stream that is closed with bytes unread takes back what was sent.
+            0 if matches!(self.mode, Mode::Closes) => {
+                self.since = now;
+                if matches!(self.stage, Stage::Polling(_)) {
+                    return Sent::Remove;
+                }
+                self.mode = Mode::Lingers;
+                let stream = self.stage.stream();
+                match stream.map(|stream| stream.inner.shutdown(Shutdown::Write)) {
+                    Some(Ok(())) => Sent::Queue,
+                    _ => Sent::Remove,
+                }
+            }
+            0..=MOST_UNSENT if !has_more => Sent::Fits,
             _ => Sent::Nothing,
-        }
-    }
-
-    /// All bytes have gone. A request over HTTP was read whole, and its stream is closed at once;
-    /// else it is read on, since a stream that is closed with bytes unread takes back what was sent.
-    fn part(&mut self, now: u64) -> Sent {
-        self.since = now;
-        if matches!(self.stage, Stage::Polling(_)) {
-            return Sent::Remove;
-        }
-        self.mode = Mode::Lingers;
-        let stream = self.stage.stream();
-        match stream.map(|stream| stream.get_mut().shutdown(Shutdown::Write)) {
-            Some(Ok(())) => Sent::Queue,
-            _ => Sent::Remove,
         }
     }
 
@@ -302,23 +308,5 @@ impl<R: Clock + Drop> Connection<R> {
         if let Some(stream) = self.stage.stream() {
             stream.cut();
         }
-    }
-
-    /// Reads and forgets what comes. None where it has ended.
-    pub fn drain(&mut self) -> Option<Pause> {
-        drain(self.stage.stream()?)
-    }
-}
-
-/// How long the message is that an event brings.
-fn message_length(event: &Event) -> Option<usize> {
-    match event {
-        Event::Frame { frame, .. } => Some(match frame {
-            WsFrame::Text(text) => text.as_str().len(),
-            WsFrame::Bytes(bytes) => bytes.as_slice().len(),
-        }),
-        Event::Probe { .. } => Some(PROBE.len()),
-        Event::Upgraded { .. } => Some(UPGRADE.len()),
-        _ => None,
     }
 }

@@ -8,14 +8,14 @@ use metrics::Reason;
 use peers::{Reply, is_noop, reply_to_fault};
 use std::rt::Clock;
 use std::sync::Wait;
-use tcp_connections::Connection;
-use tcp_streams::{Handed, Log, asks_for_file};
+use tcp_streams::{Handed, Log};
 
 impl<R: Wait + Clock + Copy + Drop, L: Log> EventLoop<'_, R, L> {
     /// Answers where no request was read.
     pub(crate) fn refuse(&mut self, key: usize, fault: EdgeError, now: u64) {
+        let base = &self.base;
         if let Some(reason) = Reason::of_edge(fault) {
-            self.base.note_refused(reason);
+            base.shared.note_refused(&base.rt, reason);
         }
         self.reply(key, &None, reply_to_fault(fault), now);
     }
@@ -30,39 +30,28 @@ impl<R: Wait + Clock + Copy + Drop, L: Log> EventLoop<'_, R, L> {
         self.connections.note_unsent(key);
     }
 
-    /// Answers a request, or has it served.
+    /// Answers a request, by what was counted where it asks for that, or has it served. It is
+    /// counted then, and why it isn't served where it isn't.
     pub(crate) fn direct(&mut self, key: usize, mut request: Box<Request>, now: u64) {
-        match direct(self.base.alloc, &self.base.rules.origins, &mut request) {
-            Ok(Target::NotFound) if self.base.rules.asks_for_counts(&request) => {
-                self.tell(key, &request, now)
+        let base = &self.base;
+        match direct(base.alloc, &base.rules.origins, &mut request) {
+            Ok(Target::NotFound) if base.rules.asks_for_counts(&request) => {
+                let Ok(text) = base.shared.counts.lock(&base.rt).text(base.alloc) else {
+                    return self.refuse(key, EdgeError::Memory, now);
+                };
+                let (status, body) = (Status::Success, text.as_str());
+                self.reply(key, &request.origin, Some(Reply { status, body }), now)
             }
             Ok(target) => {
-                self.count(&request, target);
+                base.shared.note_request(&base.rt, base.number);
+                let has_none = |_: &Reason| base.rules.file_for(&request).is_none();
+                if let Some(reason) = Reason::of_target(target).filter(has_none) {
+                    base.shared.note_refused(&base.rt, reason);
+                }
                 self.assign(key, request, target);
             }
             Err(fault) => self.refuse(key, fault, now),
         }
-    }
-
-    /// Counts a request, and why it isn't served where it isn't.
-    fn count(&self, request: &Request, target: Target) {
-        let base = &self.base;
-        base.shared.tallies.note_request(&base.rt, base.number);
-        match Reason::of_target(target) {
-            Some(reason) if !asks_for_file(&base.rules.page, request) => base.note_refused(reason),
-            _ => {}
-        }
-    }
-
-    /// Answers a request by what was counted.
-    fn tell(&mut self, key: usize, request: &Request, now: u64) {
-        let base = &self.base;
-        let Ok(text) = base.shared.tallies.0.lock(&base.rt).text(base.alloc) else {
-            return self.refuse(key, EdgeError::Memory, now);
-        };
-        let (status, body) = (Status::Success, text.as_str());
-        let reply = Some(Reply { status, body });
-        self.reply(key, &request.origin, reply, now);
     }
 
     /// Serves a request, or hands it with its stream to the loop that has its client.
@@ -72,15 +61,18 @@ impl<R: Wait + Clock + Copy + Drop, L: Log> EventLoop<'_, R, L> {
             return self.serve(key, request, target);
         }
         self.pause(key, Pause::Done);
-        if let Some(mut stream) = self.connections.take_stream(key) {
+        let taken = self.connections.take(key);
+        if let Some(mut stream) = taken.and_then(|mut connection| connection.stage.take_stream()) {
             // The loop hears no more of it.
-            let _ = self.ears.poll.registry().deregister(stream.get_mut());
+            let _ = self.ears.poll.registry().deregister(&mut stream.inner);
             let handed = Handed {
                 stream,
                 request,
                 target,
             };
-            if self.base.hand(owner, handed) {
+            let base = &self.base;
+            let inbox = base.shared.inboxes.get(owner);
+            if inbox.is_some_and(|inbox| inbox.hand(&base.rt, handed)) {
                 return;
             }
         }
@@ -103,49 +95,43 @@ impl<R: Wait + Clock + Copy + Drop, L: Log> EventLoop<'_, R, L> {
     /// A connection's event was answered.
     pub(crate) fn hear(&mut self, key: usize, got: &Answered) {
         let now = self.base.now();
-        let connection = self.connections.get_mut(key);
-        match connection.and_then(|connection| connection.hear_loss(got, now)) {
-            Some(pause) => {
-                self.note(key, got);
-                self.rest(key, pause);
-            }
-            None => self.follow(key, got, now),
+        let Some(connection) = self.connections.get_mut(key) else {
+            return;
+        };
+        if let Some(pause) = connection.hear_loss(got, now) {
+            self.note(key, got);
+            return self.rest(key, pause);
         }
-    }
-
-    /// An event of a connection that is served was answered.
-    fn follow(&mut self, key: usize, got: &Answered, now: u64) {
+        let found = connection.hear(got, now);
+        let (full, has_brought_all) = (connection.is_full(), connection.has_brought_all());
+        let rota = &mut self.connections.roster.rota;
+        let verdict = match found {
+            Some(found) => rota.follow(key, &mut self.turn, found, full),
+            // Its next event tells so.
+            None => Verdict::GoesOn,
+        };
         if let Err(error) = got {
-            self.base.note_refused(Reason::of_core(error.fault));
+            let (base, reason) = (&self.base, Reason::of_core(error.fault));
+            base.shared.note_refused(&base.rt, reason);
         }
-        let turn = &mut self.current.turn;
-        let verdict = self.connections.follow(key, turn, got, now);
-        let connection = self.connections.get_mut(key);
-        let has_brought_all = connection.is_some_and(Connection::has_brought_all);
         self.note(key, got);
         if has_brought_all && matches!(got, Ok(Outcome::Done(_))) {
             // The others may begin while this one goes on.
             self.base.send(&mut self.notes);
         }
         if !matches!(verdict, Verdict::GoesOn) {
-            self.current.key = None;
+            self.current = None;
             self.send_soon(key);
         }
     }
 
-    /// Nothing can be due that wasn't, so the core need not be asked.
-    pub(crate) fn hear_nothing(&mut self, key: usize) {
-        let nothing = Outcome::Ticked {
-            ping: false,
-            done: Done::nothing(self.base.alloc),
-        };
-        self.hear(key, &Ok(nothing));
-    }
-
     /// Notes whom the answer to an event of a connection concerns.
     fn note(&mut self, key: usize, got: &Answered) {
-        let connection = self.connections.get_mut(key);
-        let Some(client) = connection.and_then(|connection| connection.stage.client()) else {
+        let Some(connection) = self.connections.get_mut(key) else {
+            return;
+        };
+        let is_socket = connection.stage.is_socket();
+        let Some(client) = connection.stage.client() else {
             return;
         };
         if is_noop(got) {
@@ -153,29 +139,28 @@ impl<R: Wait + Clock + Copy + Drop, L: Log> EventLoop<'_, R, L> {
             self.delays.note_noop(client, now);
         }
         match got {
-            Ok(outcome) => self.note_outcome(client, key, outcome),
-            Err(error) => self.note_error(client, key, error),
-        }
-    }
-
-    /// Notes whom the outcome of a client's event concerns.
-    fn note_outcome(&mut self, client: u128, key: usize, outcome: &Outcome) {
-        match outcome {
-            Outcome::Done(done) => self.note_done(client, key, done),
-            Outcome::Opened(_) => self.note_opened(client, key),
-            Outcome::Begun => self.connections.settle(client, key),
-            Outcome::Probed(_) => self.connections.roster.wake(client),
-            Outcome::Lost { done, .. } => {
+            Ok(Outcome::Done(done)) => self.note_done(client, key, done),
+            Ok(Outcome::Opened(_)) => {
+                // What is put for it goes to its WebSocket, if it has one.
+                if is_socket {
+                    self.connections.settle(client, key);
+                }
+                self.base.note_opened(client, is_socket);
+            }
+            Ok(Outcome::Begun) => self.connections.settle(client, key),
+            Ok(Outcome::Probed(_)) => self.connections.roster.wake(client),
+            Ok(Outcome::Lost { done, .. }) => {
                 self.tell_others(done);
                 self.note_end(client, None);
             }
-            Outcome::Ticked { done, .. } => {
+            Ok(Outcome::Ticked { done, .. }) => {
                 self.tell_others(done);
                 if done.closed.is_some() {
                     self.note_end(client, done.closed);
                 }
             }
-            _ => {}
+            Ok(_) => {}
+            Err(error) => self.note_error(client, key, error),
         }
     }
 
@@ -204,7 +189,7 @@ impl<R: Wait + Clock + Copy + Drop, L: Log> EventLoop<'_, R, L> {
     /// An event of a client was worked on.
     fn note_done(&mut self, client: u128, key: usize, done: &Done) {
         self.tell_others(done);
-        if self.current.comes_over {
+        if self.comes_over {
             self.connections.settle(client, key);
             self.base.note_upgraded(client);
         }
@@ -220,15 +205,5 @@ impl<R: Wait + Clock + Copy + Drop, L: Log> EventLoop<'_, R, L> {
     fn note_end(&mut self, client: u128, cause: Option<Cause>) {
         self.connections.roster.wake(client);
         self.base.note_end(client, cause);
-    }
-
-    /// A client was opened. What is put for it goes to its WebSocket, if it has one.
-    fn note_opened(&mut self, client: u128, key: usize) {
-        let connection = self.connections.get_mut(key);
-        let is_socket = connection.is_some_and(|connection| connection.stage.is_socket());
-        if is_socket {
-            self.connections.settle(client, key);
-        }
-        self.base.note_opened(client, is_socket);
     }
 }

@@ -2,7 +2,6 @@
 
 use events::Cause;
 use loop_rules::Notes;
-use metrics::Reason;
 use peers::Moments;
 use std::alloc::Global;
 use std::rt::Clock;
@@ -10,7 +9,7 @@ use std::sync::{Arc, Wait};
 use std::time::Instant;
 use std::{io, mem};
 use tcp_connections::Watch;
-use tcp_streams::{Ended, Handed, Inbox, Log, Rules, Shared};
+use tcp_streams::{Ended, Log, Rules, Shared};
 
 /// What a worker goes by: through it a loop, or the keeper, speaks to the others.
 #[derive(Drop)]
@@ -70,22 +69,6 @@ impl<R: Wait + Clock, L: Log> Base<'_, R, L> {
     /// A connection was closed.
     pub fn note_closed(&self) {
         self.shared.note_closed(&self.rt);
-    }
-
-    /// Something was refused.
-    pub fn note_refused(&self, reason: Reason) {
-        self.shared.tallies.note_refused(&self.rt, reason);
-    }
-
-    /// What others hand to the loop.
-    pub fn inbox(&self) -> Option<&Inbox> {
-        self.shared.inboxes.get(self.number)
-    }
-
-    /// Hands a request to another loop, and tells whether it was taken.
-    pub fn hand(&self, owner: usize, handed: Handed) -> bool {
-        let inbox = self.shared.inboxes.get(owner);
-        inbox.is_some_and(|inbox| inbox.hand(&self.rt, handed))
     }
 
     /// Tells each loop of its clients that were noted.

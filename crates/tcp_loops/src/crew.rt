@@ -7,6 +7,7 @@ use crate::drawn::DrawnIds;
 use crate::event_loop::EventLoop;
 use crate::keeper::{Keeper, KeptCore};
 use events::{Answered, Event, Peer, PeerFault};
+use loop_rules::LOOPS;
 use rand::make_rng;
 use rand::rngs::StdRng;
 use std::alloc::{AllocError, Global};
@@ -74,7 +75,9 @@ pub fn sources<R: RandomSource>(
 {
     let mut all = Vec::new(alloc);
     for worker in 0..workers {
-        all.push(DrawnIds::new(worker, make_rng::<StdRng, R>(rt)?))?;
+        let number = (worker as u128) % LOOPS;
+        let random = make_rng::<StdRng, R>(rt)?;
+        all.push(DrawnIds { number, random })?;
     }
     Ok(all)
 }

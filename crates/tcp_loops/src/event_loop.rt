@@ -1,16 +1,16 @@
 //! A loop that serves many connections: one peer, which brings the events of all of their clients.
 
 use crate::base::Base;
-use events::{Answered, Event, Peer, PeerFault};
-use loop_rules::{Mail, Notes, Pause, Turn};
-use mio::{Events, Interest};
+use events::{Answered, Done, Event, Outcome, Peer, PeerFault};
+use loop_rules::{LookState, Mail, Notes, Pause, Turn};
+use mio::Events;
 use std::alloc::{AllocError, Global};
 use std::mem;
 use std::rt::Clock;
 use std::sync::Wait;
 use std::time::Duration;
-use tcp_connections::{Connection, Connections, Delays, Mode, Next};
-use tcp_streams::{Buffered, Ears, Handed, Inbox, Log, Reading, Stream};
+use tcp_connections::{Connection, Connections, Delays, Mode, Next, Sent};
+use tcp_streams::{Buffered, Ears, Handed, Inbox, Log, Stream};
 
 /// How many reports of streams one wait takes.
 const EVENTS: usize = 256;
@@ -28,30 +28,24 @@ const TURNS: usize = 1_024;
 /// How long a loop sleeps at the most, in milliseconds.
 const BEAT: u64 = 1_000;
 
-/// Whose turn it is.
-#[derive(Drop)]
-pub(crate) struct Current {
-    /// The connection whose turn it is.
-    pub(crate) key: Option<usize>,
-    /// Whether the event that it brought has its client come over to it.
-    pub(crate) comes_over: bool,
-    pub(crate) turn: Turn,
-    /// How many turns of connections the loop's turn has left.
-    left: usize,
-}
-
 /// A loop over many connections.
 #[derive(Drop)]
 pub struct EventLoop<'a, R, L> {
     pub(crate) base: Base<'a, R, L>,
     pub(crate) ears: Ears,
     events: Events<Global>,
-    pub(crate) connections: Connections<R>,
+    pub(crate) connections: Connections<'a, R>,
     mail: Mail<Handed>,
     /// The clients of other loops, to be told once a turn.
     pub(crate) notes: Notes,
     pub(crate) delays: Delays,
-    pub(crate) current: Current,
+    /// The connection whose turn it is.
+    pub(crate) current: Option<usize>,
+    /// Whether the event that it brought has its client come over to it.
+    pub(crate) comes_over: bool,
+    pub(crate) turn: Turn,
+    /// How many turns of connections the loop's turn has left.
+    turns_left: usize,
     /// The moment of the next beat.
     beat: u64,
 }
@@ -60,10 +54,10 @@ impl<R: Wait + Clock + Copy + Drop, L: Log> Peer for EventLoop<'_, R, L> {
     fn next(&mut self) -> Result<Option<(Event, u64)>, PeerFault> {
         self.base.begin();
         for _ in 0..u64::MAX {
-            if let Some(brought) = self.current.key.and_then(|key| self.step(key)) {
+            if let Some(brought) = self.current.and_then(|key| self.step(key)) {
                 return Ok(Some(brought));
             }
-            if self.current.key.is_none() && !self.pick() {
+            if self.current.is_none() && !self.pick() {
                 break;
             }
         }
@@ -77,7 +71,7 @@ impl<R: Wait + Clock + Copy + Drop, L: Log> Peer for EventLoop<'_, R, L> {
     }
 
     fn answer(&mut self, got: &Answered) -> Result<(), PeerFault> {
-        if let Some(key) = self.current.key {
+        if let Some(key) = self.current {
             self.hear(key, got);
         }
         Ok(())
@@ -96,12 +90,10 @@ impl<'a, R: Wait + Clock + Copy + Drop, L: Log> EventLoop<'a, R, L> {
             connections: Connections::new(alloc),
             mail: Mail::new(alloc),
             delays: Delays::new(alloc),
-            current: Current {
-                key: None,
-                comes_over: false,
-                turn: Turn::begin(),
-                left: 0,
-            },
+            current: None,
+            comes_over: false,
+            turn: Turn::begin(),
+            turns_left: 0,
             beat: 0,
         })
     }
@@ -110,11 +102,11 @@ impl<'a, R: Wait + Clock + Copy + Drop, L: Log> EventLoop<'a, R, L> {
     /// next begins once it has waited for streams, for what others hand in, or for the next moment at
     /// which something is due. Answers whether the loop goes on.
     fn pick(&mut self) -> bool {
-        if self.current.left > 0 {
+        if self.turns_left > 0 {
             if let Some(key) = self.connections.roster.rota.pop() {
-                self.current.left -= 1;
-                self.current.turn = Turn::begin();
-                self.current.key = Some(key);
+                self.turns_left -= 1;
+                self.turn = Turn::begin();
+                self.current = Some(key);
                 return true;
             }
         }
@@ -125,7 +117,7 @@ impl<'a, R: Wait + Clock + Copy + Drop, L: Log> EventLoop<'a, R, L> {
         if self.connections.len() == 0 && base.shared.standing(&base.rt).is_over() {
             return false;
         }
-        self.current.left = TURNS;
+        self.turns_left = TURNS;
         let timeout = Duration::from_millis(self.time_to_sleep());
         let waited = self.ears.poll.poll(&mut self.events, Some(timeout));
         if waited.is_err() {
@@ -152,8 +144,9 @@ impl<'a, R: Wait + Clock + Copy + Drop, L: Log> EventLoop<'a, R, L> {
     /// The time until something is due: none where something is to be done, or was handed in.
     fn time_to_sleep(&mut self) -> u64 {
         let base = &self.base;
+        let inbox = base.shared.inboxes.get(base.number);
         let sleeps = |inbox: &Inbox| inbox.falls_asleep(&base.rt);
-        if !self.connections.is_quiet() || !base.inbox().is_none_or(sleeps) {
+        if !self.connections.is_quiet() || !inbox.is_none_or(sleeps) {
             return 0;
         }
         let due = self.delays.first().unwrap_or(self.beat).min(self.beat);
@@ -163,7 +156,7 @@ impl<'a, R: Wait + Clock + Copy + Drop, L: Log> EventLoop<'a, R, L> {
     /// Takes in what was handed in, and does what is due.
     fn take_in(&mut self) {
         let base = &self.base;
-        if let Some(inbox) = base.inbox() {
+        if let Some(inbox) = base.shared.inboxes.get(base.number) {
             inbox.take(&base.rt, &mut self.mail);
         }
         self.add_streams();
@@ -183,7 +176,9 @@ impl<'a, R: Wait + Clock + Copy + Drop, L: Log> EventLoop<'a, R, L> {
             let Some(token) = self.delays.pop_due(now) else {
                 break;
             };
-            self.connections.queue(token);
+            if let Some(key) = self.connections.key_of(token) {
+                self.connections.roster.rota.call(key);
+            }
         }
         if now < self.beat && !everyone {
             return;
@@ -206,7 +201,7 @@ impl<'a, R: Wait + Clock + Copy + Drop, L: Log> EventLoop<'a, R, L> {
                 return;
             };
             let base = &self.base;
-            base.shared.tallies.note_connection(&base.rt, base.number);
+            base.shared.note_connection(&base.rt, base.number);
             let alloc = base.alloc;
             let stream = Box::new(alloc, Buffered::new(alloc, stream)).ok();
             if stream.and_then(|stream| self.add(stream)).is_none() {
@@ -232,13 +227,10 @@ impl<'a, R: Wait + Clock + Copy + Drop, L: Log> EventLoop<'a, R, L> {
     }
 
     /// Adds a stream, and has its readiness told. None where that fails: then it is closed.
-    fn add(&mut self, mut stream: Stream) -> Option<usize> {
+    fn add(&mut self, stream: Stream) -> Option<usize> {
         let now = self.base.now();
-        let token = self.connections.next_token();
-        let interests = Interest::READABLE | Interest::WRITABLE;
         let registry = self.ears.poll.registry();
-        registry.register(stream.get_mut(), token, interests).ok()?;
-        self.connections.add(self.base.alloc, stream, token, now)
+        self.connections.add(self.base.alloc, registry, stream, now)
     }
 
     /// The next event of a connection, if it has one.
@@ -250,16 +242,20 @@ impl<'a, R: Wait + Clock + Copy + Drop, L: Log> EventLoop<'a, R, L> {
         };
         match connection.mode {
             Mode::Gathers => match connection.stage.read(self.base.alloc) {
-                Ok(Reading::Pauses(pause)) => self.pause(key, pause),
-                Ok(Reading::Whole(request)) => self.direct(key, request, now),
+                Ok(Ok(request)) => self.direct(key, request, now),
+                Ok(Err(pause)) => self.pause(key, pause),
                 Err(fault) => self.refuse(key, fault, now),
             },
             Mode::Serves => match connection.next(now) {
                 Next::Brings(event, moment) => {
-                    self.current.comes_over = matches!(event, Event::Upgraded { .. });
+                    self.comes_over = matches!(event, Event::Upgraded { .. });
                     return Some((event, moment));
                 }
-                Next::AsksAgain => self.hear_nothing(key),
+                // Nothing can be due that wasn't, so the core need not be asked.
+                Next::AsksAgain => {
+                    let done = Done::nothing(self.base.alloc);
+                    self.hear(key, &Ok(Outcome::Ticked { ping: false, done }));
+                }
                 Next::Pauses(pause) => self.rest(key, pause),
                 Next::Fails => {}
             },
@@ -267,7 +263,7 @@ impl<'a, R: Wait + Clock + Copy + Drop, L: Log> EventLoop<'a, R, L> {
             Mode::Closes => self.rest(key, Pause::Done),
             // What still comes is forgotten.
             Mode::Lingers => {
-                let drained = connection.drain();
+                let drained = connection.stage.drain();
                 self.pause(key, drained.unwrap_or(Pause::Done));
                 if drained.is_none() {
                     self.close(key);
@@ -279,7 +275,7 @@ impl<'a, R: Wait + Clock + Copy + Drop, L: Log> EventLoop<'a, R, L> {
 
     /// The turn of a connection is over.
     pub(crate) fn pause(&mut self, key: usize, pause: Pause) {
-        self.current.key = None;
+        self.current = None;
         self.connections.roster.rota.pause(key, pause);
     }
 
@@ -302,14 +298,19 @@ impl<'a, R: Wait + Clock + Copy + Drop, L: Log> EventLoop<'a, R, L> {
 
     /// Sends the bytes of a connection, which may be over then.
     fn send(&mut self, key: usize, now: u64) {
-        if self.connections.send(key, now) {
-            self.close(key);
+        let connection = self.connections.get_mut(key);
+        match connection.map(|connection| connection.send(now)) {
+            // It may be served again, if it waits for that.
+            Some(Sent::Fits) if self.connections.roster.rota.look(key) != LookState::Full => {}
+            Some(Sent::Fits | Sent::Queue) => self.connections.roster.rota.call(key),
+            Some(Sent::Remove) => self.close(key),
+            Some(Sent::Nothing) | None => {}
         }
     }
 
     /// A connection is over.
     fn close(&mut self, key: usize) {
-        if self.connections.close(key) {
+        if self.connections.take(key).is_some() {
             self.base.note_closed();
         }
     }

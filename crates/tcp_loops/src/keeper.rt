@@ -1,7 +1,7 @@
 //! The keeper: a peer that brings what the passing of time brings, for all clients.
 
 use crate::base::Base;
-use events::{Answered, CoreError, CoreFault, Done, Event, Outcome, Peer, PeerFault};
+use events::{Answered, CoreError, CoreFault, Event, Outcome, Peer, PeerFault};
 use loop_rules::{Notes, loop_of};
 use metrics::CoreCounts;
 use std::alloc::{AllocError, Global};
@@ -60,51 +60,33 @@ impl<'a, R: Wait + Clock + Copy, L: Log, K: KeptCore> Keeper<'a, R, L, K> {
         })
     }
 
-    /// Waits for the next round, and tells whether there is one. Where the journal is long, it is sealed.
-    fn rests(&self) -> bool {
+    /// Tells the core's counts where somebody may ask for them, and the log where a report is due.
+    fn tell_counts(&mut self) {
+        let now = self.base.now();
+        let base = &self.base;
+        let due = base.rules.report.filter(|_| now >= self.report);
+        if base.rules.metrics.is_none() && due.is_none() {
+            return;
+        }
+        let counts = self.core.counts(&base.rt);
+        base.shared.counts.lock(&base.rt).core = counts;
+        if let Some(pause) = due {
+            self.report = now.saturating_add(pause.saturating_mul(1_000));
+            base.log.totals(counts.totals);
+        }
+    }
+
+    /// Waits for the next round, begins it and lists the clients, and tells whether there is one.
+    /// Where the journal is long meanwhile, it is sealed.
+    fn begin_round(&mut self) -> bool {
+        self.base.send(&mut self.notes);
+        let base = &self.base;
         for _ in 0..LOOKS {
-            let base = &self.base;
             let part = Duration::from_millis(ROUND / LOOKS);
             if base.shared.wait_for_loops(&base.rt, part) {
                 return false;
             }
             self.core.seal(&base.rt, base.alloc);
-        }
-        true
-    }
-
-    /// Tells the core's counts, where somebody may ask for them, and the log, where it is time.
-    fn tell_counts(&mut self) {
-        let is_due = self.is_report_due();
-        let base = &self.base;
-        if base.rules.metrics.is_none() && !is_due {
-            return;
-        }
-        let counts = self.core.counts(&base.rt);
-        base.shared.tallies.0.lock(&base.rt).core = counts;
-        if is_due {
-            base.log.totals(counts.totals);
-        }
-    }
-
-    /// Whether it is time for a report; then it is so again a pause later.
-    fn is_report_due(&mut self) -> bool {
-        let Some(pause) = self.base.rules.report else {
-            return false;
-        };
-        let now = self.base.now();
-        let is_due = now >= self.report;
-        if is_due {
-            self.report = now.saturating_add(pause.saturating_mul(1_000));
-        }
-        is_due
-    }
-
-    /// Waits for the next round, begins it and lists the clients, and tells whether there is one.
-    fn begin_round(&mut self) -> bool {
-        self.base.send(&mut self.notes);
-        if !self.rests() {
-            return false;
         }
         self.tell_counts();
         let alloc = self.base.alloc;
@@ -114,19 +96,6 @@ impl<'a, R: Wait + Clock + Copy, L: Log, K: KeptCore> Keeper<'a, R, L, K> {
         }
         self.sweeps = true;
         true
-    }
-
-    /// Notes whom the answer to a tick concerns.
-    fn note_tick(&mut self, ping: bool, done: &Done) {
-        if ping || done.closed.is_some() {
-            self.note(self.client);
-        }
-        if done.closed.is_some() {
-            self.base.note_end(self.client, done.closed);
-        }
-        for client in done.clients.lists().iter().flatten() {
-            self.note(*client);
-        }
     }
 
     /// Something was put for a client, or is due to it.
@@ -156,7 +125,18 @@ impl<R: Wait + Clock + Copy, L: Log, K: KeptCore> Peer for Keeper<'_, R, L, K> {
 
     fn answer(&mut self, got: &Answered) -> Result<(), PeerFault> {
         match got {
-            Ok(Outcome::Ticked { ping, done }) => self.note_tick(*ping, done),
+            Ok(Outcome::Ticked { ping, done }) => {
+                let has_ended = done.closed.is_some();
+                if *ping || has_ended {
+                    self.note(self.client);
+                }
+                if has_ended {
+                    self.base.note_end(self.client, done.closed);
+                }
+                for client in done.clients.lists().iter().flatten() {
+                    self.note(*client);
+                }
+            }
             // What was put before the fault isn't told, nor whether the client was given up.
             Err(error) if error.fault != CoreFault::UnknownClient => self.notes.everyone = true,
             _ => {}

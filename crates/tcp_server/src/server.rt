@@ -1,13 +1,13 @@
 //! A server, from its listening to its totals.
 
-ghost use Rattle.std.specs.Prelude.{◌≡◌, ◌+◌, None, Err, IfOk, IfSome, OnOk, vec_len, sum_by};
+ghost use Rattle.std.specs.Prelude.{◌≡◌, ◌+◌, None, Err, IfOk, IfSome, OnOk, sum_by};
 ghost use Rattle.hub_totals.specs.Pass.{IsBlankOf};
 ghost use Rattle.settings.specs.Wrong.{wrong_setting};
 ghost use Rattle.tcp_streams.specs.declared.fault.ServerFault.TheVariants.{BadSetting};
 
 use crate::watched_core::WatchedCore;
 use dispatch::Core;
-use events::{App, CoreFault, IdSource, Peer};
+use events::{App, CoreFault};
 use hub_gate::{Locked, Open, Pool, Report, ServeError, serve_peers};
 use hub_totals::Pass;
 use journal::Config;
@@ -24,6 +24,7 @@ use tcp_loops::{Base, sources, start_accepting, workers_for};
 use tcp_streams::{
     Acceptor, Ears, Log, Rules, ServerFault, Shared, acceptor_for, ears_for, rules_and_limits,
 };
+use terms::let_go;
 
 /// How many threads may count what they do.
 const PARTS: u64 = 65_536;
@@ -35,22 +36,14 @@ pub struct Server<L> {
     acceptor: Box<Acceptor>,
     ears: Vec<Ears>,
     shared: Arc<Shared>,
-    rules: Arc<Rules>,
+    rules: Box<Rules>,
     hub: Box<Config>,
 }
 
 /// Written out, so that a crate above takes the drop of all that lies in it by this one call.
 impl<L: Drop> Drop for Server<L> {
     fn drop(self) {
-        let Self {
-            log: _,
-            port: _,
-            acceptor: _,
-            ears: _,
-            shared: _,
-            rules: _,
-            hub: _,
-        } = self;
+        let_go!(self; log, port, acceptor, ears, shared, rules, hub);
     }
 }
 
@@ -161,34 +154,11 @@ fn run_in<
         gate: &Open,
         turns: u64::MAX,
     };
-    let served = serve_pool(&pool, &mut pass, workers, ids);
+    let number = workers.len();
+    let served = serve_peers(&pool, &mut pass, workers, number, ids);
     base.shared.stop_accepting(&base.rt);
     accepting.join(&base.rt);
-    served
-}
-
-/// Serves until all workers have ended.
-fn serve_pool<
-    C: Ledger + Send,
-    T: Ledger + Send,
-    R: Threads + Wait + Sync,
-    A: App + Sync,
-    P: Peer + Send + Drop,
-    I: IdSource + Send + Drop,
->(
-    pool: &Pool<'_, R, C, T, A, Open>,
-    pass: &mut Pass<C, T>,
-    workers: Vec<P>,
-    ids: Vec<I>,
-) -> Result<Report, ServerFault>
-    requires { vec_len ids ≡ vec_len workers }
-    ensures commands { IfOk result (λ r. r.totals.commands
-        ≡ pass.old.commands + sum_by (λ w. w.commands) r.workers.items) }
-    ensures taken { IfOk result (λ r. r.totals.taken
-        ≡ pass.old.taken + sum_by (λ w. w.taken) r.workers.items) }
-{
-    let number = workers.len();
-    match serve_peers(pool, pass, workers, number, ids) {
+    match served {
         Ok(settled) => Ok(settled.report),
         Err(ServeError::Memory) => Err(ServerFault::Memory(AllocError)),
         Err(ServeError::NotAll(_)) => Err(ServerFault::Books),

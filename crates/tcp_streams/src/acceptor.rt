@@ -17,6 +17,7 @@ use std::net::{Net, Shutdown, ToSocketAddrs};
 use std::rt::Clock;
 use std::sync::Wait;
 use std::time::Duration;
+use terms::let_go;
 
 /// The token of the listener.
 const LISTENER: Token = Token(0);
@@ -62,17 +63,7 @@ pub struct Acceptor {
 /// Written out, so that a crate above takes the drop of all that lies in it by this one call.
 impl Drop for Acceptor {
     fn drop(self) {
-        let Self {
-            alloc: _,
-            poll: _,
-            listener: _,
-            events: _,
-            left: _,
-            most: _,
-            together: _,
-            refused: _,
-            given: _,
-        } = self;
+        let_go!(self; alloc, poll, listener, events, left, most, together, refused, given);
     }
 }
 
@@ -173,7 +164,7 @@ impl Acceptor {
         // Without it a small answer may wait for the acknowledgement of the one before.
         let _ = stream.set_nodelay(true);
         if !shared.note_accepted(rt, self.most) {
-            shared.tallies.note_refused(rt, Reason::NoPlace);
+            shared.note_refused(rt, Reason::NoPlace);
             return self.turn_away(stream);
         }
         let place = dealt_to(self.given, self.together, shared.inboxes.len());

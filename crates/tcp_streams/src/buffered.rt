@@ -4,8 +4,8 @@ ghost use Rattle.std.specs.Prelude.{◌≤◌, length};
 
 use mio::net::TcpStream;
 use std::alloc::Global;
+use std::io;
 use std::io::{ErrorKind, Read, Write};
-use std::{io, mem};
 
 /// A buffer that grew past this, in bytes, is given back once it is empty.
 const KEPT: usize = 200_000;
@@ -16,15 +16,15 @@ pub type Stream = Box<Buffered>;
 /// Reads from a stream whose reads do not wait, and keeps what is written until `send`.
 #[derive(Drop)]
 pub struct Buffered {
-    stream: TcpStream,
-    // The stream has no byte until it is reported ready again.
-    drained: bool,
+    pub inner: TcpStream,
+    /// The stream has no byte until it is reported ready again.
+    pub drained: bool,
     // The other side has sent its last byte, so that a short read is no sign of a drained stream.
     ended: bool,
     // Nothing more is read of it, or sent.
     cut: bool,
-    // How many bytes were read since this was last asked.
-    read: usize,
+    /// How many bytes at the most were read of which its reader has brought no message yet.
+    pub unbrought: usize,
     output: Vec<u8>,
     sent: usize,
     ghost in_output: { sent ≤ length output.items },
@@ -32,13 +32,13 @@ pub struct Buffered {
 
 impl Buffered {
     /// Nothing was read or written yet.
-    pub fn new(alloc: Global, stream: TcpStream) -> Buffered {
+    pub fn new(alloc: Global, inner: TcpStream) -> Buffered {
         Buffered {
-            stream,
+            inner,
             drained: false,
             ended: false,
             cut: false,
-            read: 0,
+            unbrought: 0,
             output: Vec::new(alloc),
             sent: 0,
         }
@@ -50,16 +50,6 @@ impl Buffered {
         self.ended |= ended;
     }
 
-    /// Whether it has no byte to be read, as far as is known.
-    pub fn is_drained(&self) -> bool {
-        self.drained
-    }
-
-    /// How many bytes were read since this was last asked.
-    pub fn take_read(&mut self) -> usize {
-        mem::replace(&mut self.read, 0)
-    }
-
     /// From now on each read tells the end of the stream, and nothing is sent.
     pub fn cut(&mut self) {
         self.cut = true;
@@ -69,11 +59,6 @@ impl Buffered {
     /// How many bytes wait to be sent.
     pub fn unsent(&self) -> usize {
         self.output.len() - self.sent
-    }
-
-    /// The stream itself.
-    pub fn get_mut(&mut self) -> &mut TcpStream {
-        &mut self.stream
     }
 
     fn forget(&mut self) {
@@ -93,7 +78,7 @@ impl Buffered {
                 self.forget();
                 return Ok(total);
             }
-            match self.stream.write(&self.output[self.sent..]) {
+            match self.inner.write(&self.output[self.sent..]) {
                 Ok(0) => return Err(io::Error::from(ErrorKind::WriteZero)),
                 Ok(count) => {
                     self.sent += count;
@@ -115,10 +100,10 @@ impl Read for Buffered {
         if self.drained {
             return Err(io::Error::from(ErrorKind::WouldBlock));
         }
-        match self.stream.read(buf) {
+        match self.inner.read(buf) {
             Ok(count) => {
                 self.drained = count < buf.len() && !self.ended;
-                self.read = self.read.saturating_add(count);
+                self.unbrought = self.unbrought.saturating_add(count);
                 Ok(count)
             }
             Err(error) => {

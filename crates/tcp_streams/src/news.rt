@@ -2,8 +2,6 @@
 
 use events::Cause;
 use journal::Totals;
-use std::collections::HashMap;
-use std::sync::Mutex;
 
 /// Who hears what a server tells of itself. Its calls may wait.
 pub trait Log {
@@ -28,6 +26,3 @@ pub struct Ended {
     /// How long it was there, in milliseconds.
     pub lived: u64,
 }
-
-/// The clients that are there: since when, and whether over a WebSocket.
-pub type Lives = Mutex<HashMap<u128, (u64, bool)>>;

@@ -6,25 +6,18 @@ use connection::Timing;
 use eio_wire::Numbers;
 use http_edge::Request;
 use journal::Config;
-use page::Page;
+use page::{File, Page};
 use settings::Settings;
 use std::alloc::{AllocError, Global};
-use std::sync::Arc;
 
-/// What a loop goes by, and how a core pings its clients.
+/// The settings by which a loop goes, and a core pings its clients.
 #[derive(Drop)]
 pub struct Rules {
-    /// How many loops there are.
     pub loops: usize,
-    /// How many entries one payload over HTTP may have.
     pub poll_entries: usize,
-    /// The origins of the pages that are served, `*` for all; all too where there are none.
     pub origins: Vec<String>,
-    /// The files that are served beside the socket's path.
-    pub page: Arc<Page>,
-    /// The path at which the counts are told, if they are.
+    pub page: Page,
     pub metrics: Option<String>,
-    /// Every how many seconds the totals are told, if they are.
     pub report: Option<u64>,
     pub timing: Timing,
     pub numbers: Numbers,
@@ -37,13 +30,21 @@ impl Rules {
         let path = self.metrics.as_ref().map(String::as_str);
         request.method.as_str() == "GET" && path == Some(request.path.as_str())
     }
+
+    /// The file of the page that a request asks for (RFC 9110, sections 9.3.1 and 9.3.2).
+    pub fn file_for(&self, request: &Request) -> Option<&File> {
+        match request.method.as_str() {
+            "GET" | "HEAD" => self.page.look_up(request.path.as_str()),
+            _ => None,
+        }
+    }
 }
 
 /// What the loops go by, and the limits of the hub.
 pub fn rules_and_limits(
     alloc: Global,
     settings: Settings,
-) -> Result<(Arc<Rules>, Box<Config>), AllocError>
+) -> Result<(Box<Rules>, Box<Config>), AllocError>
     requires { 0 < settings.workers }
 {
     let rules = Rules {
@@ -52,9 +53,9 @@ pub fn rules_and_limits(
         loops: settings.workers,
         poll_entries: settings.poll_entries,
         origins: settings.origins,
-        page: Arc::new(alloc, settings.page)?,
+        page: settings.page,
         metrics: settings.metrics,
         report: settings.report,
     };
-    Ok((Arc::new(alloc, rules)?, Box::new(alloc, settings.hub)?))
+    Ok((Box::new(alloc, rules)?, Box::new(alloc, settings.hub)?))
 }

@@ -2,24 +2,25 @@
 
 use crate::fault::ServerFault;
 use crate::inbox::Inbox;
-use crate::news::Lives;
-use crate::tallies::Tallies;
+use metrics::{CoreCounts, LoopCounts, Metrics, REASONS, Reason, Refusals};
 use mio::Waker;
-use std::alloc::Global;
+use std::alloc::{AllocError, Global};
 use std::collections::HashMap;
 use std::rt::Clock;
 use std::sync::{Arc, Condvar, CondvarTimeouts, Mutex, Wait};
 use std::time::Duration;
+use terms::let_go;
 
 /// What all threads of a server share, beside the core.
 pub struct Shared {
     /// What others hand to each loop.
     pub inboxes: Vec<Inbox>,
     acceptor: Waker,
-    /// The clients that are there, if somebody hears of them.
-    pub lives: Option<Lives>,
-    /// What is counted.
-    pub tallies: Tallies,
+    /// The clients that are there, if somebody hears of them: since when, and whether over a
+    /// WebSocket.
+    pub lives: Option<Mutex<HashMap<u128, (u64, bool)>>>,
+    /// What the threads count, and what the keeper last told of the core.
+    pub counts: Mutex<Metrics>,
     standing: Mutex<Standing>,
     changed: Condvar,
 }
@@ -27,14 +28,7 @@ pub struct Shared {
 /// Written out, so that a crate above takes the drop of all that lies in it by this one call.
 impl Drop for Shared {
     fn drop(self) {
-        let Self {
-            inboxes: _,
-            acceptor: _,
-            lives: _,
-            tallies: _,
-            standing: _,
-            changed: _,
-        } = self;
+        let_go!(self; inboxes, acceptor, lives, counts, standing, changed);
     }
 }
 
@@ -60,6 +54,26 @@ impl Standing {
     }
 }
 
+/// Nothing was counted yet.
+fn no_counts(alloc: Global, loops: usize) -> Result<Metrics, AllocError> {
+    let mut counts = Metrics {
+        core: CoreCounts::default(),
+        loops: Vec::new(alloc),
+        refused: Vec::new(alloc),
+    };
+    for number in 0..loops {
+        counts.loops.push(LoopCounts {
+            number: number as u64,
+            connections: 0,
+            requests: 0,
+        })?;
+    }
+    for reason in REASONS {
+        counts.refused.push(Refusals { reason, count: 0 })?;
+    }
+    Ok(counts)
+}
+
 impl Shared {
     /// Nothing is open yet, and each loop is at work. Somebody hears of clients, or not.
     pub fn new(
@@ -73,7 +87,7 @@ impl Shared {
             ..Standing::default()
         };
         let shared = Shared {
-            tallies: Tallies::new(alloc, inboxes.len())?,
+            counts: Mutex::new(no_counts(alloc, inboxes.len())?),
             inboxes,
             acceptor,
             lives: hears_clients.then(|| Mutex::new(HashMap::new(alloc))),
@@ -162,6 +176,29 @@ impl Shared {
     pub fn wake_everyone(&self, rt: &impl Wait) {
         for inbox in self.inboxes.iter() {
             inbox.wake_everyone(rt);
+        }
+    }
+
+    /// A loop was given a connection.
+    pub fn note_connection(&self, rt: &impl Wait, number: usize) {
+        if let Some(it) = self.counts.lock(rt).loops.get_mut(number) {
+            it.connections = it.connections.saturating_add(1);
+        }
+    }
+
+    /// A request came whole to a loop.
+    pub fn note_request(&self, rt: &impl Wait, number: usize) {
+        if let Some(it) = self.counts.lock(rt).loops.get_mut(number) {
+            it.requests = it.requests.saturating_add(1);
+        }
+    }
+
+    /// Something was refused.
+    pub fn note_refused(&self, rt: &impl Wait, reason: Reason) {
+        for it in self.counts.lock(rt).refused.iter_mut() {
+            if it.reason == reason {
+                it.count = it.count.saturating_add(1);
+            }
         }
     }
 }

@@ -1,8 +1,9 @@
 //! Words that the other crates' contracts share: texts and bytes as values, hexadecimal digits,
-//! refusals in their order, lists that rise.
+//! refusals in their order, lists that rise; and how a drop is written out.
 #![tactic(auto)]
 
 mod bytes;
+mod drops;
 mod entry;
 mod hexadecimal;
 mod room;

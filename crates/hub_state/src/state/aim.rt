@@ -1,16 +1,15 @@
 //! For whom an entry is: the sockets of a namespace that are in one of the rooms and in no excepted
 //! one, and their clients (Socket.IO server documentation, "Rooms" and "Adapter").
 
-ghost use Rattle.std.specs.Prelude.{◌≡◌, ◌&&◌, not, ◌++◌, filter, IfOk, OnOk};
+ghost use Rattle.std.specs.Prelude.{◌≡◌, not, ◌++◌, filter, IfOk, OnOk};
 ghost use Rattle.std.specs.List.{flat_map, list_any};
 ghost use Rattle.std.specs.Ordering.{nat_cmp};
 ghost use Rattle.std.specs.BTreeMap.{get};
 ghost use Rattle.std.specs.Arc.{arc_value};
-ghost use Rattle.terms.specs.Listing.{ListsRising};
 ghost use Rattle.room_maps.specs.Membership.{is_in};
 ghost use Rattle.room_maps.specs.Addressed.{is_addressed};
 ghost use Rattle.journal.specs.Membership.{is_in_space};
-ghost use Rattle.journal.specs.Casting.{in_space, is_here, ListsInside, is_full_in, message_for, missing_of};
+ghost use Rattle.journal.specs.Casting.{in_space, ListsInside, is_full_in, message_for, missing_of};
 ghost use Rattle.journal.specs.Casting as casting;
 ghost use Rattle.hub_state.specs.Words.{rooms_now, aimed, TellsNow};
 
@@ -71,23 +70,6 @@ fn retain_outside(sids: &mut Vec<Sid>, inside: &Rooms, rooms: &[Room])
         ≡ filter (λ s. not (list_any (is_in inside.now s) rooms.now)) sids.old.items }
 {
     sids.retain(|sid| !is_in_any(inside, *sid, rooms));
-}
-
-/// The sockets in the namespace at a place but those in an excepted room, rising.
-fn everybody_but(
-    alloc: Global,
-    seats: &Seats,
-    inside: &Rooms,
-    space: u16,
-    excepted: &[Room],
-) -> Result<Vec<Sid>, AllocError>
-    ensures ok { IfOk result (λ sids. ListsRising nat_cmp (λ s.
-        is_here space (get nat_cmp seats.now s)
-        && not (list_any (is_in inside.now s) excepted.now)) sids.items) }
-{
-    let mut sids = seats.sids_in(alloc, space)?;
-    retain_outside(&mut sids, inside, excepted);
-    Ok(sids)
 }
 
 /// Whether the client's outbox has no place for the entry.
@@ -159,9 +141,11 @@ impl State {
             (is_addressed (rooms_now h) rooms.now excepted.now) sids.items) }
     {
         if rooms.is_empty() {
-            return everybody_but(alloc, &self.seats, &self.rooms, space, excepted);
+            let mut sids = self.live.seats.sids_in(alloc, space)?;
+            retain_outside(&mut sids, &self.live.rooms, excepted);
+            return Ok(sids);
         }
-        match self.rooms.addressees(alloc, rooms, excepted) {
+        match self.live.rooms.addressees(alloc, rooms, excepted) {
             Ok(sids) => Ok(sids),
             Err(_) => Err(AllocError),
         }
@@ -182,7 +166,7 @@ impl State {
         ensures tells { IfOk result (λ both. TellsNow self.now both.0 both.1.items) }
     {
         let sids = self.listeners(alloc, space, &rooms, &excepted)?;
-        let sockets = sockets_in(alloc, &self.seats, &sids, space)?;
+        let sockets = sockets_in(alloc, &self.live.seats, &sids, space)?;
         let (messages, dropped) = messages_for(alloc, &self.clients, &sockets, &entry)?;
         let broadcast = Broadcast {
             space,

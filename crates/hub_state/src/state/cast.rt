@@ -1,7 +1,7 @@
 //! Events are put into the outboxes of those whom they are for (Socket.IO server documentation,
 //! "Rooms" and "Adapter"; Socket.IO protocol 5, "Sending and receiving data").
 
-ghost use Rattle.std.specs.Prelude.{◌≡◌, ◌≤◌, ℕ, true, false, map, nat_eq, None, Some, IfSome, IfOk, IfErr, ◌==◌, [], length, get_or, if◌then◌else◌};
+ghost use Rattle.std.specs.Prelude.{◌≡◌, ◌≤◌, ℕ, false, map, nat_eq, None, Some, IfSome, IfOk, IfErr, ◌==◌, [], length, get_or, if◌then◌else◌};
 ghost use Rattle.std.specs.List.{IsDistinct, AllByRecursion, list_any};
 ghost use Rattle.std.specs.Option.{option_map, option_map_or};
 ghost use Rattle.std.specs.Ordering.{nat_cmp};
@@ -17,9 +17,9 @@ ghost use Rattle.journal.specs.Log.{logged, next};
 ghost use Rattle.journal.specs.Journal.{moment_at};
 ghost use Rattle.journal.specs.Broadcast.{event_header};
 ghost use Rattle.journal.specs.declared.step.What.{What};
-ghost use Rattle.hub_state.specs.Changes.{Reports, MakesStep};
+ghost use Rattle.hub_state.specs.Changes.{MakesStep};
 ghost use Rattle.hub_state.specs.Sending.{done_of, IsCounted};
-ghost use Rattle.hub_state.specs.Words.{spent_by, TellsNow, AllHear};
+ghost use Rattle.hub_state.specs.Words.{TellsNow, AllHear};
 
 use crate::state::deliver::put_entry;
 use crate::state::{NONE, State};
@@ -89,22 +89,6 @@ pub(crate) fn receivers(alloc: Global, messages: &[Message]) -> Result<Vec<u128>
     messages.iter().map(|message| message.client).collect(alloc)
 }
 
-/// What comes of a broadcast with these messages.
-fn outcome(
-    alloc: Global,
-    broadcast: &Broadcast,
-    messages: &[Message],
-) -> Result<CastDone, AllocError>
-    ensures ok { IfOk result (λ done. done ≡ done_of broadcast.now messages.now) }
-{
-    Ok(CastDone {
-        offset: broadcast.offset,
-        placed: messages.len() as u64,
-        dropped: broadcast.dropped.len() as u64,
-        clients: receivers(alloc, messages)?,
-    })
-}
-
 /// Whether the text has a `]`.
 pub(crate) fn has_bracket(text: &str) -> bool
     ensures { result ≡ list_any is_bracket text.now }
@@ -134,42 +118,7 @@ fn kind_of(attachments: usize) -> Kind
     }
 }
 
-/// The text of an event for the namespace with this name.
-fn event_text(
-    alloc: Global,
-    name: &str,
-    payload: Text,
-    attachments: usize,
-    offset: Option<u64>,
-) -> Result<Text, AllocError>
-    requires { attachments ≤ 32 }
-    ensures ok { IfOk result (λ t. Plain (event_header name.now payload attachments offset) t) }
-{
-    let header = Header {
-        kind: kind_of(attachments),
-        space: Text::copy_of(alloc, name)?,
-        id: None,
-        payload: payload_of(alloc, payload, offset)?,
-        count: attachments as u32,
-    };
-    let text = write_header(alloc, &header).map_err(|_| AllocError)?;
-    Ok(Text::from_string(text))
-}
-
 impl State {
-    /// The offset of a broadcast: the next one, where it is logged.
-    fn offset_for(&self, logged: bool) -> Result<Option<u64>, HubError>
-        ensures ok { IfOk result (λ offset. offset ≡ offset_of self.now logged) }
-        ensures numbered { IfOk result (λ _. has_no_offset self.now logged ≡ false) }
-        ensures spent { IfErr result (λ e. e ≡ HubError.Spent) }
-        ensures last { IfErr result (λ _. has_no_offset self.now logged ≡ true) }
-    {
-        if !logged {
-            return Ok(None);
-        }
-        Ok(Some(self.next_offset().ok_or(HubError::Spent)?))
-    }
-
     /// The offset of the next broadcast that is logged, or `None` where the greatest has been
     /// used.
     pub fn next_offset(&self) -> Option<u64>
@@ -195,7 +144,12 @@ impl State {
         ensures does { MakesStep self.old self.new now (What.Cast broadcast) result }
         ensures done { IfOk result (λ done. done ≡ done_of broadcast messages.items) }
     {
-        let done = outcome(alloc, &broadcast, &messages)?;
+        let done = CastDone {
+            offset: broadcast.offset,
+            placed: messages.len() as u64,
+            dropped: broadcast.dropped.len() as u64,
+            clients: receivers(alloc, &messages)?,
+        };
         let added = Counts {
             placed: done.placed,
             dropped: done.dropped,
@@ -205,14 +159,6 @@ impl State {
         put_messages(&mut self.clients, messages);
         push_logged(&mut self.log, entry);
         Ok(done)
-    }
-
-    /// Refused as `Spent`, where a broadcast with these messages can't be counted.
-    fn may_send(&self, broadcast: &Broadcast, messages: &[Message]) -> Result<(), HubError>
-        requires { TellsNow self.now broadcast.now messages.now }
-        ensures { Reports result (spent_by self.now (What.Cast broadcast.now)) }
-    {
-        self.may_count(messages.len() as u64, broadcast.dropped.len() as u64)
     }
 
     /// The place of the namespace that a cast is for, and its offset.
@@ -228,8 +174,11 @@ impl State {
         if !has_bracket(cast.payload.as_str()) || cast.attachments.len() > 32 {
             return Err(HubError::BadPayload);
         }
-        let offset = self.offset_for(cast.logged)?;
-        Ok((place, offset))
+        if !cast.logged {
+            return Ok((place, None));
+        }
+        let offset = self.next_offset().ok_or(HubError::Spent)?;
+        Ok((place, Some(offset)))
     }
 
     /// The broadcast that a cast asks for, which has this place and offset, and the messages for
@@ -265,7 +214,7 @@ impl State {
     {
         let (place, offset) = self.judge(&cast)?;
         let (broadcast, messages) = self.build(alloc, place, offset, cast)?;
-        self.may_send(&broadcast, &messages)?;
+        self.may_count(messages.len() as u64, broadcast.dropped.len() as u64)?;
         let entry = log_entry(alloc, self.moment_at(now), &broadcast)?;
         self.send(alloc, broadcast, messages, entry, now)
     }
@@ -306,8 +255,15 @@ impl State {
             (event_header name payload (length attachments) offset) (arc_value entry).text) }
         ensures attachments { IfOk result (λ entry. (arc_value entry).attachments ≡ attachments) }
     {
-        let name = self.name_at(place);
-        let text = event_text(alloc, name, payload, attachments.len(), offset)?;
+        let header = Header {
+            kind: kind_of(attachments.len()),
+            space: Text::copy_of(alloc, self.name_at(place))?,
+            id: None,
+            payload: payload_of(alloc, payload, offset)?,
+            count: attachments.len() as u32,
+        };
+        let text = write_header(alloc, &header).map_err(|_| AllocError)?;
+        let text = Text::from_string(text);
         Ok(Arc::new(alloc, Entry { text, attachments })?)
     }
 }

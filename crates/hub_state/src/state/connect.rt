@@ -2,14 +2,11 @@
 
 ghost use Rattle.std.specs.Prelude.{◌≡◌, ℕ, ◌≤◌, true, false, [], length, OnOk, OnErr, IfOk, IfErr, None, Some, get_or};
 ghost use Rattle.std.specs.Option.{option_map};
-ghost use Rattle.std.specs.Ordering.{nat_cmp};
 ghost use Rattle.std.specs.BTreeMap.{get};
 ghost use Rattle.std.specs.Arc.{arc_value};
-ghost use Rattle.room_maps.specs.Membership as room_maps;
 ghost use Rattle.terms.specs.Entry.{entry_size};
 ghost use Rattle.sio_wire.specs.ConnectAnswer as connect_answer;
-ghost use Rattle.journal.specs.Membership.{place_of, is_space, is_connected, pid_of, sid_of, socket_of};
-ghost use Rattle.journal.specs.Sessions.{is_sid_saved, is_pid_saved};
+ghost use Rattle.journal.specs.Membership.{place_of, is_space, is_connected, sid_of, socket_of};
 ghost use Rattle.journal.specs.Outboxes.{is_full};
 ghost use Rattle.journal.specs.Outboxes as outboxes;
 ghost use Rattle.journal.specs.Refusals.{is_taken};
@@ -17,19 +14,17 @@ ghost use Rattle.journal.specs.Command.{Does};
 ghost use Rattle.journal.specs.Fields.{plus_socket, without_last};
 ghost use Rattle.journal.specs.declared.socket.Socket.{Socket};
 ghost use Rattle.journal.specs.declared.step.What.{What};
-ghost use Rattle.hub_parts.specs.Seats.{SameSeats, WithSeat, WithoutSeat};
-ghost use Rattle.hub_state.specs.Changes.{ChangesClient, SameClients, SamePids, WithPid, WithoutPid, IsNew, IsAlone, refusal_now, MakesStep};
-ghost use Rattle.hub_state.specs.Words.{opened, saves, plain_entry, socket_for, answer_at};
+ghost use Rattle.hub_state.specs.Changes.{ChangesClient, SameClients, SameLive, WithSocket, IsNew, IsAlone, refusal_now};
+ghost use Rattle.hub_state.specs.Words.{opened, plain_entry, socket_for, answer_at};
 
 use crate::state::deliver::{put_entry, shared_text};
-use crate::state::{NONE, State};
-use hub_parts::{Client, Seats};
+use crate::state::{Live, NONE, State};
+use hub_parts::Client;
 use journal::{Counts, HubError, Socket, What};
 use recovery::Pid;
-use room_maps::Rooms;
 use sio_wire::connected_text;
 use std::alloc::{AllocError, Global};
-use std::collections::{BTreeMap, BTreeSet};
+use std::collections::BTreeMap;
 use std::sync::Arc;
 use terms::{Entry, Room, Sid, Text};
 
@@ -44,56 +39,27 @@ fn answer_to(alloc: Global, name: &str, sid: Sid, pid: Pid) -> Result<Arc<Entry>
     }
 }
 
-/// Makes a socket known by both its ids, of which the session id is free.
-fn add_ids(seats: &mut Seats, pids: &mut BTreeSet<Pid>, socket: &Socket) -> Result<(), AllocError>
-    requires free { get nat_cmp seats.old socket.now.sid ≡ None }
-    ensures seats { OnOk result (WithSeat socket.now seats.old seats.new) }
-    ensures pids { OnOk result (WithPid socket.now.pid pids.old pids.new) }
-    ensures same_seats { OnErr result (SameSeats seats.old seats.new) }
-    ensures same_pids { OnErr result (SamePids pids.old pids.new) }
-{
-    seats.insert(*socket)?;
-    if pids.insert(socket.pid).is_err() {
-        seats.remove(socket.sid);
-        return Err(AllocError);
+impl Live {
+    /// Makes a socket known by both its ids, which are free, in its own room and in these.
+    fn enter(&mut self, alloc: Global, socket: &Socket, inside: &[Room]) -> Result<(), AllocError>
+        requires { IsNew socket.now self.old }
+        ensures ok { OnOk result (WithSocket socket.now inside.now self.old self.new) }
+        ensures err { OnErr result (SameLive self.old self.new) }
+    {
+        let sid = socket.sid;
+        self.seats.insert(*socket)?;
+        if self.pids.insert(socket.pid).is_err() {
+            self.seats.remove(sid);
+            return Err(AllocError);
+        }
+        if self.rooms.enter_all(alloc, sid, inside).is_err() {
+            self.seats.remove(sid);
+            self.pids.remove(&socket.pid);
+            return Err(AllocError);
+        }
+        self.rooms.kept_facts();
+        Ok(())
     }
-    Ok(())
-}
-
-/// Forgets both ids of a socket.
-pub(crate) fn drop_ids(seats: &mut Seats, pids: &mut BTreeSet<Pid>, sid: Sid, pid: Pid)
-    ensures seats { WithoutSeat sid seats.old seats.new }
-    ensures pids { WithoutPid pid pids.old pids.new }
-{
-    seats.remove(sid);
-    pids.remove(&pid);
-}
-
-/// Makes a socket known by both its ids, which are free, in its own room and in these.
-fn enter(
-    alloc: Global,
-    seats: &mut Seats,
-    pids: &mut BTreeSet<Pid>,
-    rooms: &mut Rooms,
-    socket: &Socket,
-    inside: &[Room],
-) -> Result<(), AllocError>
-    requires { IsNew socket.now seats.old pids.old }
-    ensures ids { OnOk result (WithSeat socket.now seats.old seats.new
-        × WithPid socket.now.pid pids.old pids.new) }
-    ensures rooms { OnOk result (rooms.new
-        ≡ room_maps.with_socket_in rooms.old socket.now.sid inside.now) }
-    ensures agree { OnOk result (room_maps.AreConsistent rooms.new) }
-    ensures unchanged { OnErr result (SameSeats seats.old seats.new × SamePids pids.old pids.new
-        × (rooms.new ≡ rooms.old)) }
-{
-    add_ids(seats, pids, socket)?;
-    if rooms.enter_all(alloc, socket.sid, inside).is_err() {
-        drop_ids(seats, pids, socket.sid, socket.pid);
-        return Err(AllocError);
-    }
-    rooms.kept_facts();
-    Ok(())
 }
 
 /// Gives a client a socket more, where it has none at the socket's place.
@@ -123,26 +89,20 @@ fn drop_socket(clients: &mut BTreeMap<u128, Client>, client: u128)
 pub(crate) fn seat(
     alloc: Global,
     clients: &mut BTreeMap<u128, Client>,
-    seats: &mut Seats,
-    pids: &mut BTreeSet<Pid>,
-    rooms: &mut Rooms,
+    live: &mut Live,
     socket: &Socket,
     inside: &[Room],
 ) -> Result<(), AllocError>
     requires alone { IsAlone socket.now clients.old }
-    requires new { IsNew socket.now seats.old pids.old }
-    ensures ids { let k = socket.now
-        in OnOk result (ChangesClient (plus_socket k) k.client clients.old clients.new
-        × WithSeat k seats.old seats.new × WithPid k.pid pids.old pids.new) }
-    ensures rooms { OnOk result ((rooms.new
-        ≡ room_maps.with_socket_in rooms.old socket.now.sid inside.now)
-        × room_maps.AreConsistent rooms.new) }
+    requires new { IsNew socket.now live.old }
+    ensures client { let k = socket.now
+        in OnOk result (ChangesClient (plus_socket k) k.client clients.old clients.new) }
+    ensures ids { OnOk result (WithSocket socket.now inside.now live.old live.new) }
     ensures unchanged { OnErr result (SameClients clients.old clients.new
-        × SameSeats seats.old seats.new × SamePids pids.old pids.new
-        × (rooms.new ≡ rooms.old)) }
+        × SameLive live.old live.new) }
 {
     add_socket(clients, socket)?;
-    if let Err(refusal) = enter(alloc, seats, pids, rooms, socket, inside) {
+    if let Err(refusal) = live.enter(alloc, socket, inside) {
         drop_socket(clients, socket.client);
         return Err(refusal);
     }
@@ -175,13 +135,6 @@ impl State {
         &self.limits.config().spaces
     }
 
-    /// Whether a socket with this private id is connected.
-    fn is_pid_connected(&self, pid: Pid) -> bool
-        ensures { result ≡ is_connected pid_of self.now.base self.now.journal pid }
-    {
-        self.pids.contains(&pid)
-    }
-
     /// The socket of a client at a place.
     pub(crate) fn socket_at(&self, client: u128, place: usize) -> Option<Socket>
         ensures { result ≡ socket_of self.now.base self.now.journal client place }
@@ -206,28 +159,14 @@ impl State {
         }
     }
 
-    /// Whether a saved session has this session id.
-    fn is_sid_saved(&self, sid: Sid) -> bool
-        ensures { result ≡ is_sid_saved (saves self.now) sid }
-    {
-        self.saved.has_sid(sid)
-    }
-
-    /// Whether a saved session has this private id.
-    fn is_pid_saved(&self, pid: Pid) -> bool
-        ensures { result ≡ is_pid_saved (saves self.now) pid }
-    {
-        self.saved.has_pid(pid)
-    }
-
     /// Whether a connected socket or a saved session has one of these ids.
     fn is_taken(&self, sid: Sid, pid: Pid) -> bool
         ensures { (c space : ℕ)
             → let socket : Socket = record { client = c; space = space; sid = sid; pid = pid }
             in result ≡ is_taken self.now.base self.now.limits self.now.journal socket }
     {
-        (self.is_connected(sid) || self.is_sid_saved(sid))
-            || (self.is_pid_connected(pid) || self.is_pid_saved(pid))
+        (self.is_connected(sid) || self.saved.has_sid(sid))
+            || (self.live.pids.contains(&pid) || self.saved.has_pid(pid))
     }
 
     /// The namespace at a place, or the empty text where there is none.
@@ -322,31 +261,8 @@ impl State {
     {
         let socket = self.attaching(client, space, sid, pid)?;
         let answer = self.answer(alloc, usize::from(socket.space), sid, pid)?;
-        self.connect(alloc, socket, answer, now)
-    }
-
-    /// Connects a socket that may be connected.
-    fn connect(
-        &mut self,
-        alloc: Global,
-        socket: Socket,
-        answer: Arc<Entry>,
-        now: u64,
-    ) -> Result<(), HubError>
-        requires accepted { None ≡ refusal_now self.old (What.Attached socket) }
-        requires answer { arc_value answer ≡ outboxes.answer self.old.limits socket }
-        ensures { MakesStep self.old self.new now (What.Attached socket) result }
-    {
         self.records.steps.reserve()?;
-        seat(
-            alloc,
-            &mut self.clients,
-            &mut self.seats,
-            &mut self.pids,
-            &mut self.rooms,
-            &socket,
-            &[],
-        )?;
+        seat(alloc, &mut self.clients, &mut self.live, &socket, &[])?;
         put_entry(&mut self.clients, socket.client, answer);
         let added = Counts { placed: 1, ..NONE };
         self.records.add(now, What::Attached(socket), added);

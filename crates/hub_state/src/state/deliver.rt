@@ -50,14 +50,6 @@ pub(crate) fn put_entry(clients: &mut BTreeMap<u128, Client>, client: u128, entr
 }
 
 impl State {
-    /// Whether an open client's outbox has no place for an entry.
-    fn is_full(&self, client: u128, entry: &Entry) -> bool
-        ensures { let h = self.now in opened h client ≡ true
-            → result ≡ is_full h.base h.limits h.journal client entry.now }
-    {
-        is_full(&self.clients, client, entry)
-    }
-
     fn may_tell(&self, client: u128, entry: &Entry) -> Result<(), HubError>
         ensures refusal { Reports result (refusal_now self.now (told client entry.now)) }
         ensures place { let h = self.now
@@ -66,7 +58,7 @@ impl State {
         if !self.is_open(client) {
             return Err(HubError::UnknownClient);
         }
-        if self.is_full(client, entry) {
+        if is_full(&self.clients, client, entry) {
             return Err(HubError::OutboxFull);
         }
         self.may_count(1, 0)

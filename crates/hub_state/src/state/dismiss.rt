@@ -1,39 +1,34 @@
 //! Many sockets of a namespace are ended (Socket.IO server documentation, "Server API":
 //! `disconnectSockets`).
 
-ghost use Rattle.std.specs.Prelude.{◌≡◌, ℕ, ◌==◌, true, false, map, nat_eq, IfOk, if◌then◌else◌};
-ghost use Rattle.std.specs.List.{list_any, IsDistinct, AllByRecursion};
+ghost use Rattle.std.specs.Prelude.{◌≡◌, ℕ, ◌==◌, true, false, map, IfOk, if◌then◌else◌};
+ghost use Rattle.std.specs.List.{list_any};
 ghost use Rattle.std.specs.Option.{option_map};
 ghost use Rattle.std.specs.Ordering.{nat_cmp};
 ghost use Rattle.std.specs.BTreeMap.{get};
 ghost use Rattle.std.specs.Arc.{arc_value};
-ghost use Rattle.terms.specs.Listing.{ListsRising};
-ghost use Rattle.room_maps.specs.Membership as room_maps;
-ghost use Rattle.journal.specs.Membership.{place_of, sid_of, is_space, without_sockets};
+ghost use Rattle.journal.specs.Membership.{place_of, sid_of, is_space};
 ghost use Rattle.journal.specs.Outboxes as outboxes;
 ghost use Rattle.journal.specs.ManySockets.{dismissal};
 ghost use Rattle.journal.specs.Totals.{is_spent};
-ghost use Rattle.journal.specs.Legal.{EachTwo, AreApart};
 ghost use Rattle.journal.specs.Command.{Does};
 ghost use Rattle.journal.specs.Fields.{without_place};
-ghost use Rattle.journal.specs.Casting.{receiver_of};
 ghost use Rattle.journal.specs.declared.socket.Socket.{Socket};
 ghost use Rattle.journal.specs.declared.step.What.{What};
-ghost use Rattle.hub_state.specs.Changes.{WithoutSeats, WithoutPids, Reports, MakesStep};
-ghost use Rattle.hub_state.specs.Words.{spent_by, DismissesNow};
+ghost use Rattle.hub_state.specs.Changes.{MakesStep};
+ghost use Rattle.hub_state.specs.Words.{DismissesNow};
 
 use crate::state::aim::{messages_for, sockets_in};
 use crate::state::cast::{put_messages, receivers};
 use crate::state::deliver::shared_text;
-use crate::state::end::{drop_from, forget};
+use crate::state::end::drop_from;
+use crate::state::note_departed::departing;
 use crate::state::{NONE, State};
-use hub_parts::{Client, Seats};
-use journal::{Counts, Dismissal, Dismissed, HubError, Message, Socket, What};
-use recovery::Pid;
-use room_maps::Rooms;
+use hub_parts::Client;
+use journal::{Counts, Dismissal, Dismissed, Ending, HubError, Message, Socket, What};
 use sio_wire::disconnect_text;
 use std::alloc::{AllocError, Global};
-use std::collections::{BTreeMap, BTreeSet};
+use std::collections::BTreeMap;
 use std::sync::Arc;
 use terms::{Entry, Room, Sid};
 
@@ -42,27 +37,6 @@ fn ids_of(alloc: Global, sockets: &[Socket]) -> Result<Vec<Sid>, AllocError>
     ensures ok { IfOk result (λ sids. sids.items ≡ map sid_of sockets.now) }
 {
     sockets.iter().map(|socket| socket.sid).collect(alloc)
-}
-
-/// The clients that the messages are for, rising. No two messages are for one client.
-fn told_by(alloc: Global, messages: &[Message]) -> Result<Vec<u128>, AllocError>
-    requires { IsDistinct nat_eq (map receiver_of messages.now) }
-    ensures ok { IfOk result (λ clients. ListsRising nat_cmp (λ c.
-        list_any (λ d. d == c) (map receiver_of messages.now)) clients.items) }
-{
-    let mut clients = receivers(alloc, messages)?;
-    clients.sort_unstable();
-    Ok(clients)
-}
-
-/// What is answered of a dismissal.
-fn answer_of(alloc: Global, dismissal: &Dismissal) -> Result<Dismissed, AllocError>
-    ensures ended { IfOk result (λ done. done.ended.items ≡ dismissal.now.ended) }
-    ensures told { IfOk result (λ done. done.told.items ≡ dismissal.now.told) }
-{
-    let ended = Vec::from_slice(alloc, &dismissal.ended)?;
-    let told = Vec::from_slice(alloc, &dismissal.told)?;
-    Ok(Dismissed { ended, told })
 }
 
 /// Takes the sockets, which are in the namespace at this place, out of their clients' lists.
@@ -74,20 +48,6 @@ fn drop_all(clients: &mut BTreeMap<u128, Client>, sockets: &[Socket], place: usi
 {
     for socket in sockets {
         drop_from(clients, socket.client, place);
-    }
-}
-
-/// Forgets the ids of sockets that are apart, and ends these in the rooms.
-fn forget_each(seats: &mut Seats, pids: &mut BTreeSet<Pid>, rooms: &mut Rooms, sockets: &[Socket])
-    requires known { AllByRecursion (λ (k : Socket).
-        room_maps.is_socket rooms.old k.sid ≡ true) sockets.now }
-    requires apart { EachTwo AreApart sockets.now }
-    ensures seats { WithoutSeats sockets.now seats.old seats.new }
-    ensures pids { WithoutPids sockets.now pids.old pids.new }
-    ensures rooms { rooms.new ≡ without_sockets rooms.old sockets.now }
-{
-    for socket in sockets {
-        forget(seats, pids, rooms, *socket);
     }
 }
 
@@ -115,11 +75,12 @@ impl State {
         ensures makes { IfOk result (λ p. DismissesNow self.now p.0 p.1.items p.2.items) }
     {
         let sids = self.listeners(alloc, space, &rooms, &excepted)?;
-        let sockets = sockets_in(alloc, &self.seats, &sids, space)?;
+        let sockets = sockets_in(alloc, &self.live.seats, &sids, space)?;
         let entry = self.farewell(alloc, usize::from(space))?;
         let (messages, _missing) = messages_for(alloc, &self.clients, &sockets, &entry)?;
         let ended = ids_of(alloc, &sockets)?;
-        let told = told_by(alloc, &messages)?;
+        let mut told = receivers(alloc, &messages)?;
+        told.sort_unstable();
         let dismissal = Dismissal {
             space,
             rooms,
@@ -128,13 +89,6 @@ impl State {
             told,
         };
         Ok((dismissal, sockets, messages))
-    }
-
-    /// Refused as `Spent`, where a dismissal can't be counted.
-    fn may_dismiss(&self, dismissal: &Dismissal) -> Result<(), HubError>
-        ensures { Reports result (spent_by self.now (What.AllEnded dismissal.now)) }
-    {
-        self.may_count(dismissal.told.len() as u64, 0)
     }
 
     /// Tells the clients and ends the sockets of a dismissal that may be made.
@@ -155,15 +109,15 @@ impl State {
         let place = usize::from(dismissal.space);
         let placed = dismissal.told.len() as u64;
         let added = Counts { placed, ..NONE };
-        let what = What::AllEnded(dismissal);
-        let mut ended = self.departed_by(alloc, &what)?;
+        let gone = sockets_in(alloc, &self.live.seats, &dismissal.ended, dismissal.space)?;
+        let mut ended = departing(&self.live.rooms, alloc, Ending::Together, &gone)?;
         self.records.steps.reserve()?;
         self.departed.append(&mut ended)?;
         put_messages(&mut self.clients, messages);
         drop_all(&mut self.clients, &sockets, place);
-        forget_each(&mut self.seats, &mut self.pids, &mut self.rooms, &sockets);
-        self.rooms.kept_facts();
-        self.records.add(now, what, added);
+        self.live.forget_all(&sockets);
+        self.live.rooms.kept_facts();
+        self.records.add(now, What::AllEnded(dismissal), added);
         Ok(())
     }
 
@@ -192,8 +146,11 @@ impl State {
     {
         let place = self.place_of(space)?;
         let (dismissal, sockets, messages) = self.plan(alloc, place, rooms, excepted)?;
-        let done = answer_of(alloc, &dismissal)?;
-        self.may_dismiss(&dismissal)?;
+        let done = Dismissed {
+            ended: Vec::from_slice(alloc, &dismissal.ended)?,
+            told: Vec::from_slice(alloc, &dismissal.told)?,
+        };
+        self.may_count(dismissal.told.len() as u64, 0)?;
         self.dismiss(alloc, dismissal, sockets, messages, now)?;
         Ok(done)
     }

@@ -3,16 +3,14 @@
 
 ghost use Rattle.std.specs.Prelude.{◌≡◌, map, true, IfOk};
 ghost use Rattle.std.specs.List.{AllByRecursion};
-ghost use Rattle.journal.specs.Membership.{is_space, rooms, sockets_of};
+ghost use Rattle.journal.specs.Membership.{is_space, sockets_of};
 ghost use Rattle.journal.specs.Sessions.{rooms_rising};
-ghost use Rattle.hub_state.specs.Departing.{PlainDeparted, departing, departed_by, departed};
-ghost use Rattle.hub_state.specs.Words.{rooms_now};
+ghost use Rattle.hub_state.specs.Departing.{PlainDeparted, departing, departed};
 
 use crate::departed::Departed;
 use crate::state::State;
-use crate::state::aim::sockets_in;
 use hub_parts::Sockets;
-use journal::{Ending, Socket, What};
+use journal::{Ending, Socket};
 use room_maps::Rooms;
 use std::alloc::{AllocError, Global};
 use terms::{Room, Sid};
@@ -39,7 +37,7 @@ fn listed(alloc: Global, sockets: &Sockets) -> Result<Vec<Socket>, AllocError>
 }
 
 /// Sockets as they end now.
-fn departing(
+pub(crate) fn departing(
     rooms: &Rooms,
     alloc: Global,
     ending: Ending,
@@ -70,44 +68,14 @@ impl State {
         self.departed.as_slice()
     }
 
-    /// The sockets of a client, as they end with it now.
-    fn its_departed(
-        &self,
-        alloc: Global,
-        ending: Ending,
-        client: u128,
-    ) -> Result<Vec<Departed>, AllocError>
-        ensures ok { let h = self.now in IfOk result (λ all.
-            all.items ≡ map (departing ending (rooms_now h)) (sockets_of h.base h.journal client)) }
+    /// The sockets of a client.
+    pub(crate) fn its_sockets(&self, alloc: Global, client: u128) -> Result<Vec<Socket>, AllocError>
+        ensures ok { let h = self.now
+            in IfOk result (λ all. all.items ≡ sockets_of h.base h.journal client) }
     {
-        let Some(known) = self.clients.get(&client) else {
-            return Ok(Vec::new(alloc));
-        };
-        let sockets = listed(alloc, &known.sockets)?;
-        departing(&self.rooms, alloc, ending, &sockets)
-    }
-
-    /// The sockets that a step ends now.
-    pub(crate) fn departed_by(
-        &self,
-        alloc: Global,
-        what: &What,
-    ) -> Result<Vec<Departed>, AllocError>
-        ensures ok { IfOk result (λ list.
-            list.items ≡ departed_by self.now.base self.now.journal what.now) }
-    {
-        match what {
-            What::Parked(client) => self.its_departed(alloc, Ending::Saved, *client),
-            What::Closed(client) => self.its_departed(alloc, Ending::Closed, *client),
-            What::Ended(sid, by) => match self.socket_with(*sid) {
-                Some(socket) => departing(&self.rooms, alloc, Ending::Alone(*by), &[socket]),
-                None => Ok(Vec::new(alloc)),
-            },
-            What::AllEnded(dismissal) => {
-                let sockets = sockets_in(alloc, &self.seats, &dismissal.ended, dismissal.space)?;
-                departing(&self.rooms, alloc, Ending::Together, &sockets)
-            }
-            _ => Ok(Vec::new(alloc)),
+        match self.clients.get(&client) {
+            Some(known) => listed(alloc, &known.sockets),
+            None => Ok(Vec::new(alloc)),
         }
     }
 }

@@ -1,6 +1,6 @@
 //! Saved sessions come back (Socket.IO server documentation, "Connection state recovery").
 
-ghost use Rattle.std.specs.Prelude.{◌≡◌, ℕ, ◌+◌, ◌^◌, ◌<◌, ◌≤◌, ◌||◌, true, false, ◌++◌, length, map, IfOk, IfErr, IfSome, IfNone, None, Some, option_copied, is_some, nat_lt};
+ghost use Rattle.std.specs.Prelude.{◌≡◌, ℕ, ◌+◌, ◌^◌, ◌<◌, ◌≤◌, ◌||◌, true, false, ◌++◌, length, map, IfOk, IfErr, IfSome, IfNone, None, Some, is_some, nat_lt};
 ghost use Rattle.std.specs.Ordering.{nat_cmp};
 ghost use Rattle.std.specs.BTreeMap.{get};
 ghost use Rattle.std.specs.Arc.{arc_value};
@@ -76,13 +76,6 @@ pub(crate) fn take_session(saved: &mut SavedTable, pid: Pid)
 }
 
 impl State {
-    /// The saved session with a private id, outdated or not.
-    fn session(&self, pid: Pid) -> Option<&Saved>
-        ensures { option_copied result ≡ session_with pid (saves self.now) }
-    {
-        self.saved.look_up(pid)
-    }
-
     /// The session with a private id, with what the log has past an offset, or why it can't come
     /// back at this moment.
     fn found(&self, pid: Pid, place: usize, offset: u64, at: u64) -> Result<Found<'_>, HubError>
@@ -93,7 +86,7 @@ impl State {
         ensures accepted { IfOk result (λ _. return_refusal self.now pid place offset at ≡ None) }
         ensures refused { IfErr result (λ e. return_refusal self.now pid place offset at ≡ Some e) }
     {
-        let Some(session) = self.session(pid) else {
+        let Some(session) = self.saved.look_up(pid) else {
             return Err(HubError::NotRecoverable(RecoveryRefusal::UnknownPid));
         };
         if usize::from(session.space) != place {
@@ -255,9 +248,7 @@ impl State {
         seat(
             alloc,
             &mut self.clients,
-            &mut self.seats,
-            &mut self.pids,
-            &mut self.rooms,
+            &mut self.live,
             &socket,
             &recovery.rooms,
         )?;

@@ -1,18 +1,17 @@
 //! Sockets join and leave rooms, alone or all of a namespace that match (Socket.IO server
 //! documentation, "Rooms", and "Server API", `socketsJoin` and `socketsLeave`).
 
-ghost use Rattle.std.specs.Prelude.{◌≡◌, None, ℕ, true, not, filter, IfOk, false, IfErr, Err};
+ghost use Rattle.std.specs.Prelude.{◌≡◌, true, not, filter, IfOk, false, IfErr, Err};
 ghost use Rattle.std.specs.Ordering.{nat_cmp};
 ghost use Rattle.std.specs.BTreeMap.{get};
 ghost use Rattle.room_maps.specs.Membership.{is_in};
-ghost use Rattle.journal.specs.Membership.{place_of, is_space, sockets, sid_of, matches};
+ghost use Rattle.journal.specs.Membership.{place_of, is_space, sockets, matches};
 ghost use Rattle.journal.specs.Command.{Does, refusal};
-ghost use Rattle.journal.specs.Journal.{moment_at};
 ghost use Rattle.journal.specs.ManySockets as many;
-ghost use Rattle.journal.specs.ManySockets.{ListsSockets, RightJoining, RightLeaving};
+ghost use Rattle.journal.specs.ManySockets.{RightJoining, RightLeaving};
 ghost use Rattle.journal.specs.Casting as casting;
 ghost use Rattle.journal.specs.declared.step.What.{What};
-ghost use Rattle.hub_state.specs.Changes.{refusal_now, Reports, MakesStep};
+ghost use Rattle.hub_state.specs.Changes.{refusal_now, Reports};
 ghost use Rattle.hub_state.specs.Words.{ListsMembers};
 
 use crate::state::{NONE, State};
@@ -58,7 +57,7 @@ impl State {
         if !self.is_connected(sid) {
             return Err(HubError::UnknownSocket);
         }
-        if let Some(refusal) = self.rooms.join_refusal(sid, room) {
+        if let Some(refusal) = self.live.rooms.join_refusal(sid, room) {
             return Err(HubError::RoomRefused(refusal));
         }
         self.may_count(0, 0)
@@ -70,7 +69,7 @@ impl State {
         if !self.is_connected(sid) {
             return Err(HubError::UnknownSocket);
         }
-        if let Some(refusal) = self.rooms.leave_refusal(sid, room) {
+        if let Some(refusal) = self.live.rooms.leave_refusal(sid, room) {
             return Err(HubError::RoomRefused(refusal));
         }
         self.may_count(0, 0)
@@ -83,10 +82,10 @@ impl State {
     {
         self.may_join(sid, room)?;
         self.records.steps.reserve()?;
-        if self.rooms.join(alloc, sid, room).is_err() {
+        if self.live.rooms.join(alloc, sid, room).is_err() {
             return Err(HubError::Memory);
         }
-        self.rooms.kept_facts();
+        self.live.rooms.kept_facts();
         self.records.add(now, What::Joined(sid, room), NONE);
         Ok(())
     }
@@ -98,27 +97,9 @@ impl State {
     {
         self.may_leave(sid, room)?;
         self.records.write(now, What::Left(sid, room), NONE)?;
-        let _left = self.rooms.leave(sid, room);
-        self.rooms.kept_facts();
+        let _left = self.live.rooms.leave(sid, room);
+        self.live.rooms.kept_facts();
         Ok(())
-    }
-
-    /// The connected sockets of the namespace at a place that are in one of the rooms, or where
-    /// none is named all, but for those in an excepted room. They rise by their ids.
-    pub(crate) fn matching(
-        &self,
-        alloc: Global,
-        space: u16,
-        rooms: &[Room],
-        excepted: &[Room],
-    ) -> Result<Vec<Sid>, AllocError>
-        ensures ok { let h = self.now in IfOk result (λ sids. ListsSockets sid_of
-            (matches h.base h.journal space rooms.now excepted.now)
-            (sockets h.base h.journal) sids.items) }
-    {
-        let mut sids = self.listeners(alloc, space, rooms, excepted)?;
-        keep_here(&mut sids, &self.seats, space);
-        Ok(sids)
     }
 
     /// The change that is made where all that match join a room.
@@ -134,8 +115,9 @@ impl State {
             m ≡ many.joining self.now space rooms.items excepted.items room) }
         ensures right { IfOk result (λ m. RightJoining self.now.base self.now.journal m) }
     {
-        let mut changed = self.matching(alloc, space, &rooms, &excepted)?;
-        keep_outside(&mut changed, &self.rooms, room);
+        let mut changed = self.listeners(alloc, space, &rooms, &excepted)?;
+        keep_here(&mut changed, &self.live.seats, space);
+        keep_outside(&mut changed, &self.live.rooms, room);
         Ok(RoomChange {
             space,
             rooms,
@@ -158,8 +140,9 @@ impl State {
             m ≡ many.leaving self.now space rooms.items excepted.items room) }
         ensures right { IfOk result (λ m. RightLeaving self.now.base self.now.journal m) }
     {
-        let mut changed = self.matching(alloc, space, &rooms, &excepted)?;
-        keep_inside(&mut changed, &self.rooms, room);
+        let mut changed = self.listeners(alloc, space, &rooms, &excepted)?;
+        keep_here(&mut changed, &self.live.seats, space);
+        keep_inside(&mut changed, &self.live.rooms, room);
         Ok(RoomChange {
             space,
             rooms,
@@ -167,75 +150,6 @@ impl State {
             room,
             changed,
         })
-    }
-
-    fn may_all_join(&self, change: &RoomChange) -> Result<(), HubError>
-        requires known { is_space self.now.limits change.now.space ≡ true }
-        requires right { RightJoining self.now.base self.now.journal change.now }
-        ensures { (at : ℕ) → Reports result (refusal self.now at (What.AllJoined change.now)) }
-    {
-        if let Some(refusal) = self.rooms.join_all_refusal(&change.changed, change.room) {
-            return Err(HubError::RoomRefused(refusal));
-        }
-        self.may_count(0, 0)
-    }
-
-    fn may_all_leave(&self, change: &RoomChange) -> Result<(), HubError>
-        requires known { is_space self.now.limits change.now.space ≡ true }
-        requires right { RightLeaving self.now.base self.now.journal change.now }
-        ensures { (at : ℕ) → Reports result (refusal self.now at (What.AllLeft change.now)) }
-    {
-        self.rooms.kept_facts();
-        if let Some(refusal) = self.rooms.leave_all_refusal(&change.changed, change.room) {
-            return Err(HubError::RoomRefused(refusal));
-        }
-        self.may_count(0, 0)
-    }
-
-    /// Makes a change that may be made: its sockets join the room.
-    fn join_all(
-        &mut self,
-        alloc: Global,
-        change: RoomChange,
-        now: u64,
-    ) -> Result<Vec<Sid>, HubError>
-        requires accepted { let at = moment_at self.old now
-            in None ≡ refusal self.old at (What.AllJoined change) }
-        requires known { is_space self.old.limits change.space ≡ true }
-        requires right { RightJoining self.old.base self.old.journal change }
-        ensures does { MakesStep self.old self.new now (What.AllJoined change) result }
-        ensures changed { IfOk result (λ sids. sids.items ≡ change.changed) }
-    {
-        self.records.steps.reserve()?;
-        let Ok(joined) = self.rooms.join_all(alloc, &change.changed, change.room) else {
-            return Err(HubError::Memory);
-        };
-        self.rooms.kept_facts();
-        self.records.add(now, What::AllJoined(change), NONE);
-        Ok(joined)
-    }
-
-    /// Makes a change that may be made: its sockets leave the room.
-    fn leave_all(
-        &mut self,
-        alloc: Global,
-        change: RoomChange,
-        now: u64,
-    ) -> Result<Vec<Sid>, HubError>
-        requires accepted { let at = moment_at self.old now
-            in None ≡ refusal self.old at (What.AllLeft change) }
-        requires known { is_space self.old.limits change.space ≡ true }
-        requires right { RightLeaving self.old.base self.old.journal change }
-        ensures does { MakesStep self.old self.new now (What.AllLeft change) result }
-        ensures changed { IfOk result (λ sids. sids.items ≡ change.changed) }
-    {
-        self.records.steps.reserve()?;
-        let Ok(left) = self.rooms.leave_all(alloc, &change.changed, change.room) else {
-            return Err(HubError::Memory);
-        };
-        self.rooms.kept_facts();
-        self.records.add(now, What::AllLeft(change), NONE);
-        Ok(left)
     }
 
     /// All sockets of a namespace that are in one of the rooms, or where none is named all, but for
@@ -263,8 +177,17 @@ impl State {
     {
         let place = self.place_of(space)?;
         let change = self.joining(alloc, place, rooms, excepted, room)?;
-        self.may_all_join(&change)?;
-        self.join_all(alloc, change, now)
+        if let Some(refusal) = self.live.rooms.join_all_refusal(&change.changed, room) {
+            return Err(HubError::RoomRefused(refusal));
+        }
+        self.may_count(0, 0)?;
+        self.records.steps.reserve()?;
+        let Ok(joined) = self.live.rooms.join_all(alloc, &change.changed, room) else {
+            return Err(HubError::Memory);
+        };
+        self.live.rooms.kept_facts();
+        self.records.add(now, What::AllJoined(change), NONE);
+        Ok(joined)
     }
 
     /// All sockets of a namespace that are in one of the rooms, or where none is named all, but for
@@ -290,8 +213,18 @@ impl State {
     {
         let place = self.place_of(space)?;
         let change = self.leaving(alloc, place, rooms, excepted, room)?;
-        self.may_all_leave(&change)?;
-        self.leave_all(alloc, change, now)
+        self.live.rooms.kept_facts();
+        if let Some(refusal) = self.live.rooms.leave_all_refusal(&change.changed, room) {
+            return Err(HubError::RoomRefused(refusal));
+        }
+        self.may_count(0, 0)?;
+        self.records.steps.reserve()?;
+        let Ok(left) = self.live.rooms.leave_all(alloc, &change.changed, room) else {
+            return Err(HubError::Memory);
+        };
+        self.live.rooms.kept_facts();
+        self.records.add(now, What::AllLeft(change), NONE);
+        Ok(left)
     }
 
     /// The connected sockets of a namespace that are in a room, rising by their ids. Refused as
@@ -306,10 +239,10 @@ impl State {
             → IfErr result (λ e. e ≡ HubError.Memory) }
     {
         let place = self.place_of(space)?;
-        let Ok(mut sids) = self.rooms.members_of(alloc, room) else {
+        let Ok(mut sids) = self.live.rooms.members_of(alloc, room) else {
             return Err(HubError::Memory);
         };
-        keep_here(&mut sids, &self.seats, place);
+        keep_here(&mut sids, &self.live.seats, place);
         Ok(sids)
     }
 }

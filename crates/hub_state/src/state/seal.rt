@@ -3,20 +3,17 @@
 ghost use Rattle.std.specs.Prelude.{◌≡◌, map, IfOk};
 ghost use Rattle.std.specs.Ordering.{nat_cmp};
 ghost use Rattle.std.specs.BTreeMap.{IsOrdered};
-ghost use Rattle.terms.specs.Listing.{ListsRising};
-ghost use Rattle.room_maps.specs.Membership.{pair_cmp, is_in};
-ghost use Rattle.journal.specs.Membership.{is_open};
-ghost use Rattle.journal.specs.Seal.{ids_of, client_of, base_of, base_client, LeadsTo, Seals};
-ghost use Rattle.hub_state.specs.Words.{rooms_now, logs, RunsOn, saves};
+ghost use Rattle.journal.specs.Seal.{ids_of, base_of, LeadsTo, Seals};
+ghost use Rattle.hub_state.specs.Words.{RunsOn};
 
 use crate::state::State;
 use hub_parts::{Client, Sockets};
 use journal::{Base, BaseClient, Epoch, HubError};
-use recovery::{Logged, Pid, Saved};
+use recovery::Pid;
 use std::alloc::{AllocError, Global};
 use std::collections::BTreeMap;
 use std::mem::replace;
-use terms::{Room, Sid};
+use terms::Sid;
 
 /// The namespace, the session id and the private session id of each of the sockets.
 fn socket_ids(alloc: Global, sockets: &Sockets) -> Result<Vec<(u16, Sid, Pid)>, AllocError>
@@ -56,56 +53,29 @@ fn copy_clients(
 }
 
 impl State {
-    /// The open clients as a base has them, rising.
-    fn base_clients(&self, alloc: Global) -> Result<Vec<BaseClient>, AllocError>
-        ensures open { let h = self.now in IfOk result (λ clients.
-            ListsRising nat_cmp (is_open h.base h.journal) (map client_of clients.items)) }
-        ensures are { let h = self.now in IfOk result (λ clients. clients.items
-            ≡ map (base_client h.base h.limits h.journal) (map client_of clients.items)) }
-    {
-        let clients = copy_clients(alloc, &self.clients)?;
-        Ok(clients)
-    }
-
-    /// Each socket with each of its rooms, rising.
-    fn base_pairs(&self, alloc: Global) -> Result<Vec<(Sid, Room)>, AllocError>
-        ensures pairs { IfOk result (λ pairs. ListsRising pair_cmp
-            (λ pair. is_in (rooms_now self.now) pair.0 pair.1) pairs.items) }
-    {
-        match self.rooms.pairs(alloc) {
-            Ok(pairs) => Ok(pairs),
-            Err(_) => Err(AllocError),
-        }
-    }
-
-    /// The log, rising by offset. The entries are shared.
-    fn base_log(&self, alloc: Global) -> Result<Vec<Logged>, AllocError>
-        ensures log { IfOk result (λ list. list.items ≡ logs self.now) }
-        ensures run { RunsOn self.now }
-    {
-        self.log.list(alloc).map_err(|_| AllocError)
-    }
-
-    /// The saved sessions, rising by private id.
-    fn base_sessions(&self, alloc: Global) -> Result<Vec<Saved>, AllocError>
-        ensures sessions { IfOk result (λ list. list.items ≡ saves self.now) }
-    {
-        self.saved.list(alloc).map_err(|_| AllocError)
-    }
-
     /// The present state as a base.
     fn present(&self, alloc: Global) -> Result<Base, AllocError>
         ensures leads { IfOk result (λ base.
             LeadsTo self.now.base self.now.limits self.now.journal base) }
         ensures run { IfOk result (λ _. RunsOn self.now) }
     {
+        let clients = copy_clients(alloc, &self.clients)?;
+        let Ok(pairs) = self.live.rooms.pairs(alloc) else {
+            return Err(AllocError);
+        };
+        let Ok(log) = self.log.list(alloc) else {
+            return Err(AllocError);
+        };
+        let Ok(saved) = self.saved.list(alloc) else {
+            return Err(AllocError);
+        };
         Ok(Base {
             at: self.records.last,
             next: self.next_offset(),
-            clients: self.base_clients(alloc)?,
-            pairs: self.base_pairs(alloc)?,
-            log: self.base_log(alloc)?,
-            saved: self.base_sessions(alloc)?,
+            clients,
+            pairs,
+            log,
+            saved,
             totals: self.totals(),
         })
     }

@@ -1,7 +1,7 @@
 //! Several sockets join a room, or leave it: all of them, or none (Socket.IO server documentation,
 //! "Rooms").
 
-ghost use Rattle.std.specs.Prelude.{◌≡◌, ◌&&◌, ℕ, IfOk, IfErr, IfSome, OnOk, OnErr, None, true, false, not};
+ghost use Rattle.std.specs.Prelude.{◌≡◌, ◌&&◌, ℕ, IfOk, IfErr, IfSome, OnOk, OnErr, None, true, false, not, if◌then◌else◌};
 ghost use Rattle.std.specs.Ordering.{nat_cmp};
 ghost use Rattle.terms.specs.Listing.{ListsRising};
 ghost use Rattle.terms.specs.Room.{same_room, own_room};
@@ -9,8 +9,8 @@ ghost use Rattle.room_maps.specs.Membership.{is_socket, is_in, is_full, is_named
 ghost use Rattle.room_maps.specs.Membership as membership;
 
 use crate::error::RoomError;
-use crate::rooms::{MOST_ROOMS, Rooms};
-use crate::{links, lookup};
+use crate::lookup;
+use crate::rooms::Rooms;
 use std::alloc::{AllocError, Global};
 use terms::{Room, Sid};
 
@@ -27,13 +27,6 @@ impl Rooms {
         ensures { result ≡ membership.has_unknown self.now sids.now }
     {
         sids.iter().any(|sid| !self.is_socket(*sid))
-    }
-
-    /// Whether the socket is in as many rooms as it may be.
-    fn is_full(&self, sid: Sid) -> bool
-        ensures { result ≡ is_full self.now sid }
-    {
-        self.room_count(sid) >= MOST_ROOMS
     }
 
     /// Whether one of these isn't in the room, and has no place for it.
@@ -94,7 +87,7 @@ impl Rooms {
         if let Some(refusal) = self.join_all_refusal(sids, room) {
             return Err(refusal);
         }
-        let outside = self.outsiders(alloc, sids, room)?;
+        let outside = self.those(alloc, sids, room, false)?;
         self.add_members(alloc, &outside, room)?;
         Ok(outside)
     }
@@ -121,35 +114,29 @@ impl Rooms {
         if let Some(refusal) = self.leave_all_refusal(sids, room) {
             return Err(refusal);
         }
-        let inside = self.insiders(alloc, sids, room)?;
+        let inside = self.those(alloc, sids, room, true)?;
         self.take_members(&inside, room);
         Ok(inside)
     }
 
-    /// Those of the sockets that aren't in the room, rising.
-    fn outsiders(&self, alloc: Global, sids: &[Sid], room: Room) -> Result<Vec<Sid>, AllocError>
-        ensures { IfOk result (λ outside. ListsRising nat_cmp
-            (λ sid. is_named sids.now sid && not (is_in self.now sid room)) outside.items) }
+    /// Those of the sockets that are in the room, or those that aren't, rising.
+    fn those(
+        &self,
+        alloc: Global,
+        sids: &[Sid],
+        room: Room,
+        inside: bool,
+    ) -> Result<Vec<Sid>, AllocError>
+        ensures { IfOk result (λ those. ListsRising nat_cmp (λ sid. is_named sids.now sid
+            && (if inside then is_in self.now sid room else not (is_in self.now sid room)))
+            those.items) }
     {
-        let outside = sids
+        let those = sids
             .iter()
             .copied()
-            .filter(|sid| !self.is_in(*sid, room))
+            .filter(|sid| self.is_in(*sid, room) == inside)
             .collect(alloc)?;
-        Ok(lookup::rising(outside))
-    }
-
-    /// Those of the sockets that are in the room, rising.
-    fn insiders(&self, alloc: Global, sids: &[Sid], room: Room) -> Result<Vec<Sid>, AllocError>
-        ensures { IfOk result (λ inside. ListsRising nat_cmp
-            (λ sid. is_named sids.now sid && is_in self.now sid room) inside.items) }
-    {
-        let inside = sids
-            .iter()
-            .copied()
-            .filter(|sid| self.is_in(*sid, room))
-            .collect(alloc)?;
-        Ok(lookup::rising(inside))
+        Ok(lookup::rising(those))
     }
 
     /// Adds sockets that aren't in the room. Where a growth is refused, all are taken out again,
@@ -188,7 +175,8 @@ impl Rooms {
         requires { (s : ℕ) → is_named sids.now s ≡ true → same_room (own_room s) room ≡ false }
         ensures { self.new ≡ without_members self.old sids.now room }
     {
-        links::unlink_keys(&mut self.by_socket, sids, &room);
-        links::unlink_values(&mut self.by_room, &room, sids);
+        for sid in sids {
+            self.take(*sid, room);
+        }
     }
 }

@@ -9,6 +9,7 @@ use events::{Answered, Cause, Done, Opening, Outcome, Peer, PeerFault};
 use peers::{Moments, PollRequest};
 use std::alloc::{AllocError, Global};
 use std::cell::Cell;
+use std::mem;
 use terms::Text;
 
 /// What a request asks for.
@@ -149,7 +150,10 @@ fn written(alloc: Global, asks: Asks, given: &[Given], room: usize) -> Option<(V
     let mut peer = asker(alloc, Still, request(alloc, asks).ok()?, room);
     let heard = hear(alloc, &mut peer, given);
     match peer.next() {
-        Ok(None) => Some((peer.into_wire().into_stream().written, heard.is_err())),
+        Ok(None) => {
+            let written = &mut peer.wire_mut().get_mut().written;
+            Some((mem::replace(written, Vec::new(alloc)), heard.is_err()))
+        }
         _ => None,
     }
 }

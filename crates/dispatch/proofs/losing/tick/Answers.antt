@@ -12,13 +12,13 @@ returns-in_err-park_or_close-in-PingTimeout c =
     let h = c.args.state.now in
     let k = c.park_or_close.new.state in
     let old = c.args.lines.now.entries in
-    let new = (c.get_mut.follows.lender c.tick.new.self).entries in
+    let new = (c.get_mut.follows.lender c.tick-due.new.self).entries in
     let fault = c.in_err-park_or_close-in-PingTimeout.field-0.0 in
     let known : line_of old c.args.visit.client ≡ Some c.in-Some.line.now = search rules in
-    let has : line_of new c.args.visit.client ≡ Some c.tick.new.self = search rules in
+    let has : line_of new c.args.visit.client ≡ Some c.tick-due.new.self = search rules in
     let others : KeepsOthers c.args.visit.client (place h old) (place k new) = search rules in
     let failed : c.from_residual.result ≡ Err (at_once fault) = search rules in
     let stops = c.in_err-park_or_close-in-PingTimeout.ensures in
     subst (λ (answer : Answer). ForVisit c.args.visit Ticks h old answer k new) (sym failed)
-    (ticks c.args.visit.moment c.args.visit.client c.in-Some.line.now h old (Err (at_once fault)) (place k new) c.tick.result due.PingTimeout known c.in-PingTimeout.is c.tick.ensures.due
-    (refl, stops.0, ticked c.args.visit.moment c.args.visit.client c.in-Some.line.now c.tick.new.self h k old new c.tick.result due.PingTimeout stops.1 has others c.in-PingTimeout.is c.tick.ensures.advances))
+    (ticks c.args.visit.moment c.args.visit.client c.in-Some.line.now h old (Err (at_once fault)) (place k new) c.tick-due.result due.PingTimeout known c.in-PingTimeout.is c.tick-due.ensures.due
+    (refl, stops.0, ticked c.args.visit.moment c.args.visit.client c.in-Some.line.now c.tick-due.new.self h k old new c.tick-due.result due.PingTimeout stops.1 has others c.in-PingTimeout.is c.tick-due.ensures.advances))

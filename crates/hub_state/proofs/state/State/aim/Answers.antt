@@ -12,5 +12,5 @@ returns-clause-tells c =
     rw (← c.self.view_is)
     (tells c.self.inside.base c.self.inside.limits c.self.inside.records.steps.steps
     (record { space = c.args.space; rooms = c.args.rooms.items; excepted = c.args.excepted.items; offset = c.args.offset; entry = arc_value c.args.entry; dropped = c.in_ok-messages.dropped.items })
-    c.self.invariant.2 (get nat_cmp c.self.inside.clients) c.self.invariant.0.clients (get nat_cmp c.self.inside.seats) c.self.invariant.0.seats
+    c.self.invariant.2 (get nat_cmp c.self.inside.clients) c.self.invariant.0.clients (get nat_cmp c.self.inside.live.seats) c.self.invariant.0.seats
     c.in_ok-sids.sids.items lists dropped c.in_ok-messages.messages.items messages)

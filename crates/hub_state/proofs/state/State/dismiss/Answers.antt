@@ -1,5 +1,5 @@
-use Rattle.std.proofs.Common.{rules, ◌≡◌, ◌==◌, ℕ, length, refl, subst, sym, false, if◌then◌else◌}
-use Rattle.std.specs.List.{list_any, AllByRecursion}
+use Rattle.std.proofs.Common.{rules, ◌≡◌, ◌==◌, ◌∙◌, ℕ, length, refl, subst, sym, false, if◌then◌else◌}
+use Rattle.std.specs.List.{list_any, flat_map, AllByRecursion}
 use Rattle.std.specs.Option.{option_map}
 use Rattle.std.specs.Ordering.{nat_cmp}
 use Rattle.std.specs.BTreeMap.{get}
@@ -7,7 +7,8 @@ use Rattle.std.specs.BTreeSet as sorted
 use Rattle.journal.specs.declared.socket.Socket.{Socket}
 use Rattle.journal.specs.Plain.{PlainMessage}
 use Rattle.journal.specs.Fields.{client_at, without_place}
-use Rattle.journal.specs.Casting.{is_full_in}
+use Rattle.journal.specs.Casting.{is_full_in, in_space}
+use Rattle.journal.specs.Membership.{sid_of, socket_with}
 use Rattle.journal.proofs.DismissalLemmas.{receivers-once, have-places, goers-known, dismissed, can_dismiss}
 use Rattle.hub_state.proofs.DepartLemmas.{hub-of, plus, some-depart}
 use Rattle.hub_state.proofs.state.State.dismiss.Goals as goal
@@ -27,11 +28,11 @@ put_messages-requires-clause-places c =
     (have-places c.self.inside.base c.self.inside.limits c.self.inside.records.steps.steps c.self.invariant.2 d.space d.rooms d.excepted c.args.sockets.items makes.matching
     (client_at c.self.inside.base c.self.inside.limits c.self.inside.records.steps.steps) (λ q. refl) c.args.messages.items makes.farewells)
 
-pub forget_each-requires-clause-known : goal.forget_each-requires-clause-known
-forget_each-requires-clause-known c =
+pub forget_all-requires : goal.forget_all-requires
+forget_all-requires c =
     let makes = rw (← c.self.view_is) at c.requires.makes in
-    rw c.deref-2.ensures.value
-    (goers-known c.self.inside.base c.self.inside.limits c.self.inside.records.steps.steps c.self.invariant.2 c.args.dismissal c.args.sockets.items c.args.messages.items makes c.self.inside.rooms c.self.invariant.0.rooms_are)
+    rw c.deref-4.ensures.value
+    (goers-known c.self.inside.base c.self.inside.limits c.self.inside.records.steps.steps c.self.invariant.2 c.args.dismissal c.args.sockets.items c.args.messages.items makes c.self.inside.live.rooms c.self.invariant.0.rooms_are, makes.matching.apart)
 
 pub add-requires-clause-counted : goal.add-requires-clause-counted
 add-requires-clause-counted c =
@@ -51,11 +52,13 @@ invariant_of-self-2 c =
     let place : c.from-place.result ≡ c.args.dismissal.space = rw (← c.dismissal.view_is) c.from-place.ensures in
     let drops : (q : ℕ) → get nat_cmp c.drop_all.new.clients q
     ≡ (if list_any (λ (k : Socket). k.client == q) c.args.sockets.items then option_map (without_place c.args.dismissal.space) (get nat_cmp c.put_messages.new.clients q) else get nat_cmp c.put_messages.new.clients q)
-    = rw (← place, ← c.deref.ensures.value) c.drop_all.ensures in
-    let gone = rw c.deref-2.ensures.value at c.forget_each.ensures in
+    = rw (← place, ← c.deref-3.ensures.value) c.drop_all.ensures in
+    let gone = rw c.deref-4.ensures.value at c.forget_all.ensures in
+    let listed : c.in_ok-gone.gone.items ≡ flat_map (λ s. in_space c.args.dismissal.space (socket_with sid_of c.self.inside.base c.self.inside.records.steps.steps s)) c.args.dismissal.ended =
+    rw (← c.dismissal.view_is) ((rw c.deref.ensures.value at c.in_ok-gone.ensures.ok) ∙ (λ i. flat_map (λ s. in_space c.dismissal.inside.space (c.self.invariant.0.seats s i)) c.dismissal.inside.ended.items)) in
     rw (c.add.ensures.steps, c.add.ensures.last, c.reserve.ensures.same, c.add.ensures.counts, ← number)
     (plus (dismissed c.self.inside.base c.self.inside.limits c.self.inside.records.steps.steps c.self.invariant.2 c.args.dismissal c.args.sockets.items c.args.messages.items makes c.args.now c.self.inside.records.last
-    (get nat_cmp c.self.inside.clients) (get nat_cmp c.put_messages.new.clients) (get nat_cmp c.drop_all.new.clients) (get nat_cmp c.self.inside.seats) (get nat_cmp c.forget_each.new.seats)
-    (sorted.contains nat_cmp c.self.inside.pids) (sorted.contains nat_cmp c.forget_each.new.pids) c.self.inside.rooms c.forget_each.new.rooms c.self.inside.saved c.self.inside.log c.self.inside.records.counts
-    (hub-of c.self.inside c.self.invariant) known room c.put_messages.ensures drops gone.seats gone.pids gone.rooms c.kept_facts.ensures)
-    (some-depart _ _ _ _ _ _ c.self.invariant.4 (rw (← c.self.view_is) at c.in_ok-ended.ensures.ok) c.in_ok-append.ensures.items))
+    (get nat_cmp c.self.inside.clients) (get nat_cmp c.put_messages.new.clients) (get nat_cmp c.drop_all.new.clients) (get nat_cmp c.self.inside.live.seats) (get nat_cmp c.forget_all.new.self.seats)
+    (sorted.contains nat_cmp c.self.inside.live.pids) (sorted.contains nat_cmp c.forget_all.new.self.pids) c.self.inside.live.rooms c.forget_all.new.self.rooms c.self.inside.saved c.self.inside.log c.self.inside.records.counts
+    (hub-of c.self.inside c.self.invariant) known room c.put_messages.ensures drops gone.0 gone.1 gone.2 c.kept_facts.ensures)
+    (some-depart _ _ _ _ _ _ c.self.invariant.4 (rw (c.deref-2.ensures.value, listed, c.self.invariant.0.rooms_are) at c.in_ok-ended.ensures.ok) c.in_ok-append.ensures.items))

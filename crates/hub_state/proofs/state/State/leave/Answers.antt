@@ -7,7 +7,7 @@ use Rattle.hub_state.proofs.state.State.leave.Goals as goal
 pub invariant_of-self-2 : goal.invariant_of-self-2
 invariant_of-self-2 c =
     let hub = hub-of c.self.inside c.self.invariant in
-    let free = may_leave c.self.inside.base c.self.inside.limits c.self.inside.rooms c.self.inside.records.steps.steps c.args.sid c.args.room c.self.invariant.0.rooms_are (search rules) in
+    let free = may_leave c.self.inside.base c.self.inside.limits c.self.inside.live.rooms c.self.inside.records.steps.steps c.args.sid c.args.room c.self.invariant.0.rooms_are (search rules) in
     let gone = rw (c.leave-left.ensures.answer ∙ ap ok_unless free) at c.leave-left.ensures.left in
     rw (c.in_ok-write.ensures.steps, c.in_ok-write.ensures.last, c.in_ok-write.ensures.counts)
     (plus (left _ _ c.args.sid c.args.room c.args.now _ _ _ _ _ _ _ _ _ _ hub (search rules) gone c.kept_facts.ensures)

@@ -5,7 +5,7 @@ use Rattle.room_maps.specs.Membership.{is_in}
 use Rattle.journal.specs.Plain.{PlainRoomChange}
 use Rattle.journal.specs.Membership.{sockets, sid_of, rooms}
 use Rattle.journal.specs.ManySockets.{may_exit, ListsSockets}
-use Rattle.journal.proofs.ManySocketsLemmas.{sifted, listed}
+use Rattle.journal.proofs.ManySocketsLemmas.{matching-lists, sifted, listed}
 use Rattle.hub_state.proofs.state.State.leaving.Goals as goal
 
 pub returns-clause-right : goal.returns-clause-right
@@ -13,10 +13,11 @@ returns-clause-right c =
     let base = c.self.inside.base in
     let limits = c.self.inside.limits in
     let journal = c.self.inside.records.steps.steps in
-    let lists = rw (← c.self.view_is, c.deref.ensures.value, c.deref-2.ensures.value) at c.in_ok-changed.ensures.ok in
+    let inside = rw (← c.self.view_is, c.deref.ensures.value, c.deref-2.ensures.value) at c.in_ok-changed.ensures.ok in
+    let lists = rw (← c.keep_here.ensures) at (matching-lists base limits journal c.self.invariant.2 (get nat_cmp c.self.inside.live.seats) c.self.invariant.0.seats c.args.space c.args.rooms.items c.args.excepted.items c.in_ok-changed.changed.items inside) in
     let kept = rw c.self.invariant.0.rooms_are at c.keep_inside.ensures in
     let right : ListsSockets sid_of (may_exit base journal c.args.space c.args.rooms.items c.args.excepted.items c.args.room) (sockets base journal) c.keep_inside.new.sids.items
-    = rw kept (sifted base limits journal c.self.invariant.2 (get nat_cmp c.self.inside.seats) c.self.invariant.0.seats c.args.space c.args.rooms.items c.args.excepted.items (λ s. is_in (rooms base journal) s c.args.room) c.in_ok-changed.changed.items lists) in
+    = rw kept (sifted base limits journal c.self.invariant.2 (get nat_cmp c.self.inside.live.seats) c.self.invariant.0.seats c.args.space c.args.rooms.items c.args.excepted.items (λ s. is_in (rooms base journal) s c.args.room) c.keep_here.new.sids.items lists) in
     rw (← c.self.view_is) (record { changed = right })
 
 pub returns-clause-change : goal.returns-clause-change
@@ -24,10 +25,11 @@ returns-clause-change c =
     let base = c.self.inside.base in
     let limits = c.self.inside.limits in
     let journal = c.self.inside.records.steps.steps in
-    let lists = rw (← c.self.view_is, c.deref.ensures.value, c.deref-2.ensures.value) at c.in_ok-changed.ensures.ok in
+    let inside = rw (← c.self.view_is, c.deref.ensures.value, c.deref-2.ensures.value) at c.in_ok-changed.ensures.ok in
+    let lists = rw (← c.keep_here.ensures) at (matching-lists base limits journal c.self.invariant.2 (get nat_cmp c.self.inside.live.seats) c.self.invariant.0.seats c.args.space c.args.rooms.items c.args.excepted.items c.in_ok-changed.changed.items inside) in
     let kept = rw c.self.invariant.0.rooms_are at c.keep_inside.ensures in
     let right : ListsSockets sid_of (may_exit base journal c.args.space c.args.rooms.items c.args.excepted.items c.args.room) (sockets base journal) c.keep_inside.new.sids.items
-    = rw kept (sifted base limits journal c.self.invariant.2 (get nat_cmp c.self.inside.seats) c.self.invariant.0.seats c.args.space c.args.rooms.items c.args.excepted.items (λ s. is_in (rooms base journal) s c.args.room) c.in_ok-changed.changed.items lists) in
+    = rw kept (sifted base limits journal c.self.invariant.2 (get nat_cmp c.self.inside.live.seats) c.self.invariant.0.seats c.args.space c.args.rooms.items c.args.excepted.items (λ s. is_in (rooms base journal) s c.args.room) c.keep_here.new.sids.items lists) in
     rw (← c.self.view_is)
     (ap (λ (sids : List ℕ). let m : PlainRoomChange = record { space = c.args.space; rooms = c.args.rooms.items; excepted = c.args.excepted.items; room = c.args.room; changed = sids } in m)
     (listed sid_of (may_exit base journal c.args.space c.args.rooms.items c.args.excepted.items c.args.room) (sockets base journal) c.keep_inside.new.sids.items right))

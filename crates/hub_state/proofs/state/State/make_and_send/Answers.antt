@@ -1,4 +1,4 @@
-use Rattle.std.proofs.Common.{rules, ◌≡◌, sym, false, None, Err}
+use Rattle.std.proofs.Common.{rules, arith, ◌≡◌, sym, false, None, Err}
 use Rattle.journal.specs.declared.step.What.TheVariants.{Cast}
 use Rattle.journal.specs.Totals.{is_spent}
 use Rattle.journal.proofs.CountsLemmas.{unspent}
@@ -10,16 +10,16 @@ send-requires-clause-event c =
     let made = c.in_ok-broadcast.ensures in
     (c.args.cast.payload, rw (made.asked.space, made.asked.attachments) c.in_ok-place.ensures.accepted, made.asked.text)
 
-pub returns-in_err-may_send : goal.returns-in_err-may_send
-returns-in_err-may_send c =
+pub returns-in_err-may_count : goal.returns-in_err-may_count
+returns-in_err-may_count c =
     let made = c.in_ok-broadcast.ensures in
-    let failed : c.from_residual-in_err-may_send.result ≡ Err c.in_err-may_send.field-0.0 = search rules in
-    rw failed (cast-spent c.args.self.now c.args.now c.args.cast c.in_ok-broadcast.broadcast c.in_ok-broadcast.messages.items _ made.asked c.in_ok-place.ensures.accepted made.tells (sym c.in_err-may_send.ensures))
+    let failed : c.from_residual-in_err-may_count.result ≡ Err c.in_err-may_count.field-0.0 = search rules in
+    rw failed (cast-spent c.args.self.now c.args.now c.args.cast c.in_ok-broadcast.broadcast c.in_ok-broadcast.messages.items _ made.asked c.in_ok-place.ensures.accepted made.tells (sym (c.in_err-may_count.ensures (Cast c.in_ok-broadcast.broadcast) (search (rules, made.tells)) (search rules) (omega arith))))
 
 pub returns : goal.returns
 returns c =
     let made = c.in_ok-broadcast.ensures in
     let h = c.args.self.now in
-    let spent : is_spent h.base h.limits h.journal (Cast c.in_ok-broadcast.broadcast) ≡ false = unspent None _ (sym c.in_ok-may_send.ensures) in
+    let spent : is_spent h.base h.limits h.journal (Cast c.in_ok-broadcast.broadcast) ≡ false = unspent None _ (sym (c.in_ok-may_count.ensures (Cast c.in_ok-broadcast.broadcast) (search (rules, made.tells)) (search rules) (omega arith))) in
     cast-does h c.send.new.self c.args.now c.args.cast c.in_ok-broadcast.broadcast c.in_ok-broadcast.messages.items c.send.result made.asked c.in_ok-place.ensures.accepted c.in_ok-place.ensures.numbered made.tells spent
     c.send.ensures.does.0 c.send.ensures.does.1 c.send.ensures.does.2 c.send.ensures.done

@@ -1,9 +1,9 @@
-use Rattle.std.proofs.Common.{◌≡◌, false, subst, sym, ap, ◌∙◌, length, refl}
+use Rattle.std.proofs.Common.{rules, ◌≡◌, false, subst, sym, ap, ◌∙◌, length, refl}
 use Rattle.std.specs.List.{AllByRecursion}
 use Rattle.std.specs.Ordering.{nat_cmp}
 use Rattle.std.specs.BTreeMap.{get}
 use Rattle.std.specs.BTreeSet as sorted
-use Rattle.journal.specs.Plain.{PlainCastDone, PlainMessage}
+use Rattle.journal.specs.Plain.{PlainMessage}
 use Rattle.journal.specs.Casting.{is_full_in, with_logged}
 use Rattle.journal.proofs.CastStepLemmas.{casted}
 use Rattle.hub_state.proofs.DepartLemmas.{hub-of, none-departs, plus}
@@ -22,13 +22,12 @@ invariant_of-self-2 c =
     let room = rw (← c.self.view_is) at c.requires.counted.unspent in
     let logs = rw (← c.self.view_is, ← c.self.invariant.0.last) at c.requires.logged in
     let logged = c.push_logged.ensures ∙ ap (with_logged c.self.inside.log) logs in
-    let told_of = rw c.deref.ensures.value at (c.done.view_is ∙ c.in_ok-done.ensures.ok) in
-    let placed : c.done.inside.placed ≡ length c.args.messages.items = ap (λ (d : PlainCastDone). d.placed) told_of in
-    let dropped : c.done.inside.dropped ≡ length c.args.broadcast.dropped = ap (λ (d : PlainCastDone). d.dropped) told_of in
+    let placed : c.len.result ≡ length c.args.messages.items = search rules in
+    let dropped : c.len-2.result ≡ length c.args.broadcast.dropped = search rules in
     let hub = hub-of c.self.inside c.self.invariant in
     rw (c.in_ok-write.ensures.steps, c.in_ok-write.ensures.last, c.in_ok-write.ensures.counts, placed, dropped)
     (plus (casted c.self.inside.base c.self.inside.limits c.self.inside.records.steps.steps c.args.broadcast c.self.invariant.1 c.self.invariant.2 event.0 event.1 event.2 given
-    c.args.messages.items told c.args.now c.self.inside.records.last (get nat_cmp c.self.inside.clients) (get nat_cmp c.put_messages.new.clients) (get nat_cmp c.self.inside.seats)
-    (sorted.contains nat_cmp c.self.inside.pids) c.self.inside.rooms c.self.inside.saved c.self.inside.log c.push_logged.new.log c.self.inside.records.counts
+    c.args.messages.items told c.args.now c.self.inside.records.last (get nat_cmp c.self.inside.clients) (get nat_cmp c.put_messages.new.clients) (get nat_cmp c.self.inside.live.seats)
+    (sorted.contains nat_cmp c.self.inside.live.pids) c.self.inside.live.rooms c.self.inside.saved c.self.inside.log c.push_logged.new.log c.self.inside.records.counts
     hub room logged c.put_messages.ensures)
     (none-departs _ _ _ _ c.self.invariant.4 refl))

@@ -10,10 +10,10 @@ use Rattle.loop_rules.proofs.rota.Rota.call.Goals as goal
 pub push_back_reserved-requires : goal.push_back_reserved-requires
 push_back_reserved-requires c =
     let below : c.args.key < length c.self.inside.looks.items = omega arith in
-    let at : c.index.result.now ≡ look_of c.self.inside.looks.items c.args.key =
-    get_or_read c.self.inside.looks.items c.args.key c.index.result.now below c.index.ensures state.Rests in
-    let to : is_to_queue c.index.result.now ≡ true = cc in
+    let at : c.index_mut.result.now ≡ look_of c.self.inside.looks.items c.args.key =
+    get_or_read c.self.inside.looks.items c.args.key c.index_mut.result.now below c.index_mut.ensures.value state.Rests in
+    let to : is_to_queue c.index_mut.result.now ≡ true = cc in
     let out : is_queued (look_of c.self.inside.looks.items c.args.key) ≡ false =
-    rw (← at) (to_queue_isnt_queued c.index.result.now to) in
+    rw (← at) (to_queue_isnt_queued c.index_mut.result.now to) in
     let fits = room c.self.inside.looks.items _ _ _ _ c.args.key c.self.invariant below out in
     omega (arith, fits.0)

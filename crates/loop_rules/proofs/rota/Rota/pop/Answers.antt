@@ -3,12 +3,6 @@ use Rattle.loop_rules.specs.Looks.{is_queued}
 use Rattle.loop_rules.proofs.RotaLemmas.{first_known, popped, begun_isnt_queued}
 use Rattle.loop_rules.proofs.rota.Rota.pop.Goals as goal
 
-pub index-requires : goal.index-requires
-index-requires c =
-    let first = ap (λ (r : List ℕ). r ++ c.self.inside.again.items) c.in_ok-key.ensures.items in
-    let below = first_known c.self.inside.looks.items _ c.in_ok-key.key _ _ _ _ c.self.invariant first in
-    omega (arith, below)
-
 pub index_mut-requires : goal.index_mut-requires
 index_mut-requires c =
     let first = ap (λ (r : List ℕ). r ++ c.self.inside.again.items) c.in_ok-key.ensures.items in
@@ -18,6 +12,6 @@ index_mut-requires c =
 pub invariant_of-self-2 : goal.invariant_of-self-2
 invariant_of-self-2 c =
     let first = ap (λ (r : List ℕ). r ++ c.self.inside.again.items) c.in_ok-key.ensures.items in
-    let out : is_queued c.begin.new.self ≡ false = rw c.begin.ensures.state (begun_isnt_queued c.index.result.now) in
+    let out : is_queued c.begin.new.self ≡ false = rw c.begin.ensures.state (begun_isnt_queued c.index_mut.result.now) in
     popped c.self.inside.looks.items _ c.in_ok-key.key _ _ _ _ _ _ c.begin.new.self c.self.invariant first out
     (omega (arith, c.in_ok-key.ensures.len)) c.in_ok-key.ensures.capacity

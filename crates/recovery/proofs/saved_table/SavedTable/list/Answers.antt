@@ -9,7 +9,7 @@ abbrev Rise : TableContents → Type 0
 Rise v = IsStrictlySortedBy nat_cmp (map (λ (s : PlainSaved). s.pid) v.sessions)
 
 pub returns-clause-rises : goal.returns-clause-rises
-returns-clause-rises c = subst Rise c.self.view_is (subst (IsStrictlySortedBy nat_cmp) (sym (pids_rise c.self.inside.indexes.by_pid.entries c.self.invariant.keyed)) c.self.invariant.rises)
+returns-clause-rises c = subst Rise c.self.view_is (subst (IsStrictlySortedBy nat_cmp) (sym (pids_rise c.self.inside.by_pid.entries c.self.invariant.keyed)) c.self.invariant.rises)
 
 pub returns-in_err-copy_all-clause-rises : goal.returns-in_err-copy_all-clause-rises
-returns-in_err-copy_all-clause-rises c = subst Rise c.self.view_is (subst (IsStrictlySortedBy nat_cmp) (sym (pids_rise c.self.inside.indexes.by_pid.entries c.self.invariant.keyed)) c.self.invariant.rises)
+returns-in_err-copy_all-clause-rises c = subst Rise c.self.view_is (subst (IsStrictlySortedBy nat_cmp) (sym (pids_rise c.self.inside.by_pid.entries c.self.invariant.keyed)) c.self.invariant.rises)

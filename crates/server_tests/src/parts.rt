@@ -1,0 +1,9 @@
+//! The wire formats and the parts of the hub. A case is a row of a table, which says what is called
+//! and what it answers.
+
+mod engine_io;
+mod lines;
+mod play;
+mod rooms;
+mod sessions;
+mod socket_io;
