@@ -67,9 +67,8 @@ pub fn read_arguments<R: Env + Files + AllocGlobal + Clone + Drop>(
 ) -> Result<Task, Error> {
     let program = Program::EventServer;
     let words = words(rt, program)?;
-    let matches = program
-        .command(rt.alloc())?
-        .try_get_matches_from(words.as_slice())?;
+    let command = program.command(rt.alloc())?;
+    let matches = command.try_get_matches_from(words.as_slice())?;
     match matches.subcommand_matches("serve") {
         Some(serve) => Ok(Task::Serve(right_options(rt, program, serve, processors)?)),
         None => Ok(Task::Script),
@@ -86,9 +85,8 @@ pub fn read_server_arguments<R: Env + Files + AllocGlobal + Clone + Drop>(
 ) -> Result<Box<Options>, Error> {
     let program = Program::Server(name, about);
     let words = words(rt, program)?;
-    let matches = program
-        .command(rt.alloc())?
-        .try_get_matches_from(words.as_slice())?;
+    let command = program.command(rt.alloc())?;
+    let matches = command.try_get_matches_from(words.as_slice())?;
     right_options(rt, program, &matches, processors)
 }
 
@@ -179,14 +177,14 @@ fn wrong_option(alloc: Global, settings: &mut Settings) -> Result<Option<String>
 
 /// Takes the first namespace away that is wrong, with those behind it.
 fn wrong_space(hub: &mut Config) -> Option<Text> {
-    let mut wrong = None;
     for _ in 0..hub.spaces.len() {
-        if !hub.is_bad() {
-            break;
+        let was_bad = hub.is_bad();
+        let last = hub.spaces.pop();
+        if was_bad && !hub.is_bad() {
+            return last;
         }
-        wrong = hub.spaces.pop();
     }
-    wrong
+    None
 }
 
 /// Whether a browser may name this origin (RFC 6454, section 6.2), or it is `*`, which stands for all.

@@ -1,6 +1,6 @@
 -- What each call makes of a line, for every history that leads to it.
 use Rattle.std.proofs.Common.{◌≡◌, ◌≢◌, ◌⊎◌, ℕ, ◌==◌, Bool, true, false, List, [], ◌∷◌, ◌++◌, refl, sym, ◌∙◌, ap, subst, Option, None, Some, Result, Ok, Err, inl, inr, filter, cond, nat_lt, IfOk, IfErr, IfSome, OnOk, OnErr, if◌then◌else◌}
-use Rattle.sio_wire.specs.declared.packet.SioPacket.{SioPacket}
+use Rattle.sio_wire.specs.declared.assembler.SioPacket.{SioPacket}
 use Rattle.sio_wire.specs.declared.assembler.Progress.{Progress}
 use Rattle.sio_wire.specs.declared.assembler.Progress.TheVariants.{Ready, Waiting, Failed}
 use Rattle.sio_wire.specs.declared.error.SioError.{SioError}

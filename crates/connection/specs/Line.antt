@@ -4,7 +4,7 @@ use Rattle.std.specs.Ordering.{nat_cmp}
 use Rattle.std.specs.Map.{lookup}
 use Rattle.std.specs.BTreeMap.{is_at}
 use Rattle.eio_wire.specs.Payload.{IsWhole}
-use Rattle.sio_wire.specs.declared.packet.SioPacket.{SioPacket}
+use Rattle.sio_wire.specs.declared.assembler.SioPacket.{SioPacket}
 use Rattle.sio_wire.specs.declared.assembler.Progress.{Progress}
 use Rattle.sio_wire.specs.declared.assembler.Progress.TheVariants.{Failed}
 use Rattle.sio_wire.specs.declared.error.SioError.{SioError}

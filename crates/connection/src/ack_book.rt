@@ -1,13 +1,16 @@
-//! Questions that wait for an acknowledgement (Socket.IO protocol 5, "Acknowledgement").
+//! Questions that wait for an acknowledgement (Socket.IO protocol 5, "Acknowledgement"): those to
+//! one socket, and to all sockets of a client.
 
-ghost use Rattle.std.specs.Prelude.{◌≡◌, nat_le, length, count_by, [], Some, IfOk, OnOk};
+ghost use Rattle.std.specs.Prelude.{◌≡◌, ℕ, ◌==◌, false, nat_le, length, count_by, [], Some, IfOk, OnOk};
 ghost use Rattle.connection.specs.Questions.{Expired, open_questions, question_at};
+ghost use Rattle.connection.specs.Line.{book_in};
 ghost use Rattle.connection.specs.Book.{LeadsTo, ForEachHistory, Advances, Answers, Asks, HasHistory, IsUnanswered};
 
 use crate::AckError;
 use std::alloc::Global;
 use std::collections::BTreeMap;
 use std::marker::Model;
+use terms::Sid;
 
 /// The greatest acknowledgement id: one has at most fifteen digits.
 const LAST_ID: u64 = 999_999_999_999_999;
@@ -100,4 +103,38 @@ impl AckBook {
     {
         self.questions.len()
     }
+}
+
+/// Asks a question of a socket. Its first one makes its book.
+pub(crate) fn ask(
+    alloc: Global,
+    books: &mut BTreeMap<Sid, AckBook>,
+    sid: Sid,
+    tag: u64,
+    until: u64,
+) -> Result<u64, AckError>
+    ensures own { let old = book_in books.old.entries sid in
+        Asks old tag until result (book_in books.new.entries sid) }
+    ensures others { (s : ℕ) → sid == s ≡ false
+        → book_in books.new.entries s ≡ book_in books.old.entries s }
+{
+    if let Some(book) = books.get_mut(&sid) {
+        return book.ask(alloc, tag, until);
+    }
+    let mut book = AckBook::new(alloc, 0);
+    let id = book.ask(alloc, tag, until)?;
+    let Ok(_) = books.insert(sid, book) else {
+        return Err(AckError::Memory);
+    };
+    Ok(id)
+}
+
+/// Takes a socket's answer to a question.
+pub(crate) fn answer(books: &mut BTreeMap<Sid, AckBook>, sid: Sid, id: u64) -> Result<u64, AckError>
+    ensures own { let old = book_in books.old.entries sid in
+        Answers old id result (book_in books.new.entries sid) }
+    ensures others { (s : ℕ) → sid == s ≡ false
+        → book_in books.new.entries s ≡ book_in books.old.entries s }
+{
+    books.get_mut(&sid).ok_or(AckError::UnknownId)?.answer(id)
 }

@@ -6,7 +6,6 @@
 
 mod ack_book;
 mod ack_error;
-mod books;
 mod clock;
 mod clock_error;
 mod line;

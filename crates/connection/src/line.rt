@@ -12,7 +12,7 @@ ghost use Rattle.connection.specs.Book.{ask_refusal, answer_of};
 ghost use Rattle.connection.specs.History.{Call, Ticked, Ponged, Probed, Upgraded, ProbeLost, GetBegan, GetEnded, PingCarried, Entered, Left, Asked, Answered, clock_calls, book_calls, frames, failure, is_getting, is_ping_due};
 ghost use Rattle.connection.specs.Line.{PlainLine, LeadsTo, ForEachHistory, HasHistory, Advances, Hears, StepsBy};
 
-use crate::{AckBook, AckError, Clock, ClockError, Due, Timing, Transport, books};
+use crate::{AckBook, AckError, Clock, ClockError, Due, Timing, Transport, ack_book};
 use sio_wire::{Assembler, SioError, SioPacket};
 use std::alloc::Global;
 use std::collections::BTreeMap;
@@ -128,7 +128,10 @@ impl Line {
         ensures due { ForEachHistory self.old (λ o h. result ≡ due o (clock_calls h) now) }
         ensures advances { Advances self.old (Ticked now result ∷ []) self.new }
     {
-        books::expire(&mut self.books, now);
+        self.books.retain(|_, book| {
+            book.expire(now);
+            true
+        });
         let due = self.clock.tick(now);
         if due == Due::SendPing {
             self.ping = true;
@@ -184,14 +187,14 @@ impl Line {
         ensures { Advances self.old (Entered sid ∷ []) self.new }
     {
         self.clock.joined();
-        books::forget(&mut self.books, sid);
+        self.books.remove(&sid);
     }
 
     /// A socket left its namespace, and its questions with it.
     pub fn leave(&mut self, sid: Sid)
         ensures { Advances self.old (Left sid ∷ []) self.new }
     {
-        books::forget(&mut self.books, sid);
+        self.books.remove(&sid);
     }
 
     /// Asks a question of a socket that runs out at a moment, and answers its id, the next one of
@@ -206,7 +209,7 @@ impl Line {
         ensures advances { OnOk result (Advances self.old (Asked sid tag until ∷ []) self.new) }
         ensures unchanged { OnErr result (Advances self.old [] self.new) }
     {
-        books::ask(alloc, &mut self.books, sid, tag, until)
+        ack_book::ask(alloc, &mut self.books, sid, tag, until)
     }
 
     /// Takes a socket's answer to a question: gives its tag and forgets its id.
@@ -216,7 +219,7 @@ impl Line {
         ensures advances { OnOk result (Advances self.old (Answered sid id ∷ []) self.new) }
         ensures unchanged { OnErr result (Advances self.old [] self.new) }
     {
-        books::answer(&mut self.books, sid, id)
+        ack_book::answer(&mut self.books, sid, id)
     }
 }
 

@@ -1,10 +1,11 @@
 -- What a packet does, put together from what its parts do.
-use Rattle.std.proofs.Common.{◌≡◌, ◌≢◌, ◌⊎◌, ℕ, ◌==◌, Bool, true, false, ◌&&◌, ◌||◌, List, [], ◌∷◌, filter, refl, sym, ◌∙◌, ap, subst, arith, is_some, if◌then◌else◌, Option, None, Some, Result, Ok, Err, IfOk, IfErr, OnOk, inl, inr}
+use Rattle.std.proofs.Common.{◌≡◌, ◌≢◌, ◌⊎◌, ℕ, ◌==◌, Bool, true, false, ◌&&◌, ◌||◌, List, [], ◌∷◌, filter, refl, sym, ◌∙◌, ap, subst, arith, is_some, is_none, if◌then◌else◌, Option, None, Some, Result, Ok, Err, IfOk, IfErr, OnOk, inl, inr}
 use Rattle.std.specs.List.{AllByRecursion, list_any, find}
 use Rattle.std.specs.Map.{lookup}
 use Rattle.std.specs.Option.{option_map}
 use Rattle.std.proofs.lemmas.Bool.Decides.{nat_tests}
-use Rattle.sio_wire.specs.declared.packet.SioPacket.{SioPacket}
+use Rattle.eio_wire.specs.declared.packet.Packet.{Packet}
+use Rattle.sio_wire.specs.declared.assembler.SioPacket.{SioPacket}
 use Rattle.sio_wire.specs.declared.kind.Kind.{Kind}
 use Rattle.sio_wire.specs.declared.kind.Kind.TheVariants as kind
 use Rattle.sio_wire.specs.declared.assembler.Progress.TheVariants.{Failed}
@@ -22,9 +23,10 @@ use Rattle.journal.specs.Membership.{place_of, is_open, is_space, sid_of, has_id
 use Rattle.events.specs.declared.app.Who.{Who}
 use Rattle.events.specs.App.{Policy}
 use Rattle.effects.specs.Commands.{IsSeated}
+use Rattle.events.specs.declared.cause.Cause.{Cause}
 use Rattle.events.specs.declared.cause.Cause.TheVariants as cause
 use Rattle.effects.specs.Effects.{Scene}
-use Rattle.dispatch.specs.Packets.{Stage, Upshot, ClosesFor, Serves, DrawsNone, AsksToConnect, ServesJoined, Works, GoesOn, with_line, RefusesFrame, TakesText, ReadsBinary}
+use Rattle.dispatch.specs.Packets.{Stage, Upshot, ClosesFor, Serves, DrawsNone, AsksToConnect, ServesJoined, Works, GoesOn, with_line, RefusesFrame, TakesText, ReadsBinary, Handles, HandlesOrBreaks, begun}
 
 -- ---- questions
 
@@ -180,3 +182,25 @@ module _ (policy : Policy) where
   reads-binary c content now s line (Ok given) result t accepts advances fault on = inr (inl (given, line, accepts, advances, on))
   reads-binary c content now s line (Err e) result t accepts advances (inl (is, same)) on = inl (short-of c now s line e result t is same on)
   reads-binary c content now s line (Err e) result t accepts advances (inr (refuses, is)) on = inr (inr (e, refuses, refused-as c now s line e result t is on))
+
+  -- a packet in its turn, where the client wasn't closed
+  pub in-turn : (c : ℕ) (packet : Packet) (now : ℕ) (s : Stage) (result : Upshot) (t : Stage) → is_some s.scene.done.closed ≡ false
+      → Handles policy c packet now (begun policy s) result t → HandlesOrBreaks policy c packet now s result t
+  in-turn c packet now s result t none handles = on s.scene.done.closed none
+    where
+      on : (o : Option Cause) → is_some o ≡ false → elim o as (λ (o : Option Cause). Type 0) [ Some why ↦ (result ≡ Ok tt) × (t ≡ s) | None ↦ Handles policy c packet now (begun policy s) result t ]
+      on None none = handles
+      on (Some why) none = absurd (cc none)
+
+  -- and where it was
+  pub out-of-turn : (c : ℕ) (packet : Packet) (now : ℕ) (s : Stage) → is_some s.scene.done.closed ≡ true → HandlesOrBreaks policy c packet now s (Ok tt) s
+  out-of-turn c packet now s closed = on s.scene.done.closed closed
+    where
+      on : (o : Option Cause) → is_some o ≡ true → elim o as (λ (o : Option Cause). Type 0) [ Some why ↦ (◌≡◌ {A = Upshot} (Ok tt) (Ok tt)) × (s ≡ s) | None ↦ Handles policy c packet now (begun policy s) (Ok tt) s ]
+      on None closed = absurd (cc closed)
+      on (Some why) closed = (refl, refl)
+
+-- a client that no cause closed is open
+pub still-open : (h : History) (c : ℕ) (o : Option Cause) → is_open h.base h.journal c ≡ is_none o → is_some o ≡ false → (is_open h.base h.journal c ≡ true) × (o ≡ None)
+still-open h c None stays none = (stays, refl)
+still-open h c (Some why) stays none = absurd (cc none)

@@ -6,13 +6,13 @@ use Rattle.eio_wire.specs.declared.packet.Packet.{Packet}
 use Rattle.eio_wire.specs.declared.packet.Packet.TheVariants as eio
 use Rattle.terms.specs.Ids.{id_digits}
 use Rattle.terms.specs.declared.entry.Entry.{Entry}
-use Rattle.sio_wire.specs.declared.packet.SioPacket.{SioPacket}
+use Rattle.sio_wire.specs.declared.assembler.SioPacket.{SioPacket}
 use Rattle.sio_wire.specs.declared.kind.Kind.{Kind}
 use Rattle.sio_wire.specs.declared.kind.Kind.TheVariants as kind
 use Rattle.sio_wire.specs.declared.assembler.Progress.TheVariants.{Failed}
 use Rattle.sio_wire.specs.declared.error.SioError.{SioError}
 use Rattle.sio_wire.specs.declared.error.SioError.TheVariants as sio
-use Rattle.sio_wire.specs.declared.resume.Resume.{Resume}
+use Rattle.sio_wire.specs.declared.tree.Resume.{Resume}
 use Rattle.sio_wire.specs.ConnectAnswer.{refused_text}
 use Rattle.sio_wire.specs.Frames.{Frame, text, binary, Accepts, RefusesText, binary_refusal, exceeds}
 use Rattle.sio_wire.specs.JsonFields.{resume_at}

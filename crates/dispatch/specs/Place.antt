@@ -13,7 +13,7 @@ use Rattle.journal.specs.Config.{empty_base}
 use Rattle.journal.specs.Journal.{History}
 use Rattle.journal.specs.Membership.{is_open}
 use Rattle.journal.specs.Entries.{BringsOnly}
-use Rattle.hub_totals.specs.Pass.{PlainHub}
+use Rattle.hub_totals.specs.Pass.{new_pass, PlainHub, PlainPass}
 use Rattle.effects.specs.Following.{is_clean}
 
 -- the hub, the lines by their clients, and what each new client is told
@@ -32,6 +32,10 @@ new_core config timing numbers =
       timing = timing;
       numbers = numbers;
     }
+
+-- it was made for these settings, and its first pass has counted nothing
+abbrev pub IsNew : Limits → Timing → Numbers → PlainCore → PlainPass → Type 0
+IsNew config timing numbers core pass = (core ≡ new_core config timing numbers) × (pass ≡ new_pass)
 
 -- the client's line
 abbrev pub line_of : List (ℕ × PlainLine) → ℕ → Option PlainLine

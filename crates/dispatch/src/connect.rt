@@ -1,16 +1,16 @@
 //! What a CONNECT does (Socket.IO protocol 5, "Connection to a namespace"; Socket.IO server
 //! documentation, "Connection state recovery").
 
-ghost use Rattle.std.specs.Prelude.{◌≡◌, ◌≢◌, ◌<◌, ◌^◌, ℕ, List, Option, IfOk, IfErr, IfSome, IfNone};
+ghost use Rattle.std.specs.Prelude.{◌≡◌, ℕ, List, Option, IfOk, IfErr};
 ghost use Rattle.effects.specs.Effects.{IsOpenFor};
 ghost use Rattle.effects.specs.Scene.{seen, Plays};
-ghost use Rattle.dispatch.specs.Packets.{Draws, IsReady, IsFreeIn, Refuses, Connects, ConnectsAs, AsksApp, digits_of, Names, MayComeBack, AsksToConnect};
+ghost use Rattle.dispatch.specs.Packets.{Draws, IsReady, IsFreeIn, Refuses, AsksApp, Names, AsksToConnect};
 
 use crate::packets::close_for;
 use effects::{Scene, act_all, commands};
-use events::{App, Cause, CoreFault, Effect, IdSource, Verdict, Who, Worked};
+use events::{App, Cause, CoreFault, IdSource, Verdict, Who, Worked};
 use recovery::Pid;
-use sio_wire::{Header, Resume, SioError, read_offset, refused_text, resume_of};
+use sio_wire::{Header, SioError, read_offset, refused_text, resume_of};
 use std::alloc::Global;
 use terms::{Attachments, Entry, Sid, Text, read_id};
 
@@ -34,22 +34,8 @@ fn refuse(scene: &mut Scene, space: &str, message: &str) -> Worked
     close_for(scene, Cause::OutboxFull)
 }
 
-/// Connects the client with a new socket, and does what the app wants then.
-fn accept(scene: &mut Scene, who: &Who, pid: Pid, wanted: Vec<Effect>) -> Worked
-    requires own { who.now.client ≡ scene.old.visit.client }
-    requires ready { IsReady scene.old }
-    requires free { IsFreeIn who.now.space scene.old.visit.client (seen scene.old) }
-    ensures { Plays (ConnectsAs who.now pid wanted.items) scene.old result scene.new }
-{
-    if commands::attach(scene.visit, scene.state, who, pid)? {
-        scene.line.enter(who.sid);
-        scene.tally.count();
-        return act_all(scene, who, wanted, 1);
-    }
-    close_for(scene, Cause::OutboxFull)
-}
-
-/// Asks the app whether the client may connect.
+/// Asks the app whether the client may connect. Then it has a new socket, and what the app wants is
+/// done, or it is refused.
 fn ask_app<A: App, I: IdSource>(scene: &mut Scene, app: &A, ids: &mut I, header: Header) -> Worked
     requires ready { IsReady scene.old }
     requires free { IsFreeIn header.space scene.old.visit.client (seen scene.old) }
@@ -63,7 +49,12 @@ fn ask_app<A: App, I: IdSource>(scene: &mut Scene, app: &A, ids: &mut I, header:
             let pid = Pid::new(ids.draw());
             let client = scene.visit.client;
             let who = Who { client, space, sid };
-            accept(scene, &who, pid, wanted)
+            if !commands::attach(scene.visit, scene.state, &who, pid)? {
+                return close_for(scene, Cause::OutboxFull);
+            }
+            scene.line.enter(sid);
+            scene.tally.count();
+            act_all(scene, &who, wanted, 1)
         }
         Ok(Verdict::Refuse(message)) => { refuse(scene, space.as_str(), message.as_str()) }
         Err(_) => Err(CoreFault::Memory.into()),
@@ -75,47 +66,22 @@ fn named_in(alloc: Global, payload: &str) -> Result<Option<(Pid, u64)>, CoreFaul
     ensures ok { IfOk result (λ named. Names payload.now named) }
     ensures memory { IfErr result (λ f. f ≡ CoreFault.Memory) }
 {
-    match resume_of(alloc, payload) {
-        Ok(Some(resume)) => Ok(ids_in(&resume)),
-        Err(SioError::Memory) => Err(CoreFault::Memory),
-        Ok(None) | Err(_) => Ok(None),
-    }
-}
-
-/// The session and the offset, where both texts are read.
-fn ids_in(resume: &Resume) -> Option<(Pid, u64)>
-    ensures some { IfSome result (λ named. resume.now ≡ digits_of named.0 named.1) }
-    ensures fits { IfSome result (λ named. (named.0 < 2 ^ 128) × (named.1 < 2 ^ 64)) }
-    ensures none { IfNone result ((pid offset : ℕ)
-        → offset < 2 ^ 64 → resume.now ≢ digits_of pid offset) }
-{
-    let pid = read_id(resume.pid.as_str())?;
-    let offset = read_offset(resume.offset.as_str())?;
-    Some((Pid::new(pid), offset))
-}
-
-/// Connects the client to a namespace that it hasn't joined: with the session that it names, or
-/// where it names none or that one can't come back, as the app says.
-fn admit<A: App, I: IdSource>(scene: &mut Scene, app: &A, ids: &mut I, header: Header) -> Worked
-    requires ready { IsReady scene.old }
-    requires free { IsFreeIn header.space scene.old.visit.client (seen scene.old) }
-    ensures { let client = scene.old.visit.client in Draws
-        (MayComeBack (A.policy app.now) client header.space header.payload)
-        scene.old (I.stream ids.old) result scene.new (I.stream ids.new) }
-{
-    let Some(named) = named_in(scene.visit.alloc, header.payload.as_str())? else {
-        return ask_app(scene, app, ids, header);
+    let resume = match resume_of(alloc, payload) {
+        Ok(Some(resume)) => resume,
+        Err(SioError::Memory) => return Err(CoreFault::Memory),
+        Ok(None) | Err(_) => return Ok(None),
     };
-    let space = header.space.as_str();
-    let Some(sid) = commands::recover(scene.visit, scene.state, space, named.0, named.1)? else {
-        return ask_app(scene, app, ids, header);
+    let Some(pid) = read_id(resume.pid.as_str()) else {
+        return Ok(None);
     };
-    scene.line.enter(sid);
-    scene.tally.count();
-    Ok(())
+    let Some(offset) = read_offset(resume.offset.as_str()) else {
+        return Ok(None);
+    };
+    Ok(Some((Pid::new(pid), offset)))
 }
 
-/// What a CONNECT does.
+/// What a CONNECT does. A namespace that the client hasn't joined it joins with the session that it
+/// names, or where it names none or that one can't come back, as the app says.
 pub(crate) fn connect<A: App, I: IdSource>(
     scene: &mut Scene,
     app: &A,
@@ -134,7 +100,15 @@ pub(crate) fn connect<A: App, I: IdSource>(
     if let Some(_) = scene.state.socket_of(scene.visit.client, space) {
         return close_for(scene, Cause::AlreadyConnected);
     }
-    admit(scene, app, ids, header)
+    let Some(named) = named_in(scene.visit.alloc, header.payload.as_str())? else {
+        return ask_app(scene, app, ids, header);
+    };
+    let Some(sid) = commands::recover(scene.visit, scene.state, space, named.0, named.1)? else {
+        return ask_app(scene, app, ids, header);
+    };
+    scene.line.enter(sid);
+    scene.tally.count();
+    Ok(())
 }
 
 /// A payload names one session and one offset, or none. It has no effect.

@@ -1,13 +1,12 @@
 //! What the packets of a client do (Engine.IO protocol 4, "Packet types"; Socket.IO protocol 5,
 //! "Exchange protocol").
 
-ghost use Rattle.std.specs.Prelude.{◌≡◌, None, OnOk, IfOk, IfErr, is_none};
+ghost use Rattle.std.specs.Prelude.{◌≡◌, None, OnOk, IfOk, IfErr};
 ghost use Rattle.connection.specs.Line.{IsWholeIfGiven};
-ghost use Rattle.journal.specs.Membership.{is_open};
 ghost use Rattle.effects.specs.Effects.{IsOpenFor};
 ghost use Rattle.effects.specs.Runs.{Runs};
 ghost use Rattle.effects.specs.Scene.{seen, IsSameEvent, Plays};
-ghost use Rattle.dispatch.specs.Packets.{stage, Draws, IsReady, ClosesFor, GoesOn, Handles, HandlesOrBreaks, HandlesInTurn, BreaksAfter};
+ghost use Rattle.dispatch.specs.Packets.{stage, Draws, IsReady, ClosesFor, GoesOn, Handles, HandlesInTurn, BreaksAfter};
 
 use crate::connect::connect;
 use crate::joined::serve_joined;
@@ -83,28 +82,8 @@ fn handle<A: App, I: IdSource>(scene: &mut Scene, app: &A, ids: &mut I, packet: 
     }
 }
 
-/// What a packet does in its turn: after the client was closed nothing more is done.
-fn handle_in_turn<A: App, I: IdSource>(
-    scene: &mut Scene,
-    app: &A,
-    ids: &mut I,
-    packet: &Packet,
-) -> Worked
-    requires { let s = seen scene.old in
-        is_open s.history.base s.history.journal scene.old.visit.client ≡ is_none s.done.closed }
-    ensures { let client = scene.old.visit.client in Draws
-        (HandlesOrBreaks (A.policy app.now) client packet.now)
-        scene.old (I.stream ids.old) result scene.new (I.stream ids.new) }
-{
-    if scene.tally.is_closed() {
-        return Ok(());
-    }
-    scene.tally.begin();
-    handle(scene, app, ids, packet)
-}
-
-/// What the packets of a payload do, in order. After an error so many packets are done, and of the
-/// next one so many effects, as the error says.
+/// What the packets of a payload do, in order: after the client was closed nothing more is done.
+/// After an error so many packets are done, and of the next one so many effects, as the error says.
 pub(crate) fn handle_each<A: App, I: IdSource>(
     scene: &mut Scene,
     app: &A,
@@ -123,12 +102,15 @@ pub(crate) fn handle_each<A: App, I: IdSource>(
 {
     let mut count = 0;
     for packet in packets {
-        if let Err(stopped) = handle_in_turn(scene, app, ids, packet) {
-            return Err(CoreError {
-                fault: stopped.fault,
-                packets: count,
-                effects: stopped.effects,
-            });
+        if !scene.tally.is_closed() {
+            scene.tally.begin();
+            if let Err(stopped) = handle(scene, app, ids, packet) {
+                return Err(CoreError {
+                    fault: stopped.fault,
+                    packets: count,
+                    effects: stopped.effects,
+                });
+            }
         }
         count += 1;
     }

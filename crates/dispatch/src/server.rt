@@ -6,10 +6,10 @@ ghost use Rattle.terms.specs.Listing.{ListsRising};
 ghost use Rattle.journal.specs.Config.{config_refusal};
 ghost use Rattle.journal.specs.Membership.{is_open};
 ghost use Rattle.journal.specs.Seal.{Seals};
-ghost use Rattle.hub_totals.specs.Pass.{new_pass, AtLeast, GivesPass, Settles};
+ghost use Rattle.hub_totals.specs.Pass.{AtLeast, GivesPass, IsBlankOf, Settles};
 ghost use Rattle.effects.specs.Following.{Spares};
 ghost use Rattle.connection.specs.Line.{PlainLine};
-ghost use Rattle.dispatch.specs.Place.{new_core, line_of, place, Agree, IsClean};
+ghost use Rattle.dispatch.specs.Place.{line_of, place, Agree, IsClean, IsNew};
 ghost use Rattle.dispatch.specs.Takes.{IsOn};
 ghost use Rattle.events.specs.Answer.{at_once};
 ghost use Rattle.dispatch.specs.Answers.{fault_of_config};
@@ -74,13 +74,11 @@ impl<C: Ledger, T: Ledger> Core<C, T> {
         commands: Blank,
         taken: Blank,
     ) -> Result<(Core<C, T>, Pass<C, T>), CoreError>
-        requires commands { (commands.name ≡ C.name)
-            × (commands.parts ≡ C.parts) × (commands.parts ≡ 65536) }
-        requires taken { (taken.name ≡ T.name) × (taken.parts ≡ T.parts) × (taken.parts ≡ 65536) }
+        requires commands { IsBlankOf C.name C.parts commands }
+        requires taken { IsBlankOf T.name T.parts taken }
         ensures config { OnOk result (config_refusal config ≡ None) }
-        ensures core { IfOk result (λ made. made.0 ≡ new_core config timing numbers) }
+        ensures made { IfOk result (λ made. IsNew config timing numbers made.0 made.1) }
         ensures handed { IfOk result (λ made. (c : ℕ) → Handed c [] made.0.hub.history) }
-        ensures pass { IfOk result (λ made. made.1 ≡ new_pass) }
         ensures err { IfErr result (λ e. e ≡ at_once (fault_of_config (config_refusal config))) }
     {
         let lines = BTreeMap::new(alloc);

@@ -2,7 +2,7 @@
 //! "Handshake").
 
 ghost use Rattle.std.specs.Prelude.{◌≡◌, IfOk, IfErr, string_bytes};
-ghost use Rattle.eio_wire.specs.Handshake.{open_packet_text, upgrades_of};
+ghost use Rattle.eio_wire.specs.Handshake.{open_packet_text};
 
 use crate::error::WireError;
 use std::alloc::Global;
@@ -31,7 +31,8 @@ pub fn open_text(
     ensures err { IfErr result (λ error. error ≡ WireError.Memory) }
 {
     let digits = id_text(client);
-    let (id, upgrades) = (ascii_text(&digits), upgrades(polling));
+    let id = ascii_text(&digits);
+    let upgrades = if polling { r#"["websocket"]"# } else { "[]" };
     let interval = numbers.ping_interval;
     let timeout = numbers.ping_timeout;
     let payload = numbers.max_payload;
@@ -39,11 +40,4 @@ pub fn open_text(
         "0{{\"sid\":\"{id}\",\"upgrades\":{upgrades},\"pingInterval\":{interval},\"pingTimeout\":{timeout},\"maxPayload\":{payload}}}"
     )?;
     Ok(text)
-}
-
-/// The JSON list of the transports to which the client may upgrade.
-fn upgrades(polling: bool) -> &'static str
-    ensures { result.now ≡ upgrades_of polling }
-{
-    if polling { r#"["websocket"]"# } else { "[]" }
 }

@@ -2,7 +2,7 @@
 use Rattle.std.proofs.Common.{◌≡◌, ◌⊎◌, ℕ, Bool, true, false, List, [], ◌∷◌, sym, ap, subst, take, length, codes, unwrap_or, Option, None, Some, Result, Ok, Err, inl, inr}
 use Rattle.eio_wire.specs.declared.packet.Packet.{Packet}
 use Rattle.eio_wire.specs.declared.packet.Packet.TheVariants as eio
-use Rattle.sio_wire.specs.declared.packet.SioPacket.{SioPacket}
+use Rattle.sio_wire.specs.declared.assembler.SioPacket.{SioPacket}
 use Rattle.sio_wire.specs.declared.kind.Kind.{Kind}
 use Rattle.sio_wire.specs.declared.kind.Kind.TheVariants as kind
 use Rattle.sio_wire.specs.declared.error.SioError.{SioError}

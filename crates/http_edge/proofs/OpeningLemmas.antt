@@ -12,9 +12,9 @@ use Rattle.http_edge.specs.Head.{IsHeadOf, IsOpening, IsJudged, HasParsed, Begin
 use Rattle.http_edge.specs.Line.{next, walk}
 use Rattle.http_edge.specs.Stages.{StepsTo, so_far, fed}
 use Rattle.http_edge.specs.declared.head.Head.{Head}
-use Rattle.http_edge.specs.declared.stage.Stage.{Stage}
-use Rattle.http_edge.specs.declared.stage.Step.{Step}
-use Rattle.http_edge.specs.declared.stage.Step.TheVariants.{More}
+use Rattle.http_edge.specs.declared.gathered.Stage.{Stage}
+use Rattle.http_edge.specs.declared.gathered.Step.{Step}
+use Rattle.http_edge.specs.declared.gathered.Step.TheVariants.{More}
 use Rattle.http_edge.specs.declared.line.Line.{Line}
 use Rattle.http_edge.specs.declared.line.Line.TheVariants.{Blank, Empty}
 use Rattle.http_edge.specs.declared.error.EdgeError.{EdgeError}

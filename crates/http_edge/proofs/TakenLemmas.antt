@@ -102,3 +102,10 @@ fault_of r e g start b is takes = rw is at takes
 pub spent_of : (g : Result (List ℕ) EdgeError) (start b : Option (List ℕ)) → TakesPart start b g → TakesFault start b TurnsSpent
 spent_of (Ok bytes) start b part = (bytes, part.0, part.1)
 spent_of (Err e) start b part = absurd part
+
+-- a piece after which the request goes on
+pub turn_on : (old g : Result (List ℕ) EdgeError) (r : Result (Option Request) EdgeError) (piece : List ℕ) (start a b : Option (List ℕ)) → r ≡ Ok None → IsOk old
+    → Consumes a b piece → ((bytes : List ℕ) → old ≡ Ok bytes → Answers (bytes ++ piece) r) → IfOk r (λ answer. answer ≡ None → g ≡ fed old piece)
+    → TakesPart start a old → IsOk g × TakesPart start b g
+turn_on old g r piece start a b is ok taken answer more part =
+    (rw is at (ok_still old g r piece ok more) refl, part_of r g start b is (fed_on old g r piece start a b taken answer more part))

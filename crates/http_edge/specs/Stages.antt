@@ -2,10 +2,10 @@
 use Rattle.std.specs.Prelude.{◌≡◌, ◌++◌, ℕ, List, Result, Ok, Err}
 use Rattle.http_edge.specs.Reading.{IsFault, IsRequestIn, IsUnfinished}
 use Rattle.http_edge.specs.declared.error.EdgeError.{EdgeError}
-use Rattle.http_edge.specs.declared.stage.Stage.{Stage}
-use Rattle.http_edge.specs.declared.stage.Stage.TheVariants.{Opening, Filling, Failed}
-use Rattle.http_edge.specs.declared.stage.Step.{Step}
-use Rattle.http_edge.specs.declared.stage.Step.TheVariants.{More, Done}
+use Rattle.http_edge.specs.declared.gathered.Stage.{Stage}
+use Rattle.http_edge.specs.declared.gathered.Stage.TheVariants.{Opening, Filling, Failed}
+use Rattle.http_edge.specs.declared.gathered.Step.{Step}
+use Rattle.http_edge.specs.declared.gathered.Step.TheVariants.{More, Done}
 
 -- the bytes so far, or the fault that was found
 abbrev pub so_far : Stage → Result (List ℕ) EdgeError

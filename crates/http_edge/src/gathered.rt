@@ -2,15 +2,20 @@
 
 ghost use Rattle.std.specs.Prelude.{◌≡◌, ◌++◌, [], ℕ, List, Ok, Err, None, IfOk, IfErr, IfSome};
 ghost use Rattle.http_edge.specs.Reading.{Answers};
-ghost use Rattle.http_edge.specs.Stages.{fed};
+ghost use Rattle.http_edge.specs.Head.{Begins};
+ghost use Rattle.http_edge.specs.Stages.{StepsTo, fed, so_far};
 ghost use Rattle.http_edge.specs.declared.error.EdgeError.{EdgeError};
 
 use crate::error::EdgeError;
+use crate::head::{Head, find_head, judge};
+use crate::line::Line;
 use crate::request::Request;
-use crate::stage::{Stage, Step, first_stage, step_of};
 use std::alloc::Global;
 use std::marker::Model;
 use std::mem;
+
+/// How many bytes a head may have.
+const HEAD_LIMIT: usize = 16_384;
 
 /// The bytes so far of a request. In a contract it is these bytes, or the fault that was found in
 /// them.
@@ -35,7 +40,10 @@ impl Gathered {
         ensures { result ≡ Ok [] }
     {
         Gathered {
-            stage: first_stage(alloc),
+            stage: Stage::Opening(Opening {
+                bytes: Vec::new(alloc),
+                line: Line::Blank,
+            }),
         }
     }
 
@@ -59,7 +67,7 @@ impl Gathered {
                 Ok(None)
             }
             Ok(Step::Done(request)) => {
-                self.stage = first_stage(alloc);
+                *self = Gathered::new(alloc);
                 Ok(Some(request))
             }
             Err(fault) => {
@@ -68,4 +76,123 @@ impl Gathered {
             }
         }
     }
+}
+
+/// How far a request has come.
+#[derive(Drop)]
+enum Stage {
+    Opening(Opening),
+    Filling(Filling),
+    Failed(EdgeError),
+}
+
+/// The head hasn't ended. In a contract it is the bytes so far.
+#[derive(Drop)]
+struct Opening {
+    bytes: Vec<u8>,
+    line: Line,
+}
+
+impl Model for Opening {
+    ghost use Rattle.std.specs.Prelude.{List, ℕ};
+    ghost use Rattle.http_edge.specs.Head.{IsOpening};
+
+    ghost Value = { List ℕ };
+
+    ghost view = { λ o. o.bytes.items };
+
+    ghost invariant = { λ o. IsOpening o.line o.bytes.items };
+}
+
+/// The head is known, and its body isn't whole. In a contract it is the bytes so far.
+#[derive(Drop)]
+struct Filling {
+    bytes: Vec<u8>,
+    head: Head,
+}
+
+impl Model for Filling {
+    ghost use Rattle.std.specs.Prelude.{List, ℕ};
+    ghost use Rattle.http_edge.specs.Head.{Awaits};
+
+    ghost Value = { List ℕ };
+
+    ghost view = { λ f. f.bytes.items };
+
+    ghost invariant = { λ f. Awaits f.head f.bytes.items };
+}
+
+/// What bytes that came have led to.
+#[derive(Drop)]
+enum Step {
+    More(Stage),
+    Done(Request),
+}
+
+/// What these bytes, after those so far, lead to.
+fn step_of(alloc: Global, stage: Stage, piece: &[u8]) -> Result<Step, EdgeError>
+    ensures step { (bytes : List ℕ)
+        → so_far stage ≡ Ok bytes → StepsTo (bytes ++ piece.now) result }
+    ensures failed { (fault : EdgeError) → so_far stage ≡ Err fault → result ≡ Err fault }
+{
+    match stage {
+        Stage::Opening(opening) => opening.step(alloc, piece),
+        Stage::Filling(filling) => filling.step(alloc, piece),
+        Stage::Failed(fault) => Err(fault),
+    }
+}
+
+impl Opening {
+    fn step(self, alloc: Global, piece: &[u8]) -> Result<Step, EdgeError>
+        ensures { StepsTo (self ++ piece.now) result }
+    {
+        let Opening { mut bytes, line } = self;
+        let room = HEAD_LIMIT - bytes.len();
+        let after = line.after_all(&piece[..room.min(piece.len())]);
+        bytes.extend_from_slice(piece)?;
+        let ended = after == Line::Empty;
+        if !ended && piece.len() < room {
+            // So a head has at most 102 looks, in whatever pieces it comes.
+            if after.is_due(line, piece) {
+                judge(&bytes)?;
+            }
+            return Ok(Step::More(Stage::Opening(Opening { bytes, line: after })));
+        }
+        let head = find_head(alloc, &bytes[..HEAD_LIMIT.min(bytes.len())], ended)?;
+        filled(alloc, bytes, head)
+    }
+}
+
+impl Filling {
+    fn step(self, alloc: Global, piece: &[u8]) -> Result<Step, EdgeError>
+        ensures { StepsTo (self ++ piece.now) result }
+    {
+        let Filling { mut bytes, head } = self;
+        bytes.extend_from_slice(piece)?;
+        filled(alloc, bytes, head)
+    }
+}
+
+// The request, where its body is whole.
+fn filled(alloc: Global, bytes: Vec<u8>, head: Head) -> Result<Step, EdgeError>
+    requires { Begins head bytes.items }
+    ensures { StepsTo bytes.items result }
+{
+    if bytes.len() - head.len < head.body_len {
+        return Ok(Step::More(Stage::Filling(Filling { bytes, head })));
+    }
+    let end = head.len + head.body_len;
+    let Ok(text) = std::str::from_utf8(&bytes[head.len..end]) else {
+        return Err(EdgeError::NotUtf8);
+    };
+    Ok(Step::Done(Request {
+        body: String::from_str(alloc, text)?,
+        rest: Vec::from_slice(alloc, &bytes[end..])?,
+        head: Vec::from_slice(alloc, &bytes[..head.len])?,
+        method: head.method,
+        path: head.path,
+        query: head.query,
+        upgrade: head.upgrade,
+        origin: head.origin,
+    }))
 }

@@ -1,7 +1,7 @@
 //! A head, read by `httparse` (RFC 9112, sections 2, 3 and 5).
 
-ghost use Rattle.std.specs.Prelude.{◌≡◌, ◌⊎◌, false, length, IfOk, IfErr, OnOk, IsUtf8, ◌<◌, string_bytes};
-ghost use Rattle.httparse.specs.Grammar.{RequestHead, MayBecomeRequest};
+ghost use Rattle.std.specs.Prelude.{◌≡◌, ◌⊎◌, ℕ, List, false, length, IfOk, IfErr, OnOk, IsUtf8, ◌<◌, string_bytes};
+ghost use Rattle.httparse.specs.Grammar.{RequestHead, ReadsRequest, MayBecomeRequest};
 ghost use Rattle.httparse.specs.Spans.{IsRequestWithin, IsRequestOf, IsRequestAt, RequestOverflows};
 ghost use Rattle.http_edge.specs.Request.{IsTargetOf};
 ghost use Rattle.http_edge.specs.Reading.{HasEmptyLine, HasNoHead, LacksLength, NamesTooMuch, IsFault};
@@ -39,17 +39,10 @@ fn text_from(alloc: Global, bytes: &[u8]) -> Result<String, AllocError>
 }
 
 // A target's path and query.
-fn split_target(alloc: Global, target: &str) -> Result<(String, String), AllocError>
-    ensures { IfOk result
-        (λ parts. IsTargetOf target.now (string_bytes parts.0) (string_bytes parts.1)) }
+fn split_target(target: &str) -> (&str, &str)
+    ensures { IsTargetOf target.now result.0.now result.1.now }
 {
-    match target.split_once('?') {
-        Some((path, query)) => Ok((
-            String::from_str(alloc, path)?,
-            String::from_str(alloc, query)?,
-        )),
-        None => Ok((String::from_str(alloc, target)?, String::new(alloc))),
-    }
+    target.split_once('?').unwrap_or((target, ""))
 }
 
 // What is kept of the head that the spans show.
@@ -76,11 +69,11 @@ fn head_of(
         _ => 0,
     };
     let target = text_from(alloc, found.path.of(bytes))?;
-    let (path, query) = split_target(alloc, target.as_str())?;
+    let (path, query) = split_target(target.as_str());
     Ok(Head {
         method,
-        path,
-        query,
+        path: String::from_str(alloc, path)?,
+        query: String::from_str(alloc, query)?,
         upgrade: asks_upgrade(bytes, fields),
         origin: origin_of(alloc, bytes, fields)?,
         len: found.len,
@@ -121,3 +114,10 @@ pub(crate) fn find_head(alloc: Global, bytes: &[u8], ended: bool) -> Result<Head
         _ => Err(EdgeError::BadHead),
     }
 }
+
+/// Bytes that begin with a head have an empty line: so where none has come, there is no head yet.
+/// It has no effect.
+pub fn heads_end()
+    ensures { (bytes rest : List ℕ) (h : RequestHead)
+        → ReadsRequest bytes h rest → HasEmptyLine bytes }
+{}

@@ -1,8 +1,8 @@
 //! Reads a request from a wire.
 
-ghost use Rattle.std.specs.Prelude.{◌≡◌, ◌≢◌, ◌≤◌, ◌+◌, ◌-◌, ◌^◌, ℕ, List, Option, None, true, min, IsOk, IfOk, IfErr};
+ghost use Rattle.std.specs.Prelude.{◌≡◌, ◌≤◌, ℕ, true, IfOk, IfErr};
 ghost use Rattle.std.specs.Io.KnownBytes.{IsAtEnd};
-ghost use Rattle.http_edge.specs.Taken.{TakesRequest, TakesFault, TakesPart, TakesOn, ReadsMore};
+ghost use Rattle.http_edge.specs.Taken.{TakesRequest, TakesFault, ReadsMore};
 ghost use Rattle.http_edge.specs.declared.error.EdgeError.TheVariants.{Device, EarlyEnd, TurnsSpent};
 
 use crate::error::EdgeError;
@@ -26,35 +26,17 @@ pub fn read_request<W: Wire>(alloc: Global, wire: &mut W, turns: u64) -> Result<
         (λ e. e ≡ TurnsSpent → ReadsMore (W.reads wire.old) (W.reads wire.new) turns) }
 {
     let mut gathered = Gathered::new(alloc);
+    let mut piece = [0; PIECE];
     for _turn in 0..turns {
-        if let Some(request) = one_read(alloc, wire, &mut gathered)? {
+        let Ok(count) = wire.read(&mut piece) else {
+            return Err(EdgeError::Device);
+        };
+        if count == 0 {
+            return Err(EdgeError::EarlyEnd);
+        }
+        if let Some(request) = gathered.feed(alloc, &piece[..count])? {
             return Ok(request);
         }
     }
     Err(EdgeError::TurnsSpent)
-}
-
-// One read, and what it leads to.
-fn one_read<W: Wire>(
-    alloc: Global,
-    wire: &mut W,
-    gathered: &mut Gathered,
-) -> Result<Option<Request>, EdgeError>
-    requires { IsOk gathered.old }
-    ensures goes_on { IfOk result (λ answer. answer ≡ None → IsOk gathered.new) }
-    ensures takes { (start : Option (List ℕ)) → TakesPart start (W.left wire.old) gathered.old
-        → TakesOn start (W.left wire.new) gathered.new result }
-    ensures stopped { IfErr result (λ e. (e ≡ Device → W.is_broken wire.new ≡ true)
-        × (e ≡ EarlyEnd → IsAtEnd (W.left wire.new))) }
-    ensures unspent { IfErr result (λ e. e ≢ TurnsSpent) }
-    ensures counted { W.reads wire.new ≡ min (W.reads wire.old + 1) (2 ^ 64 - 1) }
-{
-    let mut piece = [0; PIECE];
-    let Ok(count) = wire.read(&mut piece) else {
-        return Err(EdgeError::Device);
-    };
-    if count == 0 {
-        return Err(EdgeError::EarlyEnd);
-    }
-    gathered.feed(alloc, &piece[..count])
 }

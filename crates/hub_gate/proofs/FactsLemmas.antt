@@ -1,11 +1,12 @@
 -- What a core keeps, said of the history that its look-ups show.
-use Rattle.std.proofs.Common.{◌≡◌, subst, sym, ◌∙◌}
+use Rattle.std.proofs.Common.{◌≡◌, ℕ, subst, sym, ◌∙◌}
 use Rattle.room_maps.specs.Membership.{RoomSets}
 use Rattle.room_maps.specs.Mirror.{SocketMap, RoomMap, IsMirrored}
 use Rattle.journal.specs.Journal.{History}
+use Rattle.journal.specs.Seal.{PlainEpoch}
 use Rattle.journal.specs.Membership.{rooms}
 use Rattle.journal.specs.Legal.{IsLegal, IsSound}
-use Rattle.hub_gate.specs.Facts.{CastsOnce, HasMirror, HoldSame, IsKept}
+use Rattle.hub_gate.specs.Facts.{CastsOnce, HasMirror, HoldSame, IsKept, IsLong, IsOfCore}
 
 -- two maps that hold these sets hold what two others hold that do
 hold_same : (sets : RoomSets) (a : SocketMap) (b : RoomMap) (c : SocketMap) (d : RoomMap) → IsMirrored sets a b → IsMirrored sets c d → HoldSame a b c d
@@ -31,3 +32,8 @@ kept-shown h s a b is legal casts sound mirrored = record {
   sound = subst (λ (k : History). IsSound k.base k.limits k.journal) is sound;
   casts = subst CastsOnce is casts;
 }
+
+-- an epoch is all that a core had, whose journal is long
+pub of-core : (least bytes : ℕ) (h shown k : History) (epoch : PlainEpoch) → h ≡ k → shown ≡ k → IsKept h → IsLong least bytes shown.journal → epoch ≡ record { base = k.base; journal = k.journal } → IsOfCore least bytes epoch
+of-core least bytes h shown k epoch same shows kept long is =
+    rw is (record { limits = k.limits; kept = subst IsKept same kept; enough = subst (λ (g : History). IsLong least bytes g.journal) shows long })

@@ -76,8 +76,17 @@ impl<C: Ledger, T: Ledger> Locked<C, T> {
         ensures memory { IfErr result.got (λ e. e ≡ at_once CoreFault.Memory) }
     {
         let mut guard = self.core.lock(rt);
+        note_facts(&*guard);
         let before = Snapshot::of(&*guard);
-        let got = seal_if_long(alloc, &mut *guard, least, bytes);
+        let state = guard.hub().state();
+        let got = if state.steps().len() < least && state.held() < bytes {
+            Ok(None)
+        } else {
+            match guard.seal(alloc) {
+                Ok(epoch) => Ok(Some(epoch)),
+                Err(_) => Err(CoreFault::Memory.at_once()),
+            }
+        };
         let after = Snapshot::of(&*guard);
         Turn { before, got, after }
     }
@@ -113,28 +122,4 @@ pub(crate) fn note_facts<C: Ledger, T: Ledger>(core: &Core<C, T>)
     core.facts();
     core.hub().state().facts();
     let _maps = mirrors_of(core);
-}
-
-/// Seals the core where its journal has at least so many steps, or entries of at least so many
-/// bytes in them; else it does nothing.
-fn seal_if_long<C: Ledger, T: Ledger>(
-    alloc: Global,
-    core: &mut Core<C, T>,
-    least: usize,
-    bytes: u64,
-) -> Result<Option<Epoch>, CoreError>
-    ensures seals { Seals least bytes core.old result core.new }
-    ensures sound { IsSoundCore core.old }
-    ensures epoch { IfOk result (λ sealed. IfSome sealed (λ epoch. IsOfCore least bytes epoch)) }
-    ensures memory { IfErr result (λ e. e ≡ at_once CoreFault.Memory) }
-{
-    note_facts(core);
-    let state = core.hub().state();
-    if state.steps().len() < least && state.held() < bytes {
-        return Ok(None);
-    }
-    let Ok(epoch) = core.seal(alloc) else {
-        return Err(CoreFault::Memory.at_once());
-    };
-    Ok(Some(epoch))
 }

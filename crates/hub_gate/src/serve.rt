@@ -221,12 +221,9 @@ fn run_all<
             ensures len { IfOk result (λ v. vec_len v ≡ vec_len jobs) }
             ensures error { IfErr result IsFromStarting }
         {
-            let Ok(mut handles) = Vec::with_capacity(pool.alloc, jobs.len()) else {
-                return Err(ServeError::Memory);
-            };
-            let Ok(all) = Vec::with_capacity(pool.alloc, jobs.len()) else {
-                return Err(ServeError::Memory);
-            };
+            let room = jobs.len();
+            let mut handles = Vec::with_capacity(pool.alloc, room).or(Err(ServeError::Memory))?;
+            let all = Vec::with_capacity(pool.alloc, room).or(Err(ServeError::Memory))?;
             let mut worker = 0usize;
             for job in jobs {
                 let begun = Started {

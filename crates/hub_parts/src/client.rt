@@ -94,13 +94,11 @@ impl Sockets {
         };
         let place = usize::from(socket.space);
         self.by_serial.insert(serial, socket)?;
-        match self.by_place.insert(place, serial) {
-            Ok(_) => Ok(()),
-            Err(_) => {
-                self.by_serial.remove(&serial);
-                Err(AllocError)
-            }
-        }
+        let Ok(_) = self.by_place.insert(place, serial) else {
+            self.by_serial.remove(&serial);
+            return Err(AllocError);
+        };
+        Ok(())
     }
 
     /// Takes the newest socket away, where there is one, in the logarithm of the sockets.

@@ -1,6 +1,6 @@
 //! What a hub was made with, and where its namespaces stand.
 
-ghost use Rattle.std.specs.Prelude.{◌≡◌, List, ℕ, Some, bytes_eq, position, if◌then◌else◌, OnOk, IfOk, IfErr};
+ghost use Rattle.std.specs.Prelude.{◌≡◌, List, ℕ, bytes_eq, position, IfOk, IfErr};
 ghost use Rattle.std.specs.BTreeMap.{get_by_text};
 ghost use Rattle.journal.specs.Plain.{Limits as PlainLimits};
 
@@ -27,22 +27,6 @@ impl Model for Limits {
         → get_by_text l.places name ≡ position (bytes_eq name) l.config.spaces };
 }
 
-/// Gives a name a place, instead of the one that it may have.
-fn put_place(
-    alloc: Global,
-    places: &mut BTreeMap<String, usize>,
-    name: &str,
-    place: usize,
-) -> Result<(), HubError>
-    ensures ok { OnOk result ((other : List ℕ) → get_by_text places.new other
-        ≡ (if bytes_eq other name.now then Some place else get_by_text places.old other)) }
-    ensures memory { IfErr result (λ e. e ≡ HubError.Memory) }
-{
-    let key = String::from_str(alloc, name)?;
-    places.insert(key, place)?;
-    Ok(())
-}
-
 /// The first place of each name in a list. It goes from the last name to the first, so that a
 /// name's first place is put last.
 fn first_places(alloc: Global, names: &[Text]) -> Result<BTreeMap<String, usize>, HubError>
@@ -54,7 +38,7 @@ fn first_places(alloc: Global, names: &[Text]) -> Result<BTreeMap<String, usize>
     let mut place = names.len();
     'names: while place > 0 {
         place -= 1;
-        put_place(alloc, &mut places, names[place].as_str(), place)?;
+        places.insert(String::from_str(alloc, names[place].as_str())?, place)?;
     }
     Ok(places)
 }

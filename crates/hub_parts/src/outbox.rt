@@ -1,6 +1,6 @@
 //! A client's queue of entries, which is bounded by their number and by their bytes.
 
-ghost use Rattle.std.specs.Prelude.{◌≡◌, ◌+◌, ◌<◌, ◌≤◌, [], ◌∷◌, ◌++◌, length, take, drop, map, false, ◌||◌, nat_le, nat_lt, IfOk, OnOk, IfSome, IfNone, option_copied, slice_get, Some, None};
+ghost use Rattle.std.specs.Prelude.{◌≡◌, ◌+◌, ◌<◌, ◌≤◌, [], ◌∷◌, ◌++◌, length, take, drop, map, false, ◌||◌, nat_le, nat_lt, IfOk, IfSome, IfNone, option_copied, slice_get, Some, None};
 ghost use Rattle.std.specs.Arc.{arc_value};
 ghost use Rattle.terms.specs.Entry.{entry_size};
 ghost use Rattle.journal.specs.Plain.{PlainOutbox};
@@ -34,30 +34,25 @@ impl Model for Outbox {
     ghost invariant = { λ o. o.room + total_size (map arc_value o.ring.items) ≡ o.bytes };
 }
 
-/// The room that is left after an entry, or `None` where there isn't room for it.
+/// How many bytes an entry has, or `None` past the greatest usize.
 #[tactic(auto, using(std::proofs::lemmas::List::Sums::sum_by_more_le))]
+pub(crate) fn size_of(entry: &Entry) -> Option<usize>
+    ensures some { IfSome result (λ size. size ≡ entry_size entry.now) }
+    ensures none { IfNone result (usize.MAX < entry_size entry.now) }
+{
+    let mut size = entry.text.as_str().len();
+    for part in entry.attachments.as_slice() {
+        size = size.checked_add(part.as_slice().len())?;
+    }
+    Some(size)
+}
+
+/// The room that is left after an entry, or `None` where there isn't room for it.
 pub fn room_after(room: usize, entry: &Entry) -> Option<usize>
     ensures some { IfSome result (λ left. left + entry_size entry.now ≡ room) }
     ensures none { IfNone result (room < entry_size entry.now) }
 {
-    let mut left = room.checked_sub(entry.text.as_str().len())?;
-    for part in entry.attachments.as_slice() {
-        left = left.checked_sub(part.as_slice().len())?;
-    }
-    Some(left)
-}
-
-/// The room that there is once an entry is gone, which is at most `most`.
-#[tactic(auto, using(std::proofs::lemmas::List::Sums::sum_by_more_le))]
-fn room_without(room: usize, entry: &Entry, most: usize) -> usize
-    requires { room + entry_size entry.now ≤ most }
-    ensures { result ≡ room + entry_size entry.now }
-{
-    let mut left = room + entry.text.as_str().len();
-    for part in entry.attachments.as_slice() {
-        left += part.as_slice().len();
-    }
-    left
+    room.checked_sub(size_of(entry)?)
 }
 
 impl Outbox {
@@ -133,7 +128,8 @@ impl Outbox {
         ensures { self.new ≡ record self.old { waiting = drop 1 self.old.waiting } }
     {
         if let Some(entry) = self.ring.pop_front() {
-            self.room = room_without(self.room, &entry, self.bytes);
+            // What waits fits into the room.
+            self.room += size_of(&entry).unwrap_or(0);
         }
     }
 
@@ -167,20 +163,9 @@ impl Outbox {
         ensures { IfOk result (λ entries. map arc_value entries.items ≡ self.now.waiting) }
     {
         let mut entries = Vec::with_capacity(alloc, self.ring.len())?;
-        let (front, back) = self.ring.as_slices();
-        share_all(&mut entries, front)?;
-        share_all(&mut entries, back)?;
+        for entry in self.ring.iter() {
+            entries.push(Arc::try_clone(entry)?)?;
+        }
         Ok(entries)
     }
-}
-
-/// Puts shares of the entries at the end of the list.
-fn share_all(list: &mut Vec<Arc<Entry>>, entries: &[Arc<Entry>]) -> Result<(), AllocError>
-    ensures { OnOk result (map arc_value list.new.items
-        ≡ map arc_value list.old.items ++ map arc_value entries.now) }
-{
-    for entry in entries {
-        list.push(Arc::try_clone(entry)?)?;
-    }
-    Ok(())
 }

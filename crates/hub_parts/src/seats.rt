@@ -70,13 +70,11 @@ impl Seats {
         let sid = socket.sid;
         let space = u32::from(socket.space);
         self.by_sid.insert(sid, socket)?;
-        match self.by_space.insert((space, sid)) {
-            Ok(_) => Ok(()),
-            Err(_) => {
-                self.by_sid.remove(&sid);
-                Err(AllocError)
-            }
-        }
+        let Ok(_) = self.by_space.insert((space, sid)) else {
+            self.by_sid.remove(&sid);
+            return Err(AllocError);
+        };
+        Ok(())
     }
 
     /// Takes the socket with a session id out, if there is one. It takes the logarithm and no

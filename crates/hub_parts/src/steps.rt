@@ -6,11 +6,11 @@ ghost use Rattle.journal.specs.Totals as totals;
 ghost use Rattle.journal.specs.declared.error.HubError.TheVariants.{Memory};
 ghost use Rattle.hub_parts.specs.Steps.{PlainSteps};
 
+use crate::outbox::size_of;
 use journal::{HubError, Step, What};
 use std::alloc::Global;
 use std::marker::Model;
 use std::mem::replace;
-use terms::Entry;
 
 /// The steps since the base. In a contract they are the steps, the newest first, and for how many
 /// more there is room.
@@ -34,27 +34,16 @@ impl Model for Steps {
         ≡ min (totals.held (reverse s.steps.items)) 18446744073709551615 };
 }
 
-/// How many bytes an entry has, or the greatest u64.
-#[tactic(auto, using(std::proofs::lemmas::List::Sums::sum_by_more_le))]
-fn size_of(entry: &Entry) -> u64
-    ensures { result ≡ min (entry_size entry.now) 18446744073709551615 }
-{
-    let mut size = entry.text.as_str().len() as u64;
-    for part in entry.attachments.as_slice() {
-        size = size.saturating_add(part.as_slice().len() as u64);
-    }
-    size
-}
-
 /// How many bytes the entry of a step has, or the greatest u64.
 fn held_by(what: &What) -> u64
     ensures { result ≡ min (totals.held_by what.now) 18446744073709551615 }
 {
-    match what {
-        What::Cast(broadcast) => size_of(&broadcast.entry),
-        What::Told(message) => size_of(&message.entry),
-        _ => 0,
-    }
+    let entry = match what {
+        What::Cast(broadcast) => &broadcast.entry,
+        What::Told(message) => &message.entry,
+        _ => return 0,
+    };
+    size_of(entry).unwrap_or(usize::MAX) as u64
 }
 
 impl Steps {

@@ -147,14 +147,6 @@ impl Records {
 fn empty_base(alloc: Global, config: &Config) -> Base
     ensures { result ≡ empty_base config.now.first_offset }
 {
-    let totals = Totals {
-        commands: 0,
-        placed: 0,
-        dropped: 0,
-        taken: 0,
-        discarded: 0,
-        waiting: 0,
-    };
     Base {
         at: 0,
         next: Some(config.first_offset),
@@ -162,7 +154,7 @@ fn empty_base(alloc: Global, config: &Config) -> Base
         pairs: Vec::new(alloc),
         log: Vec::new(alloc),
         saved: Vec::new(alloc),
-        totals,
+        totals: Totals::default(),
     }
 }
 

@@ -27,6 +27,15 @@ use terms::{Entry, Room, Sid};
 
 type Result<X = (), E = HubError> = std::result::Result<X, E>;
 
+/// The answer of the state to a command that hands out no entries, counted where it is accepted.
+macro_rules! counted {
+    ($hub:expr, $pass:expr, $command:ident($($given:expr),*)) => {{
+        let answer = $hub.state.$command($hub.alloc, $($given),*)?;
+        $hub.books.count($pass, &$hub.state, 0);
+        Ok(answer)
+    }};
+}
+
 /// A hub with its books. `C` is the ledger of the commands that it accepts, `T` that of the entries
 /// that it hands out; both are this hub's alone, so a pass at these types is a pass of this hub.
 ///
@@ -129,9 +138,7 @@ impl<C: Ledger, T: Ledger> Hub<C, T> {
     pub fn open(&mut self, pass: &mut Pass<C, T>, client: u128, now: u64) -> Result
         ensures does { DoesCounted self.old self.new pass.old pass.new now (Opened client) result }
     {
-        self.state.open(self.alloc, client, now)?;
-        self.books.count(pass, &self.state, 0);
-        Ok(())
+        counted!(self, pass, open(client, now))
     }
 
     /// Connects a client's new socket to a namespace. As `State::attach`, counted in the pass.
@@ -147,9 +154,7 @@ impl<C: Ledger, T: Ledger> Hub<C, T> {
         ensures does { let socket = socket_for self.old.history client space.now sid pid in
             DoesCounted self.old self.new pass.old pass.new now (What.Attached socket) result }
     {
-        self.state.attach(self.alloc, client, space, sid, pid, now)?;
-        self.books.count(pass, &self.state, 0);
-        Ok(())
+        counted!(self, pass, attach(client, space, sid, pid, now))
     }
 
     /// A socket joins a room. As `State::join`, counted in the pass.
@@ -157,18 +162,14 @@ impl<C: Ledger, T: Ledger> Hub<C, T> {
         ensures does { DoesCounted self.old self.new pass.old pass.new now
             (What.Joined sid room) result }
     {
-        self.state.join(self.alloc, sid, room, now)?;
-        self.books.count(pass, &self.state, 0);
-        Ok(())
+        counted!(self, pass, join(sid, room, now))
     }
 
     /// A socket leaves a room. As `State::leave`, counted in the pass.
     pub fn leave(&mut self, pass: &mut Pass<C, T>, sid: Sid, room: Room, now: u64) -> Result
         ensures does { DoesCounted self.old self.new pass.old pass.new now (Left sid room) result }
     {
-        self.state.leave(self.alloc, sid, room, now)?;
-        self.books.count(pass, &self.state, 0);
-        Ok(())
+        counted!(self, pass, leave(sid, room, now))
     }
 
     /// Ends a socket by the server. As `State::end`, counted in the pass.
@@ -176,18 +177,14 @@ impl<C: Ledger, T: Ledger> Hub<C, T> {
         ensures does { DoesCounted self.old self.new pass.old pass.new now
             (What.Ended sid Side.Server) result }
     {
-        self.state.end(self.alloc, sid, Side::Server, now)?;
-        self.books.count(pass, &self.state, 0);
-        Ok(())
+        counted!(self, pass, end(sid, Side::Server, now))
     }
 
     /// Closes a client. As `State::close`, counted in the pass.
     pub fn close(&mut self, pass: &mut Pass<C, T>, client: u128, now: u64) -> Result
         ensures does { DoesCounted self.old self.new pass.old pass.new now (Closed client) result }
     {
-        self.state.close(self.alloc, client, now)?;
-        self.books.count(pass, &self.state, 0);
-        Ok(())
+        counted!(self, pass, close(client, now))
     }
 
     /// Puts an entry at the end of a client's outbox. As `State::tell`, counted in the pass.
@@ -195,9 +192,7 @@ impl<C: Ledger, T: Ledger> Hub<C, T> {
         ensures does { DoesCounted self.old self.new pass.old pass.new now
             (told client entry) result }
     {
-        self.state.tell(self.alloc, client, entry, now)?;
-        self.books.count(pass, &self.state, 0);
-        Ok(())
+        counted!(self, pass, tell(client, entry, now))
     }
 
     /// Hands out the first entries that wait for a client. As `State::take`, counted in the pass.
@@ -239,9 +234,7 @@ impl<C: Ledger, T: Ledger> Hub<C, T> {
         ensures does { CastDoesCounted self.old self.new pass.old pass.new now cast result }
         ensures continuity { AllHear self.new.history }
     {
-        let done = self.state.cast(self.alloc, cast, now)?;
-        self.books.count(pass, &self.state, 0);
-        Ok(done)
+        counted!(self, pass, cast(cast, now))
     }
 
     /// All sockets that match join a room. As `State::sockets_join`, counted in the pass.
@@ -260,10 +253,7 @@ impl<C: Ledger, T: Ledger> Hub<C, T> {
             let change = joining self.old.history place rooms.items excepted.items room in
             DoesCounted self.old self.new pass.old pass.new now (What.AllJoined change) result }
     {
-        let (alloc, state) = (self.alloc, &mut self.state);
-        let joined = state.sockets_join(alloc, space, rooms, excepted, room, now)?;
-        self.books.count(pass, &self.state, 0);
-        Ok(joined)
+        counted!(self, pass, sockets_join(space, rooms, excepted, room, now))
     }
 
     /// All sockets that match leave a room. As `State::sockets_leave`, counted in the pass.
@@ -282,10 +272,7 @@ impl<C: Ledger, T: Ledger> Hub<C, T> {
             let change = leaving self.old.history place rooms.items excepted.items room in
             DoesCounted self.old self.new pass.old pass.new now (What.AllLeft change) result }
     {
-        let (alloc, state) = (self.alloc, &mut self.state);
-        let left = state.sockets_leave(alloc, space, rooms, excepted, room, now)?;
-        self.books.count(pass, &self.state, 0);
-        Ok(left)
+        counted!(self, pass, sockets_leave(space, rooms, excepted, room, now))
     }
 
     /// All sockets that match end. As `State::disconnect_sockets`, counted in the pass.
@@ -304,19 +291,14 @@ impl<C: Ledger, T: Ledger> Hub<C, T> {
             let all = dismissal self.old.history place rooms.items excepted.items in
             DoesCounted self.old self.new pass.old pass.new now (What.AllEnded all) result }
     {
-        let (alloc, state) = (self.alloc, &mut self.state);
-        let done = state.disconnect_sockets(alloc, space, rooms, excepted, now)?;
-        self.books.count(pass, &self.state, 0);
-        Ok(done)
+        counted!(self, pass, disconnect_sockets(space, rooms, excepted, now))
     }
 
     /// Parks a client that was lost. As `State::park`, counted in the pass.
     pub fn park(&mut self, pass: &mut Pass<C, T>, client: u128, now: u64) -> Result
         ensures does { DoesCounted self.old self.new pass.old pass.new now (Parked client) result }
     {
-        self.state.park(self.alloc, client, now)?;
-        self.books.count(pass, &self.state, 0);
-        Ok(())
+        counted!(self, pass, park(client, now))
     }
 
     /// Brings a saved session back at a client. As `State::recover`, counted in the pass.
@@ -335,10 +317,7 @@ impl<C: Ledger, T: Ledger> Hub<C, T> {
             DoesCounted self.old self.new pass.old pass.new now (What.Recovered back) result }
         ensures continuity { AllHear self.new.history }
     {
-        let (alloc, state) = (self.alloc, &mut self.state);
-        let sid = state.recover(alloc, client, space, pid, offset, now)?;
-        self.books.count(pass, &self.state, 0);
-        Ok(sid)
+        counted!(self, pass, recover(client, space, pid, offset, now))
     }
 
     /// Drops outdated log entries and sessions. As `State::sweep`, counted in the pass.
@@ -346,9 +325,7 @@ impl<C: Ledger, T: Ledger> Hub<C, T> {
         ensures does { DoesCounted self.old self.new pass.old pass.new now What.Swept result }
         ensures counts { IfOk result (λ swept. Drops swept self.old.history self.new.history) }
     {
-        let swept = self.state.sweep(self.alloc, now)?;
-        self.books.count(pass, &self.state, 0);
-        Ok(swept)
+        counted!(self, pass, sweep(now))
     }
 
     /// Makes the present state the base. As `State::seal`; it is no command, and in no pass.

@@ -77,8 +77,7 @@ fn has_forbidden(bytes: &[u8]) -> bool
 fn is_namespace(name: &str) -> bool
     ensures { result ≡ rules.is_namespace name.now }
 {
-    let bytes = name.as_bytes();
-    !bytes.is_empty() && bytes[0] == b'/' && !has_forbidden(bytes)
+    name.starts_with('/') && !has_forbidden(name.as_bytes())
 }
 
 /// Whether a name is among these.

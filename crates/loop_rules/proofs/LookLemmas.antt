@@ -6,8 +6,8 @@ use Rattle.loop_rules.specs.declared.looks.Found.{Found}
 use Rattle.loop_rules.specs.declared.looks.Found.TheVariants as found
 use Rattle.loop_rules.specs.declared.looks.Pause.{Pause}
 use Rattle.loop_rules.specs.declared.looks.Pause.TheVariants as pause
-use Rattle.loop_rules.specs.declared.turns.Verdict.{Verdict}
-use Rattle.loop_rules.specs.declared.turns.Verdict.TheVariants as verdict
+use Rattle.loop_rules.specs.declared.looks.Verdict.{Verdict}
+use Rattle.loop_rules.specs.declared.looks.Verdict.TheVariants as verdict
 use Rattle.loop_rules.specs.Turns.{verdict_for}
 use Rattle.loop_rules.specs.Looks.{is_awake, called, begun, paused, followed, is_dry, is_calm, finds_dry, has_looked, may_rest, Step, Comes, Begins, Follows, Pauses, state_after, was_dry, is_under_way, came_since_look, NeverRests}
 
@@ -214,30 +214,6 @@ awake (Follows f left full ∷ h) c =
     (not-over (is_dry (state_after h)) (was_dry h) f (dry h) still.0)
 awake (Pauses p ∷ h) c = awake-paused (state_after h) p (awake h c)
 
-never : (old new : LookState) → (is_awake old ≡ true → is_awake new ≡ true) → NeverRests old new
-never old new stays h is came rests =
-    let old-awake : is_awake old ≡ true = subst (λ s. is_awake s ≡ true) is (awake h came) in
-    let new-awake : is_awake new ≡ true = stays old-awake in
-    absurd (cc)
-
-pub never_called : (s : LookState) → NeverRests s (called s)
-never_called s = never s (called s) (λ a. awake-called s)
-
-begun-not-resting : (s : LookState) → begun s ≡ state.Rests → ⊥
-begun-not-resting state.Rests r = cc
-begun-not-resting state.Called r = cc
-begun-not-resting state.Again r = cc
-begun-not-resting state.Full r = cc
-begun-not-resting state.Early r = cc
-begun-not-resting (state.Looks dry) r = cc
-begun-not-resting (state.Stirred dry) r = cc
-
-pub never_begun : (s : LookState) → NeverRests s (begun s)
-never_begun s h is came rests = begun-not-resting s rests
-
-pub never_paused : (s : LookState) (p : Pause) → NeverRests s (paused s p)
-never_paused s p = never s (paused s p) (awake-paused s p)
-
 awake-not-calm : (s : LookState) → is_awake s ≡ true → is_calm s ≡ false
 awake-not-calm state.Rests a = refl
 awake-not-calm state.Called a = refl
@@ -247,19 +223,18 @@ awake-not-calm state.Early a = refl
 awake-not-calm (state.Looks dry) a = absurd (cc)
 awake-not-calm (state.Stirred dry) a = refl
 
-going-on-looks : (over calm dry : Bool) → cond over (state.Looks false) (cond calm (state.Looks dry) (state.Stirred dry)) ≡ state.Rests → ⊥
-going-on-looks true calm dry rests = cc
-going-on-looks false true dry rests = cc
-going-on-looks false false dry rests = cc
-
-followed-looks : (s : LookState) (f : Found) (full spent : Bool)
-    → followed s f (cond full verdict.Held (cond spent verdict.Again verdict.GoesOn)) ≡ state.Rests → ⊥
-followed-looks s f true spent rests = cc
-followed-looks s f false true rests = cc
-followed-looks s f false false rests = going-on-looks (has_looked (is_dry s) f) (is_calm s) (finds_dry f) rests
-
-pub never_followed : (s : LookState) (f : Found) (left : ℕ) (full : Bool)
-    → NeverRests s (followed s f (verdict_for left (may_rest s f) full))
-never_followed s f left full h is came rests =
+-- one that looks, and for which nothing came, may rest
+pub never_calm : (s : LookState) → is_calm s ≡ true → NeverRests s state.Rests
+never_calm s calm h is came rests =
     let s-awake : is_awake s ≡ true = subst (λ s. is_awake s ≡ true) is (awake h came) in
-    followed-looks s f full (nat_eq left 0) (rw (awake-not-calm s s-awake) at rests)
+    absurd (cc (awake-not-calm s s-awake))
+
+rests-calm : (left : ℕ) (calm over full : Bool) → verdict_for left (calm && over) full ≡ verdict.Rests → calm ≡ true
+rests-calm left true over full r = refl
+rests-calm left false over true r = absurd (cc)
+rests-calm left false over false r = elim (nat_eq left 0) as (λ b. cond b verdict.Again verdict.GoesOn ≡ verdict.Rests → false ≡ true) [ true ↦ λ e. absurd (cc) | false ↦ λ e. absurd (cc) ] r
+
+-- so may one of which the verdict says so
+pub never_rested : (s : LookState) (f : Found) (left : ℕ) (full : Bool) → verdict_for left (may_rest s f) full ≡ verdict.Rests
+    → NeverRests s state.Rests
+never_rested s f left full r = never_calm s (rests-calm left (is_calm s) (has_looked (is_dry s) f) full r)

@@ -1,5 +1,5 @@
 -- Who is noted, and stays so.
-use Rattle.std.proofs.Common.{◌≡◌, ℕ, ◌<◌, ◌⊎◌, inl, inr, Bool, true, false, ◌||◌, List, [], ◌∷◌, ◌++◌, length, map, nat_eq, slice_index_or, slice_set, refl, sym, ◌∙◌, ap, subst, arith}
+use Rattle.std.proofs.Common.{◌≡◌, ℕ, ◌<◌, ◌⊎◌, inl, inr, Bool, true, false, ◌||◌, not, List, [], ◌∷◌, ◌++◌, length, map, nat_eq, slice_index_or, slice_set, refl, sym, ◌∙◌, ap, subst, arith}
 use Rattle.std.specs.List.{list_any}
 use Rattle.std.proofs.lemmas.Bool.{cases_eq}
 use Rattle.std.proofs.lemmas.List.{get_or-set_same, get_or-set_other, get_or-map, length-map, map-set}
@@ -13,6 +13,13 @@ or-right false b is = is
 or-left : (a b : Bool) → a ≡ true → (a || b) ≡ true
 or-left true b is = refl
 or-left false b is = absurd (cc)
+
+-- where there was no room, everybody is noted
+pub by_room : (ok all any : Bool) → (ok ≡ true → (all || any) ≡ true) → ((all || not ok) || any) ≡ true
+by_room true true any is = refl
+by_room true false any is = is refl
+by_room false true any is = refl
+by_room false false any is = refl
 
 one : (c : ℕ) → list_any (λ x. nat_eq x c) (c ∷ []) ≡ true
 one c = rw (itself c) refl

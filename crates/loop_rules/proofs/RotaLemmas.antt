@@ -132,14 +132,6 @@ known : (looks : List LookState) (key : ℕ) → is_queued (look_of looks key) �
 known looks key is =
     known-or-rests looks key (look_of looks key) refl (queued-moves (look_of looks key) is) (leb_tells (length looks) key)
 
-will-look-moves : (s : LookState) → will_look s ≡ true → s ≡ state.Rests → ⊥
-will-look-moves s is rests = cc
-
--- one that will look is there
-pub will_look_known : (looks : List LookState) (key : ℕ) → will_look (look_of looks key) ≡ true → key < length looks
-will_look_known looks key is =
-    known-or-rests looks key (look_of looks key) refl (will-look-moves (look_of looks key) is) (leb_tells (length looks) key)
-
 turn-moves : (s : LookState) → has_turn s ≡ true → s ≡ state.Rests → ⊥
 turn-moves s is rests = cc
 

@@ -6,8 +6,8 @@ use Rattle.loop_rules.specs.declared.looks.Found.{Found}
 use Rattle.loop_rules.specs.declared.looks.Found.TheVariants as found
 use Rattle.loop_rules.specs.declared.looks.Pause.{Pause}
 use Rattle.loop_rules.specs.declared.looks.Pause.TheVariants as pause
-use Rattle.loop_rules.specs.declared.turns.Verdict.{Verdict}
-use Rattle.loop_rules.specs.declared.turns.Verdict.TheVariants as verdict
+use Rattle.loop_rules.specs.declared.looks.Verdict.{Verdict}
+use Rattle.loop_rules.specs.declared.looks.Verdict.TheVariants as verdict
 use Rattle.loop_rules.specs.Turns.{verdict_for}
 
 -- ## The table

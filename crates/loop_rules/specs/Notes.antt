@@ -1,7 +1,7 @@
 -- Clients of other loops for which something was put.
 use Rattle.std.specs.Prelude.{ℕ, Bool, ◌||◌, nat_eq, List, [], map, slice_index_or}
 use Rattle.std.specs.List.{list_any}
-use Rattle.loop_rules.specs.declared.notes.Notes.{Notes}
+use Rattle.loop_rules.specs.declared.roster.Notes.{Notes}
 
 -- the clients of a loop
 abbrev pub noted_of : Notes → ℕ → List ℕ

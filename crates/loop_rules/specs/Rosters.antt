@@ -2,7 +2,7 @@
 use Rattle.std.specs.Prelude.{◌≡◌, ℕ, ◌<◌, Bool, true, false, Option, None, Some, nat_eq, List, length, slice_index_or}
 use Rattle.loop_rules.specs.declared.looks.LookState.{LookState}
 use Rattle.loop_rules.specs.declared.roster.Roster.{Roster}
-use Rattle.loop_rules.specs.declared.notes.Notes.{Notes}
+use Rattle.loop_rules.specs.declared.roster.Notes.{Notes}
 use Rattle.loop_rules.specs.Ids.{loop_of}
 use Rattle.loop_rules.specs.Notes.{is_noted}
 use Rattle.loop_rules.specs.Rotas.{look_of, will_look}

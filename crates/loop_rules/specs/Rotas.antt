@@ -4,8 +4,8 @@ use Rattle.loop_rules.specs.declared.looks.LookState.{LookState}
 use Rattle.loop_rules.specs.declared.looks.LookState.TheVariants as state
 use Rattle.loop_rules.specs.declared.looks.Pause.{Pause}
 use Rattle.loop_rules.specs.declared.looks.Found.{Found}
-use Rattle.loop_rules.specs.declared.turns.Verdict.{Verdict}
-use Rattle.loop_rules.specs.declared.turns.Verdict.TheVariants as verdict
+use Rattle.loop_rules.specs.declared.looks.Verdict.{Verdict}
+use Rattle.loop_rules.specs.declared.looks.Verdict.TheVariants as verdict
 use Rattle.loop_rules.specs.Looks.{called, begun, paused, followed, is_queued, is_to_queue, may_rest}
 use Rattle.loop_rules.specs.Turns.{verdict_for}
 

@@ -1,7 +1,7 @@
 -- What a connection does next.
 use Rattle.std.specs.Prelude.{ℕ, ◌-◌, Bool, cond, nat_eq}
-use Rattle.loop_rules.specs.declared.turns.Verdict.{Verdict}
-use Rattle.loop_rules.specs.declared.turns.Verdict.TheVariants as verdict
+use Rattle.loop_rules.specs.declared.looks.Verdict.{Verdict}
+use Rattle.loop_rules.specs.declared.looks.Verdict.TheVariants as verdict
 
 -- a full one waits until its bytes have gone, an idle one until something comes for it, and one
 -- whose turn is spent until others had theirs

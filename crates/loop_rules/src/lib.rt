@@ -3,21 +3,15 @@
 #![tactic(auto)]
 
 mod deadlines;
-mod frames;
 mod looks;
 mod mailbox;
-mod notes;
 mod owners;
 mod roster;
 mod rota;
-mod turns;
 
 pub use deadlines::{Overdue, Part, find_overdue};
-pub use frames::left_after_message;
-pub use looks::{Found, LookState, Pause};
+pub use looks::{Found, LookState, Pause, Turn, Verdict, left_after_message};
 pub use mailbox::{Mail, Mailbox};
-pub use notes::Notes;
 pub use owners::{LOOPS, dealt_to, loop_of, marked, owner_of};
-pub use roster::{Roster, Takers};
+pub use roster::{Notes, Roster, Takers};
 pub use rota::Rota;
-pub use turns::{Turn, Verdict};

@@ -1,11 +1,15 @@
-//! When a connection may rest: it looks at all that came for it first.
+//! What a connection does next, and when it may rest: it looks at all that came for it first.
 
 ghost use Rattle.std.specs.Prelude.{◌≡◌};
+ghost use Rattle.loop_rules.specs.Frames as frames;
 ghost use Rattle.loop_rules.specs.Looks as looks;
 ghost use Rattle.loop_rules.specs.Looks.{NeverRests};
 ghost use Rattle.loop_rules.specs.Turns.{left_after, verdict_for};
 
-use crate::turns::{Turn, Verdict};
+use std::marker::Model;
+
+/// How many events one turn of a connection brings before it goes to the end of the queue.
+const EVENTS: u32 = 48;
 
 /// How a connection stands to what comes for it. From something that came until it looked again it
 /// never rests.
@@ -55,26 +59,68 @@ pub enum Pause {
     Early,
 }
 
-/// Whether a look is over that has found a stream dry, or not.
-fn has_looked(dry: bool, found: Found) -> bool
-    ensures { result ≡ looks.has_looked dry found }
-{
-    match found {
-        Found::Idle => true,
-        Found::Quiet => dry,
-        Found::More | Found::Dry => false,
+/// What follows an event of a connection.
+#[derive(Clone, Copy, Debug, PartialEq, Eq)]
+pub enum Verdict {
+    /// Its next event.
+    GoesOn,
+    /// Its next turn, once others had theirs.
+    Again,
+    /// Nothing, until something comes for it.
+    Rests,
+    /// Nothing, until its bytes have gone.
+    Held,
+}
+
+/// What is left of a connection's turn. In a contract it is how many events.
+#[derive(Clone, Copy, Debug)]
+pub struct Turn {
+    left: u32,
+}
+
+impl Model for Turn {
+    ghost use Rattle.std.specs.Prelude.{ℕ};
+
+    ghost Value = { ℕ };
+
+    ghost view = { λ t. t.left };
+
+    ghost inverse = { λ n. record { left = n } };
+}
+
+impl Turn {
+    /// A turn begins.
+    pub fn begin() -> Turn
+        ensures { result ≡ 48 }
+    {
+        Turn { left: EVENTS }
+    }
+
+    /// What follows, where a connection is idle or not and has too much unsent or not. One more
+    /// event of the turn is counted where the connection goes on.
+    pub fn next(&mut self, idle: bool, full: bool) -> Verdict
+        ensures verdict { result ≡ verdict_for self.old idle full }
+        ensures left { self.new ≡ left_after self.old result }
+    {
+        match (full, idle, self.left) {
+            (true, _, _) => Verdict::Held,
+            (_, true, _) => Verdict::Rests,
+            (_, _, 0) => Verdict::Again,
+            _ => {
+                self.left -= 1;
+                Verdict::GoesOn
+            }
+        }
     }
 }
 
+#[tactic(auto, using(crate::proofs::LookLemmas::never_calm, crate::proofs::LookLemmas::never_rested))]
 impl LookState {
-    /// Whether it has found the stream dry in this look.
-    fn is_dry(self) -> bool
-        ensures { result ≡ looks.is_dry self }
+    /// Whether it stands in the queue.
+    pub fn is_queued(self) -> bool
+        ensures { result ≡ looks.is_queued self }
     {
-        matches!(
-            self,
-            LookState::Looks { dry: true } | LookState::Stirred { dry: true }
-        )
+        matches!(self, LookState::Called | LookState::Again)
     }
 
     /// Whether it looks, and nothing came since it began.
@@ -84,51 +130,17 @@ impl LookState {
         matches!(self, LookState::Looks { .. })
     }
 
-    /// Whether it may rest: its look is over, and nothing came since it began.
-    fn may_rest(self, found: Found) -> bool
-        ensures { result ≡ looks.may_rest self found }
+    /// Whether its look is over.
+    fn has_looked(self, found: Found) -> bool
+        ensures { result ≡ looks.has_looked (looks.is_dry self) found }
     {
-        self.is_calm() && has_looked(self.is_dry(), found)
-    }
-
-    /// Whether it stands in the queue.
-    pub fn is_queued(self) -> bool
-        ensures { result ≡ looks.is_queued self }
-    {
-        matches!(self, LookState::Called | LookState::Again)
-    }
-
-    /// An event was answered, and this follows.
-    fn followed(self, found: Found, verdict: Verdict) -> LookState
-        ensures { result ≡ looks.followed self found verdict }
-    {
-        let dry = found == Found::Dry;
-        match verdict {
-            Verdict::Rests => LookState::Rests,
-            Verdict::Held => LookState::Full,
-            Verdict::Again => LookState::Again,
-            // Where its look is over, another begins.
-            Verdict::GoesOn if has_looked(self.is_dry(), found) => LookState::Looks { dry: false },
-            Verdict::GoesOn if self.is_calm() => LookState::Looks { dry },
-            Verdict::GoesOn => LookState::Stirred { dry },
+        match (found, self) {
+            (Found::Idle, _) => true,
+            (Found::Quiet, LookState::Looks { dry } | LookState::Stirred { dry }) => dry,
+            _ => false,
         }
     }
 
-    /// Its turn is over, and no event was answered.
-    fn paused(self, pause: Pause) -> LookState
-        ensures { result ≡ looks.paused self pause }
-    {
-        match pause {
-            Pause::Full => LookState::Full,
-            Pause::Early => LookState::Early,
-            Pause::Done if self.is_calm() => LookState::Rests,
-            Pause::Done | Pause::More => LookState::Called,
-        }
-    }
-}
-
-#[tactic(auto, using(crate::proofs::LookLemmas::never_called, crate::proofs::LookLemmas::never_begun))]
-impl LookState {
     /// Something came for it. Answers whether it is to be put into the queue.
     pub fn call(&mut self) -> bool
         ensures queue { result ≡ looks.is_to_queue self.old }
@@ -162,18 +174,44 @@ impl LookState {
         ensures state { self.new ≡ looks.followed self.old found result }
         ensures law { NeverRests self.old self.new }
     {
-        let verdict = turn.next(self.may_rest(found), full);
-        *self = self.followed(found, verdict);
+        let (calm, over, dry) = (self.is_calm(), self.has_looked(found), found == Found::Dry);
+        let verdict = turn.next(calm && over, full);
+        *self = match verdict {
+            Verdict::Rests => LookState::Rests,
+            Verdict::Held => LookState::Full,
+            Verdict::Again => LookState::Again,
+            // Where its look is over, another begins.
+            Verdict::GoesOn if over => LookState::Looks { dry: false },
+            Verdict::GoesOn if calm => LookState::Looks { dry },
+            Verdict::GoesOn => LookState::Stirred { dry },
+        };
         verdict
     }
 
-    /// Its turn is over, and no event was answered. Answers whether it is to be put into the queue.
-    pub fn pause(&mut self, pause: Pause) -> bool
-        ensures queue { result ≡ looks.is_queued self.new }
+    /// Its turn is over, and no event was answered.
+    pub fn pause(&mut self, pause: Pause)
         ensures state { self.new ≡ looks.paused self.old pause }
         ensures law { NeverRests self.old self.new }
     {
-        *self = self.paused(pause);
-        self.is_queued()
+        *self = match pause {
+            Pause::Full => LookState::Full,
+            Pause::Early => LookState::Early,
+            Pause::Done if self.is_calm() => LookState::Rests,
+            Pause::Done | Pause::More => LookState::Called,
+        };
     }
+}
+
+/// How many of these bytes are left at the most, once a message of so many was taken out of them.
+/// Where none is left, no other message is among them.
+pub fn left_after_message(bytes: usize, payload: usize) -> usize
+    ensures { result ≡ frames.left_after_message bytes payload }
+{
+    // The shortest head of a client's frame with such a payload (RFC 6455, section 5.2).
+    let head = match payload {
+        ..126 => 6,
+        ..65_536 => 8,
+        _ => 14,
+    };
+    bytes.saturating_sub(payload).saturating_sub(head)
 }

@@ -79,9 +79,7 @@ impl<H: Drop> Mailbox<H> {
         ensures told { mails.Tells clients.now self.old.mail self.new.mail }
     {
         self.asleep = false;
-        if self.mail.woken.extend_from_slice(clients).is_err() {
-            self.mail.everyone = true;
-        }
+        self.mail.everyone |= self.mail.woken.extend_from_slice(clients).is_err();
     }
 
     /// All connections are to be looked at.

@@ -1,15 +1,50 @@
-//! Which connection what is put for a client goes to, and who is woken where something was put.
+//! Which connection what is put for a client goes to, and who is woken or noted where something was put.
 
-ghost use Rattle.std.specs.Prelude.{◌≡◌, ◌≢◌, ◌⊎◌, ◌<◌, ℕ, true, false, None, Some, [], length, map, slice_index_or};
+ghost use Rattle.std.specs.Prelude.{◌≡◌, ◌≢◌, ◌⊎◌, ◌<◌, ℕ, true, false, None, Some, IfOk, [], length, map, slice_index_or, vec_len};
 ghost use Rattle.loop_rules.specs.Notes.{is_noted};
-ghost use Rattle.loop_rules.specs.Rosters.{AreTold, IsTold, IsWoken, Keeps};
+ghost use Rattle.loop_rules.specs.Rosters.{AreTold, IsWoken, Keeps};
 ghost use Rattle.loop_rules.specs.Takers.{taker_of, is_taker};
 
-use crate::notes::Notes;
 use crate::owners::loop_of;
 use crate::rota::Rota;
-use std::alloc::Global;
+use std::alloc::{AllocError, Global};
 use std::collections::HashMap;
+
+/// Clients of other loops for which something was put, until these loops are told of them.
+#[derive(Drop)]
+pub struct Notes {
+    /// The clients of each loop.
+    pub lists: Vec<Vec<u128>>,
+    /// There was no memory to note one: each loop is to look at all of its connections.
+    pub everyone: bool,
+}
+
+impl Notes {
+    /// Nobody is noted yet, for so many loops.
+    pub fn new(alloc: Global, loops: usize) -> Result<Notes, AllocError>
+        ensures { IfOk result (λ notes. vec_len notes.lists ≡ loops) }
+    {
+        let mut lists = Vec::new(alloc);
+        for _loop in 0..loops {
+            lists.push(Vec::new(alloc))?;
+        }
+        let everyone = false;
+        Ok(Notes { lists, everyone })
+    }
+
+    /// Notes a client of this loop. Where there is no memory for it, or no such loop, everybody is
+    /// noted.
+    pub fn note(&mut self, number: usize, client: u128)
+        ensures noted { is_noted number client self.new ≡ true }
+        ensures kept { (n c : ℕ) → is_noted n c self.old ≡ true → is_noted n c self.new ≡ true }
+    {
+        let noted = match self.lists.get_mut(number) {
+            Some(list) => list.push(client).is_ok(),
+            None => false,
+        };
+        self.everyone |= !noted;
+    }
+}
 
 /// To which connection what is put for a client goes, by their keys.
 #[derive(Drop)]
@@ -20,17 +55,6 @@ pub struct Takers {
 }
 
 impl Takers {
-    /// No client is listed.
-    pub fn new(alloc: Global) -> Takers
-        ensures none { (c : ℕ) → taker_of result c ≡ None }
-        ensures all { result.unlisted ≡ false }
-    {
-        Takers {
-            keys: HashMap::new(alloc),
-            unlisted: false,
-        }
-    }
-
     /// The connection to which what is put for this client goes.
     pub fn of(&self, client: u128) -> Option<usize>
         ensures { result ≡ taker_of self.now client }
@@ -50,9 +74,7 @@ impl Takers {
         ensures listed { (taker_of self.new client ≡ Some key) ⊎ (self.new.unlisted ≡ true) }
         ensures others { (c : ℕ) → c ≢ client → taker_of self.new c ≡ taker_of self.old c }
     {
-        if self.keys.insert(client, key).is_err() {
-            self.unlisted = true;
-        }
+        self.unlisted |= self.keys.insert(client, key).is_err();
     }
 
     /// Nothing that is put for this client goes to this connection any more.
@@ -76,11 +98,15 @@ pub struct Roster {
 }
 
 impl Roster {
-    /// There is no connection yet.
-    pub fn new(alloc: Global) -> Roster {
+    /// There is no connection yet, and no client is listed.
+    pub fn new(alloc: Global) -> Roster
+        ensures none { (c : ℕ) → taker_of result.takers c ≡ None }
+        ensures all { result.takers.unlisted ≡ false }
+    {
+        let (keys, unlisted) = (HashMap::new(alloc), false);
         Roster {
             rota: Rota::new(alloc),
-            takers: Takers::new(alloc),
+            takers: Takers { keys, unlisted },
         }
     }
 
@@ -98,36 +124,6 @@ impl Roster {
         }
     }
 
-    /// Something was put for a client: where this is its loop, it is woken, and else it is noted.
-    pub fn tell(&mut self, own: usize, loops: usize, client: u128, notes: &mut Notes)
-        requires { 0 < loops }
-        ensures told { IsTold own loops client self.new notes.new }
-        ensures kept { Keeps self.old.rota.looks self.new.rota.looks }
-        ensures same { self.new.takers ≡ self.old.takers }
-        ensures notes { (n c : ℕ) → is_noted n c notes.old ≡ true → is_noted n c notes.new ≡ true }
-    {
-        let owner = loop_of(client, loops);
-        if owner == own {
-            self.wake(client);
-        } else {
-            notes.note(owner, client);
-        }
-    }
-
-    /// Something was put for these clients: each one of this loop is woken, and each other one is
-    /// noted.
-    pub fn tell_all(&mut self, own: usize, loops: usize, clients: &[u128], notes: &mut Notes)
-        requires { 0 < loops }
-        ensures told { AreTold own loops clients.now self.new notes.new }
-        ensures kept { Keeps self.old.rota.looks self.new.rota.looks }
-        ensures same { self.new.takers ≡ self.old.takers }
-        ensures notes { (n c : ℕ) → is_noted n c notes.old ≡ true → is_noted n c notes.new ≡ true }
-    {
-        for client in clients {
-            self.tell(own, loops, *client, notes);
-        }
-    }
-
     /// An event put something for the clients of these lists: each one of this loop is woken, and
     /// each other one is noted.
     pub fn tell_lists(&mut self, own: usize, loops: usize, lists: &[Vec<u128>], notes: &mut Notes)
@@ -136,7 +132,14 @@ impl Roster {
             AreTold own loops (slice_index_or (map (λ ids. ids.items) lists.now) k []) self.new notes.new }
     {
         for list in lists {
-            self.tell_all(own, loops, list.as_slice(), notes);
+            for client in list.as_slice() {
+                let owner = loop_of(*client, loops);
+                if owner == own {
+                    self.wake(*client);
+                } else {
+                    notes.note(owner, *client);
+                }
+            }
         }
     }
 }

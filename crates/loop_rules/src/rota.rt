@@ -6,8 +6,7 @@ ghost use Rattle.loop_rules.specs.Looks.{is_queued};
 ghost use Rattle.loop_rules.specs.Rotas as rotas;
 ghost use Rattle.loop_rules.specs.Rotas.{IsQuiet, has_turn, look_of, will_look};
 
-use crate::looks::{Found, LookState, Pause};
-use crate::turns::{Turn, Verdict};
+use crate::looks::{Found, LookState, Pause, Turn, Verdict};
 use std::alloc::Global;
 use std::collections::VecDeque;
 use std::marker::Model;
@@ -57,13 +56,6 @@ impl Rota {
             ready: VecDeque::new(alloc),
             again: VecDeque::new(alloc),
         }
-    }
-
-    /// A bound of all keys.
-    pub fn len(&self) -> usize
-        ensures { result ≡ length self.now.looks }
-    {
-        self.looks.len()
     }
 
     /// How the connection with this key stands.
@@ -117,7 +109,7 @@ impl Rota {
         ensures looks { (k : ℕ) → k < length self.old.looks → will_look (look_of self.new.looks k) ≡ true }
         ensures long { length self.new.looks ≡ length self.old.looks }
     {
-        for key in 0..self.len() {
+        for key in 0..self.looks.len() {
             self.call(key);
         }
     }
@@ -169,11 +161,10 @@ impl Rota {
     pub fn pause(&mut self, key: usize, pause: Pause)
         ensures { self.new ≡ rotas.paused_at key pause self.old }
     {
-        let Some(mut look) = self.turn_of(key) else {
-            return;
-        };
-        let _ = look.pause(pause);
-        self.leave(key, look);
+        if let Some(mut look) = self.turn_of(key) {
+            look.pause(pause);
+            self.leave(key, look);
+        }
     }
 
     /// The next turn of the loop begins.

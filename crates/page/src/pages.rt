@@ -101,10 +101,7 @@ impl Page {
 fn file_named<'f>(files: &'f [File], name: &[u8]) -> Option<&'f File>
     ensures { option_copied result ≡ pages.file_named name.now files.now }
 {
-    for file in files {
-        if file.name.as_str().as_bytes() == name {
-            return Some(file);
-        }
-    }
-    None
+    files
+        .iter()
+        .find(|file| file.name.as_str().as_bytes() == name)
 }

@@ -1,1 +1,2 @@
 pub mod AcceptedLemmas
+pub mod StageLemmas

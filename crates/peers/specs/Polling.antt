@@ -6,8 +6,8 @@ use Rattle.events.specs.declared.event.Event.{Event}
 use Rattle.events.specs.declared.event.Event.TheVariants as event
 use Rattle.events.specs.declared.outcome.Outcome.TheVariants as outcome
 use Rattle.events.specs.Answer.{Answer}
-use Rattle.peers.specs.declared.requests.PollRequest.{PollRequest}
-use Rattle.peers.specs.declared.requests.PollRequest.TheVariants as request
+use Rattle.peers.specs.declared.poll_stage.PollRequest.{PollRequest}
+use Rattle.peers.specs.declared.poll_stage.PollRequest.TheVariants as request
 use Rattle.peers.specs.declared.poll_stage.PollStage.{PollStage}
 use Rattle.peers.specs.declared.poll_stage.PollStage.TheVariants as stage
 

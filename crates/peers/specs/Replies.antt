@@ -16,10 +16,10 @@ use Rattle.http_edge.specs.declared.routes.Refusal.TheVariants as why
 use Rattle.http_edge.specs.declared.routes.Target.{Target}
 use Rattle.http_edge.specs.declared.routes.Target.TheVariants as target
 use Rattle.http_edge.specs.Routes.{refusal_text}
-use Rattle.peers.specs.declared.requests.PollRequest.{PollRequest}
-use Rattle.peers.specs.declared.requests.PollRequest.TheVariants as request
-use Rattle.peers.specs.declared.requests.SocketRequest.{SocketRequest}
-use Rattle.peers.specs.declared.requests.SocketRequest.TheVariants as upgrade
+use Rattle.peers.specs.declared.poll_stage.PollRequest.{PollRequest}
+use Rattle.peers.specs.declared.poll_stage.PollRequest.TheVariants as request
+use Rattle.peers.specs.declared.socket_stage.SocketRequest.{SocketRequest}
+use Rattle.peers.specs.declared.socket_stage.SocketRequest.TheVariants as upgrade
 use Rattle.peers.specs.declared.replies.Reply.{Reply}
 use Rattle.peers.specs.declared.poll_stage.PollStage.{PollStage}
 use Rattle.peers.specs.declared.poll_stage.PollStage.TheVariants as stage

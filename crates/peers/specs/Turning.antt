@@ -4,10 +4,10 @@ use Rattle.events.specs.declared.event.Event.{Event}
 use Rattle.events.specs.declared.event.Event.TheVariants as event
 use Rattle.events.specs.declared.event.WsFrame.TheVariants as frame
 use Rattle.events.specs.declared.peer.PeerFault.{PeerFault}
-use Rattle.peers.specs.declared.requests.SocketRequest.{SocketRequest}
-use Rattle.peers.specs.declared.requests.SocketRequest.TheVariants as request
-use Rattle.peers.specs.declared.socket_stage.Incoming.{Incoming}
-use Rattle.peers.specs.declared.socket_stage.Incoming.TheVariants as incoming
+use Rattle.peers.specs.declared.socket_stage.SocketRequest.{SocketRequest}
+use Rattle.peers.specs.declared.socket_stage.SocketRequest.TheVariants as request
+use Rattle.peers.specs.declared.incoming.Incoming.{Incoming}
+use Rattle.peers.specs.declared.incoming.Incoming.TheVariants as incoming
 use Rattle.peers.specs.declared.socket_stage.Phase.{Phase}
 use Rattle.peers.specs.declared.socket_stage.Phase.TheVariants as phase
 use Rattle.peers.specs.declared.socket_stage.SocketStage.{SocketStage}

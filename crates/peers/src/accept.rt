@@ -16,9 +16,6 @@ const LONGEST: usize = 1_048_576;
 /// How many bytes one read asks for. Two such buffers are kept for each socket.
 const READ_SIZE: usize = 1_024;
 
-/// A WebSocket over a stream of which the head of its request was read before.
-pub type AcceptedSocket<S> = WebSocket<Replay<S>, NoMask>;
-
 /// Answers the request whose head was read, and gives its WebSocket; else the stream is dropped. The
 /// bytes that were read past the head are the first that the WebSocket has.
 pub fn accept_socket<S: Read + Write + Drop>(
@@ -26,7 +23,7 @@ pub fn accept_socket<S: Read + Write + Drop>(
     stream: S,
     head: Vec<u8>,
     rest: Vec<u8>,
-) -> Option<AcceptedSocket<S>>
+) -> Option<WebSocket<Replay<S>, NoMask>>
     ensures served { IfSome result (BeginsWith rest.items) }
     ensures limits { IfSome result (λ socket. HasMostBytes 1048576 socket.conn.config) }
 {

@@ -1,59 +1,48 @@
 //! What comes over a WebSocket.
 
-ghost use Rattle.std.specs.Prelude.{◌≡◌};
-ghost use Rattle.std.specs.Result.{result_unwrap_or};
-ghost use Rattle.events.specs.declared.peer.PeerFault.TheVariants as fault;
-ghost use Rattle.peers.specs.declared.socket_stage.Incoming.TheVariants as incoming;
-ghost use Rattle.peers.specs.Incoming.{Brings, IsHeardAs, IsReadAs, Settles, of_error};
+ghost use Rattle.peers.specs.Incoming.{Brings, IsHeardAs, Settles};
 
-use crate::socket_stage::Incoming;
 use events::{PeerFault, WsFrame};
-use std::alloc::{AllocError, Global};
+use std::alloc::Global;
 use std::io::{ErrorKind, Read, Write};
 use terms::{Bytes, Text};
 use tungstenite::{Error, MaskKeys, Message, WebSocket};
 use websocket::error::ProtocolError;
 
-/// What a message is worked on as, unless there is no memory for a copy of it.
-fn incoming_of(alloc: Global, message: &Message) -> Result<Incoming, AllocError>
-    ensures { IsReadAs message.now (result_unwrap_or result (incoming.Gone fault.Memory)) }
-{
-    match message {
-        Message::Text(text) => {
-            Ok(Incoming::Frame(WsFrame::Text(Text::copy_of(alloc, text.as_str())?)))
-        }
-        Message::Binary(bytes) => {
-            Ok(Incoming::Frame(WsFrame::Bytes(Bytes::copy_of(alloc, bytes.as_slice())?)))
-        }
-        Message::Ping(_) | Message::Pong(_) => Ok(Incoming::Control),
-        Message::Close(_) => Ok(Incoming::Gone(PeerFault::Ended)),
-    }
-}
-
-/// What a read that failed is worked on as.
-fn incoming_of_error(error: &Error) -> Incoming
-    ensures { result ≡ of_error error.now }
-{
-    match error {
-        Error::Io(cause) if matches!(cause.kind(), ErrorKind::WouldBlock) => Incoming::Nothing,
-        Error::OutOfMemory => Incoming::Gone(PeerFault::Memory),
-        Error::ConnectionClosed
-        | Error::AlreadyClosed
-        | Error::Protocol(ProtocolError::ResetWithoutClosingHandshake) => {
-            Incoming::Gone(PeerFault::Ended)
-        }
-        _ => Incoming::Gone(PeerFault::Device),
-    }
+/// What a read of a WebSocket brought.
+#[derive(Drop)]
+pub(crate) enum Incoming {
+    /// Nothing yet.
+    Nothing,
+    /// A ping or a pong.
+    Control,
+    /// A message.
+    Frame(WsFrame),
+    /// The end of the stream, or why nothing more can be read.
+    Gone(PeerFault),
 }
 
 /// What a read is worked on as.
 fn heard(alloc: Global, gave: &Result<Message, Error>) -> Incoming
     ensures { IsHeardAs gave.now result }
 {
-    match gave {
-        Ok(message) => incoming_of(alloc, message).unwrap_or(Incoming::Gone(PeerFault::Memory)),
-        Err(error) => incoming_of_error(error),
-    }
+    let frame = match gave {
+        Ok(Message::Text(text)) => Text::copy_of(alloc, text.as_str()).map(WsFrame::Text),
+        Ok(Message::Binary(bytes)) => Bytes::copy_of(alloc, bytes.as_slice()).map(WsFrame::Bytes),
+        Ok(Message::Ping(_) | Message::Pong(_)) => return Incoming::Control,
+        Ok(Message::Close(_)) => return Incoming::Gone(PeerFault::Ended),
+        Err(Error::Io(cause)) if matches!(cause.kind(), ErrorKind::WouldBlock) => {
+            return Incoming::Nothing;
+        }
+        Err(Error::OutOfMemory) => return Incoming::Gone(PeerFault::Memory),
+        Err(
+            Error::ConnectionClosed
+            | Error::AlreadyClosed
+            | Error::Protocol(ProtocolError::ResetWithoutClosingHandshake),
+        ) => return Incoming::Gone(PeerFault::Ended),
+        Err(_) => return Incoming::Gone(PeerFault::Device),
+    };
+    frame.map_or(Incoming::Gone(PeerFault::Memory), Incoming::Frame)
 }
 
 /// At a close the reply that waits is flushed once, as far as the stream takes it.

@@ -4,11 +4,9 @@ ghost use Rattle.std.specs.Prelude.{◌≡◌, option_map, string_bytes};
 ghost use Rattle.peers.specs.Polling.{client_of, given_up, is_idle};
 ghost use Rattle.peers.specs.declared.poll_stage.PollStage.TheVariants as stage;
 
-use crate::moments::{Moments, pause_if};
-use crate::noops::is_noop;
-use crate::poll_stage::PollStage;
+use crate::moments::{Moments, is_noop};
+use crate::poll_stage::{PollRequest, PollStage};
 use crate::replies::{Reply, reply_to};
-use crate::requests::PollRequest;
 use events::{Answered, Event, Peer, PeerFault};
 use http_edge::{EdgeError, Wire, write_response};
 use std::alloc::Global;
@@ -102,21 +100,13 @@ impl<W, M> PollPeer<W, M> {
     pub fn give_up(&mut self)
         ensures { self.new ≡ record self.old { stage = given_up self.old.stage } }
     {
-        let stage = mem::replace(&mut self.stage, PollStage::Opening);
-        self.stage = match stage {
-            PollStage::Begun { client } | PollStage::Waits { client, .. } => PollStage::Ends {
-                client,
-            },
-            PollStage::Taking { client, .. } => PollStage::Taking { client, left: 0 },
-            other => other,
-        };
-    }
-
-    /// The wire.
-    pub fn wire(&self) -> &W
-        ensures { result.now ≡ self.now.wire }
-    {
-        &self.wire
+        match self.stage {
+            PollStage::Begun { client } | PollStage::Waits { client, .. } => {
+                self.stage = PollStage::Ends { client };
+            }
+            PollStage::Taking { client, .. } => self.stage = PollStage::Taking { client, left: 0 },
+            _ => {}
+        }
     }
 
     /// The wire, which a driver may send or poll.
@@ -136,11 +126,11 @@ impl<W: Wire, M: Moments> Peer for PollPeer<W, M> {
     ghost hears = { Hears W.written W.is_broken M.pauses };
 
     fn next(&mut self) -> Result<Option<(Event, u64)>, PeerFault> {
-        let waits = self.is_idle();
-        pause_if(&mut self.moments, waits);
-        let stage = mem::replace(&mut self.stage, PollStage::Opening);
-        let (next, event) = stage.next(self.most);
-        self.stage = next;
+        if self.is_idle() {
+            self.moments.pause();
+        }
+        let (stage, event) = mem::replace(&mut self.stage, PollStage::Opening).next(self.most);
+        self.stage = stage;
         let Some(event) = event else {
             return Ok(None);
         };
@@ -149,12 +139,13 @@ impl<W: Wire, M: Moments> Peer for PollPeer<W, M> {
 
     fn answer(&mut self, got: &Answered) -> Result<(), PeerFault> {
         let reply = reply_to(&self.stage, got);
-        let stage = mem::replace(&mut self.stage, PollStage::Opening);
-        self.stage = stage.after(got);
+        self.stage = mem::replace(&mut self.stage, PollStage::Opening).after(got);
         let Some(Reply { status, body }) = reply else {
             return Ok(());
         };
-        pause_if(&mut self.moments, is_noop(got));
+        if is_noop(got) {
+            self.moments.pause();
+        }
         match write_response(self.alloc, &mut self.wire, status, &self.origin, body) {
             Ok(()) => Ok(()),
             Err(EdgeError::Memory) => Err(PeerFault::Memory),

@@ -1,13 +1,43 @@
 //! How far a request over HTTP has come.
 
-ghost use Rattle.std.specs.Prelude.{◌≡◌};
+ghost use Rattle.std.specs.Prelude.{◌≡◌, string_bytes};
 ghost use Rattle.peers.specs.Polling as polling;
+ghost use Rattle.peers.specs.Replies.{poll_request};
 
-use crate::requests::PollRequest;
 use events::{Answered, CoreFault, Event, Outcome};
+use http_edge::Target;
+use terms::Text;
 
 /// How often a GET that waits asks, at the most.
 const TAKES: u32 = 1_200;
+
+/// What a request asks for that isn't to become a WebSocket.
+#[derive(Drop)]
+pub enum PollRequest {
+    /// A new client, which polls.
+    Open,
+    /// What waits for a client.
+    Get { client: u128 },
+    /// A client's payload is brought.
+    Post { client: u128, body: Text },
+}
+
+impl PollRequest {
+    /// What a target asks for, with the body of its request.
+    pub fn of(target: Target, body: String) -> Option<PollRequest>
+        ensures { result ≡ poll_request target (string_bytes body) }
+    {
+        match target {
+            Target::OpenPoll => Some(PollRequest::Open),
+            Target::Poll(client) => Some(PollRequest::Get { client }),
+            Target::Post(client) => Some(PollRequest::Post {
+                client,
+                body: Text::from_string(body),
+            }),
+            _ => None,
+        }
+    }
+}
 
 /// How far a request over HTTP has come.
 #[derive(Drop)]
@@ -66,8 +96,7 @@ impl PollStage {
         Self::Taking { client, left }.with(Event::PollTake { client, most })
     }
 
-    /// The next event, if there is one, and the stage from then on. A take has at most so many
-    /// entries.
+    /// What comes next, where a take has at most so many entries.
     pub(crate) fn next(self, most: usize) -> Step
         ensures { result ≡ polling.next_of most self }
     {
@@ -92,20 +121,15 @@ impl PollStage {
     {
         let waits = matches!(got, Err(error) if waits_on(error.fault));
         let finds_nothing = waits || matches!(got, Ok(Outcome::Nothing));
+        let over = Self::Over(self.client());
         match (self, got) {
             (Self::Opening, Ok(Outcome::Opened(opening))) => Self::Over(Some(opening.client)),
-            (Self::Opening, _) => Self::Over(None),
             (Self::Beginning { client }, Ok(Outcome::Begun)) => Self::Begun { client },
             (Self::Taking { client, left: 0 }, _) if finds_nothing => Self::Ends { client },
             (Self::Taking { client, left }, _) if finds_nothing => Self::Waits { client, left },
             (Self::Ending { client }, _) if waits => Self::Ends { client },
-            (
-                Self::Posting { client }
-                | Self::Beginning { client }
-                | Self::Taking { client, .. }
-                | Self::Ending { client },
-                _,
-            ) => Self::Over(Some(client)),
+            (Self::Opening | Self::Posting { .. } | Self::Beginning { .. }, _) => over,
+            (Self::Taking { .. } | Self::Ending { .. }, _) => over,
             (other, _) => other,
         }
     }

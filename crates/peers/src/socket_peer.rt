@@ -1,22 +1,23 @@
 //! One WebSocket, as a peer.
 
-ghost use Rattle.std.specs.Prelude.{◌≡◌, [], OnOk, IfErr, ◌⊎◌};
+ghost use Rattle.std.specs.Prelude.{◌≡◌, ◌⊎◌, [], OnOk, IfErr, IsOkAnd};
+ghost use Rattle.tungstenite.specs.Connection.{write_step};
+ghost use Rattle.tungstenite.specs.Socket.{Writes, content_of};
 ghost use Rattle.events.specs.declared.peer.PeerFault.TheVariants.{Memory, Device};
 ghost use Rattle.peers.specs.Heard.{to_send};
+ghost use Rattle.peers.specs.Sent.{AddsFrame};
+ghost use Rattle.peers.specs.Spoken.{Sends};
 ghost use Rattle.peers.specs.Turning.{client_of, first_stage, has_read_nothing, is_idle};
-ghost use Rattle.peers.specs.Spoken.{AddsFrames, Sends};
 
-use crate::frame::{send_frame, send_text};
-use crate::incoming::read_incoming;
+use crate::incoming::{Incoming, read_incoming};
 use crate::moments::Moments;
-use crate::requests::SocketRequest;
-use crate::socket_stage::{Incoming, Phase, SocketStage};
+use crate::socket_stage::{Phase, SocketRequest, SocketStage};
 use events::{Answered, Event, Outcome, Peer, PeerFault, WsFrame};
-use std::alloc::Global;
+use std::alloc::{AllocError, Global};
 use std::io::{Read, Write};
 use std::marker::Model;
 use terms::let_go;
-use tungstenite::{NoMask, WebSocket};
+use tungstenite::{Error, MaskKeys, Message, NoMask, WebSocket};
 
 /// Serves one WebSocket by turns: a read, a take of what waits, and a look at what is due. A client
 /// that polls says first that it probes, and then that the probe succeeded; until then its turn is a
@@ -89,35 +90,51 @@ impl<S: Drop, M> SocketPeer<S, M> {
         matches!(self.stage, SocketStage::Taking { idle: true, .. })
     }
 
-    /// The stream of the socket.
-    pub fn stream(&self) -> &S
-        ensures { result.now ≡ self.now.socket.stream }
-    {
-        self.socket.get_ref()
-    }
-
     /// The stream of the socket, which a driver may send or poll.
     pub fn stream_mut(&mut self) -> &mut S {
         self.socket.get_mut()
     }
 }
 
-/// Sends frames in their order.
-fn send_frames<S: Read + Write + Drop>(
-    alloc: Global,
-    socket: &mut WebSocket<S, NoMask>,
-    frames: &[WsFrame],
+/// Sends one message, if there was memory for it. Where memory was refused, nothing has changed.
+fn send_message<S: Read + Write + Drop, K: MaskKeys + Drop>(
+    socket: &mut WebSocket<S, K>,
+    message: Result<Message, AllocError>,
 ) -> Result<(), PeerFault>
-    ensures all { OnOk result (socket.old.output ≡ [] →
-        AddsFrames socket.old.conn.role (S.contents socket.old.stream) frames.now (S.contents socket.new.stream)) }
-    ensures clean { OnOk result (socket.old.output ≡ [] → socket.new.output ≡ []) }
-    ensures same { OnOk result (socket.new.conn ≡ socket.old.conn) }
+    ensures wrote { OnOk result (IsOkAnd message (λ m. Writes S.contents socket.old socket.new
+        (write_step socket.old.conn (content_of m)))) }
+    ensures clean { OnOk result (socket.new.output ≡ []) }
     ensures kinds { IfErr result (λ e. (e ≡ Memory) ⊎ (e ≡ Device)) }
+    ensures unsent { IfErr result (λ e. e ≡ Memory → socket.new ≡ socket.old) }
 {
-    for frame in frames {
-        send_frame(alloc, socket, frame)?;
+    let Ok(message) = message else {
+        return Err(PeerFault::Memory);
+    };
+    match socket.send(message) {
+        Ok(()) => Ok(()),
+        Err(Error::OutOfMemory) => Err(PeerFault::Memory),
+        Err(_error) => Err(PeerFault::Device),
     }
-    Ok(())
+}
+
+/// Sends one frame. Where memory was refused, nothing has changed.
+pub fn send_frame<S: Read + Write + Drop, K: MaskKeys + Drop>(
+    alloc: Global,
+    socket: &mut WebSocket<S, K>,
+    frame: &WsFrame,
+) -> Result<(), PeerFault>
+    // Where nothing waited, the output grew by just this one frame.
+    ensures one { OnOk result (socket.old.output ≡ [] →
+        AddsFrame socket.old.conn.role (S.contents socket.old.stream) (S.contents socket.new.stream) frame.now) }
+    ensures clean { OnOk result (socket.new.output ≡ []) }
+    ensures same { OnOk result ((socket.new.conn ≡ socket.old.conn) × (socket.new.input ≡ socket.old.input)) }
+    ensures kinds { IfErr result (λ e. (e ≡ Memory) ⊎ (e ≡ Device)) }
+    ensures unsent { IfErr result (λ e. e ≡ Memory → socket.new ≡ socket.old) }
+{
+    match frame {
+        WsFrame::Text(text) => send_message(socket, Message::text(alloc, text.as_str())),
+        WsFrame::Bytes(bytes) => send_message(socket, Message::binary(alloc, bytes.as_slice())),
+    }
 }
 
 /// Sends what the answer to an event asks for.
@@ -129,18 +146,18 @@ fn send<S: Read + Write + Drop>(
 ) -> Result<(), PeerFault>
     ensures { Sends S.contents (to_send stage got.now) socket.old result socket.new }
 {
-    match (stage, got) {
-        (SocketStage::Opening, Ok(Outcome::Opened(opened))) => {
-            send_text(alloc, socket, opened.text.as_str())
-        }
-        (SocketStage::Probing { .. }, Ok(Outcome::Probed(text))) => {
-            send_text(alloc, socket, text.as_str())
-        }
+    let text = match (stage, got) {
+        (SocketStage::Opening, Ok(Outcome::Opened(opened))) => opened.text.as_str(),
+        (SocketStage::Probing { .. }, Ok(Outcome::Probed(text))) => text.as_str(),
         (SocketStage::Taking { .. }, Ok(Outcome::Frames(list))) => {
-            send_frames(alloc, socket, list.as_slice())
+            for frame in list.as_slice() {
+                send_frame(alloc, socket, frame)?;
+            }
+            return Ok(());
         }
-        _ => Ok(()),
-    }
+        _ => return Ok(()),
+    };
+    send_message(socket, Message::text(alloc, text))
 }
 
 impl<S: Read + Write + Drop, M: Moments> Peer for SocketPeer<S, M> {
@@ -151,10 +168,9 @@ impl<S: Read + Write + Drop, M: Moments> Peer for SocketPeer<S, M> {
     ghost hears = { Hears S.contents };
 
     fn next(&mut self) -> Result<Option<(Event, u64)>, PeerFault> {
-        let incoming = if self.stage.reads() {
-            read_incoming(self.alloc, &mut self.socket)
-        } else {
-            Incoming::Nothing
+        let incoming = match self.stage {
+            SocketStage::Reads { .. } => read_incoming(self.alloc, &mut self.socket),
+            _ => Incoming::Nothing,
         };
         let (stage, event) = self.stage.next(incoming);
         self.stage = stage;

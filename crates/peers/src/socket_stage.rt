@@ -1,11 +1,15 @@
-//! How far a WebSocket has come.
+//! How far a WebSocket has come: what comes next, and what the answer to an event leads to.
 
 ghost use Rattle.std.specs.Prelude.{◌≡◌, false};
 ghost use Rattle.peers.specs.declared.socket_stage.SocketStage.TheVariants as stages;
+ghost use Rattle.peers.specs.Heard as heard;
+ghost use Rattle.peers.specs.Replies.{socket_request};
 ghost use Rattle.peers.specs.Turning as turning;
 ghost use Rattle.peers.specs.Turning.{with_event, without_fault};
 
-use events::{Event, PeerFault, WsFrame};
+use crate::incoming::Incoming;
+use events::{Answered, CoreFault, Event, Outcome, PeerFault, WsFrame};
+use http_edge::Target;
 
 /// The most entries of one take of a WebSocket.
 pub const FRAMES_PER_TAKE: usize = 64;
@@ -16,17 +20,26 @@ pub const PROBE: &str = "2probe";
 /// The message by which a client that has probed it comes over to it.
 pub const UPGRADE: &str = "5";
 
-/// What a read of a WebSocket brought.
-#[derive(Drop)]
-pub(crate) enum Incoming {
-    /// Nothing yet.
-    Nothing,
-    /// A ping or a pong.
-    Control,
-    /// A message.
-    Frame(WsFrame),
-    /// The end of the stream, or why nothing more can be read.
-    Gone(PeerFault),
+/// What a request asks for that is to become a WebSocket.
+#[derive(Clone, Copy, PartialEq, Eq)]
+pub enum SocketRequest {
+    /// A new client.
+    Open,
+    /// A client that polls is to come over.
+    Probe { client: u128 },
+}
+
+impl SocketRequest {
+    /// What a target asks for.
+    pub fn of(target: Target) -> Option<SocketRequest>
+        ensures { result ≡ socket_request target }
+    {
+        match target {
+            Target::OpenSocket => Some(SocketRequest::Open),
+            Target::ProbeSocket(client) => Some(SocketRequest::Probe { client }),
+            _ => None,
+        }
+    }
 }
 
 /// How far a client has come over to its WebSocket.
@@ -78,6 +91,13 @@ fn says(incoming: &Incoming, word: &str) -> bool
     matches!(incoming, Incoming::Frame(WsFrame::Text(text)) if text.as_str() == word)
 }
 
+/// Whether there is no such client.
+fn is_gone(got: &Answered) -> bool
+    ensures { result ≡ heard.is_gone got.now }
+{
+    matches!(got, Err(error) if matches!(error.fault, CoreFault::UnknownClient))
+}
+
 /// The stage from then on, and the next event, if there is one.
 type Step = (SocketStage, Result<Option<Event>, PeerFault>);
 
@@ -97,12 +117,6 @@ impl SocketStage {
         (self, Ok(Some(event)))
     }
 
-    fn tick(client: u128, at: Phase, idle: bool) -> Step
-        ensures { result ≡ without_fault (with_event (turning.ticks client at idle)) }
-    {
-        Self::Ticking { client, at, idle }.with(Event::Tick { client })
-    }
-
     fn take(client: u128, idle: bool) -> Step
         ensures { result ≡ without_fault (with_event (turning.takes client idle)) }
     {
@@ -114,15 +128,16 @@ impl SocketStage {
     fn after_read(client: u128, at: Phase, incoming: Incoming) -> Step
         ensures { result ≡ turning.after_read client at incoming }
     {
+        let idle = matches!(incoming, Incoming::Nothing);
         match (at, incoming) {
-            (Phase::Speaks, Incoming::Nothing) => Self::take(client, true),
-            (Phase::Speaks, Incoming::Control) => Self::take(client, false),
+            (Phase::Speaks, Incoming::Nothing | Incoming::Control) => Self::take(client, idle),
             (Phase::Speaks, Incoming::Frame(frame)) => {
                 Self::Framed { client }.with(Event::Frame { client, frame })
             }
             (Phase::Speaks, Incoming::Gone(fault)) => (Self::Over(Some(client)), Err(fault)),
-            (_, Incoming::Nothing) => Self::tick(client, at, true),
-            (_, Incoming::Control) => Self::tick(client, at, false),
+            (_, Incoming::Nothing | Incoming::Control) => {
+                Self::Ticking { client, at, idle }.with(Event::Tick { client })
+            }
             (Phase::Knocks, said) if says(&said, PROBE) => {
                 Self::Probing { client }.with(Event::Probe { client })
             }
@@ -134,8 +149,7 @@ impl SocketStage {
         }
     }
 
-    /// The next event, if there is one, and the stage from then on. What was read counts where the
-    /// stage reads.
+    /// What comes next. What was read counts where the stage reads.
     pub(crate) fn next(self, incoming: Incoming) -> Step
         ensures { result ≡ turning.next_of self incoming }
     {
@@ -143,17 +157,51 @@ impl SocketStage {
             Self::Opens => Self::Opening.with(Event::Opened { socket: true }),
             Self::Reads { client, at, .. } => Self::after_read(client, at, incoming),
             Self::Takes { client } => Self::take(client, false),
-            Self::Ticks { client, idle } => Self::tick(client, Phase::Speaks, idle),
+            Self::Ticks { client, idle } => {
+                let at = Phase::Speaks;
+                Self::Ticking { client, at, idle }.with(Event::Tick { client })
+            }
             Self::Loses { client } => Self::Losing { client }.with(Event::ProbeLost { client }),
             other => (other, Ok(None)),
         }
     }
 
-    /// Whether the next event is found by a read.
-    pub(crate) fn reads(self) -> bool
-        ensures { result ≡ turning.reads self }
+    fn after_tick(client: u128, at: Phase, idle: bool, got: &Answered) -> Self
+        ensures { result ≡ heard.after_tick client at idle got.now }
     {
-        matches!(self, Self::Reads { .. })
+        let due =
+            matches!(got, Ok(Outcome::Ticked { ping, done }) if *ping || done.closed.is_some());
+        let idle = idle && !due;
+        match at {
+            _ if is_gone(got) => Self::Over(Some(client)),
+            Phase::Knocks if got.is_err() => Self::Over(Some(client)),
+            Phase::Probes if got.is_err() => Self::Loses { client },
+            _ => Self::Reads { client, at, idle },
+        }
+    }
+
+    /// The stage once the event got this answer.
+    pub(crate) fn after(self, got: &Answered) -> Self
+        ensures { result ≡ heard.after self got.now }
+    {
+        match (self, got) {
+            (Self::Opening, Ok(Outcome::Opened(open))) => Self::begin(open.client, Phase::Speaks),
+            (Self::Probing { client }, Ok(Outcome::Probed(_))) => {
+                Self::begin(client, Phase::Probes)
+            }
+            (Self::Upgrading { client }, Ok(Outcome::Done(_))) => {
+                Self::begin(client, Phase::Speaks)
+            }
+            (Self::Framed { client }, _) if !is_gone(got) => Self::Takes { client },
+            (Self::Taking { client, idle }, _) if !is_gone(got) => {
+                let idle = idle && !matches!(got, Ok(Outcome::Frames(_)));
+                Self::Ticks { client, idle }
+            }
+            (Self::Ticking { client, at, idle }, _) => Self::after_tick(client, at, idle, got),
+            (Self::Opens | Self::Reads { .. } | Self::Takes { .. } | Self::Ticks { .. }, _) => self,
+            (Self::Loses { .. } | Self::Over(_), _) => self,
+            _ => Self::Over(self.client()),
+        }
     }
 
     /// Whose WebSocket it is, once that is known.

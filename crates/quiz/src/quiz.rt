@@ -1,8 +1,8 @@
 //! The quiz: what it does with what arrives.
 
-ghost use Rattle.std.specs.Prelude.{◌≡◌, [], IfOk, slice_get};
+ghost use Rattle.std.specs.Prelude.{◌≡◌, [], IfOk};
 ghost use Rattle.quiz.specs.Quiz as table;
-ghost use Rattle.quiz.specs.Quiz.{Allows, begins_with, is_text, decided};
+ghost use Rattle.quiz.specs.Quiz.{Allows, begins_with, decided};
 
 use events::{App, Arrived, Effect, Emission, Inquiry, Reply, Verdict, Wanted, Who};
 use journal::Ending;
@@ -70,19 +70,9 @@ fn begins_with(alloc: Global, payload: &str, word: &str) -> Result<bool, AllocEr
     ensures { IfOk result (λ answer. answer ≡ begins_with payload.now word.now) }
 {
     match names(alloc, payload) {
-        Ok(texts) => Ok(is_first(&texts, word)),
+        Ok(texts) => Ok(matches!(texts.get(0), Some(Some(text)) if text.as_str() == word)),
         Err(SioError::Memory) => Err(AllocError),
         Err(_) => Ok(false),
-    }
-}
-
-/// Whether the first of these texts is this one.
-fn is_first(texts: &[Option<Text>], word: &str) -> bool
-    ensures { result ≡ is_text (slice_get texts.now 0) word.now }
-{
-    match texts.get(0) {
-        Some(Some(text)) => text.as_str() == word,
-        _ => false,
     }
 }
 

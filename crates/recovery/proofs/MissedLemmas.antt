@@ -1,16 +1,12 @@
 -- Rooms that a broadcast names, and what was missed past a place of a log that lies in two pieces.
 use Rattle.std.proofs.Common.{◌≡◌, ℕ, zero, suc, ◌-◌, Bool, List, [], ◌∷◌, ◌++◌, length, drop, take, min, map, filter, sym, ap, ◌∙◌, arith}
-use Rattle.std.proofs.lemmas.List.Elements.{filter-append}
-use Rattle.std.proofs.lemmas.List.{map-append, length-drop}
+use Rattle.std.proofs.lemmas.List.{length-drop}
 use Rattle.std.proofs.Math.Seq.{take-length}
 use Rattle.recovery.specs.PacketLog.{PlainLogged}
 
 -- the offsets of those that pass
 abbrev pub offsets_of : (PlainLogged → Bool) → List PlainLogged → List ℕ
 offsets_of p es = map (λ (e : PlainLogged). e.offset) (filter p es)
-
-pub offsets_of-append : (p : PlainLogged → Bool) (xs ys : List PlainLogged) → offsets_of p (xs ++ ys) ≡ offsets_of p xs ++ offsets_of p ys
-offsets_of-append p xs ys = ap (map (λ (e : PlainLogged). e.offset)) (filter-append p xs ys) ∙ map-append (λ (e : PlainLogged). e.offset) (filter p xs) (filter p ys)
 
 -- a slice from a place on
 pub rest_from : (k : ℕ) (xs : List PlainLogged) → take (length xs - k) (drop k xs) ≡ drop k xs

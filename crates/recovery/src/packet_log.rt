@@ -1,9 +1,8 @@
 //! The latest broadcasts (Socket.IO server documentation, "Connection state recovery").
 
-ghost use Rattle.std.specs.Prelude.{◌≡◌, ℕ, ◌+◌, ◌^◌, ◌<◌, ◌≤◌, ◌==◌, max, length, List, [], ◌∷◌, ◌++◌, filter, map, drop, IfOk, IfErr, IfSome, OnOk, OnErr, IfNone, Some, None, option_copied, is_some};
+ghost use Rattle.std.specs.Prelude.{◌≡◌, ℕ, ◌+◌, ◌^◌, ◌<◌, ◌≤◌, ◌==◌, max, length, List, [], ◌∷◌, ◌++◌, filter, map, IfOk, IfErr, IfSome, OnErr, IfNone, Some, None, option_copied, is_some};
 ghost use Rattle.std.specs.List.{find, list_any, take_while};
 ghost use Rattle.std.specs.Arc.{arc_value};
-ghost use Rattle.terms.specs.Audience as addressed;
 ghost use Rattle.recovery.specs.Expiry as expiry;
 ghost use Rattle.recovery.specs.PacketLog.{LogCall, LogContents, PlainLogged, Pushed, Swept, IsLog, IsLogOf, IsRun, IsPlace, HasNone, contents, offset_or_spent, pushed, stands, later_than, number_of, with_entry, swept, logged_as};
 ghost use Rattle.recovery.specs.Missed.{missed, missed_refusal, is_for, is_one_of};
@@ -219,8 +218,10 @@ impl PacketLog {
         ensures later { IfSome result
             (λ pieces. pieces.0.now ++ pieces.1.now ≡ later_than offset self.now.entries) }
     {
-        let place = self.place_of(offset)?;
-        Some(pieces_after(&self.ring, place))
+        let past = self.place_of(offset)? + 1;
+        let (front, back) = self.ring.as_slices();
+        let split = past.min(front.len());
+        Some((&front[split..], &back[past - split..]))
     }
 
     /// The offsets of the broadcasts past this one that a socket of the namespace, in these
@@ -244,10 +245,7 @@ impl PacketLog {
             → offsets.items ≡ missed offset space rooms.now (pushed history)) }
     {
         let (front, back) = self.later(offset).ok_or(RecoveryError::OffsetGone)?;
-        let mut offsets = Vec::new(alloc);
-        add_offsets(front, space, rooms, &mut offsets)?;
-        add_offsets(back, space, rooms, &mut offsets)?;
-        Ok(offsets)
+        Ok(offsets_for(alloc, front, back, space, rooms)?)
     }
 
     /// Copies of all entries, their offsets rising. The sent data is shared, not copied.
@@ -257,9 +255,9 @@ impl PacketLog {
         ensures memory { IfErr result (λ error. error ≡ RecoveryError.Memory) }
     {
         let mut list = Vec::with_capacity(alloc, self.ring.len())?;
-        let (front, back) = self.ring.as_slices();
-        copy_all(alloc, front, &mut list)?;
-        copy_all(alloc, back, &mut list)?;
+        for entry in self.ring.iter() {
+            list.push(entry.copy(alloc)?)?;
+        }
         Ok(list)
     }
 }
@@ -273,42 +271,21 @@ fn count_outdated(ring: &HeapCircularBuffer<Logged>, keep: u64, now: u64) -> usi
         .count()
 }
 
-/// The entries past this place, in two pieces.
-fn pieces_after(ring: &HeapCircularBuffer<Logged>, place: usize) -> (&[Logged], &[Logged])
-    requires within { place < length ring.now.items }
-    requires small { place + 1 < 2 ^ 64 }
-    ensures { result.0.now ++ result.1.now ≡ drop (place + 1) ring.now.items }
-{
-    let past = place + 1;
-    let (front, back) = ring.as_slices();
-    let split = past.min(front.len());
-    (&front[split..], &back[past - split..])
-}
-
-/// Puts the offsets of the entries that a socket gets at the end of the list.
-fn add_offsets(
-    entries: &[Logged],
+/// The offsets of the entries of both pieces that a socket gets.
+fn offsets_for(
+    alloc: Global,
+    front: &[Logged],
+    back: &[Logged],
     space: u16,
     rooms: &[Room],
-    offsets: &mut Vec<u64>,
-) -> Result<(), AllocError>
-    ensures { OnOk result (offsets.new.items ≡ offsets.old.items
-        ++ map (λ entry. entry.offset) (filter (is_for space rooms.now) entries.now)) }
+) -> Result<Vec<u64>, AllocError>
+    ensures { IfOk result (λ offsets. offsets.items ≡ map (λ entry. entry.offset)
+        (filter (is_for space rooms.now) (front.now ++ back.now))) }
 {
-    for entry in entries {
-        if entry.is_for(space, rooms) {
-            offsets.push(entry.offset)?;
-        }
-    }
-    Ok(())
-}
-
-/// Puts copies of the entries at the end of the list.
-fn copy_all(alloc: Global, entries: &[Logged], list: &mut Vec<Logged>) -> Result<(), AllocError>
-    ensures { OnOk result (list.new.items ≡ list.old.items ++ entries.now) }
-{
-    for entry in entries {
-        list.push(entry.copy(alloc)?)?;
-    }
-    Ok(())
+    front
+        .iter()
+        .chain(back.iter())
+        .filter(|entry| entry.is_for(space, rooms))
+        .map(|entry| entry.offset)
+        .collect(alloc)
 }

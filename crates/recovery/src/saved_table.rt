@@ -266,17 +266,10 @@ impl SavedTable {
             (map (λ (saved : PlainSaved). saved.pid) self.now.sessions) }
         ensures memory { IfErr result (λ error. error ≡ RecoveryError.Memory) }
     {
-        Ok(copy_all(alloc, &self.by_pid)?)
+        let mut list = Vec::with_capacity(alloc, self.by_pid.len())?;
+        for saved in self.by_pid.values() {
+            list.push(saved.copy(alloc)?)?;
+        }
+        Ok(list)
     }
-}
-
-/// Copies of the sessions, in their order.
-fn copy_all(alloc: Global, sessions: &BTreeMap<Pid, Saved>) -> Result<Vec<Saved>, AllocError>
-    ensures { IfOk result (λ list. list.items ≡ values_of sessions.now.entries) }
-{
-    let mut list = Vec::with_capacity(alloc, sessions.len())?;
-    for saved in sessions.values() {
-        list.push(saved.copy(alloc)?)?;
-    }
-    Ok(list)
 }

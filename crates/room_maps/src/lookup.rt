@@ -1,13 +1,11 @@
 //! For whom a broadcast is, and all pairs, as rising lists (Socket.IO server documentation,
 //! "Adapter").
 
-ghost use Rattle.std.specs.Prelude.{◌≡◌, ◌&&◌, ◌||◌, ◌++◌, ℕ, not, map, filter, IfOk, OnOk};
+ghost use Rattle.std.specs.Prelude.{◌≡◌, ◌&&◌, not, map, filter, IfOk};
 ghost use Rattle.std.specs.List.{list_any, flat_map, AllByRecursion};
-ghost use Rattle.std.specs.List.Sorted.{IsStrictlySortedBy};
 ghost use Rattle.std.specs.Ordering.{nat_cmp, eq_by_cmp};
 ghost use Rattle.std.specs.BTreeMap as tree;
 ghost use Rattle.std.specs.BTreeSet as sorted;
-ghost use Rattle.room_maps.specs.Links.{is_linked};
 ghost use Rattle.room_maps.specs.Mirror.{entry_pairs, HasRisingRooms, is_in_one_of, is_member_of_one};
 ghost use Rattle.terms.specs.Room.{room_cmp};
 ghost use Rattle.terms.specs.Listing.{ListsRising};
@@ -55,31 +53,6 @@ pub(crate) fn sockets_but(
         .collect(alloc)
 }
 
-/// Adds the members of a room but those in an excepted one.
-fn add_members(
-    sids: &mut Vec<Sid>,
-    by_socket: &SocketMap,
-    by_room: &RoomMap,
-    room: Room,
-    excepted: &[Room],
-) -> Result<(), AllocError>
-    ensures { OnOk result ((sid : ℕ) → list_any (eq_by_cmp nat_cmp sid) sids.new.items
-        ≡ (list_any (eq_by_cmp nat_cmp sid) sids.old.items
-        || (is_linked room_cmp nat_cmp by_room.now room sid
-        && not (is_in_one_of by_socket.now excepted.now sid)))) }
-{
-    let Some(members) = by_room.get(&room) else {
-        return Ok(());
-    };
-    sids.extend(
-        members
-            .iter()
-            .copied()
-            .filter(|sid| !is_in_any(by_socket, *sid, excepted)),
-    )?;
-    Ok(())
-}
-
 /// The sockets in one of the rooms but those in an excepted one, rising. It walks the members of
 /// the rooms.
 pub(crate) fn members_but(
@@ -94,7 +67,11 @@ pub(crate) fn members_but(
 {
     let mut sids = Vec::new(alloc);
     for room in rooms {
-        add_members(&mut sids, by_socket, by_room, *room, excepted)?;
+        let Some(members) = by_room.get(room) else {
+            continue;
+        };
+        let members = members.iter().copied();
+        sids.extend(members.filter(|sid| !is_in_any(by_socket, *sid, excepted)))?;
     }
     Ok(rising(sids))
 }
@@ -106,22 +83,6 @@ pub(crate) fn rising(mut sids: Vec<Sid>) -> Vec<Sid>
     sids.sort_unstable();
     sids.dedup();
     sids
-}
-
-/// Adds a socket's pairs, its rooms rising.
-fn add_pairs(
-    pairs: &mut Vec<(Sid, Room)>,
-    sid: Sid,
-    rooms: &BTreeSet<Room>,
-) -> Result<(), AllocError>
-    ensures items { OnOk result
-        (pairs.new.items ≡ pairs.old.items ++ map (λ room. (sid, room)) rooms.now.keys) }
-    ensures rises { IsStrictlySortedBy room_cmp rooms.now.keys }
-{
-    for room in rooms.iter() {
-        pairs.push((sid, *room))?;
-    }
-    Ok(())
 }
 
 /// The pairs of all sockets, which rise, each with its rooms, which rise too. It walks the pairs
@@ -136,7 +97,9 @@ pub(crate) fn all_pairs(
 {
     let mut pairs = Vec::with_capacity(alloc, by_socket.len())?;
     for (sid, rooms) in by_socket {
-        add_pairs(&mut pairs, *sid, rooms)?;
+        for room in rooms.iter() {
+            pairs.push((*sid, *room))?;
+        }
     }
     Ok(pairs)
 }

@@ -2,12 +2,12 @@
 use Rattle.std.proofs.Common.{◌≡◌, ℕ, List, [], ◌∷◌, ◌++◌, length, map, Option, Some, None, refl, sym, ◌∙◌, ap, arith, append_assoc, append-nil, length-append}
 use Rattle.std.specs.Prelude.{false, Result, Ok, Err, OnOk, is_err}
 use Rattle.std.proofs.lemmas.List.{map-append, length-map}
-use Rattle.sio_wire.specs.declared.packet.SioPacket.{SioPacket}
+use Rattle.sio_wire.specs.declared.assembler.SioPacket.{SioPacket}
 use Rattle.sio_wire.specs.declared.assembler.Progress.{Progress}
 use Rattle.sio_wire.specs.declared.assembler.Progress.TheVariants.{Ready, Waiting, Failed}
 use Rattle.sio_wire.specs.declared.header.Header.{Header}
 use Rattle.sio_wire.proofs.HeaderLemmas.{Sio-once}
-use Rattle.sio_wire.specs.Frames.{Frame, text, binary, BeginsPacket, Groups, IsGroup, IsUnfinished, Keeps, Accepted, Accepts, GivesOrKeeps, text_refusal}
+use Rattle.sio_wire.specs.Frames.{Frame, text, binary, BeginsPacket, Groups, IsGroup, IsUnfinished, Keeps, Accepted, Accepts, GivesOrKeeps}
 
 -- one more frame, which makes the rest a group
 Groups-whole : (frames : List Frame) (packets : List SioPacket) (rest : List Frame) (frame : Frame) (packet : SioPacket) → Groups frames packets rest → IsGroup (rest ++ frame ∷ []) packet
@@ -43,11 +43,6 @@ BeginsPacket-more rest h parts more bytes is begins = record {
   spells = begins.spells;
   frames_are = rw is (ap (λ fs. fs ++ binary bytes ∷ []) begins.frames_are ∙ ap (λ fs. text begins.header_text ∷ fs) (sym (map-append binary parts (bytes ∷ []))));
 }
-
-pub Ready-no_text_refusal : (progress : Progress) → text_refusal progress ≡ None → progress ≡ Ready
-Ready-no_text_refusal Ready none = refl
-Ready-no_text_refusal (Waiting packet) none = cc none
-Ready-no_text_refusal (Failed error) none = cc none
 
 pub from_OnOk : {T E : Type 0} (P : Type 0) (r : Result T E) → is_err r ≡ false → OnOk r P → P
 from_OnOk P (Ok x) ok h = h

@@ -1,10 +1,9 @@
 -- The payload before its last bracket.
-use Rattle.std.proofs.Common.{◌≡◌, ◌≢◌, ℕ, ◌-◌, ◌<◌, List, length, get_or, take, reverse, true, false, not, Option, Some, None, ◌∙◌, ap, arith}
-use Rattle.std.specs.Prelude.{IfNone}
+use Rattle.std.proofs.Common.{◌≡◌, ◌≢◌, ℕ, ◌-◌, ◌<◌, List, length, get_or, take, reverse, true, false, not, ◌∙◌, ap, arith}
 use Rattle.std.specs.List.{before_last, suffix_len, list_any}
 use Rattle.std.proofs.lemmas.Bool.Decides.{nat_tests}
 use Rattle.std.proofs.lemmas.List.{get_or-reverse, length-reverse}
-use Rattle.std.proofs.lemmas.List.Folds.{list_any_none, list_any_at}
+use Rattle.std.proofs.lemmas.List.Folds.{list_any_none}
 use Rattle.std.proofs.lemmas.List.Sums.{prefix_len_is}
 use Rattle.std.proofs.lemmas.List.Elements.{All-from_get_or}
 use Rattle.sio_wire.specs.Offset.{is_bracket}
@@ -18,9 +17,6 @@ is_bracket-false b other = grind (arith, nat_tests)
 pub no_bracket : (text : List ℕ) → ((i : ℕ) → i < length text → get_or text i 0 ≢ 93) → list_any is_bracket text ≡ false
 no_bracket text none = list_any_none is_bracket text (All-from_get_or (λ b. is_bracket b ≡ false) text 0 (λ i within. is_bracket-false _ (none i within)))
 
-pub has_bracket : (text : List ℕ) (at : ℕ) → at < length text → get_or text at 0 ≡ 93 → list_any is_bracket text ≡ true
-has_bracket text at within here = list_any_at is_bracket text at 0 within (is_bracket-true _ here)
-
 -- counted from the end, the first bracket is the last one
 suffix_len-bracket : (text : List ℕ) (at : ℕ) → at < length text → get_or text at 0 ≡ 93 → ((i : ℕ) → at < i → i < length text → get_or text i 0 ≢ 93)
     → suffix_len (λ b. not (is_bracket b)) text ≡ length text - at - 1
@@ -32,7 +28,3 @@ pub before_last_bracket : (text : List ℕ) (at : ℕ) → at < length text → 
     → before_last is_bracket text ≡ take at text
 before_last_bracket text at within here after =
     ap (λ n. take n text) (let same : length text - suffix_len (λ b. not (is_bracket b)) text - 1 ≡ at = omega (arith, suffix_len-bracket text at within here after) in same)
-
-pub IfNone-always : {A : Type 0} (P : Type 0) (o : Option A) → P → IfNone o P
-IfNone-always P None h = h
-IfNone-always P (Some x) h = tt

@@ -1,7 +1,7 @@
 -- A client's frames, cut into packets (Socket.IO protocol 5, "Packet encoding").
 use Rattle.std.specs.Prelude.{◌≡◌, ◌≢◌, ◌⊎◌, ◌<◌, ◌+◌, ◌-◌, ◌++◌, ℕ, Bool, false, List, [], ◌∷◌, length, map, nat_lt, sum_by, Option, Some, None}
 use Rattle.std.specs.Option.{option_to_list}
-use Rattle.sio_wire.specs.declared.packet.SioPacket.{SioPacket}
+use Rattle.sio_wire.specs.declared.assembler.SioPacket.{SioPacket}
 use Rattle.sio_wire.specs.declared.assembler.Progress.{Progress}
 use Rattle.sio_wire.specs.declared.assembler.Progress.TheVariants.{Ready, Waiting, Failed}
 use Rattle.sio_wire.specs.declared.error.SioError.{SioError}

@@ -5,7 +5,7 @@ use Rattle.serde_json.specs.Read.{read}
 use Rattle.serde_json.specs.Find.{get, as_str, as_array}
 use Rattle.sio_wire.specs.declared.error.SioError.{SioError}
 use Rattle.sio_wire.specs.declared.error.SioError.TheVariants.{BadJson, BadShape}
-use Rattle.sio_wire.specs.declared.resume.Resume.{Resume}
+use Rattle.sio_wire.specs.declared.tree.Resume.{Resume}
 
 -- for each element its text, where it is one
 abbrev pub texts_of : Items → List (Option (List ℕ))

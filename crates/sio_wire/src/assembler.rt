@@ -1,17 +1,23 @@
 //! One client's frames, put together to packets (Socket.IO protocol 5, "Packet encoding").
 
-ghost use Rattle.std.specs.Prelude.{List, [], ◌≡◌, ◌≢◌, ◌⊎◌, ◌+◌, ◌<◌, ◌≤◌, Some, Err, IfOk, IfErr, IfSome, IfNone, OnOk, length, sum_by};
+ghost use Rattle.std.specs.Prelude.{List, [], ◌≡◌, ◌⊎◌, ◌≤◌, Some, Err, IfOk, IfErr, IfSome, OnOk, length};
 ghost use Rattle.sio_wire.specs.declared.assembler.Progress.{Progress};
 ghost use Rattle.sio_wire.specs.Header.{Sio};
 ghost use Rattle.sio_wire.specs.Frames.{Frame, text as text_frame, binary as binary_frame, Accepted, Accepts, GivesOrKeeps, IsProgress, RefusesText, text_refusal, binary_refusal, awaited, exceeds};
 
 use crate::error::SioError;
 use crate::header::{Header, read_header};
-use crate::packet::SioPacket;
 use std::alloc::Global;
 use std::marker::Model;
 use std::mem;
 use terms::{Attachments, Bytes};
+
+/// A packet that came whole: its header, and as many attachments as the header counts.
+#[derive(Debug, Drop)]
+pub struct SioPacket {
+    pub header: Header,
+    pub attachments: Attachments,
+}
 
 /// How far an assembler has come.
 #[derive(Debug, Drop)]
@@ -39,19 +45,6 @@ impl Model for Assembler {
     ghost invariant = { λ a. IsProgress a.progress };
 }
 
-/// The room that these attachments leave, or `None` where there isn't room for them.
-#[tactic(auto, using(std::proofs::lemmas::List::Sums::sum_by_more_le))]
-fn room_beside(parts: &[Bytes], limit: usize) -> Option<usize>
-    ensures some { IfSome result (λ left. left + sum_by (λ part. length part) parts.now ≡ limit) }
-    ensures none { IfNone result (limit < sum_by (λ part. length part) parts.now) }
-{
-    let mut left = limit;
-    for part in parts {
-        left = left.checked_sub(part.as_slice().len())?;
-    }
-    Some(left)
-}
-
 impl Assembler {
     /// An assembler before its first frame. It takes no memory.
     pub fn new() -> Assembler
@@ -75,16 +68,21 @@ impl Assembler {
         ensures fault { IfErr result (λ error. ((error ≡ SioError.Memory) × (self.new ≡ self.old))
             ⊎ (RefusesText self.old text.now error × (self.new ≡ Progress.Failed error))) }
     {
-        if let Some(error) = self.text_refusal() {
-            return Err(self.fail(error));
-        }
-        match read_header(alloc, text) {
+        let header = match &self.progress {
+            Progress::Ready => read_header(alloc, text),
+            Progress::Waiting(_) => Err(SioError::TextAwaitingBinary),
+            Progress::Failed(error) => Err(*error),
+        };
+        match header {
             Ok(header) => Ok(self.keep(SioPacket {
                 header,
                 attachments: Attachments::new(alloc),
             })),
             Err(SioError::Memory) => Err(SioError::Memory),
-            Err(error) => Err(self.fail(error)),
+            Err(error) => {
+                self.progress = Progress::Failed(error);
+                Err(error)
+            }
         }
     }
 
@@ -98,10 +96,14 @@ impl Assembler {
         ensures fault { IfErr result (λ error. ((error ≡ SioError.Memory) × (self.new ≡ self.old))
             ⊎ ((binary_refusal self.old ≡ Some error) × (self.new ≡ Progress.Failed error))) }
     {
-        if let Some(error) = self.binary_refusal() {
-            return Err(self.fail(error));
-        }
-        let part = Bytes::copy_of(alloc, bytes)?;
+        let part = match &self.progress {
+            Progress::Ready => {
+                self.progress = Progress::Failed(SioError::BinaryUnawaited);
+                return Err(SioError::BinaryUnawaited);
+            }
+            Progress::Waiting(_) => Bytes::copy_of(alloc, bytes)?,
+            Progress::Failed(error) => return Err(*error),
+        };
         match mem::replace(&mut self.progress, Progress::Ready) {
             Progress::Waiting(mut packet) => {
                 if packet.attachments.push(part).is_err() {
@@ -126,40 +128,21 @@ impl Assembler {
 
     /// Whether this binary frame, with the attachments that came so far, has more bytes than the
     /// limit. Where none is awaited it hasn't.
+    #[tactic(auto, using(std::proofs::lemmas::List::Sums::sum_by_more_le))]
     pub fn exceeds(&self, bytes: &[u8], limit: usize) -> bool
         ensures { result ≡ exceeds self.now limit (length bytes.now) }
     {
         let Progress::Waiting(packet) = &self.progress else {
             return false;
         };
-        match room_beside(packet.attachments.as_slice(), limit) {
-            Some(left) => left < bytes.len(),
-            None => true,
+        let mut left = limit;
+        for part in packet.attachments.as_slice() {
+            left = match left.checked_sub(part.as_slice().len()) {
+                Some(left) => left,
+                None => return true,
+            };
         }
-    }
-
-    /// Why each text is refused, whatever it spells.
-    fn text_refusal(&self) -> Option<SioError>
-        ensures value { result ≡ text_refusal self.now }
-        ensures lasting { IfSome result (λ error. error ≢ SioError.Memory) }
-    {
-        match &self.progress {
-            Progress::Ready => None,
-            Progress::Waiting(_) => Some(SioError::TextAwaitingBinary),
-            Progress::Failed(error) => Some(*error),
-        }
-    }
-
-    /// Why each binary frame is refused.
-    fn binary_refusal(&self) -> Option<SioError>
-        ensures value { result ≡ binary_refusal self.now }
-        ensures lasting { IfSome result (λ error. error ≢ SioError.Memory) }
-    {
-        match &self.progress {
-            Progress::Ready => Some(SioError::BinaryUnawaited),
-            Progress::Waiting(_) => None,
-            Progress::Failed(error) => Some(*error),
-        }
+        left < bytes.len()
     }
 
     /// Gives the packet where it is whole; else it is kept, and the rest of it awaited.
@@ -173,16 +156,6 @@ impl Assembler {
         }
         self.progress = Progress::Waiting(packet);
         None
-    }
-
-    /// Answers the error, now and from now on.
-    fn fail(&mut self, error: SioError) -> SioError
-        requires { error ≢ SioError.Memory }
-        ensures failed { self.new ≡ Progress.Failed error }
-        ensures same { result ≡ error }
-    {
-        self.progress = Progress::Failed(error);
-        error
     }
 }
 

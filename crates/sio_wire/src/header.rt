@@ -3,9 +3,9 @@
 
 ghost use Rattle.std.specs.Prelude.{All, ◌≢◌, List, ℕ, ◌≡◌, ◌<◌, ◌≤◌, ◌⊎◌, ◌++◌, IfOk, IfErr, OnOk, take, drop, length, slice_index, string_bytes};
 ghost use Rattle.std.specs.Char.{is_ascii_digit};
-ghost use Rattle.std.specs.List.{take_while, list_any, before_first, after_first as rest_after};
+ghost use Rattle.std.specs.List.{take_while, list_any};
 ghost use Rattle.std.specs.Str.Parse.{AllDigits, digits_value};
-ghost use Rattle.sio_wire.specs.Header.{Sio, Plain, SpellsNothing, count_text, space_text, id_text, is_comma, is_control};
+ghost use Rattle.sio_wire.specs.Header.{Sio, Plain, SpellsNothing, space_text, is_control};
 ghost use Rattle.sio_wire.specs.Faults.{HasFault};
 ghost use Rattle.sio_wire.specs.Scan.{Gives, header_at, kind_at, count_at, space_at, id_at, digit_count};
 
@@ -109,7 +109,7 @@ fn space_of(text: &str) -> Result<(&str, &str), SioError>
     if text.is_empty() || text.as_bytes()[0] != b'/' {
         return Ok(("/", text));
     }
-    let (space, rest) = split_comma(text);
+    let (space, rest) = text.split_once(',').unwrap_or((text, ""));
     if has_control(space.as_bytes()) {
         return Err(SioError::BadShape);
     }
@@ -148,10 +148,7 @@ fn number_of(digits: &str) -> u64
     requires few { length digits.now ≤ 15 }
     ensures { result ≡ digits_value 10 digits.now }
 {
-    match digits.parse::<u64>() {
-        Ok(number) => number,
-        Err(_) => unreachable!(),
-    }
+    digits.parse().unwrap()
 }
 
 /// How many digits stand in front.
@@ -166,17 +163,6 @@ fn has_control(bytes: &[u8]) -> bool
     ensures { result ≡ list_any is_control bytes.now }
 {
     bytes.iter().any(|b| *b < 32)
-}
-
-/// What stands before the first comma and after it; the whole text, where there is none.
-fn split_comma(text: &str) -> (&str, &str)
-    ensures front { result.0.now ≡ before_first is_comma text.now }
-    ensures rest { result.1.now ≡ rest_after is_comma text.now }
-{
-    match text.split_once(',') {
-        Some((front, rest)) => (front, rest),
-        None => (text, ""),
-    }
 }
 
 /// The text after its first character, which is ASCII.
@@ -194,23 +180,17 @@ pub fn write_header(alloc: Global, header: &Header) -> Result<String, SioError>
     ensures ok { IfOk result (λ t. Plain header.now (string_bytes t)) }
     ensures err { IfErr result (λ e. e ≡ SioError.Memory) }
 {
-    let mut text = String::new(alloc);
-    text.push_str(header.kind.digit())?;
-    push_count(&mut text, header.kind, header.count)?;
-    push_space(&mut text, header.space.as_str())?;
-    push_id(&mut text, header.id)?;
-    text.push_str(header.payload.as_str())?;
-    Ok(text)
-}
-
-/// Appends the count of attachments and a `-`, where the type has attachments.
-fn push_count(text: &mut String, kind: Kind, count: u32) -> Result<(), AllocError>
-    ensures { OnOk result (string_bytes text.new ≡ string_bytes text.old ++ count_text kind count) }
-{
-    if kind.is_binary() {
+    let mut text = String::from_str(alloc, header.kind.digit())?;
+    if header.kind.is_binary() {
+        let count = header.count;
         write!(text, "{count}-")?;
     }
-    Ok(())
+    push_space(&mut text, header.space.as_str())?;
+    if let Some(id) = header.id {
+        write!(text, "{id}")?;
+    }
+    text.push_str(header.payload.as_str())?;
+    Ok(text)
 }
 
 /// Appends the namespace and a comma, where it is not `/`.
@@ -220,16 +200,6 @@ pub(crate) fn push_space(text: &mut String, space: &str) -> Result<(), AllocErro
     if space != "/" {
         text.push_str(space)?;
         text.push_str(",")?;
-    }
-    Ok(())
-}
-
-/// Appends the acknowledgement id, where there is one.
-fn push_id(text: &mut String, id: Option<u64>) -> Result<(), AllocError>
-    ensures { OnOk result (string_bytes text.new ≡ string_bytes text.old ++ id_text id) }
-{
-    if let Some(id) = id {
-        write!(text, "{id}")?;
     }
     Ok(())
 }

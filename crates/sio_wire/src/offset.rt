@@ -1,8 +1,8 @@
 //! The offset that a logged event carries as its payload's last element (Socket.IO server
 //! documentation, "Connection state recovery"): sixteen lower-case hexadecimal digits.
 
-ghost use Rattle.std.specs.Prelude.{ℕ, ◌≡◌, ◌⊎◌, ◌<◌, ◌^◌, ◌↔◌, Some, IfOk, IfErr, IfSome, IsErrOf, IfNone, true, false, string_bytes};
-ghost use Rattle.std.specs.List.{before_last, list_any};
+ghost use Rattle.std.specs.Prelude.{ℕ, ◌≡◌, ◌⊎◌, ◌<◌, ◌^◌, ◌↔◌, Some, IfOk, IfErr, IfSome, IsErrOf, false, string_bytes};
+ghost use Rattle.std.specs.List.{list_any};
 ghost use Rattle.sio_wire.specs.Offset.{is_bracket, offset_digits, payload_with_offset};
 
 use crate::error::SioError;
@@ -17,7 +17,10 @@ pub fn with_offset(alloc: Global, payload: &str, offset: u64) -> Result<String, 
         ↔ (list_any is_bracket payload.now ≡ false) }
     ensures err { IfErr result (λ e. (e ≡ SioError.Memory) ⊎ (e ≡ SioError.BadShape)) }
 {
-    let front = before_last_bracket(payload).ok_or(SioError::BadShape)?;
+    let front = match payload.rfind(']') {
+        Some(last) => &payload[..last],
+        None => return Err(SioError::BadShape),
+    };
     let mut digits = [0u8; 16];
     write_digits(u128::from(offset), &mut digits);
     let digits = ascii_text(&digits);
@@ -34,14 +37,4 @@ pub fn read_offset(text: &str) -> Option<u64>
     }
     let number = read_digits(text.as_bytes())?;
     Some(number as u64)
-}
-
-/// What stands before the last `]`.
-fn before_last_bracket(text: &str) -> Option<&str>
-    ensures some { IfSome result (λ front. front.now ≡ before_last is_bracket text.now) }
-    ensures found { IfSome result (λ _. list_any is_bracket text.now ≡ true) }
-    ensures none { IfNone result (list_any is_bracket text.now ≡ false) }
-{
-    let at = text.rfind(']')?;
-    Some(&text[..at])
 }

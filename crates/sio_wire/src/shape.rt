@@ -2,16 +2,16 @@
 //! "Packet encoding").
 
 ghost use Rattle.std.specs.Prelude.{◌≡◌, ◌⊎◌, ◌↔◌, IsTrue, IfOk, IfErr, Contains, option_map};
-ghost use Rattle.serde_json.specs.View.{view, items_view, members_view};
+ghost use Rattle.serde_json.specs.View.{view};
 ghost use Rattle.sio_wire.specs.Faults.{Checks};
-ghost use Rattle.sio_wire.specs.Placeholders.{IsPlaceholder, HasNumberBelow, Placed, PlacedItems, PlacedMembers};
-ghost use Rattle.sio_wire.specs.Shape.{IsTree, IsNoTree, has_shape, begins_event, HasReservedName, IsReserved, IsPlaced, reserved_names};
+ghost use Rattle.sio_wire.specs.Placeholders.{IsPlaceholder, HasNumberBelow, Placed};
+ghost use Rattle.sio_wire.specs.Shape.{IsTree, IsNoTree, has_shape, begins_event, HasReservedName, IsPlaced, reserved_names};
 
 use crate::error::SioError;
 use crate::header::Header;
 use crate::kind::Kind;
 use crate::tree::parse;
-use serde_json::{Map, Value};
+use serde_json::Value;
 use std::alloc::Global;
 
 /// Looks at the payload of a header whose parts were read.
@@ -52,16 +52,14 @@ fn has_shape(kind: Kind, id: Option<u64>, tree: &Option<Value>) -> bool
     ensures { result ≡ has_shape kind id (option_map view tree.now) }
 {
     match (kind, tree) {
-        (Kind::Connect, None) => id.is_none(),
+        (Kind::Connect | Kind::Disconnect, None) => id.is_none(),
         (Kind::Connect, Some(value)) => id.is_none() && value.is_object(),
-        (Kind::Disconnect, None) => id.is_none(),
-        (Kind::Disconnect, Some(_)) => false,
         (Kind::Event | Kind::BinaryEvent, Some(value)) => begins_event(value),
         (Kind::Ack | Kind::BinaryAck, Some(value)) => id.is_some() && value.is_array(),
         (Kind::ConnectError, Some(value)) => {
             id.is_none() && (value.is_string() || value.is_object())
         }
-        (_, None) => false,
+        _ => false,
     }
 }
 
@@ -80,18 +78,11 @@ fn has_reserved_name(kind: Kind, tree: &Option<Value>) -> bool
     ensures { IsTrue result ↔ HasReservedName kind (option_map view tree.now) }
 {
     match tree {
-        Some(value) if kind.is_event() => is_reserved(value),
+        Some(value) if kind.is_event() => match value.get(0usize).and_then(Value::as_str) {
+            Some(name) => is_reserved_name(name),
+            None => false,
+        },
         _ => false,
-    }
-}
-
-/// Whether the value is an array whose first item is a reserved name.
-fn is_reserved(value: &Value) -> bool
-    ensures { IsTrue result ↔ IsReserved (view value.now) }
-{
-    match value.get(0usize).and_then(Value::as_str) {
-        Some(name) => is_reserved_name(name),
-        None => false,
     }
 }
 
@@ -121,41 +112,29 @@ fn is_placed(kind: Kind, count: u32, tree: &Option<Value>) -> bool
 }
 
 /// Whether each placeholder in the value, at any depth, has a number below `count`.
-#[cycle(are_placed)]
 fn are_placed(value: &Value, count: u32) -> bool
     ensures { IsTrue result ↔ Placed (view value.now) count }
 {
     match value {
-        Value::Array(items) => are_items_placed(items, count),
-        Value::Object(members) => is_numbered(value, count) && are_members_placed(members, count),
+        Value::Array(items) => {
+            for item in items {
+                if !are_placed(item, count) {
+                    return false;
+                }
+            }
+            true
+        }
+        Value::Object(_) if !is_numbered(value, count) => false,
+        Value::Object(members) => {
+            for (_name, member) in members.iter() {
+                if !are_placed(member, count) {
+                    return false;
+                }
+            }
+            true
+        }
         _ => true,
     }
-}
-
-/// The same of each of these items.
-#[cycle(are_placed)]
-fn are_items_placed(items: &Vec<Value>, count: u32) -> bool
-    ensures { IsTrue result ↔ PlacedItems (items_view items.now.items) count }
-{
-    for item in items {
-        if !are_placed(item, count) {
-            return false;
-        }
-    }
-    true
-}
-
-/// The same of each of these members.
-#[cycle(are_placed)]
-fn are_members_placed(members: &Map<String, Value>, count: u32) -> bool
-    ensures { IsTrue result ↔ PlacedMembers (members_view members.now.entries) count }
-{
-    for (_name, member) in members.iter() {
-        if !are_placed(member, count) {
-            return false;
-        }
-    }
-    true
 }
 
 /// Whether the value, if it is a placeholder, has a number below `count`.

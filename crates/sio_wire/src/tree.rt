@@ -1,10 +1,10 @@
-//! The JSON tree of a payload, and the texts among an event's elements.
+//! The JSON tree of a payload: the texts among an event's elements, and what a client's CONNECT says
+//! of the session that it had (Socket.IO server documentation, "Connection state recovery").
 
-ghost use Rattle.std.specs.Option.{option_copied};
 ghost use Rattle.std.specs.Prelude.{◌≡◌, ◌⊎◌, Some, None, Ok, Err, IfOk, IfErr};
 ghost use Rattle.serde_json.specs.Read.{read};
 ghost use Rattle.serde_json.specs.View.{view, items_view};
-ghost use Rattle.sio_wire.specs.JsonFields.{texts_of, names_at};
+ghost use Rattle.sio_wire.specs.JsonFields.{texts_of, names_at, resume_at};
 
 use crate::error::SioError;
 use serde_json::{Category, Value};
@@ -42,17 +42,39 @@ fn texts(alloc: Global, values: &Vec<Value>) -> Result<Vec<Option<Text>>, AllocE
 {
     let mut found = Vec::new(alloc);
     for value in values {
-        found.push(copy_of(alloc, value.as_str())?)?;
+        found.push(match value.as_str() {
+            Some(text) => Some(Text::copy_of(alloc, text)?),
+            None => None,
+        })?;
     }
     Ok(found)
 }
 
-/// A copy of the text, if there is one.
-fn copy_of(alloc: Global, text: Option<&str>) -> Result<Option<Text>, AllocError>
-    ensures { IfOk result (λ copy. copy ≡ option_copied text.entry) }
+/// The private session id that a client names, and the last offset that it got in that session,
+/// both as it wrote them.
+#[derive(Debug, Drop)]
+pub struct Resume {
+    pub pid: Text,
+    pub offset: Text,
+}
+
+/// What the payload of a CONNECT names. `None` where it is empty, and where `pid` or `offset` is
+/// missing or no text; `BadJson` where it is no JSON text.
+pub fn resume_of(alloc: Global, payload: &str) -> Result<Option<Resume>, SioError>
+    ensures ok { IfOk result (λ named. resume_at payload.now ≡ Ok named) }
+    ensures err { IfErr result (λ e. (e ≡ SioError.Memory) ⊎ (resume_at payload.now ≡ Err e)) }
 {
-    match text {
-        Some(text) => Ok(Some(Text::copy_of(alloc, text)?)),
-        None => Ok(None),
+    if payload.is_empty() {
+        return Ok(None);
+    }
+    let value = parse(alloc, payload)?;
+    let pid = value.get("pid").and_then(Value::as_str);
+    let offset = value.get("offset").and_then(Value::as_str);
+    match (pid, offset) {
+        (Some(pid), Some(offset)) => Ok(Some(Resume {
+            pid: Text::copy_of(alloc, pid)?,
+            offset: Text::copy_of(alloc, offset)?,
+        })),
+        _ => Ok(None),
     }
 }

@@ -1,8 +1,6 @@
 //! The connections of a loop, and which of them have something to do.
 
-ghost use Rattle.std.specs.Prelude.{IsTrue};
-ghost use Rattle.loop_rules.specs.Rotas.{IsQuiet};
-
+use crate::stage::Stage;
 use crate::tcp_connection::{Connection, Mode};
 use loop_rules::{Overdue, Part, Roster};
 use mio::event::Event;
@@ -16,19 +14,16 @@ use terms::let_go;
 /// The connections of a loop. Each has a key.
 pub struct Connections<'a, R> {
     slots: Slab<Box<Connection<'a, R>>>,
-    generation: u32,
     /// Those that have something to do, and the clients that are listed with theirs.
     pub roster: Roster,
     /// Those that may have bytes to send.
     unsent: Vec<usize>,
-    /// There was no memory to note one that has bytes to send.
-    overlooked: bool,
 }
 
 /// Written out, so that a crate above takes the drop of all that lies in it by this one call.
 impl<R: Drop> Drop for Connections<'_, R> {
     fn drop(self) {
-        let_go!(self; slots, generation, roster, unsent, overlooked);
+        let_go!(self; slots, roster, unsent);
     }
 }
 
@@ -37,10 +32,8 @@ impl<'a, R: Clock + Drop> Connections<'a, R> {
     pub fn new(alloc: Global) -> Connections<'a, R> {
         Connections {
             slots: Slab::new(alloc),
-            generation: 0,
             roster: Roster::new(alloc),
             unsent: Vec::new(alloc),
-            overlooked: false,
         }
     }
 
@@ -54,8 +47,8 @@ impl<'a, R: Clock + Drop> Connections<'a, R> {
         self.slots.capacity()
     }
 
-    /// Adds a connection of which nothing was read yet, and has its stream's readiness told. Its
-    /// token is its key, and what tells it from an earlier one with that key. None where it fails.
+    /// Adds a connection of which nothing was read yet, and has its stream's readiness told by its
+    /// key. None where it fails.
     pub fn add(
         &mut self,
         alloc: Global,
@@ -63,12 +56,10 @@ impl<'a, R: Clock + Drop> Connections<'a, R> {
         mut stream: Stream,
         now: u64,
     ) -> Option<usize> {
-        self.generation = self.generation.wrapping_add(1) & 0x7fff_ffff;
         let key = self.slots.vacant_key();
-        let token = Token(((self.generation as usize) << 32) | (key & 0xffff_ffff));
-        let interests = Interest::READABLE | Interest::WRITABLE;
+        let (token, interests) = (Token(key), Interest::READABLE | Interest::WRITABLE);
         registry.register(&mut stream.inner, token, interests).ok()?;
-        let connection = Connection::new(alloc, stream, token, now)?;
+        let connection = Connection::new(alloc, stream, now)?;
         if !self.roster.rota.admit(key) {
             return None;
         }
@@ -77,14 +68,7 @@ impl<'a, R: Clock + Drop> Connections<'a, R> {
 
     /// The connection with this key.
     pub fn get_mut(&mut self, key: usize) -> Option<&mut Connection<'a, R>> {
-        let connection = self.slots.get_mut(key)?;
-        Some(connection)
-    }
-
-    /// The key of the connection with this token, if it is still there.
-    pub fn key_of(&self, token: Token) -> Option<usize> {
-        let key = token.0 & 0xffff_ffff;
-        (self.slots.get(key)?.token == token).then_some(key)
+        Some(self.slots.get_mut(key)?)
     }
 
     /// Takes a connection out.
@@ -103,27 +87,14 @@ impl<'a, R: Clock + Drop> Connections<'a, R> {
         self.roster.takers.list(client, key);
     }
 
-    /// Queues all connections, where all are to be looked at, or one was overlooked for which there was no
-    /// memory.
-    pub fn call_missed(&mut self, everyone: bool) {
-        if self.overlooked || everyone {
-            self.overlooked = false;
-            self.roster.rota.call_all();
-        }
-    }
-
-    /// Whether none has something to do.
-    pub fn is_quiet(&self) -> bool
-        ensures { IsTrue result → IsQuiet self.now.roster.rota }
-    {
-        self.roster.rota.is_quiet() && !self.overlooked
-    }
-
-    /// It may have bytes to send.
+    /// It may have bytes to send. Where there is no memory to note that, it gets a turn, at whose
+    /// end it is noted anew.
     pub fn note_unsent(&mut self, key: usize) {
         if let Some(connection) = self.slots.get_mut(key) {
             connection.unsent = connection.unsent || self.unsent.push(key).is_ok();
-            self.overlooked |= !connection.unsent;
+            if !connection.unsent {
+                self.roster.rota.call(key);
+            }
         }
     }
 
@@ -138,9 +109,7 @@ impl<'a, R: Clock + Drop> Connections<'a, R> {
 
     /// A stream is ready: its connection is queued, or its bytes are to be sent.
     pub fn note(&mut self, event: &Event) {
-        let Some(key) = self.key_of(event.token()) else {
-            return;
-        };
+        let Token(key) = event.token();
         if event.is_readable() {
             let connection = self.get_mut(key);
             if let Some(stream) = connection.and_then(|connection| connection.stage.stream()) {
@@ -169,10 +138,22 @@ impl<'a, R: Clock + Drop> Connections<'a, R> {
             Mode::Serves if stage.client().is_none_or(speaks) => Part::Served,
             Mode::Serves => Part::Knocks,
         };
-        let overdue = connection.keep_deadline(part, cutting, now);
-        if !matches!(overdue, Overdue::Nothing | Overdue::Close) {
-            self.roster.rota.call(key);
+        match connection.overdue(part, cutting, now) {
+            Overdue::Nothing => return false,
+            Overdue::Close => return true,
+            Overdue::GiveUp => {
+                if let Stage::Polling(peer) = &mut connection.stage {
+                    peer.give_up();
+                }
+            }
+            Overdue::Cut => connection.cut(),
+            Overdue::Fail => {
+                connection.cut();
+                connection.fail(now);
+            }
+            Overdue::Look => {}
         }
-        overdue == Overdue::Close
+        self.roster.rota.call(key);
+        false
     }
 }

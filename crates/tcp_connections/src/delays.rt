@@ -1,7 +1,6 @@
 //! GETs that are served a little later.
 
 use http_edge::Target;
-use mio::Token;
 use peers::{is_recent, served_from};
 use std::alloc::Global;
 use std::collections::{HashMap, VecDeque};
@@ -13,7 +12,7 @@ pub struct Delays {
     /// When a client was last told so, by a lone noop packet.
     noops: HashMap<u128, u64>,
     /// Those that wait, each after its moment, in the order of these.
-    waiting: VecDeque<(u64, Token)>,
+    waiting: VecDeque<(u64, usize)>,
 }
 
 impl Delays {
@@ -36,14 +35,14 @@ impl Delays {
         self.noops.retain(|_, told| is_recent(*told, now));
     }
 
-    /// From when on a request is served that came now over this connection, which waits where that is
-    /// later, and there is memory for it.
-    pub fn delay(&mut self, target: Target, token: Token, now: u64) -> u64 {
+    /// From when on a request is served that came now over this connection, which waits where that
+    /// is later, and there is memory for it.
+    pub fn delay(&mut self, target: Target, key: usize, now: u64) -> u64 {
         let from = match target {
             Target::Poll(client) => served_from(self.noops.get(&client).copied(), now),
             _ => now,
         };
-        let waits = from > now && self.waiting.push_back((from, token)).is_ok();
+        let waits = from > now && self.waiting.push_back((from, key)).is_ok();
         if waits { from } else { now }
     }
 
@@ -52,8 +51,8 @@ impl Delays {
         Some(self.waiting.front()?.0)
     }
 
-    /// The first one, if its moment has come. It waits no more.
-    pub fn pop_due(&mut self, now: u64) -> Option<Token> {
+    /// The first one, if its moment has come. It waits no more, and its key may be another's.
+    pub fn pop_due(&mut self, now: u64) -> Option<usize> {
         if self.first()? > now {
             return None;
         }

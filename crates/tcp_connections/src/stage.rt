@@ -1,7 +1,7 @@
 //! Who serves a connection.
 
+use crate::tcp_connection::Mode;
 use crate::watch::Watch;
-use events::{Answered, Event, Peer, PeerFault};
 use http_edge::{EdgeError, Gathered, OnStream, Replay, Request, Target, write_response};
 use loop_rules::Pause;
 use peers::{
@@ -48,6 +48,8 @@ macro_rules! of_peer {
     };
 }
 
+pub(crate) use of_peer;
+
 /// Writes the next piece of what is left of a file. A client that reads slowly has no more than one
 /// piece in memory.
 fn write_piece(stream: &mut Stream, rest: &mut &[u8]) -> io::Result<()> {
@@ -83,11 +85,6 @@ impl<'a, R: Clock + Drop> Stage<'a, R> {
         matches!(self, Stage::Polling(peer) if peer.is_idle())
     }
 
-    /// Whether it has nothing to do until something comes for it.
-    pub fn is_idle(&self) -> bool {
-        of_peer!(self, peer => peer.is_idle(), true)
-    }
-
     /// The stream, which nobody has any more then. None where somebody serves it.
     pub fn take_stream(&mut self) -> Option<Stream> {
         match mem::replace(self, Stage::Gone) {
@@ -96,17 +93,7 @@ impl<'a, R: Clock + Drop> Stage<'a, R> {
         }
     }
 
-    /// The next event, if there is one.
-    pub fn next(&mut self) -> Result<Option<(Event, u64)>, PeerFault> {
-        of_peer!(self, peer => peer.next(), Ok(None))
-    }
-
-    /// Hears the answer to an event, and tells whether it could.
-    pub fn answer(&mut self, got: &Answered) -> bool {
-        of_peer!(self, peer => peer.answer(got).is_ok(), true)
-    }
-
-    /// Sends what is unsent, and the next piece of a file where nothing is. Answers how many bytes went.
+    /// Sends what is unsent, or the next piece of a file where nothing is. Answers how many bytes.
     pub fn send(&mut self) -> io::Result<usize> {
         if let Stage::Answered { stream, rest } = self {
             if stream.unsent() == 0 {
@@ -162,7 +149,8 @@ impl<'a, R: Clock + Drop> Stage<'a, R> {
         }
     }
 
-    /// Answers a request, or has a peer serve it. None where no peer does.
+    /// Answers a request, or has a peer serve it, and tells what the connection is about then. None
+    /// where no peer serves it.
     pub fn serve(
         &mut self,
         alloc: Global,
@@ -170,7 +158,7 @@ impl<'a, R: Clock + Drop> Stage<'a, R> {
         target: Target,
         watch: Watch<R>,
         rules: &'a Rules,
-    ) -> Option<()> {
+    ) -> Option<Mode> {
         if let (Target::NotFound, Some(file)) = (target, rules.file_for(&request)) {
             let mut stream = self.take_stream()?;
             let head = file.head(alloc, &request.origin).ok()?;
@@ -185,18 +173,20 @@ impl<'a, R: Clock + Drop> Stage<'a, R> {
             self.reply(alloc, &request.origin, Some(reply));
             return None;
         }
-        let stream = self.take_stream()?;
+        let mut stream = self.take_stream()?;
+        // What stands after the head is not brought yet.
+        stream.unbrought = request.rest.len();
         let request = Box::into_inner(request);
         if let Some(wanted) = SocketRequest::of(target) {
             let socket = accept_socket(alloc, stream, request.head, request.rest)?;
             let peer = SocketPeer::new(alloc, socket, watch, wanted);
             *self = Stage::Speaking(Box::new(alloc, peer).ok()?);
-            return Some(());
+            return Some(Mode::Serves);
         }
         let wanted = PollRequest::of(target, request.body)?;
         let (wire, most) = (OnStream::new(stream), rules.poll_entries);
         let peer = PollPeer::new(alloc, wire, watch, wanted, most, request.origin);
         *self = Stage::Polling(Box::new(alloc, peer).ok()?);
-        Some(())
+        Some(Mode::Serves)
     }
 }

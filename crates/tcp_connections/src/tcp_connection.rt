@@ -1,16 +1,15 @@
 //! One connection.
 
-use crate::stage::Stage;
-use crate::watch::Watch;
-use events::{Answered, Event, Frames, Loss, Outcome, Telling, WsFrame};
-use http_edge::{Gathered, Request, Target};
+use crate::stage::{Stage, of_peer};
+use events::{Answered, Event, Frames, Loss, Outcome, Peer, Telling, WsFrame};
+use http_edge::Gathered;
 use loop_rules::{Found, Overdue, Part, Pause, find_overdue, left_after_message};
-use mio::Token;
 use peers::{FRAMES_PER_TAKE, PROBE, UPGRADE};
 use std::alloc::Global;
 use std::net::Shutdown;
 use std::rt::Clock;
-use tcp_streams::{Rules, Stream};
+use tcp_streams::Stream;
+use terms::let_go;
 
 /// A connection with more bytes unsent than this is not served until they have gone.
 const MOST_UNSENT: usize = 65_536;
@@ -34,10 +33,7 @@ pub enum Mode {
 }
 
 /// One connection.
-#[derive(Drop)]
 pub struct Connection<'a, R> {
-    /// Tells it from an earlier one with the same key.
-    pub token: Token,
     /// It stands in the list of those with bytes to send.
     pub unsent: bool,
     pub mode: Mode,
@@ -49,11 +45,16 @@ pub struct Connection<'a, R> {
     moved: u64,
     /// It waits for this moment before it is served.
     pub not_before: u64,
-    /// Its last event takes what waits, where all that was read was brought and the stream had no more.
-    dry: bool,
     /// The moment at which it was last asked what is due.
     asked: u64,
     pub stage: Stage<'a, R>,
+}
+
+/// Written out, so that a crate above takes the drop of all that lies in it by this one call.
+impl<R: Drop> Drop for Connection<'_, R> {
+    fn drop(self) {
+        let_go!(self; unsent, mode, told, since, moved, not_before, asked, stage);
+    }
 }
 
 /// What a connection does next.
@@ -81,17 +82,15 @@ pub enum Sent {
 
 impl<'a, R: Clock + Drop> Connection<'a, R> {
     /// Its request is coming. None where there is no memory for it.
-    pub fn new(alloc: Global, stream: Stream, token: Token, now: u64) -> Option<Box<Self>> {
+    pub fn new(alloc: Global, stream: Stream, now: u64) -> Option<Box<Self>> {
         let gathered = Gathered::new(alloc);
         let connection = Connection {
-            token,
             unsent: false,
             mode: Mode::Gathers,
             told: false,
             since: now,
             moved: now,
             not_before: 0,
-            dry: false,
             asked: 0,
             stage: Stage::Gathering { stream, gathered },
         };
@@ -108,51 +107,14 @@ impl<'a, R: Clock + Drop> Connection<'a, R> {
         self.bytes_unsent() > MOST_UNSENT
     }
 
-    /// Does what is to be done with it at this part, where that took too long, or where all but those
-    /// that end are to fail. Answers what that was.
-    pub fn keep_deadline(&mut self, part: Part, cutting: bool, now: u64) -> Overdue {
-        let overdue = if cutting && !matches!(part, Part::Ends) {
-            Overdue::Fail
-        } else {
-            let stalled = (self.bytes_unsent() > 0).then_some(now.saturating_sub(self.moved));
-            find_overdue(part, now.saturating_sub(self.since), stalled)
-        };
-        match overdue {
-            Overdue::GiveUp => {
-                if let Stage::Polling(peer) = &mut self.stage {
-                    peer.give_up();
-                }
-            }
-            Overdue::Cut => self.cut(),
-            Overdue::Fail => {
-                self.cut();
-                self.fail(now);
-            }
-            Overdue::Nothing | Overdue::Close | Overdue::Look => {}
+    /// What is to be done with it at this part, where that took too long, or where all but those
+    /// that end are to fail.
+    pub(crate) fn overdue(&mut self, part: Part, cutting: bool, now: u64) -> Overdue {
+        if cutting && !matches!(part, Part::Ends) {
+            return Overdue::Fail;
         }
-        overdue
-    }
-
-    /// Begins to serve a request. It ends where nobody serves that.
-    pub fn serve(
-        &mut self,
-        alloc: Global,
-        request: Box<Request>,
-        target: Target,
-        watch: Watch<R>,
-        rules: &'a Rules,
-        now: u64,
-    ) {
-        self.mode = Mode::Serves;
-        self.since = now;
-        if let Some(stream) = self.stage.stream() {
-            // What stands after the head is not brought yet.
-            stream.unbrought = request.rest.len();
-        }
-        let served = self.stage.serve(alloc, request, target, watch, rules);
-        if served.is_none() {
-            self.end(now);
-        }
+        let stalled = (self.bytes_unsent() > 0).then_some(now.saturating_sub(self.moved));
+        find_overdue(part, now.saturating_sub(self.since), stalled)
     }
 
     /// What it does next. It ends where it has no event any more.
@@ -167,10 +129,10 @@ impl<'a, R: Clock + Drop> Connection<'a, R> {
             self.fail(now);
             return Next::Fails;
         }
-        match self.stage.next() {
+        match of_peer!(&mut self.stage, peer => peer.next(), Ok(None)) {
             Ok(Some((event, moment))) => self.bring(event, moment),
             Ok(None) => {
-                self.end(now);
+                self.turn_to(Mode::Closes, now);
                 Next::Pauses(Pause::Done)
             }
             Err(_) => {
@@ -194,10 +156,6 @@ impl<'a, R: Clock + Drop> Connection<'a, R> {
         if let (Some(stream), Some(length)) = (self.stage.stream(), length) {
             stream.unbrought = left_after_message(stream.unbrought, length);
         }
-        let has_read_nothing =
-            matches!(&self.stage, Stage::Speaking(peer) if peer.has_read_nothing());
-        self.dry = matches!(event, Event::FrameTake { .. })
-            && (has_read_nothing || self.has_brought_all());
         if matches!(event, Event::Tick { .. }) {
             if moment < self.asked.saturating_add(DUE) {
                 return Next::AsksAgain;
@@ -213,37 +171,41 @@ impl<'a, R: Clock + Drop> Connection<'a, R> {
         stream.is_none_or(|stream| stream.unbrought == 0 && stream.drained)
     }
 
-    /// Hears the answer to its event, and tells what that says of its look. It fails where it could not.
+    /// Hears the answer to its event, and tells what that says of its look. None where it fails.
     pub fn hear(&mut self, got: &Answered, now: u64) -> Option<Found> {
-        if !self.stage.answer(got) {
+        // All that was read was brought, and the stream has no more.
+        let has_brought_all = self.has_brought_all();
+        let dry = matches!(&self.stage, Stage::Speaking(peer)
+            if has_brought_all || peer.has_read_nothing());
+        if of_peer!(&mut self.stage, peer => peer.answer(got).is_err(), false) {
             self.fail(now);
             return None;
         }
         let took_all = |frames: &Frames| frames.as_slice().len() < FRAMES_PER_TAKE;
         Some(match got {
-            _ if self.stage.is_idle() => Found::Idle,
+            _ if of_peer!(&self.stage, peer => peer.is_idle(), true) => Found::Idle,
             Ok(Outcome::Ticked { ping, done }) if !*ping && done.closed.is_none() => Found::Quiet,
-            Ok(Outcome::Nothing) if self.dry => Found::Dry,
-            Ok(Outcome::Frames(frames)) if self.dry && took_all(frames) => Found::Dry,
+            Ok(Outcome::Nothing) if dry => Found::Dry,
+            Ok(Outcome::Frames(frames)) if dry && took_all(frames) => Found::Dry,
             _ => Found::More,
         })
     }
 
-    /// It is served no more, and ends once its bytes have gone.
-    pub fn end(&mut self, now: u64) {
-        self.mode = Mode::Closes;
+    /// From now on it is about this.
+    pub fn turn_to(&mut self, mode: Mode, now: u64) {
+        self.mode = mode;
         self.since = now;
     }
 
     /// It has failed: its client is lost, if it has one.
-    fn fail(&mut self, now: u64) {
-        self.since = now;
+    pub(crate) fn fail(&mut self, now: u64) {
         let client = self.stage.client();
-        self.mode = client.map_or(Mode::Closes, |client| Mode::Loses(Loss::new(client)));
+        let mode = client.map_or(Mode::Closes, |client| Mode::Loses(Loss::new(client)));
+        self.turn_to(mode, now);
     }
 
-    /// Where its client is lost: the core was told so, and answered this. Where it refused, it is told
-    /// again in the loop's next turn; else the connection ends once its bytes have gone.
+    /// Where its client is lost: the core was told so, and answered this. Where it refused, it is
+    /// told again in the loop's next turn; else the connection ends once its bytes have gone.
     pub fn hear_loss(&mut self, got: &Answered, now: u64) -> Option<Pause> {
         let Mode::Loses(loss) = &mut self.mode else {
             return None;
@@ -252,7 +214,7 @@ impl<'a, R: Clock + Drop> Connection<'a, R> {
             return Some(Pause::More);
         }
         self.told = true;
-        self.end(now);
+        self.turn_to(Mode::Closes, now);
         Some(Pause::Done)
     }
 
@@ -272,11 +234,10 @@ impl<'a, R: Clock + Drop> Connection<'a, R> {
             // A request over HTTP was read whole, and its stream is closed at once; else it is read
             // on, since a stream that is closed with bytes unread takes back what was sent.
             0 if matches!(self.mode, Mode::Closes) => {
-                self.since = now;
                 if matches!(self.stage, Stage::Polling(_)) {
                     return Sent::Remove;
                 }
-                self.mode = Mode::Lingers;
+                self.turn_to(Mode::Lingers, now);
                 let stream = self.stage.stream();
                 match stream.map(|stream| stream.inner.shutdown(Shutdown::Write)) {
                     Some(Ok(())) => Sent::Queue,
@@ -288,8 +249,8 @@ impl<'a, R: Clock + Drop> Connection<'a, R> {
         }
     }
 
-    /// Its bytes can't be sent. A WebSocket is read no more, so its peer finds that it has ended. An answer
-    /// over HTTP that can't be sent loses its client. One that is lost already isn't lost anew.
+    /// Its bytes can't be sent. A WebSocket is read no more, so its peer finds that it has ended.
+    /// An answer over HTTP that can't be sent loses its client, unless that is lost already.
     fn after_failure(&mut self, now: u64) -> Sent {
         if self.told || self.stage.client().is_none() {
             return Sent::Remove;
@@ -304,7 +265,7 @@ impl<'a, R: Clock + Drop> Connection<'a, R> {
     }
 
     /// Nothing more is read of it, or sent.
-    fn cut(&mut self) {
+    pub(crate) fn cut(&mut self) {
         if let Some(stream) = self.stage.stream() {
             stream.cut();
         }

@@ -1,15 +1,14 @@
 //! Who works at a server: its loops, the keeper, and who accepts.
 
-ghost use Rattle.std.specs.Prelude.{◌≡◌, IfOk, vec_len};
+ghost use Rattle.std.specs.Prelude.{◌≡◌, ◌<◌, IfOk, vec_len};
+ghost use Rattle.loop_rules.specs.Ids.{LOOPS};
 
 use crate::base::Base;
-use crate::drawn::DrawnIds;
 use crate::event_loop::EventLoop;
-use crate::keeper::{Keeper, KeptCore};
-use events::{Answered, Event, Peer, PeerFault};
-use loop_rules::LOOPS;
-use rand::make_rng;
+use events::{Answered, Event, IdSource, Peer, PeerFault};
+use loop_rules::{LOOPS, marked};
 use rand::rngs::StdRng;
+use rand::{Rng, make_rng};
 use std::alloc::{AllocError, Global};
 use std::random::RandomSource;
 use std::rt::Clock;
@@ -21,7 +20,7 @@ use tcp_streams::{Acceptor, Ears, Log, ServerFault};
 /// What a thread of the pool serves.
 pub enum Worker<'a, R, L, K> {
     Serves(EventLoop<'a, R, L>),
-    Keeps(Keeper<'a, R, L, K>),
+    Keeps(K),
 }
 
 /// Written out, so that a crate above takes the drop of all that lies in it by this one call.
@@ -33,36 +32,59 @@ impl<R: Drop, L, K: Drop> Drop for Worker<'_, R, L, K> {
     }
 }
 
-impl<R: Wait + Clock + Copy + Drop, L: Log, K: KeptCore> Peer for Worker<'_, R, L, K> {
+impl<R: Wait + Clock + Copy + Drop, L: Log, K: Peer> Peer for Worker<'_, R, L, K> {
     fn next(&mut self) -> Result<Option<(Event, u64)>, PeerFault> {
         match self {
-            Worker::Serves(own) => own.next(),
+            Worker::Serves(own) => Ok(own.next()),
             Worker::Keeps(keeper) => keeper.next(),
         }
     }
 
     fn answer(&mut self, got: &Answered) -> Result<(), PeerFault> {
         match self {
-            Worker::Serves(own) => own.answer(got),
+            Worker::Serves(own) => {
+                own.hear(got);
+                Ok(())
+            }
             Worker::Keeps(keeper) => keeper.answer(got),
         }
     }
 }
 
 /// The loops, each with its ears, and the keeper as the last worker.
-pub fn workers_for<'a, R: Wait + Clock + Copy + Drop, L: Log, K: KeptCore>(
-    base: &Base<'a, R, L>,
+pub fn workers_for<'a, R: Wait + Clock + Copy + Drop, L: Log, K: Drop>(
+    base: &'a Base<'a, R, L>,
     ears: Vec<Ears>,
-    core: K,
+    keeper: K,
 ) -> Result<Vec<Worker<'a, R, L, K>>, AllocError> {
     let mut workers = Vec::new(base.alloc);
     for own in ears {
-        let own = EventLoop::new(base.of_worker(workers.len()), own)?;
+        let own = EventLoop::new(base, workers.len(), own)?;
         workers.push(Worker::Serves(own))?;
     }
-    let keeper = Keeper::new(base.of_worker(workers.len()), core)?;
     workers.push(Worker::Keeps(keeper))?;
     Ok(workers)
+}
+
+/// Draws ids from a generator of random numbers. All but their ten low bits are as they were drawn;
+/// these are the number of a loop. In a contract it is that number, and what the generator answers.
+#[derive(Drop)]
+pub struct DrawnIds<G> {
+    number: u128,
+    random: G,
+    ghost in_range: { number < LOOPS },
+}
+
+impl<G: Rng> IdSource for DrawnIds<G> {
+    ghost use Rattle.tcp_loops.specs.Drawn.{drawn_ids};
+
+    ghost stream = { λ d. drawn_ids d.number (G.stream d.random) };
+
+    fn draw(&mut self) -> u128 {
+        let high = self.random.next_u64();
+        let low = self.random.next_u64();
+        marked(high, low, self.number)
+    }
 }
 
 /// A source of ids for each worker, which begins where the system says.
@@ -88,7 +110,7 @@ pub fn start_accepting<R: Threads + Wait + Clock + Copy + Drop + Send + 'static,
     mut acceptor: Box<Acceptor>,
 ) -> Result<JoinHandle<()>, ServerFault> {
     let shared = Arc::try_clone(base.shared)?;
-    let handle = base.rt;
-    let accepting = thread::spawn(&base.rt, move || acceptor.accept_all(&handle, &shared));
+    let handle = *base.rt;
+    let accepting = thread::spawn(base.rt, move || acceptor.accept_all(&handle, &shared));
     accepting.map_err(|_| ServerFault::Starting)
 }

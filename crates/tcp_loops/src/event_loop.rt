@@ -1,15 +1,16 @@
 //! A loop that serves many connections: one peer, which brings the events of all of their clients.
 
 use crate::base::Base;
-use events::{Answered, Done, Event, Outcome, Peer, PeerFault};
+use events::{Done, Event, Outcome};
 use loop_rules::{LookState, Mail, Notes, Pause, Turn};
 use mio::Events;
+use peers::Moments;
 use std::alloc::{AllocError, Global};
 use std::mem;
 use std::rt::Clock;
 use std::sync::Wait;
 use std::time::Duration;
-use tcp_connections::{Connection, Connections, Delays, Mode, Next, Sent};
+use tcp_connections::{Connection, Connections, Delays, Mode, Next, Sent, Watch};
 use tcp_streams::{Buffered, Ears, Handed, Inbox, Log, Stream};
 
 /// How many reports of streams one wait takes.
@@ -31,7 +32,10 @@ const BEAT: u64 = 1_000;
 /// A loop over many connections.
 #[derive(Drop)]
 pub struct EventLoop<'a, R, L> {
-    pub(crate) base: Base<'a, R, L>,
+    pub(crate) base: &'a Base<'a, R, L>,
+    /// Which loop it is.
+    pub(crate) number: usize,
+    pub(crate) watch: Watch<R>,
     pub(crate) ears: Ears,
     events: Events<Global>,
     pub(crate) connections: Connections<'a, R>,
@@ -46,16 +50,40 @@ pub struct EventLoop<'a, R, L> {
     pub(crate) turn: Turn,
     /// How many turns of connections the loop's turn has left.
     turns_left: usize,
-    /// The moment of the next beat.
+    /// The moment of the next beat, 0 until the loop has begun.
     beat: u64,
 }
 
-impl<R: Wait + Clock + Copy + Drop, L: Log> Peer for EventLoop<'_, R, L> {
-    fn next(&mut self) -> Result<Option<(Event, u64)>, PeerFault> {
-        self.base.begin();
+impl<'a, R: Wait + Clock + Copy + Drop, L: Log> EventLoop<'a, R, L> {
+    /// A loop without connections.
+    pub fn new(base: &'a Base<'a, R, L>, number: usize, ears: Ears) -> Result<Self, AllocError> {
+        let alloc = base.alloc;
+        Ok(EventLoop {
+            base,
+            number,
+            watch: base.watch,
+            ears,
+            events: Events::with_capacity(alloc, EVENTS)?,
+            connections: Connections::new(alloc),
+            mail: Mail::new(alloc),
+            notes: Notes::new(alloc, base.rules.loops)?,
+            delays: Delays::new(alloc),
+            current: None,
+            comes_over: false,
+            turn: Turn::begin(),
+            turns_left: 0,
+            beat: 0,
+        })
+    }
+
+    /// The next event, or none where the loop has ended.
+    pub(crate) fn next(&mut self) -> Option<(Event, u64)> {
+        if self.beat == 0 {
+            self.base.shared.begun.note(self.base.rt);
+        }
         for _ in 0..u64::MAX {
             if let Some(brought) = self.current.and_then(|key| self.step(key)) {
-                return Ok(Some(brought));
+                return Some(brought);
             }
             if self.current.is_none() && !self.pick() {
                 break;
@@ -65,37 +93,8 @@ impl<R: Wait + Clock + Copy + Drop, L: Log> Peer for EventLoop<'_, R, L> {
         for key in 0..self.connections.keys_below() {
             self.close(key);
         }
-        let base = &self.base;
-        base.shared.note_loop_ended(&base.rt);
-        Ok(None)
-    }
-
-    fn answer(&mut self, got: &Answered) -> Result<(), PeerFault> {
-        if let Some(key) = self.current {
-            self.hear(key, got);
-        }
-        Ok(())
-    }
-}
-
-impl<'a, R: Wait + Clock + Copy + Drop, L: Log> EventLoop<'a, R, L> {
-    /// A loop without connections.
-    pub fn new(base: Base<'a, R, L>, ears: Ears) -> Result<EventLoop<'a, R, L>, AllocError> {
-        let alloc = base.alloc;
-        Ok(EventLoop {
-            notes: Notes::new(alloc, base.rules.loops)?,
-            base,
-            ears,
-            events: Events::with_capacity(alloc, EVENTS)?,
-            connections: Connections::new(alloc),
-            mail: Mail::new(alloc),
-            delays: Delays::new(alloc),
-            current: None,
-            comes_over: false,
-            turn: Turn::begin(),
-            turns_left: 0,
-            beat: 0,
-        })
+        self.base.shared.ended.note(self.base.rt);
+        None
     }
 
     /// The next connection gets its turn; where none has anything to do, the loop's turn ends, and the
@@ -112,15 +111,24 @@ impl<'a, R: Wait + Clock + Copy + Drop, L: Log> EventLoop<'a, R, L> {
         }
         self.connections.roster.rota.begin_turn();
         self.base.send(&mut self.notes);
-        self.send_all();
-        let base = &self.base;
-        if self.connections.len() == 0 && base.shared.standing(&base.rt).is_over() {
+        let now = self.watch.now();
+        for _ in 0..u64::MAX {
+            let Some(key) = self.connections.pop_unsent() else {
+                break;
+            };
+            self.send(key, now);
+        }
+        if self.connections.len() == 0 && self.base.shared.standing(self.base.rt).is_over() {
             return false;
         }
         self.turns_left = TURNS;
         let timeout = Duration::from_millis(self.time_to_sleep());
-        let waited = self.ears.poll.poll(&mut self.events, Some(timeout));
-        if waited.is_err() {
+        if self
+            .ears
+            .poll
+            .poll(&mut self.events, Some(timeout))
+            .is_err()
+        {
             return false;
         }
         for event in self.events.iter() {
@@ -130,63 +138,48 @@ impl<'a, R: Wait + Clock + Copy + Drop, L: Log> EventLoop<'a, R, L> {
         true
     }
 
-    /// Sends the bytes of all connections that have some.
-    fn send_all(&mut self) {
-        let now = self.base.now();
-        for _ in 0..u64::MAX {
-            let Some(key) = self.connections.pop_unsent() else {
-                return;
-            };
-            self.send(key, now);
-        }
-    }
-
     /// The time until something is due: none where something is to be done, or was handed in.
     fn time_to_sleep(&mut self) -> u64 {
-        let base = &self.base;
-        let inbox = base.shared.inboxes.get(base.number);
-        let sleeps = |inbox: &Inbox| inbox.falls_asleep(&base.rt);
-        if !self.connections.is_quiet() || !inbox.is_none_or(sleeps) {
+        let inbox = self.base.shared.inboxes.get(self.number);
+        let sleeps = |inbox: &Inbox| inbox.falls_asleep(self.base.rt);
+        if !self.connections.roster.rota.is_quiet() || !inbox.is_none_or(sleeps) {
             return 0;
         }
         let due = self.delays.first().unwrap_or(self.beat).min(self.beat);
-        due.saturating_sub(self.base.now()).min(BEAT)
+        due.saturating_sub(self.watch.now()).min(BEAT)
     }
 
     /// Takes in what was handed in, and does what is due.
     fn take_in(&mut self) {
-        let base = &self.base;
-        if let Some(inbox) = base.shared.inboxes.get(base.number) {
-            inbox.take(&base.rt, &mut self.mail);
+        if let Some(inbox) = self.base.shared.inboxes.get(self.number) {
+            inbox.take(self.base.rt, &mut self.mail);
         }
         self.add_streams();
-        self.adopt_handed();
         for client in self.mail.woken.drain(..) {
             self.connections.roster.wake(client);
         }
         let everyone = mem::replace(&mut self.mail.everyone, false);
-        self.connections.call_missed(everyone);
+        if everyone {
+            self.connections.roster.rota.call_all();
+        }
         self.do_due(everyone);
     }
 
     /// Does what is due. Once a beat, or where all are to be looked at, each connection's deadline is.
     fn do_due(&mut self, everyone: bool) {
-        let now = self.base.now();
+        let now = self.watch.now();
         for _ in 0..usize::MAX {
-            let Some(token) = self.delays.pop_due(now) else {
+            let Some(key) = self.delays.pop_due(now) else {
                 break;
             };
-            if let Some(key) = self.connections.key_of(token) {
-                self.connections.roster.rota.call(key);
-            }
+            self.connections.roster.rota.call(key);
         }
         if now < self.beat && !everyone {
             return;
         }
         self.beat = now.saturating_add(BEAT);
         self.delays.forget_old(now);
-        let base = &self.base;
-        let cutting = base.shared.standing(&base.rt).cutting;
+        let cutting = self.base.shared.standing(self.base.rt).cutting;
         for key in 0..self.connections.keys_below() {
             if self.connections.keep_deadline(key, cutting, now) {
                 self.close(key);
@@ -194,57 +187,52 @@ impl<'a, R: Wait + Clock + Copy + Drop, L: Log> EventLoop<'a, R, L> {
         }
     }
 
-    /// Adds the new connections.
+    /// Adds the new connections, and takes over the requests that other loops handed on.
     fn add_streams(&mut self) {
         for _ in 0..STREAMS {
-            let Ok(stream) = self.ears.streams.try_recv(&self.base.rt) else {
-                return;
+            let base = self.base;
+            let Ok(stream) = self.ears.streams.try_recv(base.rt) else {
+                break;
             };
-            let base = &self.base;
-            base.shared.note_connection(&base.rt, base.number);
-            let alloc = base.alloc;
-            let stream = Box::new(alloc, Buffered::new(alloc, stream)).ok();
-            if stream.and_then(|stream| self.add(stream)).is_none() {
-                self.base.note_closed();
-            }
+            base.shared.note_connection(base.rt, self.number);
+            let stream = Buffered::new(base.alloc, stream);
+            let _ = self.add(Box::new(base.alloc, stream).ok());
         }
-    }
-
-    /// Takes over the requests that other loops handed on.
-    fn adopt_handed(&mut self) {
         for _ in 0..usize::MAX {
             let Some(handed) = self.mail.handed.pop() else {
                 return;
             };
-            match self.add(handed.stream) {
-                Some(key) => {
-                    self.serve(key, handed.request, handed.target);
-                    self.connections.roster.rota.call(key);
-                }
-                None => self.base.note_closed(),
+            if let Some(key) = self.add(Some(handed.stream)) {
+                self.serve(key, handed.request, handed.target);
+                self.connections.roster.rota.call(key);
             }
         }
     }
 
-    /// Adds a stream, and has its readiness told. None where that fails: then it is closed.
-    fn add(&mut self, stream: Stream) -> Option<usize> {
-        let now = self.base.now();
+    /// Adds a stream, where there was memory for it, and has its readiness told. One that can't be
+    /// added is closed.
+    fn add(&mut self, stream: Option<Stream>) -> Option<usize> {
+        let (alloc, now) = (self.base.alloc, self.watch.now());
         let registry = self.ears.poll.registry();
-        self.connections.add(self.base.alloc, registry, stream, now)
+        let key = stream.and_then(|stream| self.connections.add(alloc, registry, stream, now));
+        if key.is_none() {
+            self.base.shared.note_closed(self.base.rt);
+        }
+        key
     }
 
-    /// The next event of a connection, if it has one.
+    /// The next event of a connection, if it has one. The turn of one that is gone is over.
     fn step(&mut self, key: usize) -> Option<(Event, u64)> {
-        let now = self.base.now();
+        let now = self.watch.now();
         let Some(connection) = self.connections.get_mut(key) else {
             self.pause(key, Pause::Done);
             return None;
         };
         match connection.mode {
             Mode::Gathers => match connection.stage.read(self.base.alloc) {
-                Ok(Ok(request)) => self.direct(key, request, now),
+                Ok(Ok(request)) => self.direct(key, request),
                 Ok(Err(pause)) => self.pause(key, pause),
-                Err(fault) => self.refuse(key, fault, now),
+                Err(fault) => self.refuse(key, fault),
             },
             Mode::Serves => match connection.next(now) {
                 Next::Brings(event, moment) => {
@@ -254,7 +242,7 @@ impl<'a, R: Wait + Clock + Copy + Drop, L: Log> EventLoop<'a, R, L> {
                 // Nothing can be due that wasn't, so the core need not be asked.
                 Next::AsksAgain => {
                     let done = Done::nothing(self.base.alloc);
-                    self.hear(key, &Ok(Outcome::Ticked { ping: false, done }));
+                    self.hear(&Ok(Outcome::Ticked { ping: false, done }));
                 }
                 Next::Pauses(pause) => self.rest(key, pause),
                 Next::Fails => {}
@@ -262,13 +250,10 @@ impl<'a, R: Wait + Clock + Copy + Drop, L: Log> EventLoop<'a, R, L> {
             Mode::Loses(loss) => return Some((loss.event(), now)),
             Mode::Closes => self.rest(key, Pause::Done),
             // What still comes is forgotten.
-            Mode::Lingers => {
-                let drained = connection.stage.drain();
-                self.pause(key, drained.unwrap_or(Pause::Done));
-                if drained.is_none() {
-                    self.close(key);
-                }
-            }
+            Mode::Lingers => match connection.stage.drain() {
+                Some(pause) => self.pause(key, pause),
+                None => self.close(key),
+            },
         }
         None
     }
@@ -292,7 +277,7 @@ impl<'a, R: Wait + Clock + Copy + Drop, L: Log> EventLoop<'a, R, L> {
         if connection.map_or(0, Connection::bytes_unsent) < MUCH_UNSENT {
             return self.connections.note_unsent(key);
         }
-        let now = self.base.now();
+        let now = self.watch.now();
         self.send(key, now);
     }
 
@@ -311,7 +296,7 @@ impl<'a, R: Wait + Clock + Copy + Drop, L: Log> EventLoop<'a, R, L> {
     /// A connection is over.
     fn close(&mut self, key: usize) {
         if self.connections.take(key).is_some() {
-            self.base.note_closed();
+            self.base.shared.note_closed(self.base.rt);
         }
     }
 }

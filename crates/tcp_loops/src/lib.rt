@@ -1,14 +1,12 @@
 //! Who works at a server over TCP: its loops, each one peer that waits for all of its connections at
-//! once and brings the events of all of their clients, and the keeper of time.
+//! once and brings the events of all of their clients, and beside them who keeps time.
 #![tactic(auto)]
 
 mod answers;
 mod base;
 mod crew;
-mod drawn;
 mod event_loop;
-mod keeper;
 
 pub use base::Base;
 pub use crew::{Worker, sources, start_accepting, workers_for};
-pub use keeper::KeptCore;
+pub use tcp_connections::Watch;

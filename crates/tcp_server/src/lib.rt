@@ -3,9 +3,9 @@
 //! standard input.
 #![tactic(auto)]
 
+mod keeper;
 mod program;
 mod server;
-mod watched_core;
 
 pub use program::{ErrorLog, end_with, listen, processors, serve, wait_for_end};
 pub use server::Server;

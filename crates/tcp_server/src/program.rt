@@ -38,9 +38,8 @@ impl<R: Eprint> Log for ErrorLog<R> {
     }
 
     fn client_ended(&self, ended: &Ended) {
-        let id = ended.client;
+        let (id, lived) = (ended.client, ended.lived);
         let transport = if ended.socket { "websocket" } else { "polling" };
-        let lived = ended.lived;
         let _ = match ended.cause {
             Some(cause) => {
                 let closed = Answer::Closed(cause);

@@ -5,7 +5,7 @@ ghost use Rattle.hub_totals.specs.Pass.{IsBlankOf};
 ghost use Rattle.settings.specs.Wrong.{wrong_setting};
 ghost use Rattle.tcp_streams.specs.declared.fault.ServerFault.TheVariants.{BadSetting};
 
-use crate::watched_core::WatchedCore;
+use crate::keeper::Keeper;
 use dispatch::Core;
 use events::{App, CoreFault};
 use hub_gate::{Locked, Open, Pool, Report, ServeError, serve_peers};
@@ -20,7 +20,8 @@ use std::rt::Clock;
 use std::sync::ledger::{Blank, Ledger};
 use std::sync::{Arc, Wait};
 use std::thread::Threads;
-use tcp_loops::{Base, sources, start_accepting, workers_for};
+use std::time::Instant;
+use tcp_loops::{Base, Watch, sources, start_accepting, workers_for};
 use tcp_streams::{
     Acceptor, Ears, Log, Rules, ServerFault, Shared, acceptor_for, ears_for, rules_and_limits,
 };
@@ -106,7 +107,14 @@ impl<L: Log + Sync + Drop> Server<L> {
             rules,
             hub,
         } = self;
-        let base = Base::new(rt, alloc, &log, &shared, &*rules)?;
+        let base = Base {
+            rt,
+            alloc,
+            log: &log,
+            shared: &shared,
+            rules: &*rules,
+            watch: Watch::new(*rt, Instant::now(rt)?),
+        };
         let (commands, taken) = (Blank::new(PARTS), Blank::new(PARTS));
         run_in::<Brand, Brand, R, L, A>(&base, app, acceptor, ears, hub, commands, taken)
     }
@@ -115,14 +123,15 @@ impl<L: Log + Sync + Drop> Server<L> {
 /// Serves over a new core, whose ledgers have no other: accepts, and serves by a loop with each of
 /// these ears and by the keeper, until all have ended.
 fn run_in<
+    'a,
     C: Ledger + Send + Sync,
     T: Ledger + Send + Sync,
     R: Threads + Wait + Clock + RandomSource + Copy + Drop + Sync + Send + 'static,
     L: Log + Sync,
     A: App + Sync,
 >(
-    base: &Base<'_, R, L>,
-    app: &A,
+    base: &'a Base<'a, R, L>,
+    app: &'a A,
     acceptor: Box<Acceptor>,
     ears: Vec<Ears>,
     hub: Box<Config>,
@@ -139,15 +148,12 @@ fn run_in<
     let (locked, mut pass, looks) = lock_core::<C, T>(
         base.alloc, hub, base.rules, commands, taken,
     )?;
-    let core = WatchedCore {
-        locked: &*locked,
-        pass: looks,
-    };
-    let workers = workers_for(base, ears, core)?;
-    let ids = sources(&base.rt, base.alloc, workers.len())?;
+    let keeper = Keeper::new(base, &*locked, looks)?;
+    let workers = workers_for(base, ears, keeper)?;
+    let ids = sources(base.rt, base.alloc, workers.len())?;
     let accepting = start_accepting(base, acceptor)?;
     let pool = Pool {
-        rt: &base.rt,
+        rt: base.rt,
         alloc: base.alloc,
         locked: &*locked,
         app,
@@ -156,8 +162,8 @@ fn run_in<
     };
     let number = workers.len();
     let served = serve_peers(&pool, &mut pass, workers, number, ids);
-    base.shared.stop_accepting(&base.rt);
-    accepting.join(&base.rt);
+    base.shared.stop_accepting(base.rt);
+    accepting.join(base.rt);
     match served {
         Ok(settled) => Ok(settled.report),
         Err(ServeError::Memory) => Err(ServerFault::Memory(AllocError)),

@@ -1,7 +1,7 @@
 //! Who accepts connections.
 
 use crate::fault::ServerFault;
-use crate::inbox::poll_with_bell;
+use crate::inbox::BELL;
 use crate::shared::Shared;
 use http_edge::{OnStream, Status, write_response};
 use loop_rules::dealt_to;
@@ -43,7 +43,6 @@ const LEAST_CONNECTIONS: u64 = 16;
 
 /// Accepts connections, and gives so many to each loop in turn.
 pub struct Acceptor {
-    alloc: Global,
     poll: Poll,
     listener: TcpListener,
     events: Events<Global>,
@@ -53,8 +52,8 @@ pub struct Acceptor {
     most: u64,
     /// How many one loop is given before the next one is.
     together: u64,
-    /// Those that had no place and were told so. They are closed a little later, since a stream that is
-    /// closed with bytes unread takes back what was sent.
+    /// Those that had no place and were told so. They are closed a little later, since a stream
+    /// that is closed with bytes unread takes back what was sent.
     refused: VecDeque<TcpStream>,
     /// How many were given so far.
     given: u64,
@@ -63,7 +62,7 @@ pub struct Acceptor {
 /// Written out, so that a crate above takes the drop of all that lies in it by this one call.
 impl Drop for Acceptor {
     fn drop(self) {
-        let_go!(self; alloc, poll, listener, events, left, most, together, refused, given);
+        let_go!(self; poll, listener, events, left, most, together, refused, given);
     }
 }
 
@@ -78,19 +77,18 @@ pub fn acceptor_for<R: Net>(
         ServerFault::Starting => ServerFault::Listening,
         fault => fault,
     })?;
-    let (poll, bell) = poll_with_bell(rt)?;
+    let poll = Poll::new(rt)?;
     let registry = poll.registry();
     registry.register(&mut listener, LISTENER, Interest::READABLE)?;
+    let bell = Waker::new(registry, BELL)?;
+    let clients = settings.hub.clients as u64;
     let acceptor = Acceptor {
-        alloc,
         poll,
         listener,
         events: Events::with_capacity(alloc, EVENTS)?,
         left: settings.connections,
         // One that waits and one that brings for each client, and some for those that come.
-        most: (settings.hub.clients as u64)
-            .saturating_mul(2)
-            .max(LEAST_CONNECTIONS),
+        most: clients.saturating_mul(2).max(LEAST_CONNECTIONS),
         together: settings.together,
         refused: VecDeque::new(alloc),
         given: 0,
@@ -115,7 +113,9 @@ fn listen_at<R: Net>(rt: &R, host: &str, port: u16) -> io::Result<(TcpListener, 
 impl Acceptor {
     /// Accepts connections until the server is to end, or had as many as it was to have.
     pub fn accept_all<R: Wait + Clock>(&mut self, rt: &R, shared: &Shared) {
-        if shared.wait_for_workers(rt, Duration::from_millis(START)) {
+        let workers = shared.inboxes.len().saturating_add(1);
+        let most = Duration::from_millis(START);
+        if shared.begun.wait_for(rt, workers, most) {
             for _ in 0..u64::MAX {
                 if self.left == Some(0) || shared.standing(rt).closing {
                     break;
@@ -148,7 +148,8 @@ impl Acceptor {
     fn turn_away(&mut self, stream: TcpStream) {
         let mut wire = OnStream::new(stream);
         // It is closed without an answer where none can be written.
-        let _ = write_response(self.alloc, &mut wire, Status::Unavailable, &None, "");
+        let alloc = *self.refused.allocator();
+        let _ = write_response(alloc, &mut wire, Status::Unavailable, &None, "");
         let stream = wire.into_stream();
         let _ = stream.shutdown(Shutdown::Write);
         if self.refused.len() >= MOST_REFUSED {

@@ -72,23 +72,19 @@ impl Buffered {
 
     /// Sends what waits, as far as the stream takes it, and tells how many bytes that were.
     pub fn send(&mut self) -> io::Result<usize> {
-        let mut total: usize = 0;
-        for _ in 0..usize::MAX {
-            if self.sent >= self.output.len() {
-                self.forget();
-                return Ok(total);
-            }
+        let before = self.unsent();
+        while self.unsent() > 0 {
             match self.inner.write(&self.output[self.sent..]) {
                 Ok(0) => return Err(io::Error::from(ErrorKind::WriteZero)),
-                Ok(count) => {
-                    self.sent += count;
-                    total = total.saturating_add(count);
+                Ok(count) => self.sent += count,
+                Err(error) if error.kind() == ErrorKind::WouldBlock => {
+                    return Ok(before.saturating_sub(self.unsent()));
                 }
-                Err(error) if error.kind() == ErrorKind::WouldBlock => return Ok(total),
                 Err(error) => return Err(error),
             }
         }
-        Ok(total)
+        self.forget();
+        Ok(before)
     }
 }
 
@@ -100,17 +96,15 @@ impl Read for Buffered {
         if self.drained {
             return Err(io::Error::from(ErrorKind::WouldBlock));
         }
-        match self.inner.read(buf) {
+        let read = self.inner.read(buf);
+        match &read {
             Ok(count) => {
-                self.drained = count < buf.len() && !self.ended;
-                self.unbrought = self.unbrought.saturating_add(count);
-                Ok(count)
+                self.drained = *count < buf.len() && !self.ended;
+                self.unbrought = self.unbrought.saturating_add(*count);
             }
-            Err(error) => {
-                self.drained = error.kind() == ErrorKind::WouldBlock;
-                Err(error)
-            }
+            Err(error) => self.drained = error.kind() == ErrorKind::WouldBlock,
         }
+        read
     }
 }
 

@@ -8,14 +8,13 @@ use loop_rules::{Mail, Mailbox};
 use mio::net::TcpStream;
 use mio::{Poll, Token, Waker};
 use std::alloc::Global;
-use std::io;
 use std::net::Net;
 use std::rt::Clock;
 use std::sync::{Mutex, Wait};
 use std::time::Duration;
 
 /// The token of the bell of who waits.
-const BELL: Token = Token(usize::MAX);
+pub(crate) const BELL: Token = Token(usize::MAX);
 
 /// How many new connections may wait for a loop.
 const STREAMS: usize = 256;
@@ -48,13 +47,6 @@ pub struct Ears {
     pub streams: Receiver<TcpStream>,
 }
 
-/// A poll, and the bell that ends its waiting.
-pub(crate) fn poll_with_bell<R: Net>(rt: &R) -> io::Result<(Poll, Waker)> {
-    let poll = Poll::new(rt)?;
-    let bell = Waker::new(poll.registry(), BELL)?;
-    Ok((poll, bell))
-}
-
 /// What each loop waits with, and its inbox, into which nothing was handed yet.
 pub fn ears_for<R: Net>(
     rt: &R,
@@ -64,7 +56,8 @@ pub fn ears_for<R: Net>(
     let mut ears = Vec::new(alloc);
     let mut inboxes = Vec::new(alloc);
     for _worker in 0..workers {
-        let (poll, waker) = poll_with_bell(rt)?;
+        let poll = Poll::new(rt)?;
+        let waker = Waker::new(poll.registry(), BELL)?;
         let (sender, streams) = bounded(alloc, STREAMS)?;
         inboxes.push(Inbox {
             streams: sender,
@@ -78,14 +71,13 @@ pub fn ears_for<R: Net>(
 
 impl Inbox {
     /// Puts something into the mailbox, and rings the bell of a loop that slept.
-    fn put<T, F: FnOnce(&mut Mailbox<Handed>) -> T>(&self, rt: &impl Wait, put: F) -> T
+    pub fn put<T, F: FnOnce(&mut Mailbox<Handed>) -> T>(&self, rt: &impl Wait, put: F) -> T
         requires { F.IsAlwaysCallable put }
     {
-        let (done, slept) = {
-            let mut mailbox = self.mailbox.lock(rt);
-            let slept = mailbox.rouse();
-            (put(&mut *mailbox), slept)
-        };
+        let mut mailbox = self.mailbox.lock(rt);
+        let slept = mailbox.rouse();
+        let done = put(&mut *mailbox);
+        drop(mailbox);
         if slept {
             // A bell that can't be rung is heard at the next beat.
             let _ = self.waker.wake();
@@ -103,26 +95,9 @@ impl Inbox {
         given
     }
 
-    /// Hands a request over, and tells whether there was memory for it; else it is closed.
-    pub fn hand(&self, rt: &impl Wait, handed: Handed) -> bool {
-        self.put(rt, |mailbox| mailbox.hand(handed))
-    }
-
-    /// Tells that something was put for these clients. Where there is no memory for them, all
-    /// connections are to be looked at.
-    pub fn wake(&self, rt: &impl Wait, clients: &[u128]) {
-        self.put(rt, |mailbox| mailbox.wake(clients));
-    }
-
-    /// All connections are to be looked at.
-    pub fn wake_everyone(&self, rt: &impl Wait) {
-        self.put(rt, |mailbox| mailbox.wake_everyone());
-    }
-
     /// Whether nothing was handed in, so that the loop may sleep until its bell is rung.
     pub fn falls_asleep(&self, rt: &impl Wait) -> bool {
-        let mut mailbox = self.mailbox.lock(rt);
-        mailbox.fall_asleep(self.streams.is_empty())
+        self.mailbox.lock(rt).fall_asleep(self.streams.is_empty())
     }
 
     /// Takes all that was handed in, into a mail that is empty.

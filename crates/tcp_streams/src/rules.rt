@@ -13,13 +13,21 @@ use std::alloc::{AllocError, Global};
 /// The settings by which a loop goes, and a core pings its clients.
 #[derive(Drop)]
 pub struct Rules {
+    /// How many loops serve.
     pub loops: usize,
+    /// How many entries one payload over HTTP may have.
     pub poll_entries: usize,
+    /// The origins of the pages that are served, `*` for all. Where there are none, all are.
     pub origins: Vec<String>,
+    /// The files that are served beside the socket's path.
     pub page: Page,
+    /// The path at which a GET is answered by the counts, if one is.
     pub metrics: Option<String>,
+    /// Every how many seconds the log is told the totals, if it is.
     pub report: Option<u64>,
+    /// When a client is pinged, and when it is given up, in milliseconds.
     pub timing: Timing,
+    /// What clients are told of that, in milliseconds, and of their payloads, in bytes.
     pub numbers: Numbers,
     ghost some: { 0 < loops },
 }

@@ -22,13 +22,16 @@ pub struct Shared {
     /// What the threads count, and what the keeper last told of the core.
     pub counts: Mutex<Metrics>,
     standing: Mutex<Standing>,
-    changed: Condvar,
+    /// The workers that have begun, the keeper among them.
+    pub begun: Tally,
+    /// The loops that have ended.
+    pub ended: Tally,
 }
 
 /// Written out, so that a crate above takes the drop of all that lies in it by this one call.
 impl Drop for Shared {
     fn drop(self) {
-        let_go!(self; inboxes, acceptor, lives, counts, standing, changed);
+        let_go!(self; inboxes, acceptor, lives, counts, standing, begun, ended);
     }
 }
 
@@ -37,10 +40,6 @@ impl Drop for Shared {
 pub struct Standing {
     /// The connections that are open, those on their way to a loop among them.
     open: u64,
-    /// The workers that have begun, the keeper among them.
-    begun: usize,
-    /// The loops at work.
-    loops: usize,
     /// No more connections are accepted.
     pub closing: bool,
     /// What is still open is to end.
@@ -51,6 +50,30 @@ impl Standing {
     /// Whether nothing is open, and nothing more will be.
     pub fn is_over(self) -> bool {
         self.closing && self.open == 0
+    }
+}
+
+/// How many have come to a point of their work.
+#[derive(Default, Drop)]
+pub struct Tally {
+    count: Mutex<usize>,
+    changed: Condvar,
+}
+
+impl Tally {
+    /// One more has come to it.
+    pub fn note(&self, rt: &impl Wait) {
+        let mut count = self.count.lock(rt);
+        *count = count.saturating_add(1);
+        self.changed.notify_all();
+    }
+
+    /// Waits until so many have, but no longer than so, and tells whether they have.
+    pub fn wait_for<R: Wait + Clock>(&self, rt: &R, number: usize, most: Duration) -> bool {
+        let guard = self.count.lock(rt);
+        let lacks = |count: &mut usize| *count < number;
+        let (_, ended) = self.changed.wait_timeout_while(rt, guard, most, lacks);
+        !ended.timed_out()
     }
 }
 
@@ -82,17 +105,14 @@ impl Shared {
         acceptor: Waker,
         hears_clients: bool,
     ) -> Result<Arc<Shared>, ServerFault> {
-        let standing = Standing {
-            loops: inboxes.len(),
-            ..Standing::default()
-        };
         let shared = Shared {
             counts: Mutex::new(no_counts(alloc, inboxes.len())?),
             inboxes,
             acceptor,
             lives: hears_clients.then(|| Mutex::new(HashMap::new(alloc))),
-            standing: Mutex::new(standing),
-            changed: Condvar::new(),
+            standing: Mutex::default(),
+            begun: Tally::default(),
+            ended: Tally::default(),
         };
         Ok(Arc::new(alloc, shared)?)
     }
@@ -109,11 +129,10 @@ impl Shared {
 
     /// A connection was closed.
     pub fn note_closed(&self, rt: &impl Wait) {
-        let is_over = {
-            let mut standing = self.standing.lock(rt);
-            standing.open = standing.open.saturating_sub(1);
-            standing.is_over()
-        };
+        let mut standing = self.standing.lock(rt);
+        standing.open = standing.open.saturating_sub(1);
+        let is_over = standing.is_over();
+        drop(standing);
         if is_over {
             self.wake_everyone(rt);
         }
@@ -130,7 +149,7 @@ impl Shared {
     /// The server is to end: it accepts no more, and what is open gets a while to end.
     pub fn stop<R: Wait + Clock>(&self, rt: &R, grace: Duration) {
         self.stop_accepting(rt);
-        self.wait_for_loops(rt, grace);
+        self.ended.wait_for(rt, self.inboxes.len(), grace);
         self.standing.lock(rt).cutting = true;
         self.wake_everyone(rt);
     }
@@ -140,42 +159,10 @@ impl Shared {
         *self.standing.lock(rt)
     }
 
-    /// A worker has begun.
-    pub fn note_begun(&self, rt: &impl Wait) {
-        let mut standing = self.standing.lock(rt);
-        standing.begun = standing.begun.saturating_add(1);
-        self.changed.notify_all();
-    }
-
-    /// Waits until each loop and the keeper have begun, but no longer than so, and tells whether they
-    /// have.
-    pub fn wait_for_workers<R: Wait + Clock>(&self, rt: &R, most: Duration) -> bool {
-        let workers = self.inboxes.len().saturating_add(1);
-        let guard = self.standing.lock(rt);
-        let waits = |standing: &mut Standing| standing.begun < workers;
-        let (_, ended) = self.changed.wait_timeout_while(rt, guard, most, waits);
-        !ended.timed_out()
-    }
-
-    /// A loop has ended.
-    pub fn note_loop_ended(&self, rt: &impl Wait) {
-        let mut standing = self.standing.lock(rt);
-        standing.loops = standing.loops.saturating_sub(1);
-        self.changed.notify_all();
-    }
-
-    /// Waits until no loop is at work, but no longer than so, and tells whether none is.
-    pub fn wait_for_loops<R: Wait + Clock>(&self, rt: &R, most: Duration) -> bool {
-        let guard = self.standing.lock(rt);
-        let waits = |standing: &mut Standing| standing.loops > 0;
-        let (_, ended) = self.changed.wait_timeout_while(rt, guard, most, waits);
-        !ended.timed_out()
-    }
-
     /// Has each loop look at all of its connections.
     pub fn wake_everyone(&self, rt: &impl Wait) {
         for inbox in self.inboxes.iter() {
-            inbox.wake_everyone(rt);
+            inbox.put(rt, |mailbox| mailbox.wake_everyone());
         }
     }
 

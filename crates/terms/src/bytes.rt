@@ -44,14 +44,6 @@ impl Bytes {
     {
         self.items.as_slice()
     }
-
-    /// The `Vec` of the bytes, which takes no memory.
-    pub fn into_vec(self) -> Vec<u8>
-        ensures { result.items ≡ self }
-    {
-        let Bytes { items } = self;
-        items
-    }
 }
 
 impl Clone for Bytes {

@@ -29,21 +29,6 @@ impl Attachments {
         Attachments { parts }
     }
 
-    /// The attachments of a `Vec`, which takes no memory.
-    pub fn from_vec(owned: Vec<Bytes>) -> Attachments
-        ensures { result ≡ owned.items }
-    {
-        Attachments { parts: owned }
-    }
-
-    /// The `Vec` of the attachments, which takes no memory.
-    pub fn into_vec(self) -> Vec<Bytes>
-        ensures { result.items ≡ self }
-    {
-        let Attachments { parts } = self;
-        parts
-    }
-
     /// The attachments themselves.
     pub fn as_slice(&self) -> &[Bytes]
         ensures { result.now ≡ self.now }

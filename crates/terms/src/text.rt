@@ -42,14 +42,6 @@ impl Text {
     {
         self.text.as_str()
     }
-
-    /// The `String` of the text, which takes no memory.
-    pub fn into_string(self) -> String
-        ensures { string_bytes result ≡ self }
-    {
-        let Text { text } = self;
-        text
-    }
 }
 
 impl Clone for Text {

@@ -208,17 +208,6 @@ impl State {
         self.aim(alloc, place, rooms, excepted, offset, entry)
     }
 
-    /// Makes, puts and logs the broadcast that a cast asks for.
-    fn make_and_send(&mut self, alloc: Global, cast: Cast, now: u64) -> Result<CastDone, HubError>
-        ensures { CastDoes self.old self.new now cast result }
-    {
-        let (place, offset) = self.judge(&cast)?;
-        let (broadcast, messages) = self.build(alloc, place, offset, cast)?;
-        self.may_count(messages.len() as u64, broadcast.dropped.len() as u64)?;
-        let entry = log_entry(alloc, self.moment_at(now), &broadcast)?;
-        self.send(alloc, broadcast, messages, entry, now)
-    }
-
     /// Puts an event into the outboxes of the sockets of a namespace that are in one of the rooms,
     /// or where none is named of all, but for those in an excepted room. A socket whose client's
     /// outbox has no place for it is counted as dropped. Where the cast is logged, the event gets
@@ -234,8 +223,13 @@ impl State {
         ensures does { CastDoes self.old self.new now cast result }
         ensures continuity { AllHear self.new }
     {
-        let done = self.make_and_send(alloc, cast, now);
-        // The prover needs what holds of every hub.
+        // The prover needs what holds of every hub, before and after.
+        self.facts();
+        let (place, offset) = self.judge(&cast)?;
+        let (broadcast, messages) = self.build(alloc, place, offset, cast)?;
+        self.may_count(messages.len() as u64, broadcast.dropped.len() as u64)?;
+        let entry = log_entry(alloc, self.moment_at(now), &broadcast)?;
+        let done = self.send(alloc, broadcast, messages, entry, now);
         self.facts();
         done
     }

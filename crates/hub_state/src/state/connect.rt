@@ -139,10 +139,7 @@ impl State {
     pub(crate) fn socket_at(&self, client: u128, place: usize) -> Option<Socket>
         ensures { result ≡ socket_of self.now.base self.now.journal client place }
     {
-        match self.clients.get(&client) {
-            Some(known) => known.sockets.at(place),
-            None => None,
-        }
+        self.clients.get(&client)?.sockets.at(place)
     }
 
     /// The session id of a client's socket in a namespace, or `None` where it has none there. It

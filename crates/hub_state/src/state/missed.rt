@@ -1,7 +1,7 @@
 //! What a session that comes back has missed (Socket.IO server documentation, "Connection state
 //! recovery").
 
-ghost use Rattle.std.specs.Prelude.{◌≡◌, ◌+◌, ◌≤◌, ◌||◌, true, [], ◌∷◌, ◌++◌, length, map, filter, nat_lt, OnOk, IfOk, IfSome, IfNone};
+ghost use Rattle.std.specs.Prelude.{◌≡◌, ◌+◌, ◌≤◌, ◌||◌, true, [], ◌∷◌, ◌++◌, length, map, filter, nat_lt, OnOk, IfSome, IfNone};
 ghost use Rattle.std.specs.Arc.{arc_value};
 ghost use Rattle.recovery.specs.Missed.{is_for};
 ghost use Rattle.journal.specs.Outboxes.{total_size};
@@ -10,7 +10,7 @@ ghost use Rattle.hub_state.specs.Returning.{gets_back};
 
 use hub_parts::room_after;
 use recovery::{Logged, Saved};
-use std::alloc::{AllocError, Global};
+use std::alloc::AllocError;
 use std::sync::Arc;
 use terms::{Entry, Room};
 
@@ -91,7 +91,7 @@ fn left_after_one(
 
 /// Puts what a socket gets of the broadcasts at the end of a list, and their offsets at the end of
 /// another.
-fn add_missed(
+pub(crate) fn add_missed(
     broadcasts: &[Logged],
     space: u16,
     rooms: &[Room],
@@ -110,32 +110,4 @@ fn add_missed(
         }
     }
     Ok(())
-}
-
-/// Puts what a session that was found gets in these rooms at the end of a list. It gives the
-/// offsets of what it puts.
-pub(crate) fn put_missed(
-    alloc: Global,
-    found: Found,
-    rooms: &[Room],
-    entries: &mut Vec<Arc<Entry>>,
-) -> Result<Vec<u64>, AllocError>
-    ensures entries { let space = found.entry.session.now.space
-        in let past = found.entry.front.now ++ found.entry.back.now in OnOk result
-        (map arc_value entries.new.items
-        ≡ map arc_value entries.old.items ++ gets space rooms.now past) }
-    ensures offsets { let space = found.entry.session.now.space
-        in let past = found.entry.front.now ++ found.entry.back.now in IfOk result (λ offsets.
-        offsets.items ≡ map (λ entry. entry.offset) (filter (is_for space rooms.now) past)) }
-{
-    let Found {
-        session,
-        front,
-        back,
-    } = found;
-    let space = session.space;
-    let mut offsets = Vec::new(alloc);
-    add_missed(front, space, rooms, entries, &mut offsets)?;
-    add_missed(back, space, rooms, entries, &mut offsets)?;
-    Ok(offsets)
 }

@@ -9,7 +9,6 @@ ghost use Rattle.hub_state.specs.Departing.{PlainDeparted, departing, departed};
 
 use crate::departed::Departed;
 use crate::state::State;
-use hub_parts::Sockets;
 use journal::{Ending, Socket};
 use room_maps::Rooms;
 use std::alloc::{AllocError, Global};
@@ -25,17 +24,6 @@ pub(crate) fn rooms_in(rooms: &Rooms, alloc: Global, sid: Sid) -> Result<Vec<Roo
     }
 }
 
-/// A client's sockets as a list.
-fn listed(alloc: Global, sockets: &Sockets) -> Result<Vec<Socket>, AllocError>
-    ensures ok { IfOk result (λ list. list.items ≡ sockets.now) }
-{
-    let mut list = Vec::new(alloc);
-    for socket in sockets.values() {
-        list.push(*socket)?;
-    }
-    Ok(list)
-}
-
 /// Sockets as they end now.
 pub(crate) fn departing(
     rooms: &Rooms,
@@ -47,10 +35,9 @@ pub(crate) fn departing(
 {
     let mut list = Vec::new(alloc);
     for socket in sockets {
-        let inside = rooms_in(rooms, alloc, socket.sid)?;
         list.push(Departed {
             socket: *socket,
-            rooms: inside,
+            rooms: rooms_in(rooms, alloc, socket.sid)?,
             ending,
         })?;
     }
@@ -73,9 +60,13 @@ impl State {
         ensures ok { let h = self.now
             in IfOk result (λ all. all.items ≡ sockets_of h.base h.journal client) }
     {
-        match self.clients.get(&client) {
-            Some(known) => listed(alloc, &known.sockets),
-            None => Ok(Vec::new(alloc)),
+        let mut list = Vec::new(alloc);
+        let Some(known) = self.clients.get(&client) else {
+            return Ok(list);
+        };
+        for socket in known.sockets.values() {
+            list.push(*socket)?;
         }
+        Ok(list)
     }
 }

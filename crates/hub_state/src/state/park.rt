@@ -13,7 +13,6 @@ ghost use Rattle.hub_state.specs.Words.{saves, logs};
 
 use crate::state::clients::forget_client;
 use crate::state::note_departed::{departing, rooms_in};
-use crate::state::recover::take_session;
 use crate::state::{NONE, State};
 use hub_parts::Limits;
 use journal::{Counts, Ending, HubError, Socket, Swept, What};
@@ -47,7 +46,7 @@ fn take_back(saved: &mut SavedTable, sockets: &[Socket])
     ensures { saved.new ≡ without_lost sockets.now saved.old }
 {
     for socket in sockets {
-        take_session(saved, socket.pid);
+        let _session = saved.remove(socket.pid);
     }
 }
 

@@ -5,7 +5,6 @@ ghost use Rattle.std.specs.Ordering.{nat_cmp};
 ghost use Rattle.std.specs.BTreeMap.{get};
 ghost use Rattle.std.specs.Arc.{arc_value};
 ghost use Rattle.recovery.specs.PacketLog.{later_than};
-ghost use Rattle.recovery.specs.SavedTable.{removed};
 ghost use Rattle.terms.specs.Entry.{entry_size};
 ghost use Rattle.journal.specs.Journal.{moment_at};
 ghost use Rattle.journal.specs.Membership.{place_of};
@@ -21,11 +20,11 @@ ghost use Rattle.hub_state.specs.Returning.{return_of, return_refusal, recover_r
 ghost use Rattle.hub_state.specs.Words.{opened, waits, logs, saves, answer_at, AllHear};
 
 use crate::state::connect::seat;
-use crate::state::missed::{Found, put_missed};
+use crate::state::missed::{Found, add_missed};
 use crate::state::{NONE, State};
 use hub_parts::{Client, Outbox};
 use journal::{Counts, HubError, Recovery, RecoveryRefusal, Socket, What};
-use recovery::{Pid, Saved, SavedTable};
+use recovery::{Pid, Saved};
 use std::alloc::{AllocError, Global};
 use std::collections::BTreeMap;
 use std::sync::Arc;
@@ -57,22 +56,6 @@ fn put_all(clients: &mut BTreeMap<u128, Client>, client: u128, entries: Vec<Arc<
     if let Some(known) = clients.get_mut(&client) {
         push_all(&mut known.outbox, entries);
     }
-}
-
-/// What is left of a number without two others.
-fn left_of(all: usize, used: usize, more: usize) -> Option<usize>
-    ensures some { IfSome result (λ left. left + more + used ≡ all) }
-    ensures small { IfSome result (λ left. left + more < 2 ^ 64) }
-    ensures none { IfNone result (all < used + more) }
-{
-    all.checked_sub(used)?.checked_sub(more)
-}
-
-/// Takes a session out of the saved ones.
-pub(crate) fn take_session(saved: &mut SavedTable, pid: Pid)
-    ensures { saved.new ≡ removed saved.old pid }
-{
-    let _session = saved.remove(pid);
 }
 
 impl State {
@@ -125,8 +108,8 @@ impl State {
         let used = self.waiting_bytes(client)?;
         let size = self.answer_size(place);
         let config = self.limits.config();
-        let places = left_of(config.capacity, waits, 1)?;
-        let bytes = left_of(config.bytes, used, size)?;
+        let places = config.capacity.checked_sub(waits)?.checked_sub(1)?;
+        let bytes = config.bytes.checked_sub(used)?.checked_sub(size)?;
         Some((places, bytes))
     }
 
@@ -209,7 +192,9 @@ impl State {
         let answer = self.answer(alloc, usize::from(space), sid, pid)?;
         let mut puts = Vec::new(alloc);
         puts.push(answer)?;
-        let missed = put_missed(alloc, found, &rooms, &mut puts)?;
+        let mut missed = Vec::new(alloc);
+        add_missed(found.front, space, &rooms, &mut puts, &mut missed)?;
+        add_missed(found.back, space, &rooms, &mut puts, &mut missed)?;
         let socket = Socket {
             client,
             space,
@@ -253,31 +238,10 @@ impl State {
             &recovery.rooms,
         )?;
         put_all(&mut self.clients, client, puts);
-        take_session(&mut self.saved, pid);
+        let _session = self.saved.remove(pid);
         let added = Counts { placed, ..NONE };
         self.records.add(now, What::Recovered(recovery), added);
         Ok(sid)
-    }
-
-    /// Brings a saved session back, and gives its session id.
-    fn come_back(
-        &mut self,
-        alloc: Global,
-        client: u128,
-        space: &str,
-        pid: Pid,
-        offset: u64,
-        now: u64,
-    ) -> Result<Sid, HubError>
-        ensures sid { let r = return_of client space.now pid offset self.old
-            in IfOk result (λ sid. sid ≡ r.socket.sid) }
-        ensures does { let r = return_of client space.now pid offset self.old
-            in Does self.old self.new now (What.Recovered r) result }
-    {
-        let at = self.moment_at(now);
-        let found = self.returning(client, space, pid, offset, at)?;
-        let (recovery, puts) = self.what_returns(alloc, client, found, offset)?;
-        self.bring_back(alloc, recovery, puts, now)
     }
 
     /// Brings a saved session back at a client: its socket is connected with the ids and rooms that
@@ -306,8 +270,12 @@ impl State {
             in Does self.old self.new now (What.Recovered r) result }
         ensures continuity { AllHear self.new }
     {
-        let back = self.come_back(alloc, client, space, pid, offset, now);
-        // The prover needs what holds of every hub.
+        // The prover needs what holds of every hub, before and after.
+        self.facts();
+        let at = self.moment_at(now);
+        let found = self.returning(client, space, pid, offset, at)?;
+        let (recovery, puts) = self.what_returns(alloc, client, found, offset)?;
+        let back = self.bring_back(alloc, recovery, puts, now);
         self.facts();
         back
     }

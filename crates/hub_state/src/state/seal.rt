@@ -26,18 +26,7 @@ fn socket_ids(alloc: Global, sockets: &Sockets) -> Result<Vec<(u16, Sid, Pid)>, 
     Ok(ids)
 }
 
-/// A client as a base has it. It shares the entries that wait.
-fn copy_client(alloc: Global, client: u128, known: &Client) -> Result<BaseClient, AllocError>
-    ensures { IfOk result (λ copy. copy ≡ base_of (client, known.now)) }
-{
-    Ok(BaseClient {
-        client,
-        sockets: socket_ids(alloc, &known.sockets)?,
-        waiting: known.outbox.shares(alloc)?,
-    })
-}
-
-/// All clients as a base has them, rising.
+/// All clients as a base has them, rising. They share the entries that wait.
 fn copy_clients(
     alloc: Global,
     clients: &BTreeMap<u128, Client>,
@@ -47,7 +36,11 @@ fn copy_clients(
 {
     let mut copies = Vec::with_capacity(alloc, clients.len())?;
     for (client, known) in clients {
-        copies.push(copy_client(alloc, *client, known)?)?;
+        copies.push(BaseClient {
+            client: *client,
+            sockets: socket_ids(alloc, &known.sockets)?,
+            waiting: known.outbox.shares(alloc)?,
+        })?;
     }
     Ok(copies)
 }

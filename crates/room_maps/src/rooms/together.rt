@@ -88,7 +88,12 @@ impl Rooms {
             return Err(refusal);
         }
         let outside = self.those(alloc, sids, room, false)?;
-        self.add_members(alloc, &outside, room)?;
+        self.kept_facts();
+        // Where a growth is refused, all are taken out again, which takes no memory.
+        if self.add_each(alloc, &outside, room).is_err() {
+            self.take_members(&outside, room);
+            return Err(RoomError::Memory);
+        }
         Ok(outside)
     }
 
@@ -137,23 +142,6 @@ impl Rooms {
             .filter(|sid| self.is_in(*sid, room) == inside)
             .collect(alloc)?;
         Ok(lookup::rising(those))
-    }
-
-    /// Adds sockets that aren't in the room. Where a growth is refused, all are taken out again,
-    /// which takes no memory.
-    fn add_members(&mut self, alloc: Global, sids: &[Sid], room: Room) -> Result<(), AllocError>
-        requires known { (sid : ℕ) → is_named sids.now sid ≡ true → is_socket self.old sid ≡ true }
-        requires absent { (s : ℕ) → is_named sids.now s ≡ true → is_in self.old s room ≡ false }
-        requires few { (sid : ℕ) → is_named sids.now sid ≡ true → is_full self.old sid ≡ false }
-        ensures ok { OnOk result (self.new ≡ with_members self.old sids.now room) }
-        ensures err { OnErr result (self.new ≡ self.old) }
-    {
-        self.kept_facts();
-        if self.add_each(alloc, sids, room).is_err() {
-            self.take_members(sids, room);
-            return Err(AllocError);
-        }
-        Ok(())
     }
 
     /// Adds the sockets. Where a growth is refused, those before it stay.

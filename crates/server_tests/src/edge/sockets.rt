@@ -213,7 +213,7 @@ fn write_served<C: Ledger, T: Ledger>(
     let end = serve(alloc, server, &mut peer, events);
     let (on, idle) = (server.core.transport(1), peer.is_idle());
     write!(text, "= {end:?} {on:?} idle:{idle}")?;
-    write_frames(text, peer.stream().written.as_slice())?;
+    write_frames(text, peer.stream_mut().written.as_slice())?;
     text.push('\n')
 }
 

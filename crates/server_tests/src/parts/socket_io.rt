@@ -6,7 +6,7 @@ use sio_wire::{
     read_header, read_offset, refused_text, resume_of, with_offset, write_header,
 };
 use std::alloc::Global;
-use terms::{Attachments, Bytes, Entry, Text};
+use terms::{Bytes, Entry, Text};
 
 /// What a text is read as: type, namespace, id, payload and number of attachments.
 type Fields = (Kind, &'static str, Option<u64>, &'static str, u32);
@@ -116,7 +116,7 @@ fn is_packet(packet: SioPacket, bytes: &[u8], payload: &str) -> Result<bool, Sio
     let is_event = header.kind == Kind::BinaryEvent;
     let entry = Entry {
         text: header.payload,
-        attachments: Attachments::from_vec(attachments.into_vec()),
+        attachments,
     };
     let copy = match entry.clone() {
         Err(_) => entry.clone()?,

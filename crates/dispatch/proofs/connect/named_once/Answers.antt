@@ -1,5 +1,5 @@
 use Rattle.std.proofs.Common.{◌≡◌, ℕ, List, refl, ◌∙◌, ap, Option, None, Some}
-use Rattle.sio_wire.specs.declared.resume.Resume.{Resume}
+use Rattle.sio_wire.specs.declared.tree.Resume.{Resume}
 use Rattle.terms.proofs.HexadecimalLemmas.{hex_digits-injective}
 use Rattle.dispatch.specs.Packets.{digits_of, Names}
 use Rattle.dispatch.proofs.connect.named_once.Goals as goal

@@ -1,4 +1,4 @@
-use Rattle.std.proofs.Common.{◌≡◌, ◌++◌, List, ℕ, ◌∷◌, ap, sym, refl, ◌∙◌, append_assoc}
+use Rattle.std.proofs.Common.{◌≡◌, ◌++◌, List, ℕ, ◌∷◌, ap, sym, refl, append_assoc}
 use Rattle.std.specs.Prelude.{codes}
 use Rattle.sio_wire.proofs.connect_answer.refused_text.Goals as goal
 
@@ -8,5 +8,5 @@ four_parts a b c d = simp append_assoc
 pub returns-clause-ok : goal.returns-clause-ok
 returns-clause-ok c =
     let message = rw c.in_ok-try_from_str.ensures at c.in_ok-message.ensures.text in
-    c.in_ok-format.ensures.ok
-    ∙ rw (c.in_ok-part.ensures, message refl) (ap (λ t. 52 ∷ t) (sym (four_parts _ (codes "{\"message\":") _ (codes "}"))))
+    rw (c.in_ok-write.ensures.bytes, c.in_ok-text.ensures, message refl)
+    (ap (λ t. 52 ∷ t) (sym (four_parts _ (codes "{\"message\":") _ (codes "}"))))

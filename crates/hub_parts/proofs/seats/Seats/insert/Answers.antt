@@ -17,11 +17,11 @@ unchanged c =
     let free : get nat_cmp c.self.inside.by_sid c.args.socket.sid ≡ None = ap (λ (m : SeatMap). get nat_cmp m c.args.socket.sid) c.self.view_is ∙ c.requires.free in
     taken_back c.self.inside.by_sid c.insert.new.self c.remove.new.self c.args.socket free c.in_ok-insert.ensures.updates.0 c.remove.ensures.updates.0
 
-pub invariant_of-self-in-Err : goal.invariant_of-self-in-Err
-invariant_of-self-in-Err c = index_same c.self.inside.by_sid c.remove.new.self c.self.inside.by_space c.insert-2.new.self c.self.invariant (unchanged c) c.in-Err.ensures.err
+pub invariant_of-self-in_default : goal.invariant_of-self-in_default
+invariant_of-self-in_default c = index_same c.self.inside.by_sid c.remove.new.self c.self.inside.by_space c.insert-2.new.self c.self.invariant (unchanged c) c.in_default.ensures.err
 
-pub returns-in-Err-clause-err : goal.returns-in-Err-clause-err
-returns-in-Err-clause-err c = λ s. unchanged c s ∙ ap (λ (m : SeatMap). get nat_cmp m s) c.self.view_is
+pub returns-in_default-clause-err : goal.returns-in_default-clause-err
+returns-in_default-clause-err c = λ s. unchanged c s ∙ ap (λ (m : SeatMap). get nat_cmp m s) c.self.view_is
 
-pub returns-in-Ok-clause-ok : goal.returns-in-Ok-clause-ok
-returns-in-Ok-clause-ok c = rw (← c.self.view_is) (λ s. search rules)
+pub returns-clause-ok : goal.returns-clause-ok
+returns-clause-ok c = rw (← c.self.view_is) (λ s. search rules)

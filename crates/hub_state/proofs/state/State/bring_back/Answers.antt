@@ -58,6 +58,6 @@ invariant_of-self-2 c =
     let rooms : c.seat.new.live.rooms ≡ room_maps.with_socket_in hub.live.rooms r.socket.sid r.rooms = rw (← c.recovery.view_is) ids.2 in
     rw (c.add.ensures.steps, c.add.ensures.last, c.reserve.ensures.same, c.add.ensures.counts)
     (plus (came-back hub r c.recovery.inside.socket es c.args.now c.len-placed.result (get nat_cmp c.seat.new.clients) (get nat_cmp c.put_all.new.clients) (get nat_cmp c.seat.new.live.seats)
-    (sorted.contains nat_cmp c.seat.new.live.pids) c.seat.new.live.rooms c.take_session.new.saved c.self.invariant b (number ∙ sym (length-map c.args.puts.items arc_value))
-    c.in_ok-seat.ensures.client c.put_all.ensures seats pids rooms ids.3 c.take_session.ensures)
+    (sorted.contains nat_cmp c.seat.new.live.pids) c.seat.new.live.rooms c.remove-session.new.self c.self.invariant b (number ∙ sym (length-map c.args.puts.items arc_value))
+    c.in_ok-seat.ensures.client c.put_all.ensures seats pids rooms ids.3 c.remove-session.ensures.removed)
     (none-departs _ _ _ _ c.self.invariant.4 refl))

@@ -108,13 +108,8 @@ returns-clause-changed c =
     let journal = c.self.inside.records.steps.steps in
     let m = c.in_ok-change.change in
     let place = place_of limits c.args.space.now in
-    let known : is_space limits place ≡ true = rw (← c.self.view_is) at (rw c.in_ok-place.ensures.place at c.in_ok-place.ensures.known) in
     let is : m ≡ leaving (record { base = base; limits = limits; journal = journal }) place c.args.rooms.items c.args.excepted.items c.args.room = rw (← c.self.view_is) at (rw c.in_ok-place.ensures.place at c.in_ok-change.ensures.change) in
     let right : RightLeaving base journal m = rw (← c.self.view_is) at c.in_ok-change.ensures.right in
-    let here : is_space limits m.space ≡ true = ap (λ (m : PlainRoomChange). is_space limits m.space) is ∙ known in
-    let asked : c.leave_all_refusal.result ≡ leave_all_refusal c.self.inside.live.rooms m.changed m.room =
-    rw (ap (λ (m : PlainRoomChange). m.room) is) (rw (← c.change.view_is) (rw c.deref.ensures.value at c.leave_all_refusal.ensures)) in
-    let free = leaving-refused base limits journal c.self.invariant.2 c.self.inside.live.rooms c.self.invariant.0.rooms_are m here c.kept_facts.ensures right ∙ ap (option_map RoomRefused) (sym asked ∙ c.in_default.is) in
     let changed = rw (c.deref-2.ensures.value, c.self.invariant.0.rooms_are) at c.in-Ok.ensures.changed in
     let all : c.in-Ok.left.items ≡ m.changed =
     all-changed base limits journal c.self.invariant.2 (get nat_cmp c.self.inside.live.seats) c.self.invariant.0.seats

@@ -15,7 +15,8 @@ called-more old new key is here before k below (inr other) =
 
 pub loop-key-preserved : goal.loop-key-preserved
 loop-key-preserved c =
-    let here = c.call.ensures.looks (omega (arith, c.loop-key.invariant.same, c.len-key-end.ensures, c.loop-key-test.true)) in
+    let all = ap (λ (w : Waiting). length w.looks) c.self.view_is in
+    let here = c.call.ensures.looks (omega (arith, c.loop-key.invariant.same, c.len-key-end.ensures, c.loop-key-test.true, all)) in
     record {
       called = λ k below. called-more c.loop-key.self c.call.new.self c.loop-key.key c.call.ensures.state here c.loop-key.invariant.called k below (cases_eq k c.loop-key.key);
       same = ap (λ (w : Waiting). length w.looks) c.call.ensures.state ∙ called_long c.loop-key.self c.loop-key.key ∙ c.loop-key.invariant.same;

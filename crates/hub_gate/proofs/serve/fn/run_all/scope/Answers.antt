@@ -14,7 +14,7 @@ loop-job-preserved g c =
       room = omega (arith, c.push_reserved.ensures.capacity, at.invariant.room);
       yielded = append_assoc at.yielded (c.in-Some.job ∷ []) (into_iter_items c.next.new.self) ∙ rw (← steps) at.invariant.yielded;
       begun = rw c.push_reserved.ensures.items (zip_push (λ j h. (h.promise.job.value ≡ j) × (h.promise.app.value ≡ c.captures.pool.now.app.now) × (h.promise.turns ≡ c.captures.pool.now.turns))
-          at.yielded at.handles.items c.in-Some.job c.in-Ok-spawn_with.handle at.invariant.begun (search rules));
+          at.yielded at.handles.items c.in-Some.job c.in-Ok.handle at.invariant.begun (search rules));
     }
 
 pub returns : goal.returns

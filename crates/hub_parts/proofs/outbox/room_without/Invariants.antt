@@ -1,6 +1,0 @@
-use Rattle.std.proofs.Common.{◌≡◌, ◌+◌, length, take}
-use Rattle.std.specs.List.{sum_by}
-use Rattle.hub_parts.proofs.outbox.room_without.Given as goal
-
-abbrev pub invariant-loop-part : goal.invariant-loop-part
-invariant-loop-part l = l.left ≡ l.room + (length l.entry.text + sum_by (λ part. length part) (take l.part-index l.part-items))

@@ -1,7 +1,0 @@
-use Rattle.std.proofs.Common.{◌≡◌, ◌+◌, length, take}
-use Rattle.std.specs.Prelude.{min}
-use Rattle.std.specs.List.{sum_by}
-use Rattle.hub_parts.proofs.steps.size_of.Given as goal
-
-abbrev pub invariant-loop-part : goal.invariant-loop-part
-invariant-loop-part l = l.size ≡ min (length l.entry.text + sum_by (λ part. length part) (take l.part-index l.part-items)) 18446744073709551615
