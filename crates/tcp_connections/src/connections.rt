@@ -7,6 +7,7 @@ use mio::event::Event;
 use mio::{Interest, Registry, Token};
 use slab::Slab;
 use std::alloc::Global;
+use std::collections::VecDeque;
 use std::rt::Clock;
 use tcp_streams::Stream;
 use terms::let_go;
@@ -16,8 +17,9 @@ pub struct Connections<'a, R> {
     slots: Slab<Box<Connection<'a, R>>>,
     /// Those that have something to do, and the clients that are listed with theirs.
     pub roster: Roster,
-    /// Those that may have bytes to send.
-    unsent: Vec<usize>,
+    /// Those that may have bytes to send, in the order in which they were noted. So a client that
+    /// upgrades is told that its probe was heard before its GET ends, and sends no other one.
+    unsent: VecDeque<usize>,
 }
 
 /// Written out, so that a crate above takes the drop of all that lies in it by this one call.
@@ -33,7 +35,7 @@ impl<'a, R: Clock + Drop> Connections<'a, R> {
         Connections {
             slots: Slab::new(alloc),
             roster: Roster::new(alloc),
-            unsent: Vec::new(alloc),
+            unsent: VecDeque::new(alloc),
         }
     }
 
@@ -91,7 +93,7 @@ impl<'a, R: Clock + Drop> Connections<'a, R> {
     /// end it is noted anew.
     pub fn note_unsent(&mut self, key: usize) {
         if let Some(connection) = self.slots.get_mut(key) {
-            connection.unsent = connection.unsent || self.unsent.push(key).is_ok();
+            connection.unsent = connection.unsent || self.unsent.push_back(key).is_ok();
             if !connection.unsent {
                 self.roster.rota.call(key);
             }
@@ -100,7 +102,7 @@ impl<'a, R: Clock + Drop> Connections<'a, R> {
 
     /// One that may have bytes to send.
     pub fn pop_unsent(&mut self) -> Option<usize> {
-        let key = self.unsent.pop()?;
+        let key = self.unsent.pop_front()?;
         if let Some(connection) = self.get_mut(key) {
             connection.unsent = false;
         }
