@@ -188,9 +188,9 @@ class Chat:
     def play_steps(self, _):
         return " ".join([f"  {len(self.hub.steps)}:", *self.hub.steps])
 
-    def play_departed(self, _):
+    def play_ended(self, _):
         return "".join(f"  {it.client} {self.place(it.space)} {sid} {it.pid} {ending}"
-                       + rooms_text(sorted(rooms, key=str.encode)) for sid, it, rooms, ending in self.hub.departed)
+                       + rooms_text(sorted(rooms, key=str.encode)) for sid, it, rooms, ending in self.hub.ended)
 
     def play_mirrors(self, _):
         rooms = {room for rooms in self.hub.rooms.values() for room in rooms}

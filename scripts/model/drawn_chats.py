@@ -140,7 +140,7 @@ class Draw:
             self.play(" ".join(map(self.word, line.split(" "))).rstrip(" "))
             if turn % 20 == 0:
                 self.look()
-                self.play("departed")
+                self.play("ended")
                 self.play("seal")
                 self.play("kept")
 

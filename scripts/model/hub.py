@@ -107,7 +107,7 @@ class Hub:
         if space in self.clients[client].sockets:
             raise Refused("AlreadyConnected")
 
-    def has_place(self, client, entries):
+    def has_space(self, client, entries):
         outbox = self.clients[client].outbox
         size = self.waiting_bytes(client) + sum(entry.size for entry in entries)
         return len(outbox) + len(entries) <= self.limits["capacity"] and size <= self.limits["bytes"]
@@ -132,7 +132,7 @@ class Hub:
     def unseat(self, sid, ending):
         socket = self.sockets.pop(sid)
         del self.clients[socket.client].sockets[socket.space]
-        self.departed.append((sid, socket, self.rooms.pop(sid), ending))
+        self.ended.append((sid, socket, self.rooms.pop(sid), ending))
 
     def drop_client(self, client, ending):
         for sid in list(self.clients[client].sockets.values()):
@@ -154,7 +154,7 @@ class Hub:
         if sid in sids or pid in pids:
             raise Refused("IdTaken")
         answer = Entry(connected_text(space, sid, pid))
-        if not self.has_place(client, [answer]):
+        if not self.has_space(client, [answer]):
             raise Refused("OutboxFull")
         self.seat(client, space, sid, pid, ())
         self.put(client, answer)
@@ -171,7 +171,7 @@ class Hub:
         if missed is None:
             raise Refused("NotRecoverable(OffsetGone)")
         entries = [Entry(connected_text(space, saved.sid, pid)), *(it.entry for it in missed)]
-        if not self.has_place(client, entries):
+        if not self.has_space(client, entries):
             raise Refused("OutboxFull")
         del self.saved[pid]
         self.seat(client, space, saved.sid, pid, saved.rooms)
@@ -213,7 +213,7 @@ class Hub:
         reached, dropped = [], 0
         for sid in self.addressed(space, rooms, excepted):
             client = self.sockets[sid].client
-            if self.has_place(client, [entry]):
+            if self.has_space(client, [entry]):
                 self.put(client, entry)
                 reached.append(client)
             else:
@@ -228,7 +228,7 @@ class Hub:
 
     def tell(self, client, entry, now):
         self.look_at_client(client)
-        if not self.has_place(client, [entry]):
+        if not self.has_space(client, [entry]):
             raise Refused("OutboxFull")
         self.put(client, entry)
         self.step("told", now, [entry])
@@ -295,7 +295,7 @@ class Hub:
         sids, told, farewell = self.addressed(space, rooms, excepted), [], Entry(f"1{start(space)}")
         for sid in sids:
             client = self.sockets[sid].client
-            if self.has_place(client, [farewell]):
+            if self.has_space(client, [farewell]):
                 self.put(client, farewell)
                 told.append(client)
             self.unseat(sid, "Together")
@@ -305,7 +305,7 @@ class Hub:
     def seal(self):
         """Makes a copy of the present state the base. Gives how many steps led to it."""
         count = len(self.steps)
-        self.steps, self.held, self.departed, self.base = [], 0, [], Base(self)
+        self.steps, self.held, self.ended, self.base = [], 0, [], Base(self)
         return count
 
 

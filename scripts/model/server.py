@@ -96,14 +96,14 @@ def then_heard(event):
     """An event that may end sockets: the app hears of these then, also where the event is refused, which stays the answer."""
 
     def heard(self, client, *words):
-        before = len(self.hub.departed)
+        before = len(self.hub.ended)
         try:
             answer = event(self, client, *words)
         except Refused:
             with contextlib.suppress(Refused):
-                self.hear_of(self.hub.departed[before:], words[-1])
+                self.hear_of(self.hub.ended[before:], words[-1])
             raise
-        self.hear_of(self.hub.departed[before:], words[-1])
+        self.hear_of(self.hub.ended[before:], words[-1])
         return answer
 
     return heard
@@ -132,7 +132,7 @@ class Server:
         del self.lines[client]
 
     def park(self, client, now):
-        """Saves the sessions of a client that is gone, and says whether they had a place."""
+        """Saves the sessions of a client that is gone, and says whether they had space."""
         try:
             self.hub.park(client, now)
             is_saved = True
@@ -358,7 +358,7 @@ class Server:
             self.tell(client, f"3{start(space)}{header.id}[]", now)
         elif name == "bye":
             farewell = Entry(f"1{start(space)}")
-            if hub.has_place(client, [farewell]):
+            if hub.has_space(client, [farewell]):
                 hub.tell(client, farewell, now)
             hub.end(sid, now)
             del line.questions[sid]

@@ -64,8 +64,8 @@ pub fn read_folder<R: Files + AllocGlobal + Clone + Drop>(
     let entries = fs::read_dir(rt, folder).map_err(|error| fault_at(alloc, folder, &error))?;
     for entry in entries {
         let entry = entry.map_err(|error| fault_at(alloc, folder, &error))?;
-        let (path, room) = (entry.path(), MOST_BYTES - page.size());
-        let read = read_file(rt, path, room).map_err(|error| fault_at(
+        let (path, left) = (entry.path(), MOST_BYTES - page.size());
+        let read = read_file(rt, path, left).map_err(|error| fault_at(
             alloc,
             path.as_str(),
             &error,
@@ -79,18 +79,18 @@ pub fn read_folder<R: Files + AllocGlobal + Clone + Drop>(
     Ok(page)
 }
 
-/// The bytes of a file, but just one more than there is room for where it has more. Nothing where it
+/// The bytes of a file, but just one more than these where it has more. Nothing where it
 /// is no file.
 fn read_file<R: Files + AllocGlobal>(
     rt: &R,
     path: Path<'_>,
-    room: usize,
+    left: usize,
 ) -> io::Result<Option<Vec<u8>>> {
     if !fs::metadata(rt, path)?.is_file() {
         return Ok(None);
     }
     let file = fs::open(rt, path)?;
-    let most = (room as u64).saturating_add(1);
+    let most = (left as u64).saturating_add(1);
     let mut bytes = Vec::new(rt.alloc());
     file.take(most).read_to_end(&mut bytes)?;
     Ok(Some(bytes))

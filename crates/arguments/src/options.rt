@@ -24,7 +24,7 @@ pub struct Options {
 }
 
 /// An option: its name, what it does, what its value has to be, what holds where it isn't there.
-struct Entry {
+struct OptionRow {
     name: &'static str,
     action: ArgAction,
     parser: ValueParser<'static>,
@@ -40,7 +40,7 @@ macro_rules! options {
     ($(
         $name:literal $act:ident $kind:ident $(($from:expr, $to:expr))?, $usual:expr, $help:literal;
     )*) => {
-        [$(Entry {
+        [$(OptionRow {
             name: $name,
             action: ArgAction::$act,
             parser: ValueParser::$kind $(($from, $to))?,
@@ -51,7 +51,7 @@ macro_rules! options {
 }
 
 /// The options, in the order in which help tells them.
-static OPTIONS: [Entry; 25] = options! {
+static OPTIONS: [OptionRow; 25] = options! {
     "port" Set Unsigned(1, 65_535), [], "The port to listen at";
     "host" Set String, ["127.0.0.1"], "The address to listen at";
     "workers" Set Unsigned(1, 1_023), [],

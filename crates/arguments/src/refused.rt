@@ -3,7 +3,7 @@
 ghost use Rattle.std.specs.Prelude.{◌≡◌, ◌≢◌, ◌⊎◌, Err, IsOkAnd, MatchResult};
 ghost use Rattle.std.specs.Process.{exit_status};
 ghost use Rattle.clap.specs.Words.{kind_of};
-ghost use Rattle.arguments.specs.declared.refused.TellFault.TheVariants as fault;
+ghost use Rattle.arguments.specs.declared.refused.PrintFault.TheVariants as fault;
 
 use clap::Error;
 use clap::error::ErrorKind;
@@ -12,7 +12,7 @@ use thiserror::Error;
 
 /// Why such arguments have no status of their own.
 #[derive(Clone, Copy, Debug, Error)]
-pub enum TellFault {
+pub enum PrintFault {
     /// An allocation was refused as they were read.
     #[error("out of memory")]
     Memory,
@@ -22,7 +22,7 @@ pub enum TellFault {
 }
 
 /// Shows the text of a parse without matches, and gives the status: 0 for help, 2 for bad arguments.
-pub fn tell_refused<R: Print + Eprint>(rt: &R, refused: &Error) -> Result<ExitCode, TellFault>
+pub fn print_refused<R: Print + Eprint>(rt: &R, refused: &Error) -> Result<ExitCode, PrintFault>
     ensures memory { kind_of refused.now ≡ ErrorKind.OutOfMemory → result ≡ Err fault.Memory }
     ensures mistake { kind_of refused.now ≢ ErrorKind.OutOfMemory
         → kind_of refused.now ≢ ErrorKind.DisplayHelp → kind_of refused.now ≢ ErrorKind.DisplayVersion
@@ -31,7 +31,7 @@ pub fn tell_refused<R: Print + Eprint>(rt: &R, refused: &Error) -> Result<ExitCo
         → MatchResult result (λ code. exit_status code ≡ 0) (λ error. error ≡ fault.Writing) }
 {
     if refused.kind() == ErrorKind::OutOfMemory {
-        return Err(TellFault::Memory);
+        return Err(PrintFault::Memory);
     }
     let shown = refused.print(rt);
     if refused.use_stderr() {
@@ -39,6 +39,6 @@ pub fn tell_refused<R: Print + Eprint>(rt: &R, refused: &Error) -> Result<ExitCo
     }
     match shown {
         Ok(()) => Ok(ExitCode::SUCCESS),
-        Err(_) => Err(TellFault::Writing),
+        Err(_) => Err(PrintFault::Writing),
     }
 }

@@ -25,10 +25,10 @@ not_greater a b less = grind (arith, nat_tests)
 
 pub leads_asked : (first : ℕ) (h : List Call) (b : Contents) (tag until : ℕ) (entries : List (ℕ × Question)) → b.next ≤ last_id → entries ≡ insert_entry nat_cmp b.questions b.next (record { tag = tag; until = until }) → LeadsTo first h b → LeadsTo first (Asked tag until ∷ h) (record { next = b.next + 1; questions = entries })
 unfolding IsLegal asks open_questions
-leads_asked first h b tag until entries room is was =
+leads_asked first h b tag until entries below is was =
     let question : Question = record { tag = tag; until = until } in
     record {
-      legal = (ap (λ spent. cond spent (Some Spent) None) (not_greater last_id (next_id first h) (omega (arith, room, was.next))), was.legal);
+      legal = (ap (λ spent. cond spent (Some Spent) None) (not_greater last_id (next_id first h) (omega (arith, below, was.next))), was.legal);
       next = omega (arith, was.next);
       questions =
           is

@@ -23,7 +23,7 @@ use Rattle.connection.specs.declared.ack_error.AckError.{AckError}
 use Rattle.connection.specs.declared.ack_book.Question.{Question}
 use Rattle.connection.specs.Book as book
 use Rattle.connection.specs.BookContents as book_contents
-use Rattle.connection.specs.History.{Call, Framed, FrameRefused, Ticked, Ponged, Probed, Upgraded, ProbeLost, GetBegan, GetEnded, PingCarried, Entered, Left, Asked, Answered, frames, failure, IsLegal, clock_calls, book_calls, is_getting, is_ping_due}
+use Rattle.connection.specs.History.{Call, Framed, FrameRefused, Ticked, Ponged, Probed, Upgraded, ProbeLost, GetBegan, GetEnded, PingCarried, Connected, Disconnected, Asked, Answered, frames, failure, IsLegal, clock_calls, book_calls, is_getting, is_ping_due}
 use Rattle.connection.specs.Line.{PlainLine, fresh_book, book_in, failure_of, FailsWith, HasTaken, LeadsTo, HasHistory, Advances}
 
 -- calls that lead from each history to the next line lead from the one that there is
@@ -215,7 +215,7 @@ forgotten l h sid books s true = is-fresh
 forgotten l h sid books s false = books s
 
 pub left : (l : PlainLine) (sid : ℕ) (next : List (ℕ × book_contents.Contents)) → ((s : ℕ) → book_in next s ≡ (if sid == s then fresh_book else book_in l.books s))
-    → Advances l (Left sid ∷ []) (record l { books = next })
+    → Advances l (Disconnected sid ∷ []) (record l { books = next })
 unfolding frames failure IsLegal clock_calls book_calls is_getting is_ping_due
 left l sid next forgets o h leads =
     record {
@@ -231,7 +231,7 @@ left l sid next forgets o h leads =
 pub entered : (l : PlainLine) (sid : ℕ) (clock-after : clock_contents.Contents) (next : List (ℕ × book_contents.Contents))
     → clock.ForEachHistory l.clock (λ o h. clock.LeadsTo o (clock_history.Joined ∷ h) clock-after)
     → ((s : ℕ) → book_in next s ≡ (if sid == s then fresh_book else book_in l.books s))
-    → Advances l (Entered sid ∷ []) (record l { clock = clock-after; books = next })
+    → Advances l (Connected sid ∷ []) (record l { clock = clock-after; books = next })
 unfolding frames failure IsLegal clock_calls book_calls is_getting is_ping_due
 entered l sid clock-after next step forgets o h leads =
     record {

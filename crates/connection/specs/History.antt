@@ -9,7 +9,7 @@ use Rattle.connection.specs.Questions as book
 
 -- a call that changed the line: a frame that the assembler took, or one that it refused for an error; a tick at a moment,
 -- with what was due, and a pong; the steps of an upgrade; a GET that begins to wait or waits no more; a ping that was
--- carried to the client; a socket that joined its namespace or left it; a question to it with a tag and the moment at
+-- carried to the client; a socket that was connected or disconnected; a question to it with a tag and the moment at
 -- which it runs out, and the answer to an id
 pub data Call : Type 0 where
   Framed : Frame → Call
@@ -22,8 +22,8 @@ pub data Call : Type 0 where
   GetBegan : Call
   GetEnded : Call
   PingCarried : Call
-  Entered : ℕ → Call
-  Left : ℕ → Call
+  Connected : ℕ → Call
+  Disconnected : ℕ → Call
   Asked : ℕ → ℕ → ℕ → Call
   Answered : ℕ → ℕ → Call
 
@@ -53,14 +53,14 @@ clock_calls (Ponged now ∷ h) = clock.Ponged now ∷ clock_calls h
 clock_calls (Probed ∷ h) = clock.Probed ∷ clock_calls h
 clock_calls (Upgraded ∷ h) = clock.Upgraded ∷ clock_calls h
 clock_calls (ProbeLost ∷ h) = clock.ProbeLost ∷ clock_calls h
-clock_calls (Entered s ∷ h) = clock.Joined ∷ clock_calls h
+clock_calls (Connected s ∷ h) = clock.Joined ∷ clock_calls h
 clock_calls (_ ∷ h) = clock_calls h
 
 -- the calls on the book of a socket since it joined; each tick forgets the questions that ran out
 unfoldable pub book_calls : ℕ → List Call → List book.Call
 book_calls s [] = []
-book_calls s (Entered t ∷ h) = if t == s then [] else book_calls s h
-book_calls s (Left t ∷ h) = if t == s then [] else book_calls s h
+book_calls s (Connected t ∷ h) = if t == s then [] else book_calls s h
+book_calls s (Disconnected t ∷ h) = if t == s then [] else book_calls s h
 book_calls s (Asked t tag until ∷ h) = if t == s then book.Asked tag until ∷ book_calls s h else book_calls s h
 book_calls s (Answered t id ∷ h) = if t == s then book.Answered id ∷ book_calls s h else book_calls s h
 book_calls s (Ticked now due ∷ h) = book.Expired now ∷ book_calls s h

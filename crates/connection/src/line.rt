@@ -9,7 +9,7 @@ ghost use Rattle.connection.specs.Heartbeat.{due};
 ghost use Rattle.connection.specs.Upgrade.{transport, probe_refusal, unprobed_refusal};
 ghost use Rattle.connection.specs.Questions.{next_id, question_at};
 ghost use Rattle.connection.specs.Book.{ask_refusal, answer_of};
-ghost use Rattle.connection.specs.History.{Call, Ticked, Ponged, Probed, Upgraded, ProbeLost, GetBegan, GetEnded, PingCarried, Entered, Left, Asked, Answered, clock_calls, book_calls, frames, failure, is_getting, is_ping_due};
+ghost use Rattle.connection.specs.History.{Call, Ticked, Ponged, Probed, Upgraded, ProbeLost, GetBegan, GetEnded, PingCarried, Connected, Disconnected, Asked, Answered, clock_calls, book_calls, frames, failure, is_getting, is_ping_due};
 ghost use Rattle.connection.specs.Line.{PlainLine, LeadsTo, ForEachHistory, HasHistory, Advances, Hears, StepsBy};
 
 use crate::{AckBook, AckError, Clock, ClockError, Due, Timing, Transport, ack_book};
@@ -181,18 +181,18 @@ impl Line {
         self.ping = false;
     }
 
-    /// A socket joined its namespace: the connection timeout is over, and none of its questions is
+    /// A socket was connected: the connection timeout is over, and none of its questions is
     /// open.
-    pub fn enter(&mut self, sid: Sid)
-        ensures { Advances self.old (Entered sid ∷ []) self.new }
+    pub fn connect(&mut self, sid: Sid)
+        ensures { Advances self.old (Connected sid ∷ []) self.new }
     {
         self.clock.joined();
         self.books.remove(&sid);
     }
 
-    /// A socket left its namespace, and its questions with it.
-    pub fn leave(&mut self, sid: Sid)
-        ensures { Advances self.old (Left sid ∷ []) self.new }
+    /// A socket was disconnected, and its questions with it.
+    pub fn disconnect(&mut self, sid: Sid)
+        ensures { Advances self.old (Disconnected sid ∷ []) self.new }
     {
         self.books.remove(&sid);
     }

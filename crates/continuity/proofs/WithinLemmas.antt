@@ -22,11 +22,11 @@ use Rattle.journal.specs.Plain.{PlainBase, Limits, PlainBroadcast, PlainDismissa
 use Rattle.journal.specs.Membership.{opens, closes, open_clients, is_open, sockets, sockets_of, matches}
 use Rattle.journal.specs.Sessions.{lost_session, with_sessions, sessions_after, sessions}
 use Rattle.journal.specs.Log.{log}
-use Rattle.journal.specs.Outboxes.{answer, farewell, is_addressed, entries_of, put, entries_for, begins, taken_by, placements, waiting, total_size, has_no_place, is_full}
+use Rattle.journal.specs.Outboxes.{answer, farewell, is_addressed, entries_of, put, entries_for, begins, taken_by, placements, waiting, total_size, has_no_space, is_full}
 use Rattle.journal.specs.Broadcast.{RightCast, is_dropped, reaches}
 use Rattle.journal.specs.ManySockets.{client_of, may_hear, RightDismissal}
 use Rattle.journal.specs.Totals.{is_spent}
-use Rattle.journal.specs.Refusals.{open_refusal, tell_refusal, park_refusal, attach_refusal, have_no_place, recovered_entries, recover_refusal}
+use Rattle.journal.specs.Refusals.{open_refusal, tell_refusal, park_refusal, attach_refusal, have_no_space, recovered_entries, recover_refusal}
 use Rattle.journal.specs.Legal.{IsAllowed, IsLegal}
 use Rattle.journal.proofs.OutboxesLemmas.{waiting-step, waiting-begins}
 use Rattle.journal.proofs.SocketsLemmas.{may-attach}
@@ -126,7 +126,7 @@ module _ (base : PlainBase) (limits : Limits) where
       let s = sum_by-take-drop entry_size es n in
       (omega (arith, l, h.0), omega (arith, s, h.1))
 
-  fits-all : (ws es : List Entry) → have_no_place limits ws es ≡ false → Fits (ws ++ es)
+  fits-all : (ws es : List Entry) → have_no_space limits ws es ≡ false → Fits (ws ++ es)
   fits-all ws es e =
       let no_place = neither (nat_lt limits.capacity (length ws + length es)) (nat_lt limits.bytes (total_size ws + total_size es)) e in
       let l = length-append ws es in
@@ -135,7 +135,7 @@ module _ (base : PlainBase) (limits : Limits) where
       let small : total_size ws + total_size es ≤ limits.bytes = (let h = no_place.1 in grind (arith, nat_tests, h)) in
       (omega (arith, l, few), omega (arith, s, small))
 
-  fits-one : (ws : List Entry) (e : Entry) → has_no_place limits.capacity limits.bytes ws e ≡ false → Fits (ws ++ e ∷ [])
+  fits-one : (ws : List Entry) (e : Entry) → has_no_space limits.capacity limits.bytes ws e ≡ false → Fits (ws ++ e ∷ [])
   fits-one ws e h =
       let no_place = neither (nat_le limits.capacity (length ws)) (nat_lt limits.bytes (total_size ws + entry_size e)) h in
       let l = length-append ws (e ∷ []) in
@@ -145,7 +145,7 @@ module _ (base : PlainBase) (limits : Limits) where
       let small : total_size ws + entry_size e ≤ limits.bytes = (let h = no_place.1 in grind (arith, nat_tests, h)) in
       (omega (arith, l, few), omega (arith, s, one, small))
 
-  fits-if : (ws : List Entry) (e : Entry) (b : Bool) → (b ≡ true → has_no_place limits.capacity limits.bytes ws e ≡ false) → Fits ws → Fits (ws ++ (if b then e ∷ [] else []))
+  fits-if : (ws : List Entry) (e : Entry) (b : Bool) → (b ≡ true → has_no_space limits.capacity limits.bytes ws e ≡ false) → Fits ws → Fits (ws ++ (if b then e ∷ [] else []))
   fits-if ws e true h was = fits-one ws e (h refl)
   fits-if ws e false h was = subst Fits (sym (append-nil ws)) was
 
@@ -159,7 +159,7 @@ module _ (base : PlainBase) (limits : Limits) where
   one-for : (before : List Step) (c d : ℕ) (e : Entry) → is_full base limits before d e ≡ false → Waits before c → Fits (waiting base limits before c ++ entries_for c ((d, e) ∷ []))
   one-for before c d e place was =
       subst (λ l. Fits (waiting base limits before c ++ l)) (sym (for-one c d (e ∷ [])))
-      (fits-if (waiting base limits before c) e (d == c) (λ is. ap (λ n. has_no_place limits.capacity limits.bytes (waiting base limits before n) e) (sym (eqb-true d c is)) ∙ place) was)
+      (fits-if (waiting base limits before c) e (d == c) (λ is. ap (λ n. has_no_space limits.capacity limits.bytes (waiting base limits before n) e) (sym (eqb-true d c is)) ∙ place) was)
 
   back-puts : (at : ℕ) (before : List Step) (c : ℕ) (r : PlainRecovery) → IsAllowed base limits before (record { at = at; what = Recovered r }) (Recovered r) → Waits before c
       → Fits (waiting base limits before c ++ entries_for c (put base limits before (Recovered r)))
@@ -170,14 +170,14 @@ module _ (base : PlainBase) (limits : Limits) where
       let may = may-recover base limits before k.client k.space k.pid r.offset at (unrefused (recover_refusal base limits before k.client k.space k.pid r.offset at) (is_spent base limits before (Recovered r)) (sym allowed.0)) in
       let same : may.session ≡ record { sid = k.sid; pid = k.pid; space = k.space; rooms = r.rooms; lost_at = right.lost_at } = (let e = sym may.found ∙ right.session in cc) in
       let es : List Entry = answer limits k ∷ entries_of (log base limits before) r.missed in
-      let place : have_no_place limits (waiting base limits before k.client) es ≡ false
-      = ap (λ m. have_no_place limits (waiting base limits before k.client) (answer limits k ∷ entries_of (log base limits before) m)) right.missed_is
-      ∙ sym (ap (λ (s : PlainSaved). have_no_place limits (waiting base limits before k.client) (recovered_entries base limits before (record { client = k.client; space = k.space; sid = s.sid; pid = k.pid }) r.offset s.rooms)) same)
+      let place : have_no_space limits (waiting base limits before k.client) es ≡ false
+      = ap (λ m. have_no_space limits (waiting base limits before k.client) (answer limits k ∷ entries_of (log base limits before) m)) right.missed_is
+      ∙ sym (ap (λ (s : PlainSaved). have_no_space limits (waiting base limits before k.client) (recovered_entries base limits before (record { client = k.client; space = k.space; sid = s.sid; pid = k.pid }) r.offset s.rooms)) same)
       ∙ may.place in
       subst (λ l. Fits (waiting base limits before c ++ l)) (sym (for-one c k.client es)) (on es place (k.client == c) refl)
     where
-      on : (es : List Entry) → have_no_place limits (waiting base limits before r.socket.client) es ≡ false → (b : Bool) → (r.socket.client == c) ≡ b → Fits (waiting base limits before c ++ (if b then es else []))
-      on es place true is = fits-all (waiting base limits before c) es (ap (λ n. have_no_place limits (waiting base limits before n) es) (sym (eqb-true r.socket.client c is)) ∙ place)
+      on : (es : List Entry) → have_no_space limits (waiting base limits before r.socket.client) es ≡ false → (b : Bool) → (r.socket.client == c) ≡ b → Fits (waiting base limits before c ++ (if b then es else []))
+      on es place true is = fits-all (waiting base limits before c) es (ap (λ n. have_no_space limits (waiting base limits before n) es) (sym (eqb-true r.socket.client c is)) ∙ place)
       on es place false is = subst Fits (sym (append-nil (waiting base limits before c))) was
 
   -- one of a list that passes
@@ -197,7 +197,7 @@ module _ (base : PlainBase) (limits : Limits) where
   in-list : (p q : Socket → Bool) (ks : List Socket) → list_any p (filter q ks) ≡ true → list_any (λ k. p k && q k) ks ≡ true
   in-list p q ks e = sym (any-filter p q ks) ∙ e
 
-  -- a client that a broadcast reaches has a place for it
+  -- a client that a broadcast reaches has space for it
   reached-place : (at : ℕ) (before : List Step) (b : PlainBroadcast) (c : ℕ) → RightCast base limits before (record { at = at; what = Cast b }) b → reaches base before b c ≡ true → is_full base limits before c b.entry ≡ false
   reached-place at before b c right there =
       let found = any-self (λ (k : Socket). (k.client == c) && (is_addressed base before b k && not (list_any (λ s. s == k.sid) b.dropped))) (sockets base before)

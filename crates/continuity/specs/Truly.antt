@@ -57,7 +57,7 @@ KeepsItsRooms base limits before p o =
 -- ---- the premises
 
 -- the broadcast is logged, and the session's socket misses it since its
--- client's outbox has no place
+-- client's outbox has no space
 abbrev pub is_missed_by : PlainBase → List Step → ℕ → PlainBroadcast → Bool
 is_missed_by base before p b =
     option_map_or

@@ -11,7 +11,7 @@ use Rattle.journal.specs.Plain.{Limits, PlainBase}
 use Rattle.journal.specs.Config.{empty_base}
 use Rattle.continuity.specs.Heard.{heard, due_casts}
 
--- one namespace, and room for all
+-- one namespace, and limits that nothing here reaches
 abbrev pub limits : Limits
 limits =
     record {

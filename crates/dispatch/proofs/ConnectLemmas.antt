@@ -24,7 +24,7 @@ use Rattle.effects.specs.Effects.{Scene, told_to, ActsInTurn, StopsAfter}
 use Rattle.effects.specs.Following.{is_clean}
 use Rattle.effects.specs.Runs.{Runs}
 use Rattle.effects.proofs.StepLemmas.{itself, open-still, connected-then, own-then}
-use Rattle.dispatch.specs.Packets.{Stage, Upshot, refusal_entry, ClosesFor, Refuses, DoesAll, DrawsNone, MayComeBack, AsksToConnect}
+use Rattle.dispatch.specs.Packets.{Course, Upshot, refusal_entry, ClosesFor, Refuses, DoesAll, DrawsNone, MayRecover, AsksToConnect}
 
 -- ---- the text of a refusal holds no U+001E
 
@@ -101,7 +101,7 @@ clean-refusal space message whole =
 pub drawn-two : (first second third : ℕ → ℕ) → second ≡ (λ k. first (k + 1)) → third ≡ (λ k. second (k + 1)) → third ≡ (λ k. first (k + 2))
 drawn-two first second third once twice = twice ∙ ap (λ (ids : ℕ → ℕ). λ k. ids (k + 1)) once ∙ simp unary_clauses
 
--- the client is closed, since its outbox has no place for the refusal
+-- the client is closed, since its outbox has no space for the refusal
 pub refuses-full : (c now : ℕ) (space message : List ℕ) (s : Scene) (result : Upshot) (t : Scene) → IsRefused s.history now (told_to c (refusal_entry space message)) hub.OutboxFull
     → ClosesFor c now cause.OutboxFull s result t → Refuses c now space message s result t
 refuses-full c now space message s (Ok done) t refused closes = inr (refused, closes)
@@ -129,7 +129,7 @@ none-mapped : {A B : Type 0} (f : A → B) (o : Option A) → option_map f o ≡
 none-mapped f None none = refl
 none-mapped f (Some x) none = absurd (cc none)
 
-module _ (policy : Policy) (c : ℕ) (space payload : List ℕ) (now : ℕ) (s : Stage) (result : Upshot) (t : Stage) where
+module _ (policy : Policy) (c : ℕ) (space payload : List ℕ) (now : ℕ) (s : Course) (result : Upshot) (t : Course) where
   -- a CONNECT to a namespace that isn't there
   pub asks-nowhere : is_space s.scene.history.limits (place_of s.scene.history.limits space) ≡ false → DrawsNone (Refuses c now space (codes "Invalid namespace")) s result t
       → AsksToConnect policy c space payload now s result t
@@ -138,6 +138,6 @@ module _ (policy : Policy) (c : ℕ) (space payload : List ℕ) (now : ℕ) (s :
   -- one to a namespace that the client hasn't joined
   pub asks-free : is_space s.scene.history.limits (place_of s.scene.history.limits space) ≡ true
       → option_map sid_of (socket_of s.scene.history.base s.scene.history.journal c (place_of s.scene.history.limits space)) ≡ None
-      → MayComeBack policy c space payload now s result t → AsksToConnect policy c space payload now s result t
+      → MayRecover policy c space payload now s result t → AsksToConnect policy c space payload now s result t
   asks-free there free comes =
       rw (there, none-mapped sid_of (socket_of s.scene.history.base s.scene.history.journal c (place_of s.scene.history.limits space)) free, AsksToConnect) comes

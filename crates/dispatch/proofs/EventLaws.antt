@@ -33,9 +33,9 @@ use Rattle.dispatch.specs.Frames.{is_too_long}
 use Rattle.dispatch.specs.Handed.{Turn, Handed}
 use Rattle.dispatch.specs.Handed as handed
 use Rattle.dispatch.specs.Machine.{IsOf, listed, Opens, Begins, Ends, Takes, TakesFrames, Loses, opening, WorksOn, Posts, PostsFor, HearsFrame, Hears, HearsFor, Row}
-use Rattle.dispatch.specs.Packets.{Stage, stage}
+use Rattle.dispatch.specs.Packets.{Course, course}
 use Rattle.dispatch.specs.Parking.{ParksOrCloses}
-use Rattle.dispatch.specs.Place.{Place, line_of, place, KeepsLines, HasLine, LosesLine, Agree}
+use Rattle.dispatch.specs.Holding.{Holding, line_of, holding, KeepsLines, HasLine, LosesLine, Agree}
 use Rattle.dispatch.specs.Upgrade.{Upgrades, LosesProbe, Probes, ProbesOn, EndsProbe, EndsProbeOn}
 use Rattle.dispatch.specs.Upkeep.{Ticks, TicksOn, Sweeps}
 use Rattle.dispatch.proofs.HandedLemmas.{Given, taken-given, sent-given, given-turn, handed-open, handed-work}
@@ -47,11 +47,11 @@ spares-more : (c : ℕ) (h g : History) (lists : List (List ℕ)) → Spares c h
 spares-more c h g lists spares = λ d other out. spares d other refl
 
 module _ (c now : ℕ) (h g : History) (old new : List (ℕ × PlainLine)) (agree : Agree h old) where
-  abbrev s : Place
-  s = place h old
+  abbrev s : Holding
+  s = holding h old
 
-  abbrev t : Place
-  t = place g new
+  abbrev t : Holding
+  t = holding g new
 
   -- a client's event: its steps, and the lines after it
   pub record Turned (answer : Answer) : Type 0 where
@@ -106,7 +106,7 @@ module _ (c now : ℕ) (h g : History) (old new : List (ℕ × PlainLine)) (agre
   closes-unread why (Err e) (fails, (is, same, lines)) = works (Err e) (unchanged same) (lines-kept same lines)
 
   -- by the client's line
-  for-client : (row : PlainLine → Place → Answer → Place → Type 0) (answer : Answer)
+  for-client : (row : PlainLine → Holding → Answer → Holding → Type 0) (answer : Answer)
       → ((line : PlainLine) → line_of old c ≡ Some line → row line s answer t → Turned answer) → ForClient c row s answer t → Turned answer
   for-client row answer each does = on (line_of old c) refl does
     where
@@ -168,7 +168,7 @@ module _ (c now : ℕ) (h g : History) (old new : List (ℕ × PlainLine)) (agre
     start : (line : PlainLine) → line_of old c ≡ Some line → After c now h (Ok tt) (opening h line)
     start line is = record { stays = known line is; has = works-none c h [] }
 
-    kept : (m : Stage) (line : PlainLine) → Follows (is_work c) h g → KeepsWhileOpen c m.scene.done m.scene.line s t
+    kept : (m : Course) (line : PlainLine) → Follows (is_work c) h g → KeepsWhileOpen c m.scene.done m.scene.line s t
         → is_open g.base g.journal c ≡ is_none m.scene.done.closed → Agree g new
     kept m line work keeps stays = on m.scene.done.closed keeps stays
       where
@@ -178,7 +178,7 @@ module _ (c now : ℕ) (h g : History) (old new : List (ℕ × PlainLine)) (agre
 
     works-on : (packets : List Packet) (answer : Answer) (line : PlainLine) → line_of old c ≡ Some line → WorksOn policy now c packets line s ids answer t left → Turned answer
     works-on packets (Ok (outcome.Done done)) line is (m, run, said, there, keeps, drawn) =
-        let after = all-after c now h policy packets (stage (opening h line) ids) m run (start line is) in
+        let after = all-after c now h policy packets (course (opening h line) ids) m run (start line is) in
         let work = subst (λ (k : History). WorksFor c h k m.scene.done.clients) (sym there) after.has in
         record {
           work = work.follows;
@@ -187,7 +187,7 @@ module _ (c now : ℕ) (h g : History) (old new : List (ℕ × PlainLine)) (agre
         }
     works-on packets (Ok _) line is none = absurd none
     works-on packets (Err e) line is (m, breaks, there, has, drawn) =
-        let after = broken-after c now h policy packets (stage (opening h line) ids) e m breaks (start line is) in
+        let after = broken-after c now h policy packets (course (opening h line) ids) e m breaks (start line is) in
         let work = subst (λ (k : History). WorksFor c h k m.scene.done.clients) (sym there) after.1 in
         record {
           work = work.follows;
@@ -265,23 +265,23 @@ module _ (now : ℕ) (h g : History) (old new : List (ℕ × PlainLine)) (agree 
         each (Ok o) = spares-more c h g (listed o) given.2.leads.spares
         each (Err e) = tt
 
-  opens-applied : (timing : Timing) (numbers : Numbers) (socket : Bool) → Opens timing numbers now socket (ids 0) (place h old) answer (place g new) → Applied (event.Opened socket) ids answer h g new
+  opens-applied : (timing : Timing) (numbers : Numbers) (socket : Bool) → Opens timing numbers now socket (ids 0) (holding h old) answer (holding g new) → Applied (event.Opened socket) ids answer h g new
   opens-applied timing numbers socket does =
       let left = on answer does in
-      of-client (event.Opened socket) (ids 0) (λ d of. of) left.0.follows (each answer left.0.spares) left.1 (handed-open timing numbers now socket (ids 0) (place h old) answer (place g new) does)
+      of-client (event.Opened socket) (ids 0) (λ d of. of) left.0.follows (each answer left.0.spares) left.1 (handed-open timing numbers now socket (ids 0) (holding h old) answer (holding g new) does)
     where
       each : (answer : Answer) → Spares (ids 0) h g [] → IfOk answer (λ o. Spares (ids 0) h g (listed o))
       each (Ok o) spares = spares-more (ids 0) h g (listed o) spares
       each (Err e) spares = tt
 
-      on : (answer : Answer) → Opens timing numbers now socket (ids 0) (place h old) answer (place g new) → Leads (ids 0) h g × Agree g new
+      on : (answer : Answer) → Opens timing numbers now socket (ids 0) (holding h old) answer (holding g new) → Leads (ids 0) h g × Agree g new
       on (Ok (outcome.Opened o)) (client, told, made, has) =
           let leads = leads-on (ids 0) h h g now (what.Opened (ids 0)) made.1 (itself (ids 0)) refl tt (leads-none (ids 0) h h refl) in
           (leads, agree-still (ids 0) h g old new agree leads.follows has.1 (has-some (ids 0) now h g old new agree _ has) (opened-then h g now (ids 0) made.1))
       on (Ok _) none = absurd none
       on (Err e) (fails, (is, same, lines)) = (leads-none (ids 0) h g same, lines-kept (ids 0) now h g old new agree same lines)
 
-  sweeps-applied : Sweeps now (place h old) answer (place g new) → Applied event.Sweep ids answer h g new
+  sweeps-applied : Sweeps now (holding h old) answer (holding g new) → Applied event.Sweep ids answer h g new
   sweeps-applied does =
       record {
         turns = λ c of. turns-of c h g (on answer does c).follows;
@@ -290,12 +290,12 @@ module _ (now : ℕ) (h g : History) (old new : List (ℕ × PlainLine)) (agree 
         hands = handed-work event.Sweep 0 answer h g (λ d. refl) (λ d. refl) (on answer does 0).follows;
       }
     where
-      on : (answer : Answer) → Sweeps now (place h old) answer (place g new) → (c : ℕ) → WorksFor c h g []
+      on : (answer : Answer) → Sweeps now (holding h old) answer (holding g new) → (c : ℕ) → WorksFor c h g []
       on (Ok (outcome.Swept dropped)) (made, drops, lines) c = work-on c h now what.Swept h g made.1 refl refl refl tt [] (works-none c h [])
       on (Ok _) none c = absurd none
       on (Err e) (fails, (is, same, lines)) c = subst (λ (k : History). WorksFor c h k []) (sym same) (works-none c h [])
 
-      agrees : (answer : Answer) → Sweeps now (place h old) answer (place g new) → Agree g new
+      agrees : (answer : Answer) → Sweeps now (holding h old) answer (holding g new) → Agree g new
       agrees (Ok (outcome.Swept dropped)) (made, drops, lines) = λ d.
           ap (λ (o : Option PlainLine). is_some o) (lines d) ∙ agree-each h g (λ c. turns-of c h g (on (Ok (outcome.Swept dropped)) (made, drops, lines) c).follows) old agree d
       agrees (Ok _) none = absurd none
@@ -306,36 +306,36 @@ module _ (now : ℕ) (h g : History) (old new : List (ℕ × PlainLine)) (agree 
       each (Err e) spares = tt
 
   -- a take leaves the client's line
-  take-agrees : (c : ℕ) → Given c answer h g → (row : PlainLine → Place → Answer → Place → Type 0)
-      → ((line : PlainLine) → row line (place h old) answer (place g new) → (P : PlainLine → Type 0) × HasLine c P (place h old) (place g new))
-      → is_open g.base g.journal c ≡ is_open h.base h.journal c → ForClient c row (place h old) answer (place g new) → Agree g new
+  take-agrees : (c : ℕ) → Given c answer h g → (row : PlainLine → Holding → Answer → Holding → Type 0)
+      → ((line : PlainLine) → row line (holding h old) answer (holding g new) → (P : PlainLine → Type 0) × HasLine c P (holding h old) (holding g new))
+      → is_open g.base g.journal c ≡ is_open h.base h.journal c → ForClient c row (holding h old) answer (holding g new) → Agree g new
   take-agrees c given row each stays does = on (line_of old c) refl does
     where
-      on : (o : Option PlainLine) → line_of old c ≡ o → elim o as (λ (o : Option PlainLine). Type 0) [ None ↦ Refused UnknownClient (place h old) answer (place g new) | Some line ↦ row line (place h old) answer (place g new) ] → Agree g new
+      on : (o : Option PlainLine) → line_of old c ≡ o → elim o as (λ (o : Option PlainLine). Type 0) [ None ↦ Refused UnknownClient (holding h old) answer (holding g new) | Some line ↦ row line (holding h old) answer (holding g new) ] → Agree g new
       on None none (is, same, lines) = lines-kept c now h g old new agree same lines
       on (Some line) is does =
           let has = each line does in
           agree-still c h g old new agree given.2.leads.follows has.1.1 (has-some c now h g old new agree has.0 has.1) (stays ∙ known c now h g old new agree line is)
 
   module _ (policy : Policy) (timing : Timing) (numbers : Numbers) (left : ℕ → ℕ) where
-    pub applied : (event : Event) → Row policy now timing numbers event (place h old) ids answer (place g new) left → Applied event ids answer h g new
+    pub applied : (event : Event) → Row policy now timing numbers event (holding h old) ids answer (holding g new) left → Applied event ids answer h g new
     applied (event.Opened socket) (does, drawn) = opens-applied timing numbers socket does
     applied (event.Post c body) does = of-work _ c (λ d of. of) (λ d. refl) (λ d. refl) (posts-for c now h g old new agree policy ids left body answer does)
     applied (event.Frame c frame) does = of-work _ c (λ d of. of) (λ d. refl) (λ d. refl) (hears-for c now h g old new agree policy ids left frame answer does)
     applied (event.PollBegin c) (does, drawn) = of-work _ c (λ d of. of) (λ d. refl) (λ d. refl) (for-client c now h g old new agree (Begins now c) answer (begins c now h g old new agree answer) does)
     applied (event.PollEnd c) (does, drawn) = of-work _ c (λ d of. of) (λ d. refl) (λ d. refl) (for-client c now h g old new agree (Ends c) answer (ends c now h g old new agree answer) does)
     applied (event.PollTake c most) (does, drawn) =
-        let given = taken-given now c most (place h old) answer (place g new) does in
+        let given = taken-given now c most (holding h old) answer (holding g new) does in
         of-take _ c (λ d of. of) (λ d. refl) (λ d. refl) (take-agrees c given (Takes now c most) (taken answer) (given.2.stays c) does) given
       where
-        taken : (answer : Answer) (line : PlainLine) → Takes now c most line (place h old) answer (place g new) → (P : PlainLine → Type 0) × HasLine c P (place h old) (place g new)
+        taken : (answer : Answer) (line : PlainLine) → Takes now c most line (holding h old) answer (holding g new) → (P : PlainLine → Type 0) × HasLine c P (holding h old) (holding g new)
         taken (Ok o) line has = (_, has)
         taken (Err e) line (is, has) = (_, has)
     applied (event.FrameTake c most) (does, drawn) =
-        let given = sent-given now c most (place h old) answer (place g new) does in
+        let given = sent-given now c most (holding h old) answer (holding g new) does in
         of-take _ c (λ d of. of) (λ d. refl) (λ d. refl) (take-agrees c given (TakesFrames now c most) (taken answer) (given.2.stays c) does) given
       where
-        taken : (answer : Answer) (line : PlainLine) → TakesFrames now c most line (place h old) answer (place g new) → (P : PlainLine → Type 0) × HasLine c P (place h old) (place g new)
+        taken : (answer : Answer) (line : PlainLine) → TakesFrames now c most line (holding h old) answer (holding g new) → (P : PlainLine → Type 0) × HasLine c P (holding h old) (holding g new)
         taken (Ok o) line has = (_, has)
         taken (Err e) line (is, has) = (_, has)
     applied (event.Probe c) (does, drawn) = of-work _ c (λ d of. of) (λ d. refl) (λ d. refl) (for-client c now h g old new agree (Probes c) answer (probes c now h g old new agree answer) does)

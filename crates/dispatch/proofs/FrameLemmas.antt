@@ -19,7 +19,7 @@ sent-append (p ∷ packets) more [] others all rest = absurd all
 
 sent-parts : (parts : List (List ℕ)) → AllZip IsSentAs (map Binary parts) (map frame.Bytes parts)
 sent-parts [] = tt
-sent-parts (part ∷ parts) = (refl, sent-parts parts)
+sent-parts (attachment ∷ parts) = (refl, sent-parts parts)
 
 sent-entry : (e : Entry) → AllZip IsSentAs (packets_of e) (frames_of e)
 sent-entry e = ((codes "4" ++ e.text, refl, refl), sent-parts e.attachments)

@@ -31,7 +31,7 @@ use Rattle.events.specs.Answer.{Answer}
 use Rattle.dispatch.specs.Answers.{Refused, ForClient}
 use Rattle.dispatch.specs.Frames.{Sends, SendsWaiting, SendsOn, SendsFor}
 use Rattle.dispatch.specs.Machine.{Opens, Takes, TakesFrames}
-use Rattle.dispatch.specs.Place.{Place, HasLine}
+use Rattle.dispatch.specs.Holding.{Holding, HasLine}
 use Rattle.dispatch.specs.Takes.{Take, handed, carried, Counts, IsShort, TellsNoop, Carries, FindsNothing, TakesWaiting, TakesOn, TakesFor}
 use Rattle.dispatch.specs.Handed.{Turn, turns_after, opens, takes, Holds, HandsOut, HandedOut, AreHanded, is_begun_in, Handed}
 use Rattle.dispatch.proofs.TurnLemmas.{Leads, leads-none, leads-on, as-before}
@@ -280,13 +280,13 @@ frames-hands c most now r h g old new row = by row.0 row.1 row.4
 abbrev pub Given : ℕ → Answer → (h g : History) → Type 0
 Given c answer h g = (more : List Entry) × HandsOut answer more × Gives c h g more
 
-abbrev RowOf : (row : PlainLine → Type 0) (s : Place) (answer : Answer) (t : Place) → Option PlainLine → Type 0
+abbrev RowOf : (row : PlainLine → Type 0) (s : Holding) (answer : Answer) (t : Holding) → Option PlainLine → Type 0
 RowOf row s answer t o = elim o [ None ↦ Refused UnknownClient s answer t | Some line ↦ row line ]
 
 abbrev AfterOf : (row : PlainLine → Type 0) → Option PlainLine → Type 0
 AfterOf row o = elim o [ None ↦ ⊥ | Some line ↦ row line ]
 
-by-client : (c : ℕ) (row : PlainLine → Place → Answer → Place → Type 0) (s : Place) (answer : Answer) (t : Place)
+by-client : (c : ℕ) (row : PlainLine → Holding → Answer → Holding → Type 0) (s : Holding) (answer : Answer) (t : Holding)
     → ((line : PlainLine) → row line s answer t → Given c answer s.history t.history) → ForClient c row s answer t → Given c answer s.history t.history
 by-client c row s answer t each does = by (s.lines c) does
   where
@@ -294,20 +294,20 @@ by-client c row s answer t each does = by (s.lines c) does
     by None refused = rw refused.0 ([], refl, gives-none c s.history t.history refused.1)
     by (Some line) does = each line does
 
-by-line : (c : ℕ) (row : PlainLine → Type 0) (X : Type 0) (s t : Place) → ((after : PlainLine) → row after → X) → HasLine c row s t → X
+by-line : (c : ℕ) (row : PlainLine → Type 0) (X : Type 0) (s t : Holding) → ((after : PlainLine) → row after → X) → HasLine c row s t → X
 by-line c row X s t each has = by (t.lines c) has.0
   where
     by : (o : Option PlainLine) → AfterOf row o → X
     by None none = absurd none
     by (Some after) is = each after is
 
-take-given : (now c most : ℕ) (line : PlainLine) (s : Place) (answer : Answer) (t : Place) → Takes now c most line s answer t → Given c answer s.history t.history
+take-given : (now c most : ℕ) (line : PlainLine) (s : Holding) (answer : Answer) (t : Holding) → Takes now c most line s answer t → Given c answer s.history t.history
 take-given now c most line s (Ok o) t does =
     by-line c (λ after. TakesFor c most now (Ok o) s.history t.history line after) (Given c (Ok o) s.history t.history) s t (λ after row. takes-hands c most now (Ok o) s.history t.history line after row) does
 take-given now c most line s (Err e) t does =
     by-line c (λ after. TakesFor c most now (Err e.fault) s.history t.history line after) (Given c (Err e) s.history t.history) s t (λ after row. takes-hands c most now (Err e.fault) s.history t.history line after row) does.1
 
-frames-given : (now c most : ℕ) (line : PlainLine) (s : Place) (answer : Answer) (t : Place) → TakesFrames now c most line s answer t → Given c answer s.history t.history
+frames-given : (now c most : ℕ) (line : PlainLine) (s : Holding) (answer : Answer) (t : Holding) → TakesFrames now c most line s answer t → Given c answer s.history t.history
 frames-given now c most line s (Ok o) t does =
     by-line c (λ after. SendsFor c most now (Ok o) s.history t.history line after) (Given c (Ok o) s.history t.history) s t (λ after row. frames-hands c most now (Ok o) s.history t.history line after row) does
 frames-given now c most line s (Err e) t does =
@@ -346,13 +346,13 @@ given-turn named c answer h g opened none given d turns was = by (c == d) refl
       opened = rw (opened d) (given.2.begun d ∙ was.opened);
     }
 
-pub taken-given : (now c most : ℕ) (s : Place) (answer : Answer) (t : Place) → ForClient c (Takes now c most) s answer t → Given c answer s.history t.history
+pub taken-given : (now c most : ℕ) (s : Holding) (answer : Answer) (t : Holding) → ForClient c (Takes now c most) s answer t → Given c answer s.history t.history
 taken-given now c most s answer t does = by-client c (Takes now c most) s answer t (λ line row. take-given now c most line s answer t row) does
 
-pub sent-given : (now c most : ℕ) (s : Place) (answer : Answer) (t : Place) → ForClient c (TakesFrames now c most) s answer t → Given c answer s.history t.history
+pub sent-given : (now c most : ℕ) (s : Holding) (answer : Answer) (t : Holding) → ForClient c (TakesFrames now c most) s answer t → Given c answer s.history t.history
 sent-given now c most s answer t does = by-client c (TakesFrames now c most) s answer t (λ line row. frames-given now c most line s answer t row) does
 
-pub handed-open : (timing : Timing) (numbers : Numbers) (now : ℕ) (socket : Bool) (c : ℕ) (s : Place) (answer : Answer) (t : Place)
+pub handed-open : (timing : Timing) (numbers : Numbers) (now : ℕ) (socket : Bool) (c : ℕ) (s : Holding) (answer : Answer) (t : Holding)
     → Opens timing numbers now socket c s answer t → (d : ℕ) (turns : List Turn) → Handed d turns s.history → Handed d ((event.Opened socket, answer) ∷ turns) t.history
 unfolding HandedOut
 handed-open timing numbers now socket c s (Ok (outcome.Opened o)) t does d turns was = by (c == d) refl

@@ -10,7 +10,7 @@ use Rattle.terms.specs.declared.entry.Entry.{Entry}
 use Rattle.journal.specs.Plain.{Limits}
 use Rattle.journal.specs.Journal.{History}
 use Rattle.journal.specs.Membership.{is_open}
-use Rattle.hub_state.specs.Departing.{PlainDeparted, departed}
+use Rattle.hub_state.specs.EndedSockets.{PlainEnded, ended_sockets}
 use Rattle.events.specs.declared.event.Event.{Event}
 use Rattle.events.specs.declared.event.Event.TheVariants as event
 use Rattle.events.specs.declared.fault.CoreFault.{CoreFault}
@@ -20,14 +20,14 @@ use Rattle.events.specs.Answer.{Answer}
 use Rattle.events.specs.App.{Policy}
 use Rattle.events.specs.Event.{client_of}
 use Rattle.events.specs.Plain.{PlainDone, nothing_done}
-use Rattle.effects.specs.Departed.{ended_since, HearsOfAll}
+use Rattle.effects.specs.Hearing.{ended_since, HearsOfAll}
 use Rattle.effects.specs.Following.{is_turn, is_work, Follows, Spares}
-use Rattle.effects.specs.Saying.{work}
-use Rattle.effects.proofs.DepartedLemmas.{Onward, heard-open, heard-onward, heard-spares}
+use Rattle.effects.specs.Broadcasting.{work}
+use Rattle.effects.proofs.HearingLemmas.{Onward, heard-open, heard-onward, heard-spares}
 use Rattle.dispatch.specs.Handed.{Turn, opens, takes, HandsOut, HandedOut, Handed}
 use Rattle.dispatch.specs.Hearing.{done_of, with_done, done_before, answer_after, Hears, HearsAfter}
 use Rattle.dispatch.specs.Machine.{IsOf, listed, Row, Does}
-use Rattle.dispatch.specs.Place.{Place, place, Agree}
+use Rattle.dispatch.specs.Holding.{Holding, holding, Agree}
 use Rattle.dispatch.proofs.EventLaws.{Applied, applied}
 use Rattle.dispatch.proofs.HandedLemmas.{work-hands-nothing, work-begins-none}
 use Rattle.dispatch.proofs.ServerLemmas.{of-some}
@@ -103,7 +103,7 @@ out-same d event said answer turns entries first then hands out = rw (then, Hand
 
 -- ---- what the app hears
 
-module _ (policy : Policy) (now : ℕ) (ended : List PlainDeparted) (m g : History) (said answer : Answer) where
+module _ (policy : Policy) (now : ℕ) (ended : List PlainEnded) (m g : History) (said answer : Answer) where
   abbrev HeardBy : ℕ → Option PlainDone → Type 0
   HeardBy c o = elim o [ None ↦ (answer ≡ said) × (g ≡ m) | Some before ↦ Hears policy c now ended m said answer g before ]
 
@@ -171,7 +171,7 @@ module _ (policy : Policy) (now : ℕ) (ended : List PlainDeparted) (m g : Histo
 module _ (policy : Policy) (now : ℕ)
     (h g : History) (old new : List (ℕ × PlainLine)) (agree : Agree h old) (ids left : ℕ → ℕ) (answer : Answer) (timing : Timing) (numbers : Numbers) (event : Event) where
   abbrev DoesSo : Type 0
-  DoesSo = Does policy now timing numbers event (place h old) ids answer (place g new) left
+  DoesSo = Does policy now timing numbers event (holding h old) ids answer (holding g new) left
 
   -- a line stands for each open client
   pub agrees-still : DoesSo → Agree g new
@@ -187,10 +187,10 @@ module _ (policy : Policy) (now : ℕ)
       left-heard policy now (ended_since h m) m g said answer event ids h new kept does (client_of event) refl heard
 
 -- the event is done as its row says, and then the app hears of the sockets that ended by that
-pub does-with : (policy : Policy) (now : ℕ) (timing : Timing) (numbers : Numbers) (event : Event) (s : Place) (ids : ℕ → ℕ) (said : Answer) (h : History) (answer : Answer) (t : Place) (ids' : ℕ → ℕ)
-    (before : List PlainDeparted) (client : Option ℕ) → Row policy now timing numbers event s ids said (record t { history = h }) ids'
-    → before ≡ departed s.history.base s.history.journal → client ≡ client_of event
-    → HearsAfter policy now client (drop (length before) (departed h.base h.journal)) h said answer t.history → Does policy now timing numbers event s ids answer t ids'
+pub does-with : (policy : Policy) (now : ℕ) (timing : Timing) (numbers : Numbers) (event : Event) (s : Holding) (ids : ℕ → ℕ) (said : Answer) (h : History) (answer : Answer) (t : Holding) (ids' : ℕ → ℕ)
+    (before : List PlainEnded) (client : Option ℕ) → Row policy now timing numbers event s ids said (record t { history = h }) ids'
+    → before ≡ ended_sockets s.history.base s.history.journal → client ≡ client_of event
+    → HearsAfter policy now client (drop (length before) (ended_sockets h.base h.journal)) h said answer t.history → Does policy now timing numbers event s ids answer t ids'
 does-with policy now timing numbers event s ids said h answer t ids' before client row all of hears =
-    let of-event = subst (λ (o : Option ℕ). HearsAfter policy now o (drop (length before) (departed h.base h.journal)) h said answer t.history) of hears in
-    (h, said, row, subst (λ (xs : List PlainDeparted). HearsAfter policy now (client_of event) (drop (length xs) (departed h.base h.journal)) h said answer t.history) all of-event)
+    let of-event = subst (λ (o : Option ℕ). HearsAfter policy now o (drop (length before) (ended_sockets h.base h.journal)) h said answer t.history) of hears in
+    (h, said, row, subst (λ (xs : List PlainEnded). HearsAfter policy now (client_of event) (drop (length xs) (ended_sockets h.base h.journal)) h said answer t.history) all of-event)

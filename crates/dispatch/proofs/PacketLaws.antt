@@ -29,7 +29,7 @@ use Rattle.events.specs.declared.fault.CoreFault.{CoreFault}
 use Rattle.events.specs.declared.fault.CoreFault.TheVariants.{Memory}
 use Rattle.events.specs.declared.fault.Stopped.{Stopped}
 use Rattle.events.specs.App.{Policy, IsCleanArrival, AllClean}
-use Rattle.hub_state.specs.Returning.{return_of}
+use Rattle.hub_state.specs.Recovering.{recovery_asked}
 use Rattle.effects.specs.Commands.{Makes, IsSeated, seat}
 use Rattle.effects.specs.Effects.{Scene, told_to, Closes}
 use Rattle.effects.specs.Following.{is_clean, is_work, is_turn, is_cast, WorksFor}
@@ -39,7 +39,7 @@ use Rattle.effects.proofs.CleanLemmas.{clean-answer-at}
 use Rattle.effects.proofs.RunsLemmas.{run-keeps}
 use Rattle.effects.proofs.StepLemmas.{itself, open-still, open-no-more, connected-then, own-then, work-on}
 use Rattle.effects.proofs.WorkLemmas.{runs-work, stopped-works}
-use Rattle.dispatch.specs.Packets.{Stage, Upshot, StopsFor, IsShort, DrawsNone, StaysOpen, ClosesFor, ParksFor, refusal_entry, Refuses, DoesAll, Leaves, Decides, TakesAck, HearsEvent, Serves, ServesJoined, ConnectsAs, AsksApp, ComesBack, MayComeBack, AsksToConnect, Works, GoesOn, with_line, TakesFrame, TakesText, ReadsBinary, TakesBinary, Handles, begun, HandlesOrBreaks, HandlesInTurn, BreaksAfter}
+use Rattle.dispatch.specs.Packets.{Course, Upshot, StopsFor, IsShort, DrawsNone, StaysOpen, ClosesFor, ParksFor, refusal_entry, Refuses, DoesAll, ClientDisconnects, Decides, TakesAck, HearsEvent, Serves, ServesJoined, ConnectsAs, AsksApp, AsksToRecover, MayRecover, AsksToConnect, Works, GoesOn, with_line, TakesFrame, TakesText, ReadsBinary, TakesBinary, Handles, begun, HandlesOrBreaks, HandlesInTurn, BreaksAfter}
 use Rattle.dispatch.proofs.ConnectLemmas.{clean-refusal}
 
 module _ (c now : ℕ) (f : History) where
@@ -134,7 +134,7 @@ module _ (c now : ℕ) (f : History) where
       let both = stopped-works (his space sid) now f before effects s e t whole clean (stands-seated (his space sid) now s fresh seated) was stops in
       record { stays = both.0; has = both.1 }
 
-  leaves-after : (space : List ℕ) (sid : ℕ) (s : Scene) (result : Upshot) (t : Scene) → IsSeated (his space sid) s.history → Leaves (his space sid) now s result t → Before s → After result t
+  leaves-after : (space : List ℕ) (sid : ℕ) (s : Scene) (result : Upshot) (t : Scene) → IsSeated (his space sid) s.history → ClientDisconnects (his space sid) now s result t → Before s → After result t
   leaves-after space sid s (Ok done) t seated (makes, advances, is) was = open-after (what.Ended sid side.Client) s t _ makes refl seated.own seated.own refl tt is refl refl refl was
   leaves-after space sid s (Err e) t seated (fails, stops) was = stops-after e.fault s e t stops was
 
@@ -198,26 +198,26 @@ module _ (c now : ℕ) (f : History) where
     connects-as sid pid effects s result t there clean (inr (inl (refused, closes))) was = closes-after cause.OutboxFull s result t closes was
     connects-as sid pid effects s result t there clean (inr (inr (e, is, fails, stops))) was = subst (λ (r : Upshot). After r t) (sym is) (stops-after e.fault s e t stops was)
 
-    module _ (policy : Policy) (payload : List ℕ) (whole : IsWhole payload) (s : Stage) (result : Upshot) (t : Stage) (there : is_space s.scene.history.limits (place_of s.scene.history.limits space) ≡ true) (was : Before s.scene) where
+    module _ (policy : Policy) (payload : List ℕ) (whole : IsWhole payload) (s : Course) (result : Upshot) (t : Course) (there : is_space s.scene.history.limits (place_of s.scene.history.limits space) ≡ true) (was : Before s.scene) where
       asks-after : AsksApp policy c space payload now s result t → After result t.scene
       asks-after (inl (short, drawn)) = short-after s.scene result t.scene short was
       asks-after (inr (inl (effects, allowed, clean, (drawn, does)))) = connects-as (s.ids 0) (s.ids 1) effects s.scene result t.scene there (clean whole) does was
       asks-after (inr (inr (message, allowed, (refuses, drawn)))) = refuses-after space message named s.scene result t.scene refuses was
 
-      returns-after : (pid offset : ℕ) → ComesBack policy c space payload pid offset now s result t → After result t.scene
+      returns-after : (pid offset : ℕ) → AsksToRecover policy c space payload pid offset now s result t → After result t.scene
       returns-after pid offset (inl ((is, makes, advances, same), drawn)) =
-          let r = return_of c space pid offset s.scene.history in
+          let r = recovery_asked c space pid offset s.scene.history in
           subst (λ (q : Upshot). After q t.scene) (sym is)
           (open-after (what.Recovered r) s.scene t.scene _ makes refl (itself c) (itself c) refl (clean-answer-at s.scene.history.limits space r.socket there refl named, tt) same refl refl refl was)
       returns-after pid offset (inr (inl (cannot, asks))) = asks-after asks
       returns-after pid offset (inr (inr (e, is, fails, stops, drawn))) = subst (λ (q : Upshot). After q t.scene) (sym is) (stops-after e.fault s.scene e t.scene stops was)
 
-      comes-after : MayComeBack policy c space payload now s result t → After result t.scene
+      comes-after : MayRecover policy c space payload now s result t → After result t.scene
       comes-after (inl (short, drawn)) = short-after s.scene result t.scene short was
       comes-after (inr (inl (none, asks))) = asks-after asks
       comes-after (inr (inr (who, names, comes))) = returns-after who.0 who.1 comes
 
-    connect-after : (policy : Policy) (payload : List ℕ) → IsWhole payload → (s : Stage) (result : Upshot) (t : Stage)
+    connect-after : (policy : Policy) (payload : List ℕ) → IsWhole payload → (s : Course) (result : Upshot) (t : Course)
         → AsksToConnect policy c space payload now s result t → Before s.scene → After result t.scene
     connect-after policy payload whole s result t does was = on (is_space h.limits (place_of h.limits space)) refl does
       where
@@ -225,7 +225,7 @@ module _ (c now : ℕ) (f : History) where
         h = s.scene.history
 
         free : (o : Option Socket) → is_space h.limits (place_of h.limits space) ≡ true
-            → elim o as (λ (o : Option Socket). Type 0) [ Some k ↦ DrawsNone (ClosesFor c now cause.AlreadyConnected) s result t | None ↦ MayComeBack policy c space payload now s result t ] → After result t.scene
+            → elim o as (λ (o : Option Socket). Type 0) [ Some k ↦ DrawsNone (ClosesFor c now cause.AlreadyConnected) s result t | None ↦ MayRecover policy c space payload now s result t ] → After result t.scene
         free (Some k) there (closes, drawn) = closes-after cause.AlreadyConnected s.scene result t.scene closes was
         free None there comes = comes-after policy payload whole s result t there was comes
 
@@ -233,7 +233,7 @@ module _ (c now : ℕ) (f : History) where
           | false ↦ DrawsNone (Refuses c now space (codes "Invalid namespace")) s result t
           | true ↦ elim (socket_of h.base h.journal c (place_of h.limits space)) [
             | Some k ↦ DrawsNone (ClosesFor c now cause.AlreadyConnected) s result t
-            | None ↦ MayComeBack policy c space payload now s result t
+            | None ↦ MayRecover policy c space payload now s result t
           ]
         ] → After result t.scene
         on false there (refuses, drawn) = refuses-after space (codes "Invalid namespace") named s.scene result t.scene refuses was
@@ -242,7 +242,7 @@ module _ (c now : ℕ) (f : History) where
   -- ---- a packet
 
   module _ (policy : Policy) where
-    works-after : (p : SioPacket) (s : Stage) (result : Upshot) (t : Stage) → IsWhole p.header.space × IsWhole p.header.payload → Works policy c p now s result t → Before s.scene → After result t.scene
+    works-after : (p : SioPacket) (s : Course) (result : Upshot) (t : Course) → IsWhole p.header.space × IsWhole p.header.payload → Works policy c p now s result t → Before s.scene → After result t.scene
     works-after p s result t whole does was = on p.header.kind does
       where
         on : (k : Kind) → elim k as (λ (k : Kind). Type 0) [
@@ -257,8 +257,8 @@ module _ (c now : ℕ) (f : History) where
         on kind.BinaryEvent (does, drawn) = joined-after policy p s.scene result t.scene whole.0 whole.1 does was
         on kind.BinaryAck (does, drawn) = joined-after policy p s.scene result t.scene whole.0 whole.1 does was
 
-    goes-after : (given : Result (Option SioPacket) SioError) (s : Stage) (result : Upshot) (t : Stage) → GoesOn policy c given now s result t → Before s.scene → After result t.scene
-    goes-after (Ok None) s result t (is, same) was = done-after result t.scene is (subst (λ (u : Stage). Before u.scene) (sym same) was)
+    goes-after : (given : Result (Option SioPacket) SioError) (s : Course) (result : Upshot) (t : Course) → GoesOn policy c given now s result t → Before s.scene → After result t.scene
+    goes-after (Ok None) s result t (is, same) was = done-after result t.scene is (subst (λ (u : Course). Before u.scene) (sym same) was)
     goes-after (Ok (Some p)) s result t (whole, works) was = works-after p s result t whole works was
     goes-after (Err sio.Memory) s result t (short, drawn) was = short-after s.scene result t.scene short was
     goes-after (Err e) s result t does was = closing e does
@@ -276,18 +276,18 @@ module _ (c now : ℕ) (f : History) where
         closing sio.TextAwaitingBinary (closes, drawn) = closes-after _ s.scene result t.scene closes was
         closing sio.BinaryUnawaited (closes, drawn) = closes-after _ s.scene result t.scene closes was
 
-    lined : (s : Stage) (line : PlainLine) → Before s.scene → Before (with_line policy s line).scene
+    lined : (s : Course) (line : PlainLine) → Before s.scene → Before (with_line policy s line).scene
     lined s line was = same-before s.scene (record s.scene { line = line }) refl refl refl refl was
 
-    takes-after : (frame : Frame) (s : Stage) (result : Upshot) (t : Stage) → TakesFrame policy c frame now s result t → Before s.scene → After result t.scene
+    takes-after : (frame : Frame) (s : Course) (result : Upshot) (t : Course) → TakesFrame policy c frame now s result t → Before s.scene → After result t.scene
     takes-after frame s result t (given, line, accepts, advances, does) was = goes-after (Ok given) (with_line policy s line) result t does (lined s line was)
 
-    text-after : (content : List ℕ) (s : Stage) (result : Upshot) (t : Stage) → TakesText policy c content now s result t → Before s.scene → After result t.scene
+    text-after : (content : List ℕ) (s : Course) (result : Upshot) (t : Course) → TakesText policy c content now s result t → Before s.scene → After result t.scene
     text-after content s result t (inl (short, drawn)) was = short-after s.scene result t.scene short was
     text-after content s result t (inr (inl takes)) was = takes-after (text content) s result t takes was
     text-after content s result t (inr (inr (error, refuses, does))) was = goes-after (Err error) _ result t does (lined s (record s.scene.line { assembler = Failed error }) was)
 
-    binary-after : (content : List ℕ) (s : Stage) (result : Upshot) (t : Stage) → TakesBinary policy c content now s result t → Before s.scene → After result t.scene
+    binary-after : (content : List ℕ) (s : Course) (result : Upshot) (t : Course) → TakesBinary policy c content now s result t → Before s.scene → After result t.scene
     binary-after content s result t does was = on (exceeds s.scene.line.assembler s.scene.history.limits.bytes (length content)) does
       where
         on : (b : Bool) → elim b as (λ (b : Bool). Type 0) [ true ↦ DrawsNone (ClosesFor c now cause.TooLong) s result t | false ↦ ReadsBinary policy c content now s result t ] → After result t.scene
@@ -296,38 +296,38 @@ module _ (c now : ℕ) (f : History) where
         on false (inr (inl takes)) = takes-after (binary content) s result t takes was
         on false (inr (inr (error, refuses, does))) = goes-after (Err error) _ result t does (lined s (record s.scene.line { assembler = Failed error }) was)
 
-    handles-after : (packet : Packet) (s : Stage) (result : Upshot) (t : Stage) → Handles policy c packet now s result t → Before s.scene → After result t.scene
+    handles-after : (packet : Packet) (s : Course) (result : Upshot) (t : Course) → Handles policy c packet now s result t → Before s.scene → After result t.scene
     handles-after (eio.Close content) s result t (does, drawn) was = parks-after s.scene result t.scene does was
     handles-after (eio.Ping content) s result t (does, drawn) was = closes-after cause.PingFromClient s.scene result t.scene does was
-    handles-after (eio.Pong content) s result t (is, advances, same) was = done-after result t.scene is (subst (λ (u : Stage). Before u.scene) (sym same) (lined s t.scene.line was))
+    handles-after (eio.Pong content) s result t (is, advances, same) was = done-after result t.scene is (subst (λ (u : Course). Before u.scene) (sym same) (lined s t.scene.line was))
     handles-after (eio.Message content) s result t does was = text-after content s result t does was
     handles-after (eio.Binary content) s result t does was = binary-after content s result t does was
-    handles-after (eio.Open content) s result t (is, same) was = done-after result t.scene is (subst (λ (u : Stage). Before u.scene) (sym same) was)
-    handles-after (eio.Upgrade content) s result t (is, same) was = done-after result t.scene is (subst (λ (u : Stage). Before u.scene) (sym same) was)
-    handles-after (eio.Noop content) s result t (is, same) was = done-after result t.scene is (subst (λ (u : Stage). Before u.scene) (sym same) was)
+    handles-after (eio.Open content) s result t (is, same) was = done-after result t.scene is (subst (λ (u : Course). Before u.scene) (sym same) was)
+    handles-after (eio.Upgrade content) s result t (is, same) was = done-after result t.scene is (subst (λ (u : Course). Before u.scene) (sym same) was)
+    handles-after (eio.Noop content) s result t (is, same) was = done-after result t.scene is (subst (λ (u : Course). Before u.scene) (sym same) was)
 
     -- a packet in its turn: before it the client is open unless it was closed
-    pub turn-after : (packet : Packet) (s : Stage) (result : Upshot) (t : Stage) → HandlesOrBreaks policy c packet now s result t → After (Ok tt) s.scene → After result t.scene
+    pub turn-after : (packet : Packet) (s : Course) (result : Upshot) (t : Course) → HandlesOrBreaks policy c packet now s result t → After (Ok tt) s.scene → After result t.scene
     turn-after packet s result t does was = on s.scene.done.closed refl does
       where
         on : (o : Option Cause) → s.scene.done.closed ≡ o → elim o as (λ (o : Option Cause). Type 0) [
           | Some why ↦ (result ≡ Ok tt) × (t ≡ s)
           | None ↦ Handles policy c packet now (begun policy s) result t
         ] → After result t.scene
-        on (Some why) closed (is, same) = subst (λ (r : Upshot). After r t.scene) (sym is) (subst (λ (u : Stage). After (Ok tt) u.scene) (sym same) was)
+        on (Some why) closed (is, same) = subst (λ (r : Upshot). After r t.scene) (sym is) (subst (λ (u : Course). After (Ok tt) u.scene) (sym same) was)
         on None fresh handles =
             handles-after packet (begun policy s) result t handles (record { is = was.stays ∙ ap (λ (o : Option Cause). is_none o) fresh; fresh = fresh; on = refl; has = was.has })
 
     -- the packets of a payload
-    pub all-after : (packets : List Packet) (s t : Stage) → Runs (HandlesInTurn policy c now) packets s t → After (Ok tt) s.scene → After (Ok tt) t.scene
+    pub all-after : (packets : List Packet) (s t : Course) → Runs (HandlesInTurn policy c now) packets s t → After (Ok tt) s.scene → After (Ok tt) t.scene
     all-after packets s t run was =
-        run-keeps (HandlesInTurn policy c now) (λ (p : Packet). Unit {0}) (λ (u : Stage). After (Ok tt) u.scene) (λ a b packet one was does. turn-after packet a (Ok tt) b does was) packets s t (each packets) was run
+        run-keeps (HandlesInTurn policy c now) (λ (p : Packet). Unit {0}) (λ (u : Course). After (Ok tt) u.scene) (λ a b packet one was does. turn-after packet a (Ok tt) b does was) packets s t (each packets) was run
       where
         each : (packets : List Packet) → AllByRecursion (λ (p : Packet). Unit {0}) packets
         each [] = tt
         each (p ∷ packets) = (tt, each packets)
 
     -- until one ends the event
-    pub broken-after : (packets : List Packet) (s : Stage) (e : CoreError) (t : Stage) → BreaksAfter policy c now packets s e t → After (Ok tt) s.scene → Open t.scene × Has t.scene
+    pub broken-after : (packets : List Packet) (s : Course) (e : CoreError) (t : Course) → BreaksAfter policy c now packets s e t → After (Ok tt) s.scene → Open t.scene × Has t.scene
     broken-after packets s e t (at, run, packet, there, breaks) was =
         let after = turn-after packet at (Err (record { fault = e.fault; effects = e.effects })) t breaks (all-after (take e.packets packets) s at run was) in (after.stays, after.has)

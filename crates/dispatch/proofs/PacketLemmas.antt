@@ -26,7 +26,7 @@ use Rattle.effects.specs.Commands.{IsSeated}
 use Rattle.events.specs.declared.cause.Cause.{Cause}
 use Rattle.events.specs.declared.cause.Cause.TheVariants as cause
 use Rattle.effects.specs.Effects.{Scene}
-use Rattle.dispatch.specs.Packets.{Stage, Upshot, ClosesFor, Serves, DrawsNone, AsksToConnect, ServesJoined, Works, GoesOn, with_line, RefusesFrame, TakesText, ReadsBinary, Handles, HandlesOrBreaks, begun}
+use Rattle.dispatch.specs.Packets.{Course, Upshot, ClosesFor, Serves, DrawsNone, AsksToConnect, ServesJoined, Works, GoesOn, with_line, RefusesFrame, TakesText, ReadsBinary, Handles, HandlesOrBreaks, begun}
 
 -- ---- questions
 
@@ -144,28 +144,28 @@ joined policy c p now s result t sid known seated serves = on (socket_of s.histo
 -- ---- frames
 
 module _ (policy : Policy) where
-  pub works-joined : (c : ℕ) (p : SioPacket) (now : ℕ) (s : Stage) (result : Upshot) (t : Stage) → p.header.kind ≢ kind.Connect → DrawsNone (ServesJoined policy c p now) s result t → Works policy c p now s result t
+  pub works-joined : (c : ℕ) (p : SioPacket) (now : ℕ) (s : Course) (result : Upshot) (t : Course) → p.header.kind ≢ kind.Connect → DrawsNone (ServesJoined policy c p now) s result t → Works policy c p now s result t
   works-joined c p now s result t other serves = on p.header.kind other
     where
       on : (k : Kind) → k ≢ kind.Connect → elim k as (λ (k : Kind). Type 0) [ kind.Connect ↦ AsksToConnect policy c p.header.space p.header.payload now s result t | _ ↦ DrawsNone (ServesJoined policy c p now) s result t ]
       on kind.Connect other = absurd (other refl)
       on _ other = serves
 
-  abbrev Fault : Stage → PlainLine → (SioError → Type 0) → Result (Option SioPacket) SioError → Type 0
+  abbrev Fault : Course → PlainLine → (SioError → Type 0) → Result (Option SioPacket) SioError → Type 0
   Fault s line Refuses given = IfErr given (λ e. ((e ≡ sio.Memory) × (line ≡ s.scene.line)) ⊎ (Refuses e × (line ≡ record s.scene.line { assembler = Failed e })))
 
   -- a frame for which there was no memory
-  short-of : (c now : ℕ) (s : Stage) (line : PlainLine) (e : SioError) (result : Upshot) (t : Stage) → e ≡ sio.Memory → line ≡ s.scene.line
+  short-of : (c now : ℕ) (s : Course) (line : PlainLine) (e : SioError) (result : Upshot) (t : Course) → e ≡ sio.Memory → line ≡ s.scene.line
       → GoesOn policy c (Err e) now (with_line policy s line) result t → GoesOn policy c (Err sio.Memory) now s result t
   short-of c now s line e result t is same on =
       subst (λ (l : PlainLine). GoesOn policy c (Err sio.Memory) now (with_line policy s l) result t) same
       (subst (λ (e : SioError). GoesOn policy c (Err e) now (with_line policy s line) result t) is on)
 
-  refused-as : (c now : ℕ) (s : Stage) (line : PlainLine) (e : SioError) (result : Upshot) (t : Stage) → line ≡ record s.scene.line { assembler = Failed e }
+  refused-as : (c now : ℕ) (s : Course) (line : PlainLine) (e : SioError) (result : Upshot) (t : Course) → line ≡ record s.scene.line { assembler = Failed e }
       → GoesOn policy c (Err e) now (with_line policy s line) result t → RefusesFrame policy c e now s result t
   refused-as c now s line e result t is on = subst (λ (l : PlainLine). GoesOn policy c (Err e) now (with_line policy s l) result t) is on
 
-  pub takes-text : (c : ℕ) (content : List ℕ) (now : ℕ) (s : Stage) (line : PlainLine) (given : Result (Option SioPacket) SioError) (result : Upshot) (t : Stage)
+  pub takes-text : (c : ℕ) (content : List ℕ) (now : ℕ) (s : Course) (line : PlainLine) (given : Result (Option SioPacket) SioError) (result : Upshot) (t : Course)
       → IfOk given (λ g. Accepts s.scene.line.assembler (text content) g line.assembler)
       → OnOk given (Advances s.scene.line (Framed (text content) ∷ []) line)
       → Fault s line (RefusesText s.scene.line.assembler content) given
@@ -174,7 +174,7 @@ module _ (policy : Policy) where
   takes-text c content now s line (Err e) result t accepts advances (inl (is, same)) on = inl (short-of c now s line e result t is same on)
   takes-text c content now s line (Err e) result t accepts advances (inr (refuses, is)) on = inr (inr (e, refuses, refused-as c now s line e result t is on))
 
-  pub reads-binary : (c : ℕ) (content : List ℕ) (now : ℕ) (s : Stage) (line : PlainLine) (given : Result (Option SioPacket) SioError) (result : Upshot) (t : Stage)
+  pub reads-binary : (c : ℕ) (content : List ℕ) (now : ℕ) (s : Course) (line : PlainLine) (given : Result (Option SioPacket) SioError) (result : Upshot) (t : Course)
       → IfOk given (λ g. Accepts s.scene.line.assembler (binary content) g line.assembler)
       → OnOk given (Advances s.scene.line (Framed (binary content) ∷ []) line)
       → Fault s line (λ e. binary_refusal s.scene.line.assembler ≡ Some e) given
@@ -184,7 +184,7 @@ module _ (policy : Policy) where
   reads-binary c content now s line (Err e) result t accepts advances (inr (refuses, is)) on = inr (inr (e, refuses, refused-as c now s line e result t is on))
 
   -- a packet in its turn, where the client wasn't closed
-  pub in-turn : (c : ℕ) (packet : Packet) (now : ℕ) (s : Stage) (result : Upshot) (t : Stage) → is_some s.scene.done.closed ≡ false
+  pub in-turn : (c : ℕ) (packet : Packet) (now : ℕ) (s : Course) (result : Upshot) (t : Course) → is_some s.scene.done.closed ≡ false
       → Handles policy c packet now (begun policy s) result t → HandlesOrBreaks policy c packet now s result t
   in-turn c packet now s result t none handles = on s.scene.done.closed none
     where
@@ -193,7 +193,7 @@ module _ (policy : Policy) where
       on (Some why) none = absurd (cc none)
 
   -- and where it was
-  pub out-of-turn : (c : ℕ) (packet : Packet) (now : ℕ) (s : Stage) → is_some s.scene.done.closed ≡ true → HandlesOrBreaks policy c packet now s (Ok tt) s
+  pub out-of-turn : (c : ℕ) (packet : Packet) (now : ℕ) (s : Course) → is_some s.scene.done.closed ≡ true → HandlesOrBreaks policy c packet now s (Ok tt) s
   out-of-turn c packet now s closed = on s.scene.done.closed closed
     where
       on : (o : Option Cause) → is_some o ≡ true → elim o as (λ (o : Option Cause). Type 0) [ Some why ↦ (◌≡◌ {A = Upshot} (Ok tt) (Ok tt)) × (s ≡ s) | None ↦ Handles policy c packet now (begun policy s) (Ok tt) s ]

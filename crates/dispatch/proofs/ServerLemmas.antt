@@ -31,7 +31,7 @@ use Rattle.events.specs.declared.event.Event.TheVariants as event
 use Rattle.events.specs.Answer.{Answer}
 use Rattle.dispatch.specs.Counting.{TurnsFor}
 use Rattle.dispatch.specs.Machine.{Does, Machine, IsOf}
-use Rattle.dispatch.specs.Place.{Place, PlainCore, Agree, IsClean}
+use Rattle.dispatch.specs.Holding.{Holding, PlainCore, Agree, IsClean}
 
 -- ---- a new core
 
@@ -183,23 +183,23 @@ core-parts core old new same = ap (λ (n : ℕ). with_hub core (record { history
 
 module _ (policy : Policy) (timing : Timing) (numbers : Numbers) where
   -- the row of this event
-  pub does-as : (now : ℕ) (event named : Event) (s : Place) (ids : ℕ → ℕ) (answer : Answer) (t : Place) (left : ℕ → ℕ) → event ≡ named
+  pub does-as : (now : ℕ) (event named : Event) (s : Holding) (ids : ℕ → ℕ) (answer : Answer) (t : Holding) (left : ℕ → ℕ) → event ≡ named
       → Does policy now timing numbers named s ids answer t left → Does policy now timing numbers event s ids answer t left
   does-as now event named s ids answer t left is does = subst (λ (e : Event). Does policy now timing numbers e s ids answer t left) (sym is) does
 
-  machine-none : (s : Place) (ids : ℕ → ℕ) → Machine policy timing numbers [] [] s ids s ids
+  machine-none : (s : Holding) (ids : ℕ → ℕ) → Machine policy timing numbers [] [] s ids s ids
   unfolding Machine
   machine-none s ids = (refl, refl)
 
   -- one event more
-  machine-push : (turns : List (Event × ℕ)) (answers : List Answer) (turn : Event × ℕ) (answer : Answer) (s m t : Place) (ids mid last : ℕ → ℕ)
+  machine-push : (turns : List (Event × ℕ)) (answers : List Answer) (turn : Event × ℕ) (answer : Answer) (s m t : Holding) (ids mid last : ℕ → ℕ)
       → Machine policy timing numbers turns answers s ids m mid → Does policy turn.1 timing numbers turn.0 m mid answer t last
       → Machine policy timing numbers (turns ++ turn ∷ []) (answers ++ answer ∷ []) s ids t last
   unfolding Machine
   machine-push [] [] turn answer s m t ids mid last run does = (
     t,
     last,
-    subst (λ (x : Place). Does policy turn.1 timing numbers turn.0 x ids answer t last) run.0
+    subst (λ (x : Holding). Does policy turn.1 timing numbers turn.0 x ids answer t last) run.0
         (subst (λ (x : ℕ → ℕ). Does policy turn.1 timing numbers turn.0 m x answer t last) run.1 does),
     (refl, refl),
   )
@@ -209,11 +209,11 @@ module _ (policy : Policy) (timing : Timing) (numbers : Numbers) where
   machine-push (first ∷ turns) [] turn answer s m t ids mid last run does = absurd run
 
   -- no event was done
-  pub machine-start : (answers : List Answer) (s : Place) (ids : ℕ → ℕ) → answers ≡ [] → Machine policy timing numbers [] answers s ids s ids
+  pub machine-start : (answers : List Answer) (s : Holding) (ids : ℕ → ℕ) → answers ≡ [] → Machine policy timing numbers [] answers s ids s ids
   machine-start answers s ids none = rw none (machine-none s ids)
 
   -- the event at an index is done, with the settings as they were
-  pub machine-next : (all : List (Event × ℕ)) (i : ℕ) (turn : Event × ℕ) (answers more : List Answer) (answer : Answer) (told : Timing) (sent : Numbers) (s m t : Place) (ids mid last : ℕ → ℕ)
+  pub machine-next : (all : List (Event × ℕ)) (i : ℕ) (turn : Event × ℕ) (answers more : List Answer) (answer : Answer) (told : Timing) (sent : Numbers) (s m t : Holding) (ids mid last : ℕ → ℕ)
       → i < length all → turn ≡ get_or all i turn → more ≡ answers ++ answer ∷ [] → told ≡ timing → sent ≡ numbers
       → Machine policy timing numbers (take i all) answers s ids m mid → Does policy turn.1 told sent turn.0 m mid answer t last
       → Machine policy timing numbers (take (i + 1) all) more s ids t last
@@ -226,6 +226,6 @@ module _ (policy : Policy) (timing : Timing) (numbers : Numbers) where
       (machine-push (take i all) answers turn answer s m t ids mid last run right))
 
   -- all were done
-  pub machine-whole : (all : List (Event × ℕ)) (i : ℕ) (answers : List Answer) (s t : Place) (ids last : ℕ → ℕ) → length all ≤ i
+  pub machine-whole : (all : List (Event × ℕ)) (i : ℕ) (answers : List Answer) (s t : Holding) (ids last : ℕ → ℕ) → length all ≤ i
       → Machine policy timing numbers (take i all) answers s ids t last → Machine policy timing numbers all answers s ids t last
   machine-whole all i answers s t ids last past run = subst (λ (turns : List (Event × ℕ)). Machine policy timing numbers turns answers s ids t last) (take_all i all past) run

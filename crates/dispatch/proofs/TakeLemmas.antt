@@ -18,7 +18,7 @@ use Rattle.journal.proofs.EntriesLemmas.{what-waits}
 use Rattle.journal.proofs.OutboxesLemmas.{take_next}
 use Rattle.journal.proofs.SocketsLemmas.{neither}
 use Rattle.effects.specs.Following.{is_clean}
-use Rattle.dispatch.specs.Place.{IsClean}
+use Rattle.dispatch.specs.Holding.{IsClean}
 use Rattle.dispatch.specs.Takes.{packets_of, handed, carried}
 
 -- one entry more is carried
@@ -61,7 +61,7 @@ clean-text false e = refl
 
 whole-parts : (parts : List (List ℕ)) → All HasWholeData (map Binary parts)
 whole-parts [] = All-nil HasWholeData
-whole-parts (part ∷ parts) = All-cons HasWholeData (Binary part) (map Binary parts) tt (whole-parts parts)
+whole-parts (attachment ∷ parts) = All-cons HasWholeData (Binary attachment) (map Binary parts) tt (whole-parts parts)
 
 whole-entries : (entries : List Entry) → AllPass is_clean entries → All HasWholeData (flat_map packets_of entries)
 whole-entries [] all = All-nil HasWholeData

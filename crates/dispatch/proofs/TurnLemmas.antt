@@ -20,8 +20,8 @@ use Rattle.effects.specs.Commands.{StopsAt}
 use Rattle.effects.specs.Following.{is_clean, is_cast, is_turn, is_work, AreMade, Follows, Spares, WorksFor}
 use Rattle.effects.proofs.StepLemmas.{follows-on, spares-on}
 use Rattle.dispatch.specs.Machine.{opening, WorksOn}
-use Rattle.dispatch.specs.Packets.{Stage, stage, BreaksAfter}
-use Rattle.dispatch.specs.Place.{Place, line_of, place, KeepsOthers, Agree}
+use Rattle.dispatch.specs.Packets.{Course, course, BreaksAfter}
+use Rattle.dispatch.specs.Holding.{Holding, line_of, holding, KeepsOthers, Agree}
 
 -- the steps of an event that puts nothing for other clients
 pub record Leads (c : ℕ) (h g : History) : Type 0 where
@@ -106,7 +106,7 @@ open-others c h g follows d other =
 -- ---- the lines
 
 -- where the client of the event has a line just where it is open, all clients have
-pub agree-after : (c : ℕ) (h g : History) (old new : List (ℕ × PlainLine)) → Agree h old → Follows (is_turn c) h g → KeepsOthers c (place h old) (place g new)
+pub agree-after : (c : ℕ) (h g : History) (old new : List (ℕ × PlainLine)) → Agree h old → Follows (is_turn c) h g → KeepsOthers c (holding h old) (holding g new)
     → is_some (line_of new c) ≡ is_open g.base g.journal c → Agree g new
 agree-after c h g old new agree follows others own d = on (c == d) refl
   where
@@ -118,13 +118,13 @@ agree-after c h g old new agree follows others own d = on (c == d) refl
     on false is = ap (λ (o : Option PlainLine). is_some o) (others d is) ∙ agree d ∙ sym (open-others c h g follows d is)
 
 -- where the client isn't open any more and has no line
-pub agree-gone : (c : ℕ) (h g : History) (old new : List (ℕ × PlainLine)) → Agree h old → Follows (is_turn c) h g → KeepsOthers c (place h old) (place g new)
+pub agree-gone : (c : ℕ) (h g : History) (old new : List (ℕ × PlainLine)) → Agree h old → Follows (is_turn c) h g → KeepsOthers c (holding h old) (holding g new)
     → line_of new c ≡ None → is_open g.base g.journal c ≡ false → Agree g new
 agree-gone c h g old new agree follows others gone closed =
     agree-after c h g old new agree follows others (ap (λ (o : Option PlainLine). is_some o) gone ∙ sym closed)
 
 -- where it is open still and has one
-pub agree-still : (c : ℕ) (h g : History) (old new : List (ℕ × PlainLine)) → Agree h old → Follows (is_turn c) h g → KeepsOthers c (place h old) (place g new)
+pub agree-still : (c : ℕ) (h g : History) (old new : List (ℕ × PlainLine)) → Agree h old → Follows (is_turn c) h g → KeepsOthers c (holding h old) (holding g new)
     → is_some (line_of new c) ≡ true → is_open g.base g.journal c ≡ true → Agree g new
 agree-still c h g old new agree follows others has open_still = agree-after c h g old new agree follows others (has ∙ sym open_still)
 
@@ -151,8 +151,8 @@ put-forgotten c old with_line new none gone put forgotten d = on (c == d) refl
 
 -- an event that ends with an error between two of its packets
 pub ends-with : (policy : Policy) (now c : ℕ) (packets : List Packet) (line : PlainLine)
-    (s t : Place) (ids left : ℕ → ℕ) (e : CoreError) (m : Stage)
-    → BreaksAfter policy c now packets (stage (opening s.history line) ids) e m
+    (s t : Holding) (ids left : ℕ → ℕ) (e : CoreError) (m : Course)
+    → BreaksAfter policy c now packets (course (opening s.history line) ids) e m
     → t.history ≡ m.scene.history → t.lines c ≡ Some m.scene.line → KeepsOthers c s t → left ≡ m.ids
     → WorksOn policy now c packets line s ids (Err e) t left
 ends-with policy now c packets line s t ids left e m breaks history has others drawn = (m, breaks, history, (rw has refl, others), drawn)

@@ -15,7 +15,7 @@ use Rattle.events.specs.declared.outcome.Outcome.TheVariants as outcome
 use Rattle.events.specs.Answer.{Answer, at_once}
 use Rattle.dispatch.specs.Answers.{Refused, ForClient}
 use Rattle.events.specs.Plain.{nothing_done}
-use Rattle.dispatch.specs.Place.{Place, line_of, place, KeepsOthers, KeepsLines}
+use Rattle.dispatch.specs.Holding.{Holding, line_of, holding, KeepsOthers, KeepsLines}
 use Rattle.dispatch.specs.Takes.{IsOn}
 use Rattle.dispatch.specs.Upgrade.{fault_of_clock, ProbesOn, Probes, EndsProbeOn, EndsProbe}
 
@@ -58,7 +58,7 @@ module _ (refusal : Transport → Option ClockError) (tells : Tells refusal) (sa
       (on, (λ o h leads. tells on (transport o (clock_calls h)) (sym is ∙ answer o h leads)), is)
 
 -- what comes of the clock's answer, where it is accepted and where it isn't
-module _ (said : Said) (c : ℕ) (line : PlainLine) (s : Place) (answer : Answer) (t : Place) where
+module _ (said : Said) (c : ℕ) (line : PlainLine) (s : Holding) (answer : Answer) (t : Holding) where
   probes-on : (on : Transport) → said ≡ ok_unless (probe_refusal on) → (said ≡ Ok tt → ProbesOn Polling c line s answer t)
       → ((e : ClockError) → said ≡ Err e → Refused (fault_of_clock e) s answer t) → ProbesOn on c line s answer t
   probes-on Polling is ok err = ok is
@@ -89,8 +89,8 @@ named e f is = let same : e ≡ f = cc is in ap (λ (x : ClockError). Err (at_on
 
 -- ---- the row of an event, from what its line and its answer are
 
-same-lines : (c : ℕ) (h : History) (old new : List (ℕ × PlainLine)) (line after : PlainLine) → line_of old c ≡ Some line → line_of new c ≡ Some after → KeepsOthers c (place h old) (place h new)
-    → after ≡ line → KeepsLines (place h old) (place h new)
+same-lines : (c : ℕ) (h : History) (old new : List (ℕ × PlainLine)) (line after : PlainLine) → line_of old c ≡ Some line → line_of new c ≡ Some after → KeepsOthers c (holding h old) (holding h new)
+    → after ≡ line → KeepsLines (holding h old) (holding h new)
 same-lines c h old new line after known has others same d = on (c == d) refl
   where
     on : (b : Bool) → (c == d) ≡ b → line_of new d ≡ line_of old d
@@ -98,21 +98,21 @@ same-lines c h old new line after known has others same d = on (c == d) refl
     on false is = others d is
 
 module _ (c : ℕ) (h : History) (old new : List (ℕ × PlainLine)) (line after : PlainLine) (answer : Answer)
-    (known : line_of old c ≡ Some line) (has : line_of new c ≡ Some after) (others : KeepsOthers c (place h old) (place h new)) where
+    (known : line_of old c ≡ Some line) (has : line_of new c ≡ Some after) (others : KeepsOthers c (holding h old) (holding h new)) where
   pub probes-for : (text : List ℕ) → text ≡ codes "3probe" → (said : Said) → HasHistory line → ForEachHistory line (λ o h. said ≡ ok_unless (probe_refusal (transport o (clock_calls h))))
       → OnOk said (Advances line (Probed ∷ []) after) → OnErr said (after ≡ line)
       → OnOk said (answer ≡ Ok (outcome.Probed text)) → IfErr said (λ e. answer ≡ Err (at_once (fault_of_clock e)))
-      → ForClient c (Probes c) (place h old) answer (place h new)
+      → ForClient c (Probes c) (holding h old) answer (holding h new)
   probes-for text pong (Ok x) reached from advances same ok err =
-      rw (known, ForClient) (probes (Ok x) c line (place h old) answer (place h new) reached from (λ is. (ok ∙ ap (λ (x : List ℕ). Ok (outcome.Probed x)) pong, (refl, (rw has advances, others)))) (λ e is. absurd (cc is)))
+      rw (known, ForClient) (probes (Ok x) c line (holding h old) answer (holding h new) reached from (λ is. (ok ∙ ap (λ (x : List ℕ). Ok (outcome.Probed x)) pong, (refl, (rw has advances, others)))) (λ e is. absurd (cc is)))
   probes-for text pong (Err e) reached from advances same ok err =
-      rw (known, ForClient) (probes (Err e) c line (place h old) answer (place h new) reached from (λ is. absurd (cc is)) (λ f is. (err ∙ named e f is, refl, same-lines c h old new line after known has others same)))
+      rw (known, ForClient) (probes (Err e) c line (holding h old) answer (holding h new) reached from (λ is. absurd (cc is)) (λ f is. (err ∙ named e f is, refl, same-lines c h old new line after known has others same)))
 
   pub ends-for : (end : Call) (said : Said) → HasHistory line → ForEachHistory line (λ o h. said ≡ ok_unless (unprobed_refusal (transport o (clock_calls h))))
       → OnOk said (Advances line (end ∷ []) after) → OnErr said (after ≡ line)
       → OnOk said (answer ≡ Ok (outcome.Done nothing_done)) → IfErr said (λ e. answer ≡ Err (at_once (fault_of_clock e)))
-      → ForClient c (EndsProbe end c) (place h old) answer (place h new)
+      → ForClient c (EndsProbe end c) (holding h old) answer (holding h new)
   ends-for end (Ok x) reached from advances same ok err =
-      rw (known, ForClient) (ends-probe (Ok x) c line (place h old) answer (place h new) end reached from (λ is. (ok, (refl, (rw has advances, others)))) (λ e is. absurd (cc is)))
+      rw (known, ForClient) (ends-probe (Ok x) c line (holding h old) answer (holding h new) end reached from (λ is. (ok, (refl, (rw has advances, others)))) (λ e is. absurd (cc is)))
   ends-for end (Err e) reached from advances same ok err =
-      rw (known, ForClient) (ends-probe (Err e) c line (place h old) answer (place h new) end reached from (λ is. absurd (cc is)) (λ f is. (err ∙ named e f is, refl, same-lines c h old new line after known has others same)))
+      rw (known, ForClient) (ends-probe (Err e) c line (holding h old) answer (holding h new) end reached from (λ is. absurd (cc is)) (λ f is. (err ∙ named e f is, refl, same-lines c h old new line after known has others same)))

@@ -6,7 +6,7 @@ use Rattle.connection.specs.Line.{PlainLine, Advances}
 use Rattle.journal.specs.Journal.{History}
 use Rattle.events.specs.Answer.{Answer}
 use Rattle.dispatch.specs.Answers.{ForClient, AdvancesLine}
-use Rattle.dispatch.specs.Place.{Place, line_of, place, KeepsOthers}
+use Rattle.dispatch.specs.Holding.{Holding, line_of, holding, KeepsOthers}
 use Rattle.dispatch.specs.Parking.{Parks, ParksOrCloses}
 use Rattle.dispatch.specs.Upkeep.{IsDue, TicksOn, Ticks}
 
@@ -16,11 +16,11 @@ parked-or-closed true h g now c made = inl made
 parked-or-closed false h g now c closed = inr closed
 
 -- what is due to a client that is known is done
-pub ticks : (now c : ℕ) (line : PlainLine) (h : History) (old : List (ℕ × PlainLine)) (answer : Answer) (t : Place) (told due : Due) → line_of old c ≡ Some line → told ≡ due → IsDue told now line
-    → TicksOn due now c line (place h old) answer t → ForClient c (Ticks now c) (place h old) answer t
+pub ticks : (now c : ℕ) (line : PlainLine) (h : History) (old : List (ℕ × PlainLine)) (answer : Answer) (t : Holding) (told due : Due) → line_of old c ≡ Some line → told ≡ due → IsDue told now line
+    → TicksOn due now c line (holding h old) answer t → ForClient c (Ticks now c) (holding h old) answer t
 ticks now c line h old answer t told due known is says row = rw (known, ForClient) (due, rw is at says, row)
 
 -- the line with the tick on it
-pub ticked : (now c : ℕ) (line after : PlainLine) (h g : History) (old new : List (ℕ × PlainLine)) (told due : Due) → g ≡ h → line_of new c ≡ Some after → KeepsOthers c (place h old) (place g new) → told ≡ due
-    → Advances line (Ticked now told ∷ []) after → AdvancesLine c line (Ticked now due ∷ []) (place h old) (place g new)
+pub ticked : (now c : ℕ) (line after : PlainLine) (h g : History) (old new : List (ℕ × PlainLine)) (told due : Due) → g ≡ h → line_of new c ≡ Some after → KeepsOthers c (holding h old) (holding g new) → told ≡ due
+    → Advances line (Ticked now told ∷ []) after → AdvancesLine c line (Ticked now due ∷ []) (holding h old) (holding g new)
 ticked now c line after h g old new told due same has others is advances = (same, (rw has (rw is at advances), others))

@@ -14,7 +14,7 @@ use Rattle.effects.specs.Commands.{Makes, StopsAt}
 use Rattle.events.specs.Plain.{PlainDone, nothing_done}
 use Rattle.events.specs.Answer.{Answer, at_once}
 use Rattle.events.specs.declared.outcome.Outcome.TheVariants as outcome
-use Rattle.dispatch.specs.Place.{Place, place, HasLine, LosesLine, KeepsLines}
+use Rattle.dispatch.specs.Holding.{Holding, holding, HasLine, LosesLine, KeepsLines}
 
 -- why there is no core: the limits allow no hub, or there is no memory
 abbrev pub fault_of_config : Option HubError → CoreFault
@@ -22,44 +22,44 @@ fault_of_config None = Memory
 fault_of_config (Some e) = BadConfig
 
 -- the event ends with this fault, and nothing has changed
-abbrev pub Refused : CoreFault → Place → Answer → Place → Type 0
+abbrev pub Refused : CoreFault → Holding → Answer → Holding → Type 0
 Refused fault s answer t = (answer ≡ Err (at_once fault)) × (t.history ≡ s.history) × KeepsLines s t
 
 -- the event ends with this error, and nothing has changed
-abbrev pub ChangesNone : CoreError → Place → Place → Type 0
+abbrev pub ChangesNone : CoreError → Holding → Holding → Type 0
 ChangesNone e s t = (e ≡ at_once e.fault) × (t.history ≡ s.history) × KeepsLines s t
 
 -- the client has this line, or none where it was closed
-abbrev pub KeepsWhileOpen : ℕ → PlainDone → PlainLine → Place → Place → Type 0
+abbrev pub KeepsWhileOpen : ℕ → PlainDone → PlainLine → Holding → Holding → Type 0
 KeepsWhileOpen c done line s t = elim done.closed [
   | Some why ↦ LosesLine c s t
   | None ↦ HasLine c (λ after. after ≡ line) s t
 ]
 
 -- the client's line has these calls more, and nothing else has changed
-abbrev pub AdvancesLine : ℕ → PlainLine → List Call → Place → Place → Type 0
+abbrev pub AdvancesLine : ℕ → PlainLine → List Call → Holding → Holding → Type 0
 AdvancesLine c line calls s t = (t.history ≡ s.history) × HasLine c (λ after. Advances line calls after) s t
 
 -- a client that is closed for a cause: nothing of what it sent was worked on
-abbrev pub ClosesUnread : ℕ → ℕ → Cause → Place → Answer → Place → Type 0
+abbrev pub ClosesUnread : ℕ → ℕ → Cause → Holding → Answer → Holding → Type 0
 ClosesUnread now c why s (Ok (outcome.Done done)) t =
     (done ≡ record nothing_done { closed = Some why }) × Makes s.history now (what.Closed c) t.history × LosesLine c s t
 ClosesUnread now c why s (Ok _) t = ⊥
 ClosesUnread now c why s (Err e) t = StopsAt s.history now (what.Closed c) e.fault × ChangesNone e s t
 
 -- an event of a client that has no line is refused
-abbrev pub ForClient : ℕ → (PlainLine → Place → Answer → Place → Type 0) → Place → Answer → Place → Type 0
+abbrev pub ForClient : ℕ → (PlainLine → Holding → Answer → Holding → Type 0) → Holding → Answer → Holding → Type 0
 ForClient c row s answer t = elim (s.lines c) [
   | None ↦ Refused UnknownClient s answer t
   | Some line ↦ row line s answer t
 ]
 
 -- an event of a client at a moment
-abbrev pub ForVisit : Visit → (ℕ → ℕ → PlainLine → Place → Answer → Place → Type 0)
+abbrev pub ForVisit : Visit → (ℕ → ℕ → PlainLine → Holding → Answer → Holding → Type 0)
     → History → List (ℕ × PlainLine) → Answer → History → List (ℕ × PlainLine) → Type 0
-ForVisit visit row h lines answer g after = ForClient visit.client (row visit.moment visit.client) (place h lines) answer (place g after)
+ForVisit visit row h lines answer g after = ForClient visit.client (row visit.moment visit.client) (holding h lines) answer (holding g after)
 
 -- an event of a client that concerns its line alone, whatever the hub's history is
-abbrev pub OnLine : (c : ℕ) → (ℕ → PlainLine → Place → Answer → Place → Type 0)
+abbrev pub OnLine : (c : ℕ) → (ℕ → PlainLine → Holding → Answer → Holding → Type 0)
     → List (ℕ × PlainLine) → Answer → List (ℕ × PlainLine) → Type 0
-OnLine c row lines answer after = (h : History) → ForClient c (row c) (place h lines) answer (place h after)
+OnLine c row lines answer after = (h : History) → ForClient c (row c) (holding h lines) answer (holding h after)

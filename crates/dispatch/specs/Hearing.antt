@@ -2,7 +2,7 @@
 -- `disconnecting` and `disconnect`).
 use Rattle.std.specs.Prelude.{◌≡◌, ℕ, List, Option, None, Some, Result, Ok, Err}
 use Rattle.journal.specs.Journal.{History}
-use Rattle.hub_state.specs.Departing.{PlainDeparted}
+use Rattle.hub_state.specs.EndedSockets.{PlainEnded}
 use Rattle.events.specs.declared.fault.CoreError.{CoreError}
 use Rattle.events.specs.declared.fault.CoreFault.{CoreFault}
 use Rattle.events.specs.declared.outcome.Outcome.{Outcome}
@@ -10,8 +10,8 @@ use Rattle.events.specs.declared.outcome.Outcome.TheVariants.{Done, Lost, Ticked
 use Rattle.events.specs.Answer.{Answer}
 use Rattle.events.specs.Plain.{PlainDone, nothing_done}
 use Rattle.events.specs.App.{Policy}
-use Rattle.effects.specs.Departed.{HearsOfAll}
-use Rattle.effects.specs.Saying.{work}
+use Rattle.effects.specs.Hearing.{HearsOfAll}
+use Rattle.effects.specs.Broadcasting.{work}
 
 -- what was done of the event, where its outcome says so: no other event ends a socket
 abbrev pub done_of : Outcome → Option PlainDone
@@ -42,14 +42,14 @@ abbrev pub done_before : Answer → Option PlainDone
 done_before (Ok o) = done_of o
 done_before (Err e) = Some (done_until e)
 
-module _ (policy : Policy) (c now : ℕ) (ended : List PlainDeparted) (h : History) (said answer : Answer) (g : History) where
+module _ (policy : Policy) (c now : ℕ) (ended : List PlainEnded) (h : History) (said answer : Answer) (g : History) where
   -- the app hears of the sockets that an event of the client ended
   abbrev pub Hears : PlainDone → Type 0
   Hears before = (r : Result (Unit {0}) CoreFault) × (after : PlainDone)
       × HearsOfAll policy c now ended (work h before) r (work g after) × (answer ≡ answer_after said r after)
 
 -- the app hears of the sockets that ended, where the event is of a client and may end some
-abbrev pub HearsAfter : Policy → ℕ → Option ℕ → List PlainDeparted → History → (said answer : Answer) → History → Type 0
+abbrev pub HearsAfter : Policy → ℕ → Option ℕ → List PlainEnded → History → (said answer : Answer) → History → Type 0
 HearsAfter policy now None ended h said answer g = (answer ≡ said) × (g ≡ h)
 HearsAfter policy now (Some c) ended h said answer g = elim (done_before said) [
   | None ↦ (answer ≡ said) × (g ≡ h)

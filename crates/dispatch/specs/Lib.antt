@@ -6,7 +6,7 @@ pub mod Hearing
 pub mod Machine
 pub mod Packets
 pub mod Parking
-pub mod Place
+pub mod Holding
 pub mod Takes
 pub mod Upgrade
 pub mod Upkeep

@@ -25,14 +25,14 @@ use Rattle.events.specs.declared.outcome.Outcome.TheVariants as outcome
 use Rattle.events.specs.Answer.{Answer, at_once}
 use Rattle.dispatch.specs.Answers.{Refused, ChangesNone, KeepsWhileOpen, AdvancesLine, ClosesUnread, ForClient}
 use Rattle.dispatch.specs.Frames.{is_too_long, IsFrameOf, IsNoFrame, SendsFor}
-use Rattle.dispatch.specs.Packets.{Stage, stage, HandlesInTurn, BreaksAfter}
+use Rattle.dispatch.specs.Packets.{Course, course, HandlesInTurn, BreaksAfter}
 use Rattle.effects.specs.Effects.{Scene}
 use Rattle.events.specs.Plain.{nothing_done}
 use Rattle.journal.specs.Journal.{History}
-use Rattle.effects.specs.Departed.{ended_since}
+use Rattle.effects.specs.Hearing.{ended_since}
 use Rattle.events.specs.Event.{client_of}
 use Rattle.dispatch.specs.Hearing.{HearsAfter}
-use Rattle.dispatch.specs.Place.{Place, HasLine, LosesLine}
+use Rattle.dispatch.specs.Holding.{Holding, HasLine, LosesLine}
 use Rattle.dispatch.specs.Takes.{IsOn, Polls, IsGetting, TakesFor}
 use Rattle.dispatch.specs.Upgrade.{Probes, Upgrades, LosesProbe}
 use Rattle.dispatch.specs.Upkeep.{Ticks, Sweeps}
@@ -64,7 +64,7 @@ listed _ = []
 -- ---- a client that is opened (Engine.IO protocol 4, "Handshake")
 
 -- a client with this id is opened, and told the open packet; the line's history begins now
-abbrev pub Opens : Timing → Numbers → ℕ → (socket : Bool) → (c : ℕ) → Place → Answer → Place → Type 0
+abbrev pub Opens : Timing → Numbers → ℕ → (socket : Bool) → (c : ℕ) → Holding → Answer → Holding → Type 0
 Opens timing numbers now socket c s (Ok (outcome.Opened o)) t =
     (o.client ≡ c) × (o.text ≡ open_packet_text c (not socket) numbers)
     × Makes s.history now (what.Opened c) t.history
@@ -75,19 +75,19 @@ Opens timing numbers now socket c s (Err e) t = StopsAt s.history now (what.Open
 -- ---- a GET (Engine.IO protocol 4, "HTTP long-polling")
 
 -- a GET begins to wait; a second one closes the client
-abbrev pub Begins : ℕ → ℕ → PlainLine → Place → Answer → Place → Type 0
+abbrev pub Begins : ℕ → ℕ → PlainLine → Holding → Answer → Holding → Type 0
 Begins now c line s answer t =
     (IsOn Socket line × Refused WrongTransport s answer t)
     ⊎ (Polls line × IsGetting true line × ClosesUnread now c cause.DoubleGet s answer t)
     ⊎ (Polls line × IsGetting false line × (answer ≡ Ok outcome.Begun) × AdvancesLine c line (GetBegan ∷ []) s t)
 
 -- a GET waits no more
-abbrev pub Ends : ℕ → PlainLine → Place → Answer → Place → Type 0
+abbrev pub Ends : ℕ → PlainLine → Holding → Answer → Holding → Type 0
 Ends c line s (Ok (outcome.Done done)) t = (done ≡ nothing_done) × AdvancesLine c line (GetEnded ∷ []) s t
 Ends c line s _ t = ⊥
 
 -- the payload for a GET is taken
-abbrev pub Takes : ℕ → (c most : ℕ) → PlainLine → Place → Answer → Place → Type 0
+abbrev pub Takes : ℕ → (c most : ℕ) → PlainLine → Holding → Answer → Holding → Type 0
 Takes now c most line s (Ok outcome) t = HasLine c (λ after. TakesFor c most now (Ok outcome) s.history t.history line after) s t
 Takes now c most line s (Err e) t = (e ≡ at_once e.fault)
     × HasLine c (λ after. TakesFor c most now (Err e.fault) s.history t.history line after) s t
@@ -95,15 +95,15 @@ Takes now c most line s (Err e) t = (e ≡ at_once e.fault)
 -- ---- a WebSocket
 
 -- the frames for a WebSocket are taken
-abbrev pub TakesFrames : ℕ → (c most : ℕ) → PlainLine → Place → Answer → Place → Type 0
+abbrev pub TakesFrames : ℕ → (c most : ℕ) → PlainLine → Holding → Answer → Holding → Type 0
 TakesFrames now c most line s (Ok outcome) t = HasLine c (λ after. SendsFor c most now (Ok outcome) s.history t.history line after) s t
 TakesFrames now c most line s (Err e) t = (e ≡ at_once e.fault)
     × HasLine c (λ after. SendsFor c most now (Err e.fault) s.history t.history line after) s t
 
 -- ---- a connection that is lost
 
--- the client's sessions are saved, or where they have no place it is closed
-abbrev pub Loses : ℕ → ℕ → Place → Answer → Place → Type 0
+-- the client's sessions are saved, or where they have no space it is closed
+abbrev pub Loses : ℕ → ℕ → Holding → Answer → Holding → Type 0
 Loses now c s (Ok (outcome.Lost true done)) t = (done ≡ nothing_done) × Makes s.history now (what.Parked c) t.history × LosesLine c s t
 Loses now c s (Ok (outcome.Lost false done)) t =
     (done ≡ nothing_done)
@@ -119,56 +119,56 @@ opening history line = record { history = history; line = line; done = nothing_d
 
 module _ (policy : Policy) (now : ℕ) where
   -- the packets of a payload in order, until one closes the client or the event ends
-  abbrev pub WorksOn : ℕ → List Packet → PlainLine → Place → (ids : ℕ → ℕ) → Answer → Place → (ids' : ℕ → ℕ) → Type 0
-  WorksOn c packets line s ids (Ok (outcome.Done done)) t ids' = (m : Stage)
-      × Runs (HandlesInTurn policy c now) packets (stage (opening s.history line) ids) m
+  abbrev pub WorksOn : ℕ → List Packet → PlainLine → Holding → (ids : ℕ → ℕ) → Answer → Holding → (ids' : ℕ → ℕ) → Type 0
+  WorksOn c packets line s ids (Ok (outcome.Done done)) t ids' = (m : Course)
+      × Runs (HandlesInTurn policy c now) packets (course (opening s.history line) ids) m
       × (done ≡ m.scene.done) × (t.history ≡ m.scene.history) × KeepsWhileOpen c m.scene.done m.scene.line s t × (ids' ≡ m.ids)
   WorksOn c packets line s ids (Ok _) t ids' = ⊥
-  WorksOn c packets line s ids (Err e) t ids' = (m : Stage)
-      × BreaksAfter policy c now packets (stage (opening s.history line) ids) e m
+  WorksOn c packets line s ids (Err e) t ids' = (m : Course)
+      × BreaksAfter policy c now packets (course (opening s.history line) ids) e m
       × (t.history ≡ m.scene.history) × HasLine c (λ after. after ≡ m.scene.line) s t × (ids' ≡ m.ids)
 
   -- the whole payload is read first; a fault closes the client
-  abbrev pub Posts : ℕ → (body : List ℕ) → PlainLine → Place → (ids : ℕ → ℕ) → Answer → Place → (ids' : ℕ → ℕ) → Type 0
+  abbrev pub Posts : ℕ → (body : List ℕ) → PlainLine → Holding → (ids : ℕ → ℕ) → Answer → Holding → (ids' : ℕ → ℕ) → Type 0
   Posts c body line s ids answer t ids' =
       (IsOn Socket line × Refused WrongTransport s answer t × (ids' ≡ ids))
       ⊎ (Polls line × ((Refused Memory s answer t × (ids' ≡ ids))
       ⊎ ((packets : List Packet) × Payload packets body × WorksOn c packets line s ids answer t ids')
       ⊎ ((fault : WireError) × HasFault body fault × ClosesUnread now c (cause_of_wire fault) s answer t × (ids' ≡ ids))))
 
-  abbrev pub PostsFor : ℕ → (body : List ℕ) → Place → (ids : ℕ → ℕ) → Answer → Place → (ids' : ℕ → ℕ) → Type 0
+  abbrev pub PostsFor : ℕ → (body : List ℕ) → Holding → (ids : ℕ → ℕ) → Answer → Holding → (ids' : ℕ → ℕ) → Type 0
   PostsFor c body s ids answer t ids' = elim (s.lines c) [
     | None ↦ Refused UnknownClient s answer t × (ids' ≡ ids)
     | Some line ↦ Posts c body line s ids answer t ids'
   ]
 
   -- a frame is one packet, which is worked on as a payload's; a fault closes the client
-  abbrev pub HearsFrame : ℕ → WsFrame → PlainLine → Place → (ids : ℕ → ℕ) → Answer → Place → (ids' : ℕ → ℕ) → Type 0
+  abbrev pub HearsFrame : ℕ → WsFrame → PlainLine → Holding → (ids : ℕ → ℕ) → Answer → Holding → (ids' : ℕ → ℕ) → Type 0
   HearsFrame c frame line s ids answer t ids' =
       (Refused Memory s answer t × (ids' ≡ ids))
       ⊎ ((packet : Packet) × IsFrameOf packet frame × WorksOn c (packet ∷ []) line s ids answer t ids')
       ⊎ ((fault : WireError) × IsNoFrame frame fault × ClosesUnread now c (cause_of_wire fault) s answer t × (ids' ≡ ids))
 
   -- one that is too long closes the client, and isn't read
-  abbrev pub HearsOne : ℕ → WsFrame → PlainLine → Place → (ids : ℕ → ℕ) → Answer → Place → (ids' : ℕ → ℕ) → Type 0
+  abbrev pub HearsOne : ℕ → WsFrame → PlainLine → Holding → (ids : ℕ → ℕ) → Answer → Holding → (ids' : ℕ → ℕ) → Type 0
   HearsOne c frame line s ids answer t ids' = elim (is_too_long frame) [
     | true ↦ ClosesUnread now c cause.TooLong s answer t × (ids' ≡ ids)
     | false ↦ HearsFrame c frame line s ids answer t ids'
   ]
 
-  abbrev pub Hears : ℕ → WsFrame → PlainLine → Place → (ids : ℕ → ℕ) → Answer → Place → (ids' : ℕ → ℕ) → Type 0
+  abbrev pub Hears : ℕ → WsFrame → PlainLine → Holding → (ids : ℕ → ℕ) → Answer → Holding → (ids' : ℕ → ℕ) → Type 0
   Hears c frame line s ids answer t ids' =
       (Polls line × Refused WrongTransport s answer t × (ids' ≡ ids))
       ⊎ (IsOn Socket line × HearsOne c frame line s ids answer t ids')
 
-  abbrev pub HearsFor : ℕ → WsFrame → Place → (ids : ℕ → ℕ) → Answer → Place → (ids' : ℕ → ℕ) → Type 0
+  abbrev pub HearsFor : ℕ → WsFrame → Holding → (ids : ℕ → ℕ) → Answer → Holding → (ids' : ℕ → ℕ) → Type 0
   HearsFor c frame s ids answer t ids' = elim (s.lines c) [
     | None ↦ Refused UnknownClient s answer t × (ids' ≡ ids)
     | Some line ↦ Hears c frame line s ids answer t ids'
   ]
 
   -- the row of each event
-  abbrev pub Row : Timing → Numbers → Event → Place → (ids : ℕ → ℕ) → Answer → Place → (ids' : ℕ → ℕ) → Type 0
+  abbrev pub Row : Timing → Numbers → Event → Holding → (ids : ℕ → ℕ) → Answer → Holding → (ids' : ℕ → ℕ) → Type 0
   Row timing numbers (event.Opened socket) s ids answer t ids' = Opens timing numbers now socket (ids 0) s answer t × (ids' ≡ (λ k. ids (k + 1)))
   Row timing numbers (event.Post c body) s ids answer t ids' = PostsFor c body s ids answer t ids'
   Row timing numbers (event.Frame c frame) s ids answer t ids' = HearsFor c frame s ids answer t ids'
@@ -187,7 +187,7 @@ module _ (policy : Policy) (now : ℕ) where
 
 module _ (policy : Policy) (now : ℕ) where
   -- the event is answered and leads somewhere as its row says, and then the app hears of the sockets that ended by that
-  abbrev pub Does : Timing → Numbers → Event → Place → (ids : ℕ → ℕ) → Answer → Place → (ids' : ℕ → ℕ) → Type 0
+  abbrev pub Does : Timing → Numbers → Event → Holding → (ids : ℕ → ℕ) → Answer → Holding → (ids' : ℕ → ℕ) → Type 0
   Does timing numbers event s ids answer t ids' =
       (h : History) × (said : Answer) × Row policy now timing numbers event s ids said (record t { history = h }) ids'
       × HearsAfter policy now (client_of event) (ended_since s.history h) h said answer t.history
@@ -196,8 +196,8 @@ module _ (policy : Policy) (now : ℕ) where
 
 -- each event in turn, at its moment, is answered as its row says
 unfoldable pub Machine : Policy → Timing → Numbers
-    → List (Event × ℕ) → List Answer → Place → (ids : ℕ → ℕ) → Place → (ids' : ℕ → ℕ) → Type 0
+    → List (Event × ℕ) → List Answer → Holding → (ids : ℕ → ℕ) → Holding → (ids' : ℕ → ℕ) → Type 0
 Machine policy timing numbers [] [] s ids t ids' = (t ≡ s) × (ids' ≡ ids)
-Machine policy timing numbers (turn ∷ turns) (answer ∷ answers) s ids t ids' = (m : Place) × (left : ℕ → ℕ)
+Machine policy timing numbers (turn ∷ turns) (answer ∷ answers) s ids t ids' = (m : Holding) × (left : ℕ → ℕ)
     × Does policy turn.1 timing numbers turn.0 s ids answer m left × Machine policy timing numbers turns answers m left t ids'
 Machine policy timing numbers _ _ s ids t ids' = ⊥

@@ -19,7 +19,7 @@ use Rattle.sio_wire.specs.JsonFields.{resume_at}
 use Rattle.sio_wire.specs.Offset.{offset_digits}
 use Rattle.connection.specs.Questions.{question_at}
 use Rattle.connection.specs.declared.ack_book.Question.{Question}
-use Rattle.connection.specs.History.{Framed, Ponged, Entered, Left, Answered, book_calls}
+use Rattle.connection.specs.History.{Framed, Ponged, Connected, Disconnected, Answered, book_calls}
 use Rattle.connection.specs.Line.{PlainLine, ForEachHistory, Advances, IsWholeIfGiven}
 use Rattle.journal.specs.declared.error.HubError.TheVariants as hub
 use Rattle.journal.specs.declared.step.What.{What}
@@ -37,8 +37,8 @@ use Rattle.events.specs.declared.fault.CoreFault.TheVariants.{Memory}
 use Rattle.events.specs.App.{Policy, Accepted, Refused, IsCleanArrival, AllClean}
 use Rattle.events.specs.Cause.{cause_of_sio}
 use Rattle.events.specs.Plain.{one_packet_more}
-use Rattle.effects.specs.Commands.{Makes, IsRefused, StopsAt, CannotReturn, IsSeated, seat}
-use Rattle.hub_state.specs.Returning.{return_of}
+use Rattle.effects.specs.Commands.{Makes, IsRefused, StopsAt, CannotRecover, IsSeated, seat}
+use Rattle.hub_state.specs.Recovering.{recovery_asked}
 use Rattle.effects.specs.Effects.{Scene, IsOpenFor, told_to, counted, Closes, ActsInTurn, StopsAfter}
 use Rattle.events.specs.declared.fault.CoreError.{CoreError}
 use Rattle.events.specs.declared.fault.Stopped.{Stopped}
@@ -48,17 +48,17 @@ use Rattle.effects.specs.declared.scene.Scene as values
 use Rattle.dispatch.specs.Parking.{ParksOrCloses, FailsToPark}
 
 -- where an event stands between two packets: a scene, and the ids to come
-pub record Stage : Type 0 where
+pub record Course : Type 0 where
   pub scene : Scene
   pub ids : ℕ → ℕ
 
-abbrev pub stage : Scene → (ℕ → ℕ) → Stage
-stage scene ids = record { scene = scene; ids = ids }
+abbrev pub course : Scene → (ℕ → ℕ) → Course
+course scene ids = record { scene = scene; ids = ids }
 
 -- the event goes on at its moment, is answered so, and draws the ids up to these
-abbrev pub Draws : (ℕ → Stage → Result (Unit {0}) Stopped → Stage → Type 0)
+abbrev pub Draws : (ℕ → Course → Result (Unit {0}) Stopped → Course → Type 0)
     → values.Scene → (ℕ → ℕ) → Result (Unit {0}) Stopped → values.Scene → (ℕ → ℕ) → Type 0
-Draws does old ids result new left = IsSameEvent old new × does old.visit.moment (stage (seen old) ids) result (stage (seen new) left)
+Draws does old ids result new left = IsSameEvent old new × does old.visit.moment (course (seen old) ids) result (course (seen new) left)
 
 -- nothing of the packet was done yet that ends its work
 abbrev pub IsFresh : Scene → Type 0
@@ -87,7 +87,7 @@ IsShort s (Ok done) t = ⊥
 IsShort s (Err e) t = StopsFor Memory s e t
 
 -- it is done so, and no id is drawn
-abbrev pub DrawsNone : (Scene → Upshot → Scene → Type 0) → Stage → Upshot → Stage → Type 0
+abbrev pub DrawsNone : (Scene → Upshot → Scene → Type 0) → Course → Upshot → Course → Type 0
 DrawsNone Does s result t = Does s.scene result t.scene × (t.ids ≡ s.ids)
 
 -- after a packet the client is open unless it was closed, and after a fault in any case
@@ -102,13 +102,13 @@ abbrev pub ClosesFor : ℕ → ℕ → Cause → Scene → Upshot → Scene → 
 ClosesFor c now why s (Ok done) t = Closes c now why s t
 ClosesFor c now why s (Err e) t = StopsAt s.history now (what.Closed c) e.fault × StopsFor e.fault s e t
 
--- its sessions are saved, or where they have no place it is closed; it closed itself
+-- its sessions are saved, or where they have no space it is closed; it closed itself
 abbrev pub ParksFor : ℕ → ℕ → Scene → Upshot → Scene → Type 0
 ParksFor c now s (Ok done) t =
     ParksOrCloses s.history now c t.history × (t ≡ record s { history = t.history; done = record s.done { closed = Some cause.ClientClosed } })
 ParksFor c now s (Err e) t = FailsToPark s.history now c e.fault × StopsFor e.fault s e t
 
--- the client is told that it isn't connected, or closed where its outbox has no place for that
+-- the client is told that it isn't connected, or closed where its outbox has no space for that
 abbrev pub refusal_entry : (space message : List ℕ) → Entry
 refusal_entry space message = record { text = refused_text space message; attachments = [] }
 
@@ -128,10 +128,10 @@ DoesAll who now before effects s (Ok done) t = Runs (ActsInTurn who now) effects
 DoesAll who now before effects s (Err e) t = StopsAfter who now before effects s e t
 
 -- the socket leaves its namespace (Socket.IO protocol 5, "Disconnection from a namespace")
-abbrev pub Leaves : Who → ℕ → Scene → Upshot → Scene → Type 0
-Leaves who now s (Ok done) t = Makes s.history now (what.Ended who.sid side.Client) t.history × Advances s.line (Left who.sid ∷ []) t.line
+abbrev pub ClientDisconnects : Who → ℕ → Scene → Upshot → Scene → Type 0
+ClientDisconnects who now s (Ok done) t = Makes s.history now (what.Ended who.sid side.Client) t.history × Advances s.line (Disconnected who.sid ∷ []) t.line
     × (t ≡ record s { history = t.history; line = t.line })
-Leaves who now s (Err e) t = StopsAt s.history now (what.Ended who.sid side.Client) e.fault × StopsFor e.fault s e t
+ClientDisconnects who now s (Err e) t = StopsAt s.history now (what.Ended who.sid side.Client) e.fault × StopsFor e.fault s e t
 
 module _ (policy : Policy) where
   -- the app decides what is done where something arrived; U+001E comes into no effect where none arrived
@@ -165,7 +165,7 @@ module _ (policy : Policy) where
   -- what a packet of a connected socket does; a CONNECT_ERROR is ignored
   abbrev pub Serves : Kind → Who → Option ℕ → (payload : List ℕ) → (attachments : List (List ℕ))
       → ℕ → Scene → Upshot → Scene → Type 0
-  Serves kind.Disconnect who id payload attachments now s result t = Leaves who now s result t
+  Serves kind.Disconnect who id payload attachments now s result t = ClientDisconnects who now s result t
   Serves kind.Event who id payload attachments now s result t = HearsEvent who id payload attachments now s result t
   Serves kind.BinaryEvent who id payload attachments now s result t = HearsEvent who id payload attachments now s result t
   Serves kind.Ack who id payload attachments now s result t = TakesAck who id payload attachments now s result t
@@ -193,53 +193,53 @@ Names payload (Some named) = (named.0 < 2 ^ 128) × (named.1 < 2 ^ 64)
 Names payload None =
     (pid offset : ℕ) → offset < 2 ^ 64 → resume_at payload ≢ Ok (Some (digits_of pid offset))
 
--- the socket is connected, and the app's effects follow; or its client has no place for the answer and is closed
+-- the socket is connected, and the app's effects follow; or its client has no space for the answer and is closed
 abbrev pub ConnectsAs : Who → (pid : ℕ) → List Effect → ℕ → Scene → Upshot → Scene → Type 0
 ConnectsAs who pid effects now s result t = let attached = what.Attached (seat who pid s.history) in
-    ((between : Scene) × Makes s.history now attached between.history × Advances s.line (Entered who.sid ∷ []) between.line
+    ((between : Scene) × Makes s.history now attached between.history × Advances s.line (Connected who.sid ∷ []) between.line
     × (between ≡ record (counted s) { history = between.history; line = between.line }) × DoesAll who now 1 effects between result t)
     ⊎ (IsRefused s.history now attached hub.OutboxFull × ClosesFor who.client now cause.OutboxFull s result t)
     ⊎ ((e : Stopped) × (result ≡ Err e) × StopsAt s.history now attached e.fault × StopsFor e.fault s e t)
 
 -- it has the next two ids
-abbrev pub Connects : ℕ → (space : List ℕ) → List Effect → ℕ → Stage → Upshot → Stage → Type 0
+abbrev pub Connects : ℕ → (space : List ℕ) → List Effect → ℕ → Course → Upshot → Course → Type 0
 Connects c space effects now s result t = (t.ids ≡ (λ k. s.ids (k + 2)))
     × ConnectsAs (record { client = c; space = space; sid = s.ids 0 }) (s.ids 1) effects now s.scene result t.scene
 
 -- the session comes back, and the app isn't asked
-abbrev pub Returns : What → (sid : ℕ) → ℕ → Scene → Upshot → Scene → Type 0
-Returns back sid now s result t = (result ≡ Ok tt) × Makes s.history now back t.history × Advances s.line (Entered sid ∷ []) t.line
+abbrev pub IsRecovered : What → (sid : ℕ) → ℕ → Scene → Upshot → Scene → Type 0
+IsRecovered back sid now s result t = (result ≡ Ok tt) × Makes s.history now back t.history × Advances s.line (Connected sid ∷ []) t.line
     × (t ≡ record (counted s) { history = t.history; line = t.line })
 
 module _ (policy : Policy) where
   -- the app says whether the socket is connected; U+001E comes into no effect where none stands in the payload
-  abbrev pub AsksApp : ℕ → (space payload : List ℕ) → ℕ → Stage → Upshot → Stage → Type 0
+  abbrev pub AsksApp : ℕ → (space payload : List ℕ) → ℕ → Course → Upshot → Course → Type 0
   AsksApp c space payload now s result t = DrawsNone IsShort s result t
       ⊎ ((effects : List Effect) × policy.allows space payload (Accepted effects) × (IsWhole payload → AllClean effects)
       × Connects c space effects now s result t)
       ⊎ ((message : List ℕ) × policy.allows space payload (Refused message) × DrawsNone (Refuses c now space message) s result t)
 
   -- the session that the payload names comes back; where it can't come back, the app is asked
-  abbrev pub ComesBack : ℕ → (space payload : List ℕ) → (pid offset : ℕ) → ℕ → Stage → Upshot → Stage → Type 0
-  ComesBack c space payload pid offset now s result t = let r = return_of c space pid offset s.scene.history in
-      DrawsNone (Returns (what.Recovered r) r.socket.sid now) s result t
-      ⊎ (CannotReturn s.scene.history now (what.Recovered r) × AsksApp c space payload now s result t)
+  abbrev pub AsksToRecover : ℕ → (space payload : List ℕ) → (pid offset : ℕ) → ℕ → Course → Upshot → Course → Type 0
+  AsksToRecover c space payload pid offset now s result t = let r = recovery_asked c space pid offset s.scene.history in
+      DrawsNone (IsRecovered (what.Recovered r) r.socket.sid now) s result t
+      ⊎ (CannotRecover s.scene.history now (what.Recovered r) × AsksApp c space payload now s result t)
       ⊎ ((e : Stopped) × (result ≡ Err e) × StopsAt s.scene.history now (what.Recovered r) e.fault
       × StopsFor e.fault s.scene e t.scene × (t.ids ≡ s.ids))
 
-  abbrev pub MayComeBack : ℕ → (space payload : List ℕ) → ℕ → Stage → Upshot → Stage → Type 0
-  MayComeBack c space payload now s result t = DrawsNone IsShort s result t
+  abbrev pub MayRecover : ℕ → (space payload : List ℕ) → ℕ → Course → Upshot → Course → Type 0
+  MayRecover c space payload now s result t = DrawsNone IsShort s result t
       ⊎ (Names payload None × AsksApp c space payload now s result t)
-      ⊎ ((named : ℕ × ℕ) × Names payload (Some named) × ComesBack c space payload named.0 named.1 now s result t)
+      ⊎ ((named : ℕ × ℕ) × Names payload (Some named) × AsksToRecover c space payload named.0 named.1 now s result t)
 
   -- a CONNECT to a namespace that isn't there is refused; one to a namespace that the client has joined closes it
-  abbrev pub AsksToConnect : ℕ → (space payload : List ℕ) → ℕ → Stage → Upshot → Stage → Type 0
+  abbrev pub AsksToConnect : ℕ → (space payload : List ℕ) → ℕ → Course → Upshot → Course → Type 0
   AsksToConnect c space payload now s result t = let h = s.scene.history in
       elim (is_space h.limits (place_of h.limits space)) [
         | false ↦ DrawsNone (Refuses c now space (codes "Invalid namespace")) s result t
         | true ↦ elim (socket_of h.base h.journal c (place_of h.limits space)) [
           | Some k ↦ DrawsNone (ClosesFor c now cause.AlreadyConnected) s result t
-          | None ↦ MayComeBack c space payload now s result t
+          | None ↦ MayRecover c space payload now s result t
         ]
       ]
 
@@ -247,53 +247,53 @@ module _ (policy : Policy) where
   -- ---- a packet
 
   -- a packet that came whole
-  abbrev pub Works : ℕ → SioPacket → ℕ → Stage → Upshot → Stage → Type 0
+  abbrev pub Works : ℕ → SioPacket → ℕ → Course → Upshot → Course → Type 0
   Works c p now s result t = elim p.header.kind [
     | kind.Connect ↦ AsksToConnect policy c p.header.space p.header.payload now s result t
     | _ ↦ DrawsNone (ServesJoined policy c p now) s result t
   ]
 
   -- what comes of what the assembler answered; U+001E stands neither in the packet's namespace nor in its payload
-  abbrev pub GoesOn : ℕ → Result (Option SioPacket) SioError → ℕ → Stage → Upshot → Stage → Type 0
+  abbrev pub GoesOn : ℕ → Result (Option SioPacket) SioError → ℕ → Course → Upshot → Course → Type 0
   GoesOn c (Ok None) now s result t = (result ≡ Ok tt) × (t ≡ s)
   GoesOn c (Ok (Some p)) now s result t = IsWholeIfGiven (Some p) × Works c p now s result t
   GoesOn c (Err sio.Memory) now s result t = DrawsNone IsShort s result t
   GoesOn c (Err error) now s result t = DrawsNone (ClosesFor c now (cause_of_sio error)) s result t
 
-  -- the same stage with this line
-  abbrev pub with_line : Stage → PlainLine → Stage
+  -- the same course with this line
+  abbrev pub with_line : Course → PlainLine → Course
   with_line s line = record s { scene = record s.scene { line = line } }
 
   -- a frame that the assembler took is kept, or the packet that it makes whole is worked on
-  abbrev pub TakesFrame : ℕ → Frame → ℕ → Stage → Upshot → Stage → Type 0
+  abbrev pub TakesFrame : ℕ → Frame → ℕ → Course → Upshot → Course → Type 0
   TakesFrame c frame now s result t = (given : Option SioPacket) × (line : PlainLine)
       × Accepts s.scene.line.assembler frame given line.assembler × Advances s.scene.line (Framed frame ∷ []) line
       × GoesOn c (Ok given) now (with_line s line) result t
 
   -- one that it refuses closes the client
-  abbrev pub RefusesFrame : ℕ → SioError → ℕ → Stage → Upshot → Stage → Type 0
+  abbrev pub RefusesFrame : ℕ → SioError → ℕ → Course → Upshot → Course → Type 0
   RefusesFrame c error now s result t = GoesOn c (Err error) now (with_line s (record s.scene.line { assembler = Failed error })) result t
 
   -- for want of memory nothing is done
-  abbrev pub TakesText : ℕ → List ℕ → ℕ → Stage → Upshot → Stage → Type 0
+  abbrev pub TakesText : ℕ → List ℕ → ℕ → Course → Upshot → Course → Type 0
   TakesText c content now s result t = DrawsNone IsShort s result t
       ⊎ TakesFrame c (text content) now s result t
       ⊎ ((error : SioError) × RefusesText s.scene.line.assembler content error × RefusesFrame c error now s result t)
 
-  abbrev pub ReadsBinary : ℕ → List ℕ → ℕ → Stage → Upshot → Stage → Type 0
+  abbrev pub ReadsBinary : ℕ → List ℕ → ℕ → Course → Upshot → Course → Type 0
   ReadsBinary c content now s result t = DrawsNone IsShort s result t
       ⊎ TakesFrame c (binary content) now s result t
       ⊎ ((error : SioError) × (binary_refusal s.scene.line.assembler ≡ Some error) × RefusesFrame c error now s result t)
 
   -- bytes that, with the attachments that came so far, are more than may wait for the client close it, and aren't kept (own)
-  abbrev pub TakesBinary : ℕ → List ℕ → ℕ → Stage → Upshot → Stage → Type 0
+  abbrev pub TakesBinary : ℕ → List ℕ → ℕ → Course → Upshot → Course → Type 0
   TakesBinary c content now s result t = elim (exceeds s.scene.line.assembler s.scene.history.limits.bytes (length content)) [
     | true ↦ DrawsNone (ClosesFor c now cause.TooLong) s result t
     | false ↦ ReadsBinary c content now s result t
   ]
 
   -- what a packet does; those that only a server sends, and an upgrade outside of one, are ignored
-  abbrev pub Handles : ℕ → Packet → ℕ → Stage → Upshot → Stage → Type 0
+  abbrev pub Handles : ℕ → Packet → ℕ → Course → Upshot → Course → Type 0
   Handles c (eio.Close content) now s result t = DrawsNone (ParksFor c now) s result t
   Handles c (eio.Ping content) now s result t = DrawsNone (ClosesFor c now cause.PingFromClient) s result t
   Handles c (eio.Pong content) now s result t = (result ≡ Ok tt)
@@ -303,21 +303,21 @@ module _ (policy : Policy) where
   Handles c _ now s result t = (result ≡ Ok tt) × (t ≡ s)
 
   -- one packet more is worked on, which asks for no acknowledgement yet
-  abbrev pub begun : Stage → Stage
+  abbrev pub begun : Course → Course
   begun s = record s { scene = record s.scene { done = one_packet_more s.scene.done; asked = None; ended = false } }
 
   -- a packet in its turn: after the client was closed nothing more is done
-  abbrev pub HandlesOrBreaks : ℕ → Packet → ℕ → Stage → Upshot → Stage → Type 0
+  abbrev pub HandlesOrBreaks : ℕ → Packet → ℕ → Course → Upshot → Course → Type 0
   HandlesOrBreaks c packet now s result t = elim s.scene.done.closed [
     | Some why ↦ (result ≡ Ok tt) × (t ≡ s)
     | None ↦ Handles c packet now (begun s) result t
   ]
 
-  abbrev pub HandlesInTurn : ℕ → ℕ → Stage → Packet → Stage → Type 0
+  abbrev pub HandlesInTurn : ℕ → ℕ → Course → Packet → Course → Type 0
   HandlesInTurn c now s packet t = HandlesOrBreaks c packet now s (Ok tt) t
 
   -- so many of the packets were done, and the next one ends the event after so many of its effects
-  abbrev pub BreaksAfter : ℕ → ℕ → List Packet → Stage → CoreError → Stage → Type 0
-  BreaksAfter c now list s e t = (at : Stage) × Runs (HandlesInTurn c now) (take e.packets list) s at
+  abbrev pub BreaksAfter : ℕ → ℕ → List Packet → Course → CoreError → Course → Type 0
+  BreaksAfter c now list s e t = (at : Course) × Runs (HandlesInTurn c now) (take e.packets list) s at
       × (packet : Packet) × (slice_get list e.packets ≡ Some packet)
       × HandlesOrBreaks c packet now at (Err (record { fault = e.fault; effects = e.effects })) t

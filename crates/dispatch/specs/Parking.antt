@@ -6,7 +6,7 @@ use Rattle.journal.specs.Journal.{History}
 use Rattle.events.specs.declared.fault.CoreFault.{CoreFault}
 use Rattle.effects.specs.Commands.{Makes, IsRefused, StopsAt}
 
--- its sessions are saved, or where they have no place it is closed
+-- its sessions are saved, or where they have no space it is closed
 abbrev pub ParksOrCloses : History → ℕ → ℕ → History → Type 0
 ParksOrCloses h now c g = Makes h now (what.Parked c) g ⊎ (IsRefused h now (what.Parked c) hub.SavedFull × Makes h now (what.Closed c) g)
 

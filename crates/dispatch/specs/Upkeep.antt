@@ -15,7 +15,7 @@ use Rattle.events.specs.Answer.{Answer, at_once}
 use Rattle.events.specs.Plain.{nothing_done}
 use Rattle.dispatch.specs.Answers.{ChangesNone, AdvancesLine}
 use Rattle.dispatch.specs.Parking.{ParksOrCloses, FailsToPark}
-use Rattle.dispatch.specs.Place.{Place, LosesLine, KeepsLines}
+use Rattle.dispatch.specs.Holding.{Holding, LosesLine, KeepsLines}
 
 -- ---- a tick
 
@@ -25,7 +25,7 @@ IsDue what now line = ForEachHistory line (λ o h. what ≡ due o (clock_calls h
 
 -- a silent client's sessions are saved, one that joined nothing is closed; where the hub doesn't do so the line stays, but
 -- the tick stands in its history, with the questions that ran out forgotten
-abbrev pub TicksOn : Due → ℕ → ℕ → PlainLine → Place → Answer → Place → Type 0
+abbrev pub TicksOn : Due → ℕ → ℕ → PlainLine → Holding → Answer → Holding → Type 0
 TicksOn Nothing now c line s answer t = (answer ≡ Ok (outcome.Ticked false nothing_done)) × AdvancesLine c line (Ticked now Nothing ∷ []) s t
 TicksOn SendPing now c line s answer t = (answer ≡ Ok (outcome.Ticked true nothing_done)) × AdvancesLine c line (Ticked now SendPing ∷ []) s t
 TicksOn PingTimeout now c line s (Ok o) t =
@@ -38,13 +38,13 @@ TicksOn ConnectTimeout now c line s (Err e) t =
     (e ≡ at_once e.fault) × StopsAt s.history now (what.Closed c) e.fault × AdvancesLine c line (Ticked now ConnectTimeout ∷ []) s t
 
 -- what is due to the client is done
-abbrev pub Ticks : ℕ → ℕ → PlainLine → Place → Answer → Place → Type 0
+abbrev pub Ticks : ℕ → ℕ → PlainLine → Holding → Answer → Holding → Type 0
 Ticks now c line s answer t = (what : Due) × IsDue what now line × TicksOn what now c line s answer t
 
 -- ---- a sweep
 
 -- old entries of the log and old saved sessions are gone, and the answer says how many
-abbrev pub Sweeps : ℕ → Place → Answer → Place → Type 0
+abbrev pub Sweeps : ℕ → Holding → Answer → Holding → Type 0
 Sweeps now s (Ok (outcome.Swept dropped)) t = Makes s.history now what.Swept t.history × Drops dropped s.history t.history × KeepsLines s t
 Sweeps now s (Ok _) t = ⊥
 Sweeps now s (Err e) t = StopsAt s.history now what.Swept e.fault × ChangesNone e s t

@@ -14,7 +14,7 @@ use sio_wire::{Header, SioError, read_offset, refused_text, resume_of};
 use std::alloc::Global;
 use terms::{Attachments, Entry, Sid, Text, read_id};
 
-/// Tells the client that it isn't connected, or closes it where its outbox has no place for that.
+/// Tells the client that it isn't connected, or closes it where its outbox has no space for that.
 fn refuse(scene: &mut Scene, space: &str, message: &str) -> Worked
     requires { IsOpenFor scene.old.visit.client (seen scene.old) }
     ensures { let client = scene.old.visit.client in
@@ -52,7 +52,7 @@ fn ask_app<A: App, I: IdSource>(scene: &mut Scene, app: &A, ids: &mut I, header:
             if !commands::attach(scene.visit, scene.state, &who, pid)? {
                 return close_for(scene, Cause::OutboxFull);
             }
-            scene.line.enter(sid);
+            scene.line.connect(sid);
             scene.tally.count();
             act_all(scene, &who, wanted, 1)
         }
@@ -106,7 +106,7 @@ pub(crate) fn connect<A: App, I: IdSource>(
     let Some(sid) = commands::recover(scene.visit, scene.state, space, named.0, named.1)? else {
         return ask_app(scene, app, ids, header);
     };
-    scene.line.enter(sid);
+    scene.line.connect(sid);
     scene.tally.count();
     Ok(())
 }

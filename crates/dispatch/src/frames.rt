@@ -6,12 +6,12 @@ ghost use Rattle.journal.specs.Membership.{is_open};
 ghost use Rattle.dispatch.specs.Answers.{ForClient};
 ghost use Rattle.dispatch.specs.Frames.{is_too_long, IsFrameOf, IsNoFrame, IsSentAs, frames_of, SendsFor};
 ghost use Rattle.dispatch.specs.Machine.{HearsFor, TakesFrames};
-ghost use Rattle.dispatch.specs.Place.{place, Agree};
+ghost use Rattle.dispatch.specs.Holding.{holding, Agree};
 ghost use Rattle.dispatch.specs.Takes.{handed, carried};
 
 use crate::lines::{Lines, transport_of};
+use crate::requests::{close_unread, work_on};
 use crate::takes::{Taken, count};
-use crate::turns::{close_unread, work_on};
 use connection::{Line, Transport};
 use effects::Visit;
 use eio_wire::{Packet, WireError, read_packet};
@@ -58,8 +58,8 @@ pub(crate) fn hear<A: App, I: IdSource>(
 ) -> Answered
     requires { Agree state.old lines.old.entries }
     ensures { HearsFor (A.policy app.now) visit.moment visit.client frame.now
-        (place state.old lines.old.entries) (I.stream ids.old) result
-        (place state.new lines.new.entries) (I.stream ids.new) }
+        (holding state.old lines.old.entries) (I.stream ids.old) result
+        (holding state.new lines.new.entries) (I.stream ids.new) }
 {
     match transport_of(lines, visit.client) {
         None => return Err(CoreFault::UnknownClient.at_once()),
@@ -85,8 +85,8 @@ fn push_entry(alloc: Global, frames: &mut Vec<WsFrame>, entry: &Entry) -> Result
     text.push_str("4")?;
     text.push_str(rest)?;
     frames.push(WsFrame::Text(Text::from_string(text)))?;
-    for part in entry.attachments.as_slice() {
-        frames.push(WsFrame::Bytes(part.clone()?))?;
+    for attachment in entry.attachments.as_slice() {
+        frames.push(WsFrame::Bytes(attachment.clone()?))?;
     }
     Ok(())
 }
@@ -137,7 +137,7 @@ fn frame_take(visit: Visit, state: &mut State, line: &mut Line, most: usize) -> 
 pub(crate) fn take(visit: Visit, state: &mut State, lines: &mut Lines, most: usize) -> Answered
     requires { Agree state.old lines.old.entries }
     ensures { ForClient visit.client (TakesFrames visit.moment visit.client most)
-        (place state.old lines.old.entries) result (place state.new lines.new.entries) }
+        (holding state.old lines.old.entries) result (holding state.new lines.new.entries) }
 {
     let Some(line) = lines.get_mut(&visit.client) else {
         return Err(CoreFault::UnknownClient.at_once());

@@ -3,7 +3,7 @@
 
 ghost use Rattle.effects.specs.Commands.{IsSeated};
 ghost use Rattle.effects.specs.Scene.{IsActing, Plays};
-ghost use Rattle.dispatch.specs.Packets.{IsReady, Decides, Leaves, TakesAck, HearsEvent, Serves, ServesJoined};
+ghost use Rattle.dispatch.specs.Packets.{IsReady, Decides, ClientDisconnects, TakesAck, HearsEvent, Serves, ServesJoined};
 
 use crate::packets::close_for;
 use effects::{Scene, act_all, commands};
@@ -30,13 +30,13 @@ fn decide<A: App>(scene: &mut Scene, app: &A, who: &Who, arrived: &Arrived) -> W
     act_all(scene, who, wanted.or(Err(CoreFault::Memory))?, 0)
 }
 
-/// Ends the socket that leaves its namespace.
-fn leave(scene: &mut Scene, who: &Who) -> Worked
+/// Ends the socket that its client disconnects.
+fn disconnect(scene: &mut Scene, who: &Who) -> Worked
     requires { IsSeated who.now scene.old.state.now }
-    ensures { Plays (Leaves who.now) scene.old result scene.new }
+    ensures { Plays (ClientDisconnects who.now) scene.old result scene.new }
 {
     commands::end(scene.visit, scene.state, who.sid, Side::Client)?;
-    scene.line.leave(who.sid);
+    scene.line.disconnect(who.sid);
     Ok(())
 }
 
@@ -86,7 +86,7 @@ fn serve<A: App>(scene: &mut Scene, app: &A, who: &Who, said: Said) -> Worked
         scene.old result scene.new }
 {
     match said.kind {
-        Kind::Disconnect => leave(scene, who),
+        Kind::Disconnect => disconnect(scene, who),
         Kind::Event | Kind::BinaryEvent => hear(scene, app, who, said),
         Kind::Ack | Kind::BinaryAck => take_answer(scene, app, who, said),
         Kind::Connect | Kind::ConnectError => Ok(()),

@@ -3,16 +3,16 @@
 #![tactic(auto)]
 
 mod connect;
-mod departures;
+mod event_core;
 mod frames;
+mod hear_after;
 mod joined;
 mod lines;
 mod losing;
 mod packets;
-mod server;
+mod requests;
 mod takes;
-mod turns;
 mod upgrade;
 
 pub use connect::named_once;
-pub use server::Core;
+pub use event_core::Core;

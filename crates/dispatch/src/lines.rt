@@ -2,7 +2,7 @@
 
 ghost use Rattle.std.specs.Prelude.{◌≡◌, ℕ, ◌==◌, false, Some, None, IfSome, IfNone};
 ghost use Rattle.connection.specs.Line.{PlainLine};
-ghost use Rattle.dispatch.specs.Place.{line_of};
+ghost use Rattle.dispatch.specs.Holding.{line_of};
 ghost use Rattle.dispatch.specs.Takes.{IsOn};
 
 use connection::{Line, Timing, Transport};

@@ -8,7 +8,7 @@ ghost use Rattle.connection.specs.Line.{PlainLine};
 ghost use Rattle.dispatch.specs.Answers.{ForVisit};
 ghost use Rattle.dispatch.specs.Machine.{Loses};
 ghost use Rattle.dispatch.specs.Parking.{Parks};
-ghost use Rattle.dispatch.specs.Place.{place, Agree};
+ghost use Rattle.dispatch.specs.Holding.{holding, Agree};
 ghost use Rattle.dispatch.specs.Upkeep.{Ticks, Sweeps};
 
 use crate::lines::{Lines, forget};
@@ -46,7 +46,7 @@ pub(crate) fn tick(visit: Visit, state: &mut State, lines: &mut Lines) -> Answer
     Ok(Outcome::Ticked { ping: false, done })
 }
 
-/// Saves the sessions of a client, and says so, or closes it where they have no place.
+/// Saves the sessions of a client, and says so, or closes it where they have no space.
 pub(crate) fn park_or_close(visit: Visit, state: &mut State) -> Result<bool, CoreFault>
     requires { is_open state.old.base state.old.journal visit.client ≡ true }
     ensures { Parks state.old visit.moment visit.client result state.new }
@@ -60,7 +60,7 @@ pub(crate) fn park_or_close(visit: Visit, state: &mut State) -> Result<bool, Cor
     Ok(false)
 }
 
-/// The client's connection was lost: its sessions are saved, or where they have no place it is
+/// The client's connection was lost: its sessions are saved, or where they have no space it is
 /// closed.
 pub(crate) fn lose(visit: Visit, state: &mut State, lines: &mut Lines) -> Answered
     requires { Agree state.old lines.old.entries }
@@ -78,7 +78,7 @@ pub(crate) fn lose(visit: Visit, state: &mut State, lines: &mut Lines) -> Answer
 /// opens or ends by it, so no line changes.
 pub(crate) fn sweep(call: Call, state: &mut State) -> Answered
     ensures { (lines : List (ℕ × PlainLine)) → Sweeps call.moment
-        (place state.old lines) result (place state.new lines) }
+        (holding state.old lines) result (holding state.new lines) }
 {
     match state.sweep(call.alloc, call.moment) {
         Ok(swept) => Ok(Outcome::Swept(swept)),

@@ -6,7 +6,7 @@ ghost use Rattle.connection.specs.Line.{IsWholeIfGiven};
 ghost use Rattle.effects.specs.Effects.{IsOpenFor};
 ghost use Rattle.effects.specs.Runs.{Runs};
 ghost use Rattle.effects.specs.Scene.{seen, IsSameEvent, Plays};
-ghost use Rattle.dispatch.specs.Packets.{stage, Draws, IsReady, ClosesFor, GoesOn, Handles, HandlesInTurn, BreaksAfter};
+ghost use Rattle.dispatch.specs.Packets.{course, Draws, IsReady, ClosesFor, GoesOn, Handles, HandlesInTurn, BreaksAfter};
 
 use crate::connect::connect;
 use crate::joined::serve_joined;
@@ -95,10 +95,10 @@ pub(crate) fn handle_each<A: App, I: IdSource>(
     ensures same { IsSameEvent scene.old scene.new }
     ensures ok { let visit = scene.old.visit in OnOk result (Runs
         (HandlesInTurn (A.policy app.now) visit.client visit.moment) packets.now
-        (stage (seen scene.old) (I.stream ids.old)) (stage (seen scene.new) (I.stream ids.new))) }
+        (course (seen scene.old) (I.stream ids.old)) (course (seen scene.new) (I.stream ids.new))) }
     ensures err { let visit = scene.old.visit in IfErr result (λ e. BreaksAfter
         (A.policy app.now) visit.client visit.moment packets.now
-        (stage (seen scene.old) (I.stream ids.old)) e (stage (seen scene.new) (I.stream ids.new))) }
+        (course (seen scene.old) (I.stream ids.old)) e (course (seen scene.new) (I.stream ids.new))) }
 {
     let mut count = 0;
     for packet in packets {

@@ -5,7 +5,7 @@ ghost use Rattle.eio_wire.specs.Payload.{Payload};
 ghost use Rattle.journal.specs.Journal.{History};
 ghost use Rattle.journal.specs.Membership.{is_open};
 ghost use Rattle.connection.specs.Line.{Advances};
-ghost use Rattle.dispatch.specs.Place.{IsClean};
+ghost use Rattle.dispatch.specs.Holding.{IsClean};
 ghost use Rattle.dispatch.specs.Takes.{packets_of, handed, carried, Counts, FailsToCount, TellsNoop, ping_calls, TakesWaiting, TakesFor, AllWhole};
 
 use connection::{Line, Transport};
@@ -25,8 +25,8 @@ fn push_entry(packets: &mut Vec<Packet>, entry: &Entry) -> Result<(), AllocError
     ensures { OnOk result (packets.new.items ≡ packets.old.items ++ packets_of entry.now) }
 {
     packets.push(Packet::Message(entry.text.clone()?))?;
-    for part in entry.attachments.as_slice() {
-        packets.push(Packet::Binary(part.clone()?))?;
+    for attachment in entry.attachments.as_slice() {
+        packets.push(Packet::Binary(attachment.clone()?))?;
     }
     Ok(())
 }

@@ -156,7 +156,7 @@ module _ {X : Type 0} (who : Who) (now : ℕ) (s : Scene) (effect : Effect) (t :
 -- ---- where the client isn't told the acknowledgement
 
 module _ {X : Type 0} (who : Who) (id : ℕ) (r : reply.Reply) (now : ℕ) (h g k : History) (entry : Entry) (is : IsReply who.space id r entry) where
-  -- its outbox has no place, and it is closed instead
+  -- its outbox has no space, and it is closed instead
   pub reply-closed : (old new : Tally) (told : Bool) (does : DoesOr hub.OutboxFull h now (told_to who.client entry) (Ok told) g) (full : told ≡ false) (result : Result X CoreFault)
       → OnOk result ((l : PlainLine) → Closes who.client now OutboxFull (scene g l old) (scene k l new)) → OnOk result ((l : PlainLine) → Replies who id r now (scene h l old) (scene k l new))
   reply-closed old new true does full (Ok x) closes = absurd (cc full)

@@ -62,7 +62,7 @@ spent-book l sid r is refused short o h leads = on (ask_refusal 0 (book_calls si
 
 module _ (who : Who) (q : inquiry.Inquiry) (now id : ℕ) (s m t : Scene) (next : IsNextId s.line who.sid id)
     (vain : Advances s.line (asked_in_vain who now q id) m.line) (asked : m ≡ record s { line = m.line }) where
-  -- the outbox has no place for the question, and the client is closed
+  -- the outbox has no space for the question, and the client is closed
   pub asks-full : {X : Type 0} (r : Result X CoreFault) (entry : Entry) → IsInquiry who.space id q entry
       → IsRefused s.history now (told_to who.client entry) hub.OutboxFull
       → OnOk r (Closes who.client now OutboxFull m t) → OnOk r (Asks who q now s t)

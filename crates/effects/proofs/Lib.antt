@@ -1,7 +1,7 @@
 pub mod ActLemmas
 mod AskLemmas
 pub mod CleanLemmas
-pub mod DepartedLemmas
+pub mod HearingLemmas
 mod RefusalLemmas
 pub mod RunsLemmas
 pub mod StepLemmas

@@ -23,14 +23,14 @@ use Rattle.effects.specs.Commands.{Makes, IsSeated}
 use Rattle.effects.specs.Effects.{Scene, Closes, is_bad, is_wrong, is_unsendable, told_to, goodbye, dismissed, all_joined, all_left, ChangesRooms, SaysGoodbye, Acts, ActsInTurn, Stops, StopsAfter, Fails, StandsWith}
 use Rattle.effects.specs.Following.{is_clean, is_work, is_turn, is_cast, WorksFor}
 use Rattle.effects.specs.Runs.{Runs}
-use Rattle.effects.specs.Saying.{Work, work, Says, cast_of}
+use Rattle.effects.specs.Broadcasting.{Work, work, Broadcasts, cast_of}
 use Rattle.effects.proofs.ActLemmas.{seated-after, stands, stopped-open}
 use Rattle.effects.proofs.CleanLemmas.{clean-cast, clean-packet, clean-disconnect, clean-farewell}
 use Rattle.effects.proofs.RunsLemmas.{all-take, run-keeps}
 use Rattle.effects.proofs.StepLemmas.{itself, work-on, work-cast, work-dismissed}
 
 -- an event that is sent
-pub work-says : (c now : ℕ) (f : History) (space : List ℕ) (e : PlainEmission) (s t : Work) → IsWhole space → IsWhole e.payload → Says c space e now s t → WorksFor c f s.history s.done.clients → WorksFor c f t.history t.done.clients
+pub work-says : (c now : ℕ) (f : History) (space : List ℕ) (e : PlainEmission) (s t : Work) → IsWhole space → IsWhole e.payload → Broadcasts c space e now s t → WorksFor c f s.history s.done.clients → WorksFor c f t.history t.done.clients
 work-says c now f space e s t whole clean (allowed, done, cast, told) was =
     subst (λ (d : PlainDone). WorksFor c f t.history d.clients) (sym told)
     (work-cast c f now (cast_of space e) done s.history t.history cast (clean-cast s.history (cast_of space e) cast.b cast.asked allowed whole clean) s.done.clients was)

@@ -65,12 +65,12 @@ pub record MayJoin (c : ℕ) (space : List ℕ) (h : History) : Type 0 where
 abbrev pub seat : Who → (pid : ℕ) → History → Socket
 seat who pid h = record { client = who.client; space = place_of h.limits who.space; sid = who.sid; pid = pid }
 
--- the session can't come back, or what it missed has no place in the client's outbox
-abbrev pub CannotReturn : History → ℕ → What → Type 0
-CannotReturn h now what = ((why : RecoveryRefusal) × IsRefused h now what (hub.NotRecoverable why)) ⊎ IsRefused h now what hub.OutboxFull
+-- the session can't come back, or what it missed has no space in the client's outbox
+abbrev pub CannotRecover : History → ℕ → What → Type 0
+CannotRecover h now what = ((why : RecoveryRefusal) × IsRefused h now what (hub.NotRecoverable why)) ⊎ IsRefused h now what hub.OutboxFull
 
 -- the session comes back as its socket, or can't, or the event ends; then nothing has changed
 abbrev pub Recovers : PlainRecovery → History → ℕ → Result (Option ℕ) CoreFault → History → Type 0
 Recovers back h now (Ok (Some sid)) g = Makes h now (what.Recovered back) g × (sid ≡ back.socket.sid)
-Recovers back h now (Ok None) g = CannotReturn h now (what.Recovered back) × (g ≡ h)
+Recovers back h now (Ok None) g = CannotRecover h now (what.Recovered back) × (g ≡ h)
 Recovers back h now (Err fault) g = StopsAt h now (what.Recovered back) fault × (g ≡ h)

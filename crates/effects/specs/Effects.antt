@@ -20,7 +20,7 @@ use Rattle.journal.specs.ManySockets.{joining, leaving, dismissal}
 use Rattle.connection.specs.declared.ack_error.AckError.TheVariants as ack
 use Rattle.connection.specs.Book.{ask_refusal}
 use Rattle.connection.specs.Questions.{next_id}
-use Rattle.connection.specs.History.{Call, Asked, Answered, Left, book_calls}
+use Rattle.connection.specs.History.{Call, Asked, Answered, Disconnected, book_calls}
 use Rattle.connection.specs.Line.{PlainLine, ForEachHistory, Advances}
 use Rattle.events.specs.declared.app.Effect.{Effect}
 use Rattle.events.specs.declared.app.Effect.TheVariants.{Join, Leave, Emit, EmitAsk, Reply, Disconnect, AllJoin, AllLeave, AllEnd}
@@ -39,7 +39,7 @@ use Rattle.events.specs.declared.fault.Stopped.{Stopped}
 use Rattle.effects.specs.declared.scene.Tally.{Tally}
 use Rattle.events.specs.Plain.{PlainDone, one_more, noted, told}
 use Rattle.effects.specs.Runs.{Runs}
-use Rattle.effects.specs.Saying.{work, Says, CannotSay}
+use Rattle.effects.specs.Broadcasting.{work, Broadcasts, CannotBroadcast}
 
 -- where an event stands between two effects of a packet: the hub's history, the client's line, what was done of the event,
 -- under which id the packet still asks to be acknowledged, and whether its socket was disconnected
@@ -93,7 +93,7 @@ ChangesRooms what now s t =
 
 -- an event is sent
 abbrev pub Emits : Who → PlainEmission → ℕ → Scene → Scene → Type 0
-Emits who e now s t = Says who.client who.space e now (work s.history s.done) (work t.history t.done)
+Emits who e now s t = Broadcasts who.client who.space e now (work s.history s.done) (work t.history t.done)
     × (t ≡ record s { history = t.history; done = t.done })
 
 -- the client is told this
@@ -114,7 +114,7 @@ pub record IsPacket (kinds : Kind × Kind) (space : List ℕ) (id : ℕ) (payloa
 abbrev pub IsReply : List ℕ → (id : ℕ) → reply.Reply → Entry → Type 0
 IsReply space id r entry = IsPacket (Ack, BinaryAck) space id r.payload r.attachments entry
 
--- the client is told, or closed where its outbox has no place for it
+-- the client is told, or closed where its outbox has no space for it
 abbrev pub Replies : Who → (id : ℕ) → reply.Reply → ℕ → Scene → Scene → Type 0
 Replies who id r now s t = (entry : Entry) × IsReply who.space id r entry
     × ((Makes s.history now (told_to who.client entry) t.history × (t ≡ record (counted s) { history = t.history; asked = None }))
@@ -124,7 +124,7 @@ Replies who id r now s t = (entry : Entry) × IsReply who.space id r entry
 abbrev pub IsInquiry : List ℕ → (id : ℕ) → inquiry.Inquiry → Entry → Type 0
 IsInquiry space id q entry = IsPacket (Event, BinaryEvent) space id q.payload q.attachments entry
 
--- the client is told the question with this id, or its outbox has no place for it, or it ends the event
+-- the client is told the question with this id, or its outbox has no space for it, or it ends the event
 abbrev pub TellsInquiry : Who → (id : ℕ) → inquiry.Inquiry → ℕ → History → Result Bool CoreFault → History → Type 0
 TellsInquiry who id q now h (Ok told) g = (entry : Entry) × IsInquiry who.space id q entry
     × DoesOr hub.OutboxFull h now (told_to who.client entry) (Ok told) g
@@ -143,7 +143,7 @@ asked_of who now q = Asked who.sid q.tag (min (now + q.wait) 1844674407370955161
 abbrev pub asked_in_vain : Who → ℕ → inquiry.Inquiry → (id : ℕ) → List Call
 asked_in_vain who now q id = Answered who.sid id ∷ asked_of who now q ∷ []
 
--- the client is asked, or closed where its outbox has no place for the question
+-- the client is asked, or closed where its outbox has no space for the question
 abbrev pub Asks : Who → inquiry.Inquiry → ℕ → Scene → Scene → Type 0
 Asks who q now s t = (id : ℕ) × IsNextId s.line who.sid id × (entry : Entry) × IsInquiry who.space id q entry
     × ((Makes s.history now (told_to who.client entry) t.history × Advances s.line (asked_of who now q ∷ []) t.line
@@ -151,7 +151,7 @@ Asks who q now s t = (id : ℕ) × IsNextId s.line who.sid id × (entry : Entry)
     ⊎ (IsRefused s.history now (told_to who.client entry) hub.OutboxFull × Advances s.line (asked_in_vain who now q id) t.line
     × Closes who.client now OutboxFull (record s { line = t.line }) t))
 
--- the client is told that the socket ends, where its outbox has a place for that
+-- the client is told that the socket ends, where its outbox has space for that
 abbrev pub goodbye : Who → What
 goodbye who = told_to who.client (record { text = disconnect_text who.space; attachments = [] })
 
@@ -160,7 +160,7 @@ SaysGoodbye who now h g = Makes h now (goodbye who) g ⊎ (IsRefused h now (good
 
 abbrev pub Disconnects : Who → ℕ → Scene → Scene → Type 0
 Disconnects who now s t = (between : History) × SaysGoodbye who now s.history between × Makes between now (what.Ended who.sid side.Server) t.history
-    × Advances s.line (Left who.sid ∷ []) t.line × (t ≡ record (counted s) { history = t.history; line = t.line; ended = true })
+    × Advances s.line (Disconnected who.sid ∷ []) t.line × (t ≡ record (counted s) { history = t.history; line = t.line; ended = true })
 
 -- ---- effects on all sockets of the namespace that match
 
@@ -182,7 +182,7 @@ abbrev pub EndsAll : Who → PlainSelection → ℕ → Scene → Scene → Type
 EndsAll who m now s t = let d = dismissed who m s.history in
     Makes s.history now (what.AllEnded d) t.history
     × (t ≡ record s { history = t.history; line = t.line; done = told who.client d.told (one_more s.done); ended = is_among who.sid d.ended })
-    × elim (is_among who.sid d.ended) [ true ↦ Advances s.line (Left who.sid ∷ []) t.line | false ↦ t.line ≡ s.line ]
+    × elim (is_among who.sid d.ended) [ true ↦ Advances s.line (Disconnected who.sid ∷ []) t.line | false ↦ t.line ≡ s.line ]
 
 -- what the effect does where it is allowed
 abbrev pub Acts : Who → ℕ → Scene → Effect → Scene → Type 0
@@ -205,7 +205,7 @@ ActsInTurn who now s effect t = elim s.done.closed [
 
 -- ---- where the effects stop
 
--- the client isn't told, or isn't closed where its outbox has no place
+-- the client isn't told, or isn't closed where its outbox has no space
 abbrev pub FailsToTell : Who → ℕ → History → Entry → CoreFault → Type 0
 FailsToTell who now h entry fault = StopsAt h now (told_to who.client entry) fault
     ⊎ (IsRefused h now (told_to who.client entry) hub.OutboxFull × StopsAt h now (what.Closed who.client) fault)
@@ -216,7 +216,7 @@ FailsAt what now s fault t = StopsAt s.history now what fault × (t ≡ s)
 
 -- the broadcast isn't sent
 abbrev pub FailsToEmit : Who → PlainEmission → Scene → CoreFault → Scene → Type 0
-FailsToEmit who e s fault t = CannotSay who.space e s.history fault × (t ≡ s)
+FailsToEmit who e s fault t = CannotBroadcast who.space e s.history fault × (t ≡ s)
 
 -- the event isn't acknowledged
 abbrev pub FailsToReply : Who → (id : ℕ) → reply.Reply → ℕ → Scene → CoreFault → Scene → Type 0

@@ -1,7 +1,7 @@
 pub mod Commands
-pub mod Departed
+pub mod Hearing
 pub mod Effects
 pub mod Following
 pub mod Runs
-pub mod Saying
+pub mod Broadcasting
 pub mod Scene

@@ -9,8 +9,8 @@ ghost use Rattle.effects.specs.Runs.{Runs};
 ghost use Rattle.effects.specs.Scene.{seen, IsActing, DoesOrFails, IsSameEvent};
 
 use crate::ask::ask;
+use crate::broadcast::{broadcast, is_unsendable};
 use crate::rooms::{change, end_all};
-use crate::say::{is_unsendable, say};
 use crate::{Acted, Scene, Visit, commands};
 use events::{Cause, CoreFault, Effect, Reply, Selection, Stopped, Who, Worked};
 use journal::Side;
@@ -77,7 +77,7 @@ pub(crate) fn entry_of(
     })
 }
 
-/// Tells the client the acknowledgement of an event, or closes it where its outbox has no place.
+/// Tells the client the acknowledgement of an event, or closes it where its outbox has no space.
 fn reply(scene: &mut Scene, who: &Who, id: u64, reply: Reply) -> Acted
     requires own { who.now.client ≡ scene.old.visit.client }
     requires open_client { IsOpenFor who.now.client (seen scene.old) }
@@ -96,7 +96,7 @@ fn reply(scene: &mut Scene, who: &Who, id: u64, reply: Reply) -> Acted
     close_for(scene, Cause::OutboxFull)
 }
 
-/// Disconnects the socket, and tells the client so where its outbox has a place. Its questions go.
+/// Disconnects the socket, and tells the client so where its outbox has space. Its questions go.
 fn disconnect(scene: &mut Scene, who: &Who) -> Acted
     requires own { who.now.client ≡ scene.old.visit.client }
     requires seated { IsSeated who.now scene.old.state.now }
@@ -112,7 +112,7 @@ fn disconnect(scene: &mut Scene, who: &Who) -> Acted
     };
     commands::tell(scene.visit, scene.state, entry)?;
     commands::end(scene.visit, scene.state, who.sid, Side::Server)?;
-    scene.line.leave(who.sid);
+    scene.line.disconnect(who.sid);
     scene.tally.count();
     scene.tally.ended = true;
     Ok(())
@@ -139,7 +139,7 @@ fn act_allowed(scene: &mut Scene, who: &Who, effect: Effect) -> Acted
         }
         Effect::Emit(emission) => {
             let done = &mut scene.tally.done;
-            say(scene.visit, scene.state, done, &who.space, emission)
+            broadcast(scene.visit, scene.state, done, &who.space, emission)
         }
         Effect::Reply(answer) => match scene.tally.asked {
             Some(id) => reply(scene, who, id, answer),

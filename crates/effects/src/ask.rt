@@ -10,7 +10,7 @@ use connection::AckError;
 use events::{Cause, CoreFault, Inquiry, Who};
 use sio_wire::Kind;
 
-/// Tells the client the question with this id. Answers whether its outbox had a place for it.
+/// Tells the client the question with this id. Answers whether its outbox had space for it.
 fn tell(scene: &mut Scene, who: &Who, id: u64, inquiry: Inquiry) -> Result<bool, CoreFault>
     requires own { who.now.client ≡ scene.old.visit.client }
     requires open_client { IsOpenFor who.now.client (seen scene.old) }
@@ -27,7 +27,7 @@ fn tell(scene: &mut Scene, who: &Who, id: u64, inquiry: Inquiry) -> Result<bool,
     commands::tell(scene.visit, scene.state, entry)
 }
 
-/// Asks the socket a question, or closes its client where the outbox has no place for it. A
+/// Asks the socket a question, or closes its client where the outbox has no space for it. A
 /// question that isn't told is forgotten again.
 pub(crate) fn ask(scene: &mut Scene, who: &Who, inquiry: Inquiry) -> Acted
     requires own { who.now.client ≡ scene.old.visit.client }

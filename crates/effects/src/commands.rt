@@ -7,7 +7,7 @@ ghost use Rattle.journal.specs.declared.step.What.{What};
 ghost use Rattle.journal.specs.Membership.{is_open, is_connected, sid_of};
 ghost use Rattle.events.specs.declared.app.Who.{Who};
 ghost use Rattle.events.specs.Fault.{IsFault, fault_of};
-ghost use Rattle.hub_state.specs.Returning.{return_of};
+ghost use Rattle.hub_state.specs.Recovering.{recovery_asked};
 ghost use Rattle.effects.specs.Commands.{DoesOrStops, DoesOr, IsSeated, MayJoin, seat, Recovers};
 ghost use Rattle.effects.specs.Effects.{told_to};
 
@@ -28,7 +28,7 @@ fn fault(error: HubError) -> CoreFault
 }
 
 /// Connects an open client's socket to a namespace that it hasn't joined. Answers whether its
-/// outbox had a place for the answer.
+/// outbox had space for the answer.
 pub fn attach(visit: Visit, state: &mut State, who: &Who, pid: Pid) -> Result<bool, CoreFault>
     requires { MayJoin who.now.client who.now.space state.old }
     ensures { let what = What.Attached (seat who.now pid state.old)
@@ -52,7 +52,7 @@ pub fn recover(
     offset: u64,
 ) -> Result<Option<Sid>, CoreFault>
     requires { MayJoin visit.client space.now state.old }
-    ensures { let back = return_of visit.client space.now pid offset state.old
+    ensures { let back = recovery_asked visit.client space.now pid offset state.old
         in Recovers back state.old visit.moment result state.new }
 {
     match state.recover(visit.alloc, visit.client, space, pid, offset, visit.moment) {
@@ -62,7 +62,7 @@ pub fn recover(
     }
 }
 
-/// Tells the client, which is open, something. Answers whether its outbox had a place for it.
+/// Tells the client, which is open, something. Answers whether its outbox had space for it.
 pub fn tell(visit: Visit, state: &mut State, entry: Entry) -> Result<bool, CoreFault>
     requires { is_open state.old.base state.old.journal visit.client ≡ true }
     ensures does { let what = told_to visit.client entry

@@ -3,14 +3,14 @@
 
 mod act;
 mod ask;
+mod broadcast;
 pub mod commands;
-mod departures;
+mod hearing;
 mod laws;
 mod rooms;
-mod say;
 mod scene;
 
 pub use act::{act_all, close_for};
-pub use departures::hear_all;
+pub use hearing::hear_all;
 pub use laws::{effects_are_work, others_are_spared};
 pub use scene::{Acted, Call, Scene, Tally, Visit};

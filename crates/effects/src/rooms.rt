@@ -10,7 +10,7 @@ ghost use Rattle.effects.specs.Commands.{IsSeated, IsRoomChange};
 ghost use Rattle.effects.specs.Effects.{scene, is_among, ChangesRooms, EndsAll, FailsAt, FailsToEndAll};
 ghost use Rattle.effects.specs.Scene.{DoesOrFails};
 
-use crate::say::retain_others;
+use crate::broadcast::retain_others;
 use crate::{Acted, Scene, Tally, Visit};
 use events::{Selection, Who};
 use journal::{Dismissed, HubError};
@@ -63,7 +63,7 @@ pub(crate) fn end_all(scene: &mut Scene, who: &Who, selection: Selection) -> Act
     tally.count();
     tally.ended = is_among(ended.as_slice(), who.sid);
     if tally.ended {
-        scene.line.leave(who.sid);
+        scene.line.disconnect(who.sid);
     }
     Ok(())
 }

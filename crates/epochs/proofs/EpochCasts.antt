@@ -12,7 +12,7 @@ use Rattle.journal.specs.Journal.{History, moment_at, with_step}
 use Rattle.journal.specs.Membership.{is_space, place_of}
 use Rattle.journal.specs.Log.{next}
 use Rattle.terms.specs.declared.entry.Entry.{Entry}
-use Rattle.journal.specs.Outboxes.{put, placements, is_addressed, is_full, has_no_place}
+use Rattle.journal.specs.Outboxes.{put, placements, is_addressed, is_full, has_no_space}
 use Rattle.journal.specs.Broadcast.{RightCast, SpellsEvent, reaches}
 use Rattle.journal.specs.Casting.{refusal_of, has_no_offset, IsCastOf, IsSpentBy, IsCast}
 use Rattle.journal.specs.Totals.{dropped_by, handed_out_by, is_past, is_spent}
@@ -23,7 +23,7 @@ use Rattle.journal.proofs.EpochsOutboxesLemmas.{reaches-same, placed-same, place
 use Rattle.journal.proofs.EpochsSocketsLemmas.{any-socket-as}
 use Rattle.events.specs.declared.fault.CoreFault.{CoreFault}
 use Rattle.events.specs.Emission.{PlainEmission}
-use Rattle.effects.specs.Saying.{Work, work, cast_of, Says, CannotSay}
+use Rattle.effects.specs.Broadcasting.{Work, work, cast_of, Broadcasts, CannotBroadcast}
 use Rattle.epochs.specs.Epochs.{AreAlike}
 use Rattle.epochs.proofs.EpochSteps.{with-limits, Grown, grown-step, StaysSound}
 
@@ -75,7 +75,7 @@ right-cast h g alike at b right =
       drops = λ s. right.drops s ∙ sym (any-socket-as h.limits h.base base h.journal journal a.first.1 a.second.1 a.same
           (λ k. k.sid == s && (is_addressed base journal b k && is_full base h.limits journal k.client b.entry))
           (λ k. k.sid == s && (is_addressed h.base h.journal b k && is_full h.base h.limits h.journal k.client b.entry))
-          (λ k known i. k.sid == s && (addressed-same h.limits h.base base h.journal journal a.first.1 a.second.1 a.same b k i && has_no_place h.limits.capacity h.limits.bytes (a.same.same_waiting k.client known i) b.entry)));
+          (λ k known i. k.sid == s && (addressed-same h.limits h.base base h.journal journal a.first.1 a.second.1 a.same b k i && has_no_space h.limits.capacity h.limits.bytes (a.same.same_waiting k.client known i) b.entry)));
       each_once = right.each_once;
       places = λ q e. cast q ∙ ap (more q) e;
       others = λ q e. cast q ∙ ap (more q) e ∙ append-nil (placements base h.limits journal q);
@@ -155,11 +155,11 @@ turned s g = work g s.done
 abbrev pub SimWork : (Work → Work → Type 0) → Work → Work → History → Type 0
 SimWork R s t g = (m : History) × Grown s.history t.history g m × R (turned s g) (turned t m)
 
-pub says-alike : StaysSound → (c : ℕ) (space : List ℕ) (e : PlainEmission) (now : ℕ) (s t : Work) (g : History) → AreAlike s.history g → Says c space e now s t → SimWork (Says c space e now) s t g
+pub says-alike : StaysSound → (c : ℕ) (space : List ℕ) (e : PlainEmission) (now : ℕ) (s t : Work) (g : History) → AreAlike s.history g → Broadcasts c space e now s t → SimWork (Broadcasts c space e now) s t g
 says-alike keeps c space e now s t g alike (unrefused, done, cast, is) =
     let both = cast-alike keeps s.history g t.history now (cast_of space e) done alike unrefused cast in
     (with_step g now (Cast cast.b), both.0, (refusal_of-alike s.history g alike (cast_of space e) ∙ unrefused, done, both.1, is))
 
-pub cannot-say : (space : List ℕ) (e : PlainEmission) (h g : History) → AreAlike h g → (fault : CoreFault) → CannotSay space e h fault → CannotSay space e g fault
+pub cannot-say : (space : List ℕ) (e : PlainEmission) (h g : History) → AreAlike h g → (fault : CoreFault) → CannotBroadcast space e h fault → CannotBroadcast space e g fault
 cannot-say space e h g alike fault (inl short) = inl short
 cannot-say space e h g alike fault (inr (spent, by)) = inr (spent, spent-by-alike h g alike (cast_of space e) by)

@@ -2,7 +2,7 @@
 use Rattle.std.proofs.Common.{◌≡◌, ℕ, true, false, List, [], ◌∷◌, refl, sym, ◌∙◌, ap, subst, take, Option, None, Some, Result, Ok, Err, inl, inr}
 use Rattle.std.specs.Prelude.{is_some, ◌==◌, ◌&&◌}
 use Rattle.terms.specs.declared.entry.Entry.{Entry}
-use Rattle.connection.specs.History.{Left}
+use Rattle.connection.specs.History.{Disconnected}
 use Rattle.connection.specs.Line.{Advances}
 use Rattle.journal.specs.declared.error.HubError.{HubError}
 use Rattle.journal.specs.declared.error.HubError.TheVariants as hub
@@ -29,7 +29,7 @@ use Rattle.effects.specs.Commands.{Makes, IsRefused, StopsAt, IsSeated}
 use Rattle.effects.specs.Effects.{Scene, Closes, ChangesRooms, Emits, told_to, Replies, Asks, goodbye, SaysGoodbye, Disconnects, all_joined, all_left, dismissed, is_among, EndsAll, Acts, ActsInTurn, is_bad, FailsToTell, FailsAt, FailsToEmit, FailsToReply, FailsToDisconnect, FailsToEndAll, FailsToAsk, Fails, Stops, StopsAfter}
 use Rattle.events.specs.Plain.{one_more, told}
 use Rattle.effects.specs.Runs.{Runs, RunsOrFails}
-use Rattle.effects.specs.Saying.{work}
+use Rattle.effects.specs.Broadcasting.{work}
 use Rattle.epochs.specs.Epochs.{AreAlike}
 use Rattle.epochs.proofs.EpochSteps.{refusal-alike, Grown, grown-none, grown-on, grown-step, StaysSound}
 use Rattle.epochs.proofs.EpochCasts.{says-alike, cannot-say}
@@ -133,7 +133,7 @@ module _ (keeps : StaysSound) (now : ℕ) where
   EndsThose who d s t =
       Makes s.history now (what.AllEnded d) t.history
       × (t ≡ record s { history = t.history; line = t.line; done = told who.client d.told (one_more s.done); ended = is_among who.sid d.ended })
-      × elim (is_among who.sid d.ended) [ true ↦ Advances s.line (Left who.sid ∷ []) t.line | false ↦ t.line ≡ s.line ]
+      × elim (is_among who.sid d.ended) [ true ↦ Advances s.line (Disconnected who.sid ∷ []) t.line | false ↦ t.line ≡ s.line ]
 
   ends_all-alike : (who : Who) (p : PlainSelection) (s t : Scene) (g : History) → AreAlike s.history g → EndsAll who p now s t → Sim (EndsAll who p now) s t g
   ends_all-alike who p s t g alike (makes, is, lines) =

@@ -2,7 +2,7 @@
 use Rattle.std.proofs.Common.{◌≡◌, ◌⊎◌, ℕ, Bool, true, false, List, refl, sym, ap, subst, Option, None, Some, Result, Ok, Err, inl, inr}
 use Rattle.journal.specs.Plain.{Limits}
 use Rattle.journal.specs.Journal.{History}
-use Rattle.hub_state.specs.Departing.{PlainDeparted}
+use Rattle.hub_state.specs.EndedSockets.{PlainEnded}
 use Rattle.events.specs.declared.app.Effect.{Effect}
 use Rattle.events.specs.declared.app.Effect.TheVariants.{Emit}
 use Rattle.events.specs.declared.fault.CoreFault.{CoreFault}
@@ -11,10 +11,10 @@ use Rattle.events.specs.Answer.{Answer}
 use Rattle.events.specs.App.{Policy, AllClean}
 use Rattle.events.specs.Emission.{PlainEmission}
 use Rattle.events.specs.Plain.{PlainDone}
-use Rattle.effects.specs.Departed.{name_of, who_of, Sends, HearsOf, HearsOfAll}
+use Rattle.effects.specs.Hearing.{name_of, who_of, Sends, HearsOf, HearsOfAll}
 use Rattle.effects.specs.Effects.{is_unsendable}
 use Rattle.effects.specs.Runs.{RunsOrFails}
-use Rattle.effects.specs.Saying.{Work, work, SaysOrFails}
+use Rattle.effects.specs.Broadcasting.{Work, work, BroadcastsOrFails}
 use Rattle.epochs.specs.Epochs.{AreAlike}
 use Rattle.dispatch.specs.Hearing.{done_before, Hears, HearsAfter}
 use Rattle.epochs.proofs.EpochSteps.{Grown, grown-none, StaysSound}
@@ -28,13 +28,13 @@ same-work : (s t : Work) (g : History) → AreAlike s.history g → t ≡ s → 
 same-work s t g alike is = grown-none s.history t.history g alike (ap (λ (u : Work). u.history) is)
 
 module _ (keeps : StaysSound) (c now : ℕ) where
-  says-or-fails : (space : List ℕ) (e : PlainEmission) (s : Work) (r : Result (Unit {0}) CoreFault) (t : Work) (g : History) → AreAlike s.history g → SaysOrFails c space e now s r t → SimWork (λ a b. SaysOrFails c space e now a r b) s t g
+  says-or-fails : (space : List ℕ) (e : PlainEmission) (s : Work) (r : Result (Unit {0}) CoreFault) (t : Work) (g : History) → AreAlike s.history g → BroadcastsOrFails c space e now s r t → SimWork (λ a b. BroadcastsOrFails c space e now a r b) s t g
   says-or-fails space e s (Ok x) t g alike says = says-alike keeps c space e now s t g alike says
   says-or-fails space e s (Err fault) t g alike (cannot, is) = (g, same-work s t g alike is, (cannot-say space e s.history g alike fault cannot, ap (λ (u : Work). turned u g) is))
 
   -- the row of an event, by whether it can be sent
   abbrev SendsIf : Bool → (space : List ℕ) → PlainEmission → Result (Unit {0}) CoreFault → Work → Work → Type 0
-  SendsIf bad space e r a b = elim bad as (λ (bad : Bool). Type 0) [ true ↦ (r ≡ Err BadEffect) × (b ≡ a) | false ↦ SaysOrFails c space e now a r b ]
+  SendsIf bad space e r a b = elim bad as (λ (bad : Bool). Type 0) [ true ↦ (r ≡ Err BadEffect) × (b ≡ a) | false ↦ BroadcastsOrFails c space e now a r b ]
 
   emit-alike : (space : List ℕ) (e : PlainEmission) (s : Work) (r : Result (Unit {0}) CoreFault) (t : Work) (g : History) → AreAlike s.history g → Sends c now space s (Emit e) r t → SimWork (λ a b. Sends c now space a (Emit e) r b) s t g
   emit-alike space e s r t g alike does = on (is_unsendable e.payload e.attachments) does
@@ -51,12 +51,12 @@ module _ (keeps : StaysSound) (c now : ℕ) where
 
   module _ (policy : Policy) where
     -- the row of a socket that ended, by the limits, which name its namespace
-    abbrev HearsBy : Limits → PlainDeparted → Result (Unit {0}) CoreFault → Work → Work → Type 0
+    abbrev HearsBy : Limits → PlainEnded → Result (Unit {0}) CoreFault → Work → Work → Type 0
     HearsBy limits gone r a b =
         ((r ≡ Err Memory) × (b ≡ a))
-        ⊎ ((effects : List Effect) × policy.leaves (who_of limits gone.socket) gone.rooms gone.ending effects × AllClean effects × RunsOrFails (Sends c now (name_of limits gone.socket)) effects a r b)
+        ⊎ ((effects : List Effect) × policy.ends (who_of limits gone.socket) gone.rooms gone.ending effects × AllClean effects × RunsOrFails (Sends c now (name_of limits gone.socket)) effects a r b)
 
-    hears-of : (s : Work) (gone : PlainDeparted) (r : Result (Unit {0}) CoreFault) (t : Work) (g : History) → AreAlike s.history g → HearsOf policy c now s gone r t → SimWork (λ a b. HearsOf policy c now a gone r b) s t g
+    hears-of : (s : Work) (gone : PlainEnded) (r : Result (Unit {0}) CoreFault) (t : Work) (g : History) → AreAlike s.history g → HearsOf policy c now s gone r t → SimWork (λ a b. HearsOf policy c now a gone r b) s t g
     hears-of s gone r t g alike does =
         subst (λ (l : Limits). (m : History) × Grown s.history t.history g m × HearsBy l gone r (turned s g) (turned t m)) (sym alike.same.same_limits) (on does)
       where
@@ -67,12 +67,12 @@ module _ (keeps : StaysSound) (c now : ℕ) where
             let (m, grown, also) = runs-or-fails-alike (λ (u : Work). u.history) turned (Sends c now space) (sends-alike space) effects s r t g alike run in
             (m, grown, inr (effects, wants, clean, also))
 
-    pub hears-of-all : (ended : List PlainDeparted) (s : Work) (r : Result (Unit {0}) CoreFault) (t : Work) (g : History) → AreAlike s.history g → HearsOfAll policy c now ended s r t → SimWork (λ a b. HearsOfAll policy c now ended a r b) s t g
+    pub hears-of-all : (ended : List PlainEnded) (s : Work) (r : Result (Unit {0}) CoreFault) (t : Work) (g : History) → AreAlike s.history g → HearsOfAll policy c now ended s r t → SimWork (λ a b. HearsOfAll policy c now ended a r b) s t g
     hears-of-all ended s r t g alike run = runs-or-fails-alike (λ (u : Work). u.history) turned (HearsOf policy c now) hears-of ended s r t g alike run
 
 -- ---- after an event
 
-module _ (keeps : StaysSound) (policy : Policy) (now : ℕ) (ended : List PlainDeparted) (h k g : History) (alike : AreAlike h g) (said answer : Answer) where
+module _ (keeps : StaysSound) (policy : Policy) (now : ℕ) (ended : List PlainEnded) (h k g : History) (alike : AreAlike h g) (said answer : Answer) where
   -- the app hears of none
   abbrev HearsNone : History → History → Type 0
   HearsNone a b = (answer ≡ said) × (b ≡ a)

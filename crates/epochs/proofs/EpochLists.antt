@@ -16,7 +16,7 @@ use Rattle.journal.specs.declared.socket.Socket.{Socket}
 use Rattle.journal.specs.Plain.{Limits}
 use Rattle.journal.specs.Journal.{History}
 use Rattle.journal.specs.Membership.{is_open, sockets, sid_of, matches}
-use Rattle.journal.specs.Outboxes.{farewell, has_no_place, is_full}
+use Rattle.journal.specs.Outboxes.{farewell, has_no_space, is_full}
 use Rattle.journal.specs.ManySockets.{rising_by, client_of, may_enter, may_exit, may_hear, joining, leaving, dismissal, ListsSockets, RightJoining, RightLeaving, RightDismissal}
 use Rattle.journal.proofs.CastLemmas.{any-map, any-filter}
 use Rattle.journal.proofs.ManySocketsLemmas.{listed}
@@ -99,7 +99,7 @@ matches-alike : (h g : History) → AreAlike h g → (space : ℕ) (named except
 matches-alike h g alike space named excepted k = ap (λ sets. k.space == space && broadcast.is_addressed sets named excepted k.sid) alike.same.same_rooms
 
 pub full-alike : (h g : History) → AreAlike h g → (c : ℕ) → is_open h.base h.journal c ≡ true → (entry : _) → is_full g.base g.limits g.journal c entry ≡ is_full h.base h.limits h.journal c entry
-full-alike h g alike c known entry = λ i. has_no_place (Limits.capacity (alike.same.same_limits i)) (Limits.bytes (alike.same.same_limits i)) (alike.same.same_waiting c known i) entry
+full-alike h g alike c known entry = λ i. has_no_space (Limits.capacity (alike.same.same_limits i)) (Limits.bytes (alike.same.same_limits i)) (alike.same.same_waiting c known i) entry
 
 pub joining-alike : (h g : History) → AreAlike h g → (space : ℕ) (named excepted : List (List ℕ)) (room : List ℕ) → joining g space named excepted room ≡ joining h space named excepted room
 joining-alike h g alike space named excepted room =

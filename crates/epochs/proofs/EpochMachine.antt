@@ -16,14 +16,14 @@ use Rattle.journal.specs.declared.error.HubError.TheVariants as hub
 use Rattle.journal.specs.declared.step.What.TheVariants as what
 use Rattle.journal.specs.Journal.{History, with_step}
 use Rattle.journal.specs.Membership.{is_open}
-use Rattle.hub_state.specs.Departing.{PlainDeparted}
+use Rattle.hub_state.specs.EndedSockets.{PlainEnded}
 use Rattle.events.specs.declared.cause.Cause.{Cause}
 use Rattle.events.specs.declared.cause.Cause.TheVariants as cause
 use Rattle.events.specs.declared.fault.CoreFault.{CoreFault}
 use Rattle.events.specs.declared.fault.CoreFault.TheVariants.{Memory, UnknownClient}
 use Rattle.events.specs.App.{Policy}
 use Rattle.hub_totals.specs.Pass.{Drops}
-use Rattle.effects.specs.Departed.{ended_since}
+use Rattle.effects.specs.Hearing.{ended_since}
 use Rattle.events.specs.declared.event.Event.{Event}
 use Rattle.events.specs.declared.event.Event.TheVariants as event
 use Rattle.events.specs.declared.event.WsFrame.{WsFrame}
@@ -36,8 +36,8 @@ use Rattle.dispatch.specs.Frames.{is_too_long, SendsFor}
 use Rattle.dispatch.specs.Takes.{TakesFor}
 use Rattle.dispatch.specs.Hearing.{HearsAfter}
 use Rattle.dispatch.specs.Machine.{Opens, Begins, Ends, Takes, TakesFrames, Loses, opening, WorksOn, Posts, PostsFor, HearsFrame, HearsOne, Hears, HearsFor, Row, Does}
-use Rattle.dispatch.specs.Packets.{stage}
-use Rattle.dispatch.specs.Place.{Place, HasLine}
+use Rattle.dispatch.specs.Packets.{course}
+use Rattle.dispatch.specs.Holding.{Holding, HasLine}
 use Rattle.dispatch.specs.Upgrade.{Probes, ProbesOn, EndsProbe, EndsProbeOn}
 use Rattle.dispatch.specs.Upkeep.{Ticks, TicksOn, Sweeps}
 use Rattle.epochs.proofs.EpochSteps.{Grown, grown-none, grown-on, ended-alike, StaysSound}
@@ -46,16 +46,16 @@ use Rattle.epochs.proofs.EpochHearing.{after-alike}
 use Rattle.epochs.proofs.EpochPackets.{parks-or-closes, fails-to-park, packets-alike, breaks-alike}
 use Rattle.epochs.proofs.EpochTakes.{SimBoth, takes-for, sends-for}
 
--- the place with another history
-abbrev pub put : Place → History → Place
+-- what a core holds, with another history
+abbrev pub put : Holding → History → Holding
 put s g = record s { history = g }
 
--- what leads from the one place to the other leads so from the first with another history too
-abbrev pub SimPlace : (Place → Place → Type 0) → Place → Place → History → Type 0
-SimPlace R s t g = (m : History) × Grown s.history t.history g m × R (put s g) (put t m)
+-- what leads from what one core holds to what another does leads so from the first with another history too
+abbrev pub SimHolding : (Holding → Holding → Type 0) → Holding → Holding → History → Type 0
+SimHolding R s t g = (m : History) × Grown s.history t.history g m × R (put s g) (put t m)
 
 -- a line stands for open clients alone
-abbrev pub OfOpen : Place → Type 0
+abbrev pub OfOpen : Holding → Type 0
 OfOpen s = (c : ℕ) (line : PlainLine) → s.lines c ≡ Some line → is_open s.history.base s.history.journal c ≡ true
 
 drops-alike : (dropped : Swept) (h k g m : History) → AreAlike h g → AreAlike k m → Drops dropped h k → Drops dropped g m
@@ -64,20 +64,20 @@ drops-alike dropped h k g m first later drops = (
   ap (λ (l : List PlainSaved). length l) first.same.same_sessions ∙ drops.1 ∙ sym (ap (λ (l : List PlainSaved). length l + dropped.saved) later.same.same_sessions),
 )
 
-module _ (keeps : StaysSound) (now : ℕ) (s t : Place) (g : History) (alike : AreAlike s.history g) (answer : Answer) where
+module _ (keeps : StaysSound) (now : ℕ) (s t : Holding) (g : History) (alike : AreAlike s.history g) (answer : Answer) where
   still : t.history ≡ s.history → Grown s.history t.history g g
   still is = grown-none s.history t.history g alike is
 
-  refused : (fault : CoreFault) → Refused fault s answer t → SimPlace (λ a b. Refused fault a answer b) s t g
+  refused : (fault : CoreFault) → Refused fault s answer t → SimHolding (λ a b. Refused fault a answer b) s t g
   refused fault (is, same, lines) = (g, still same, (is, refl, lines))
 
-  advanced : (c : ℕ) (line : PlainLine) (calls : List Call) → AdvancesLine c line calls s t → SimPlace (AdvancesLine c line calls) s t g
+  advanced : (c : ℕ) (line : PlainLine) (calls : List Call) → AdvancesLine c line calls s t → SimHolding (AdvancesLine c line calls) s t g
   advanced c line calls (same, has) = (g, still same, (refl, has))
 
   -- by the client's line
-  for-client : (c : ℕ) (row : PlainLine → Place → Answer → Place → Type 0)
-      → ((line : PlainLine) → s.lines c ≡ Some line → row line s answer t → SimPlace (λ a b. row line a answer b) s t g)
-      → ForClient c row s answer t → SimPlace (λ a b. ForClient c row a answer b) s t g
+  for-client : (c : ℕ) (row : PlainLine → Holding → Answer → Holding → Type 0)
+      → ((line : PlainLine) → s.lines c ≡ Some line → row line s answer t → SimHolding (λ a b. row line a answer b) s t g)
+      → ForClient c row s answer t → SimHolding (λ a b. ForClient c row a answer b) s t g
   for-client c row each does = on (s.lines c) refl does
     where
       on : (o : Option PlainLine) → s.lines c ≡ o → elim o as (λ (o : Option PlainLine). Type 0) [ None ↦ Refused UnknownClient s answer t | Some line ↦ row line s answer t ]
@@ -95,44 +95,44 @@ module _ (keeps : StaysSound) (now : ℕ) (s t : Place) (g : History) (alike : A
       on None none = absurd none
       on (Some line) does = each line does
 
-module _ (keeps : StaysSound) (now : ℕ) (s t : Place) (g : History) (alike : AreAlike s.history g) where
-  closes-unread : (c : ℕ) (why : Cause) (answer : Answer) → ClosesUnread now c why s answer t → SimPlace (λ a b. ClosesUnread now c why a answer b) s t g
+module _ (keeps : StaysSound) (now : ℕ) (s t : Holding) (g : History) (alike : AreAlike s.history g) where
+  closes-unread : (c : ℕ) (why : Cause) (answer : Answer) → ClosesUnread now c why s answer t → SimHolding (λ a b. ClosesUnread now c why a answer b) s t g
   closes-unread c why (Ok (outcome.Done done)) (is, makes, lost) =
       let both = make-alike keeps now s.history g t.history alike (what.Closed c) tt makes in (with_step g now (what.Closed c), both.0, (is, both.1, lost))
   closes-unread c why (Ok _) none = absurd none
   closes-unread c why (Err e) (stops, (is, same, lines)) =
       (g, grown-none s.history t.history g alike same, (stops-alike keeps now s.history g alike (what.Closed c) e.fault stops, (is, refl, lines)))
 
-  opens-alike : (timing : Timing) (numbers : Numbers) (socket : Bool) (c : ℕ) (answer : Answer) → Opens timing numbers now socket c s answer t → SimPlace (λ a b. Opens timing numbers now socket c a answer b) s t g
+  opens-alike : (timing : Timing) (numbers : Numbers) (socket : Bool) (c : ℕ) (answer : Answer) → Opens timing numbers now socket c s answer t → SimHolding (λ a b. Opens timing numbers now socket c a answer b) s t g
   opens-alike timing numbers socket c (Ok (outcome.Opened o)) (client, said, makes, has) =
       let both = make-alike keeps now s.history g t.history alike (what.Opened c) tt makes in (with_step g now (what.Opened c), both.0, (client, said, both.1, has))
   opens-alike timing numbers socket c (Ok _) none = absurd none
   opens-alike timing numbers socket c (Err e) (stops, (is, same, lines)) =
       (g, grown-none s.history t.history g alike same, (stops-alike keeps now s.history g alike (what.Opened c) e.fault stops, (is, refl, lines)))
 
-  begins-alike : (c : ℕ) (answer : Answer) (line : PlainLine) → Begins now c line s answer t → SimPlace (λ a b. Begins now c line a answer b) s t g
+  begins-alike : (c : ℕ) (answer : Answer) (line : PlainLine) → Begins now c line s answer t → SimHolding (λ a b. Begins now c line a answer b) s t g
   begins-alike c answer line (inl (on, refusal)) = let (m, grown, also) = refused keeps now s t g alike answer _ refusal in (m, grown, inl (on, also))
   begins-alike c answer line (inr (inl (polls, getting, closes))) = let (m, grown, also) = closes-unread c cause.DoubleGet answer closes in (m, grown, inr (inl (polls, getting, also)))
   begins-alike c answer line (inr (inr (polls, getting, said, (same, has)))) = (g, grown-none s.history t.history g alike same, inr (inr (polls, getting, said, (refl, has))))
 
-  ends-alike : (c : ℕ) (answer : Answer) (line : PlainLine) → Ends c line s answer t → SimPlace (λ a b. Ends c line a answer b) s t g
+  ends-alike : (c : ℕ) (answer : Answer) (line : PlainLine) → Ends c line s answer t → SimHolding (λ a b. Ends c line a answer b) s t g
   ends-alike c (Ok (outcome.Done done)) line (nothing, (same, has)) = (g, grown-none s.history t.history g alike same, (nothing, (refl, has)))
   ends-alike c (Ok _) line none = absurd none
   ends-alike c (Err e) line none = absurd none
 
-  takes-alike : (c most : ℕ) (answer : Answer) (line : PlainLine) → is_open s.history.base s.history.journal c ≡ true → Takes now c most line s answer t → SimPlace (λ a b. Takes now c most line a answer b) s t g
+  takes-alike : (c most : ℕ) (answer : Answer) (line : PlainLine) → is_open s.history.base s.history.journal c ≡ true → Takes now c most line s answer t → SimHolding (λ a b. Takes now c most line a answer b) s t g
   takes-alike c most (Ok o) line known has =
       has-line keeps now s t g alike (Ok o) c (λ after h k. TakesFor c most now (Ok o) h k line after) (λ after does. takes-for keeps c most now s.history t.history g alike known line after (Ok o) does) has
   takes-alike c most (Err e) line known (is, has) =
       let (m, grown, also) = has-line keeps now s t g alike (Err e) c (λ after h k. TakesFor c most now (Err e.fault) h k line after) (λ after does. takes-for keeps c most now s.history t.history g alike known line after (Err e.fault) does) has in (m, grown, (is, also))
 
-  takes-frames : (c most : ℕ) (answer : Answer) (line : PlainLine) → is_open s.history.base s.history.journal c ≡ true → TakesFrames now c most line s answer t → SimPlace (λ a b. TakesFrames now c most line a answer b) s t g
+  takes-frames : (c most : ℕ) (answer : Answer) (line : PlainLine) → is_open s.history.base s.history.journal c ≡ true → TakesFrames now c most line s answer t → SimHolding (λ a b. TakesFrames now c most line a answer b) s t g
   takes-frames c most (Ok o) line known has =
       has-line keeps now s t g alike (Ok o) c (λ after h k. SendsFor c most now (Ok o) h k line after) (λ after does. sends-for keeps c most now s.history t.history g alike known line after (Ok o) does) has
   takes-frames c most (Err e) line known (is, has) =
       let (m, grown, also) = has-line keeps now s t g alike (Err e) c (λ after h k. SendsFor c most now (Err e.fault) h k line after) (λ after does. sends-for keeps c most now s.history t.history g alike known line after (Err e.fault) does) has in (m, grown, (is, also))
 
-  loses-alike : (c : ℕ) (answer : Answer) → Loses now c s answer t → SimPlace (λ a b. Loses now c a answer b) s t g
+  loses-alike : (c : ℕ) (answer : Answer) → Loses now c s answer t → SimHolding (λ a b. Loses now c a answer b) s t g
   loses-alike c (Ok (outcome.Lost true done)) (nothing, makes, lost) =
       let both = make-alike keeps now s.history g t.history alike (what.Parked c) tt makes in (with_step g now (what.Parked c), both.0, (nothing, both.1, lost))
   loses-alike c (Ok (outcome.Lost false done)) (nothing, refusal, makes, lost) =
@@ -143,7 +143,7 @@ module _ (keeps : StaysSound) (now : ℕ) (s t : Place) (g : History) (alike : A
 
   -- ---- time and transport
 
-  ticks-on : (d : Due) (c : ℕ) (answer : Answer) (line : PlainLine) → TicksOn d now c line s answer t → SimPlace (λ a b. TicksOn d now c line a answer b) s t g
+  ticks-on : (d : Due) (c : ℕ) (answer : Answer) (line : PlainLine) → TicksOn d now c line s answer t → SimHolding (λ a b. TicksOn d now c line a answer b) s t g
   ticks-on due.Nothing c answer line (said, (same, has)) = (g, grown-none s.history t.history g alike same, (said, (refl, has)))
   ticks-on due.SendPing c answer line (said, (same, has)) = (g, grown-none s.history t.history g alike same, (said, (refl, has)))
   ticks-on due.PingTimeout c (Ok o) line (said, parks, lost) =
@@ -155,10 +155,10 @@ module _ (keeps : StaysSound) (now : ℕ) (s t : Place) (g : History) (alike : A
   ticks-on due.ConnectTimeout c (Err e) line (said, stops, (same, has)) =
       (g, grown-none s.history t.history g alike same, (said, stops-alike keeps now s.history g alike (what.Closed c) e.fault stops, (refl, has)))
 
-  ticks-alike : (c : ℕ) (answer : Answer) (line : PlainLine) → Ticks now c line s answer t → SimPlace (λ a b. Ticks now c line a answer b) s t g
+  ticks-alike : (c : ℕ) (answer : Answer) (line : PlainLine) → Ticks now c line s answer t → SimHolding (λ a b. Ticks now c line a answer b) s t g
   ticks-alike c answer line (d, due, on) = let (m, grown, also) = ticks-on d c answer line on in (m, grown, (d, due, also))
 
-  sweeps-alike : (answer : Answer) → Sweeps now s answer t → SimPlace (λ a b. Sweeps now a answer b) s t g
+  sweeps-alike : (answer : Answer) → Sweeps now s answer t → SimHolding (λ a b. Sweeps now a answer b) s t g
   sweeps-alike (Ok (outcome.Swept dropped)) (makes, drops, lines) =
       let both = make-alike keeps now s.history g t.history alike what.Swept tt makes in
       let m = with_step g now what.Swept in
@@ -167,19 +167,19 @@ module _ (keeps : StaysSound) (now : ℕ) (s t : Place) (g : History) (alike : A
   sweeps-alike (Err e) (stops, (is, same, lines)) =
       (g, grown-none s.history t.history g alike same, (stops-alike keeps now s.history g alike what.Swept e.fault stops, (is, refl, lines)))
 
-  probes-alike : (c : ℕ) (answer : Answer) (line : PlainLine) → Probes c line s answer t → SimPlace (λ a b. Probes c line a answer b) s t g
+  probes-alike : (c : ℕ) (answer : Answer) (line : PlainLine) → Probes c line s answer t → SimHolding (λ a b. Probes c line a answer b) s t g
   probes-alike c answer line (inl short) = let (m, grown, also) = refused keeps now s t g alike answer Memory short in (m, grown, inl also)
   probes-alike c answer line (inr (on, speaks, row)) = let (m, grown, also) = by on row in (m, grown, inr (on, speaks, also))
     where
-      by : (on : Transport) → ProbesOn on c line s answer t → SimPlace (λ a b. ProbesOn on c line a answer b) s t g
+      by : (on : Transport) → ProbesOn on c line s answer t → SimHolding (λ a b. ProbesOn on c line a answer b) s t g
       by Polling (said, (same, has)) = (g, grown-none s.history t.history g alike same, (said, (refl, has)))
       by Probing (is, same, lines) = (g, grown-none s.history t.history g alike same, (is, refl, lines))
       by Socket (is, same, lines) = (g, grown-none s.history t.history g alike same, (is, refl, lines))
 
-  ends-probe : (end : Call) (c : ℕ) (answer : Answer) (line : PlainLine) → EndsProbe end c line s answer t → SimPlace (λ a b. EndsProbe end c line a answer b) s t g
+  ends-probe : (end : Call) (c : ℕ) (answer : Answer) (line : PlainLine) → EndsProbe end c line s answer t → SimHolding (λ a b. EndsProbe end c line a answer b) s t g
   ends-probe end c answer line (on, speaks, row) = let (m, grown, also) = by on row in (m, grown, (on, speaks, also))
     where
-      by : (on : Transport) → EndsProbeOn on end c line s answer t → SimPlace (λ a b. EndsProbeOn on end c line a answer b) s t g
+      by : (on : Transport) → EndsProbeOn on end c line s answer t → SimHolding (λ a b. EndsProbeOn on end c line a answer b) s t g
       by Polling (is, same, lines) = (g, grown-none s.history t.history g alike same, (is, refl, lines))
       by Probing (said, (same, has)) = (g, grown-none s.history t.history g alike same, (said, (refl, has)))
       by Socket (is, same, lines) = (g, grown-none s.history t.history g alike same, (is, refl, lines))
@@ -187,16 +187,16 @@ module _ (keeps : StaysSound) (now : ℕ) (s t : Place) (g : History) (alike : A
   -- ---- packets
 
   module _ (policy : Policy) (ids left : ℕ → ℕ) where
-    works-on : (c : ℕ) (packets : List Packet) (answer : Answer) (line : PlainLine) → WorksOn policy now c packets line s ids answer t left → SimPlace (λ a b. WorksOn policy now c packets line a ids answer b left) s t g
+    works-on : (c : ℕ) (packets : List Packet) (answer : Answer) (line : PlainLine) → WorksOn policy now c packets line s ids answer t left → SimHolding (λ a b. WorksOn policy now c packets line a ids answer b left) s t g
     works-on c packets (Ok (outcome.Done done)) line (m, run, said, there, keeps', drawn) =
-        let (k, grown, also) = packets-alike keeps now policy c packets (stage (opening s.history line) ids) m g alike run in
+        let (k, grown, also) = packets-alike keeps now policy c packets (course (opening s.history line) ids) m g alike run in
         (k, subst (λ (h : History). Grown s.history h g k) (sym there) grown, (_, also, said, refl, keeps', drawn))
     works-on c packets (Ok _) line none = absurd none
     works-on c packets (Err e) line (m, breaks, there, has, drawn) =
-        let (k, grown, also) = breaks-alike keeps now policy c packets (stage (opening s.history line) ids) e m g alike breaks in
+        let (k, grown, also) = breaks-alike keeps now policy c packets (course (opening s.history line) ids) e m g alike breaks in
         (k, subst (λ (h : History). Grown s.history h g k) (sym there) grown, (_, also, refl, has, drawn))
 
-    posts-alike : (c : ℕ) (body : List ℕ) (answer : Answer) (line : PlainLine) → Posts policy now c body line s ids answer t left → SimPlace (λ a b. Posts policy now c body line a ids answer b left) s t g
+    posts-alike : (c : ℕ) (body : List ℕ) (answer : Answer) (line : PlainLine) → Posts policy now c body line s ids answer t left → SimHolding (λ a b. Posts policy now c body line a ids answer b left) s t g
     posts-alike c body answer line (inl (on, refusal, drawn)) = let (m, grown, also) = refused keeps now s t g alike answer _ refusal in (m, grown, inl (on, also, drawn))
     posts-alike c body answer line (inr (polls, inl (refusal, drawn))) = let (m, grown, also) = refused keeps now s t g alike answer _ refusal in (m, grown, inr (polls, inl (also, drawn)))
     posts-alike c body answer line (inr (polls, inr (inl (packets, payload, does)))) =
@@ -204,7 +204,7 @@ module _ (keeps : StaysSound) (now : ℕ) (s t : Place) (g : History) (alike : A
     posts-alike c body answer line (inr (polls, inr (inr (fault, faulty, closes, drawn)))) =
         let (m, grown, also) = closes-unread c _ answer closes in (m, grown, inr (polls, inr (inr (fault, faulty, also, drawn))))
 
-    posts-for : (c : ℕ) (body : List ℕ) (answer : Answer) → PostsFor policy now c body s ids answer t left → SimPlace (λ a b. PostsFor policy now c body a ids answer b left) s t g
+    posts-for : (c : ℕ) (body : List ℕ) (answer : Answer) → PostsFor policy now c body s ids answer t left → SimHolding (λ a b. PostsFor policy now c body a ids answer b left) s t g
     posts-for c body answer does = on (s.lines c) does
       where
         on : (o : Option PlainLine) → elim o as (λ (o : Option PlainLine). Type 0) [ None ↦ Refused UnknownClient s answer t × (left ≡ ids) | Some line ↦ Posts policy now c body line s ids answer t left ]
@@ -213,12 +213,12 @@ module _ (keeps : StaysSound) (now : ℕ) (s t : Place) (g : History) (alike : A
         on None (refusal, drawn) = let (m, grown, also) = refused keeps now s t g alike answer _ refusal in (m, grown, (also, drawn))
         on (Some line) does = posts-alike c body answer line does
 
-    hears-frame : (c : ℕ) (frame : WsFrame) (answer : Answer) (line : PlainLine) → HearsFrame policy now c frame line s ids answer t left → SimPlace (λ a b. HearsFrame policy now c frame line a ids answer b left) s t g
+    hears-frame : (c : ℕ) (frame : WsFrame) (answer : Answer) (line : PlainLine) → HearsFrame policy now c frame line s ids answer t left → SimHolding (λ a b. HearsFrame policy now c frame line a ids answer b left) s t g
     hears-frame c frame answer line (inl (refusal, drawn)) = let (m, grown, also) = refused keeps now s t g alike answer _ refusal in (m, grown, inl (also, drawn))
     hears-frame c frame answer line (inr (inl (packet, framed, does))) = let (m, grown, also) = works-on c (packet ∷ []) answer line does in (m, grown, inr (inl (packet, framed, also)))
     hears-frame c frame answer line (inr (inr (fault, faulty, closes, drawn))) = let (m, grown, also) = closes-unread c _ answer closes in (m, grown, inr (inr (fault, faulty, also, drawn)))
 
-    hears-one : (c : ℕ) (frame : WsFrame) (answer : Answer) (line : PlainLine) → HearsOne policy now c frame line s ids answer t left → SimPlace (λ a b. HearsOne policy now c frame line a ids answer b left) s t g
+    hears-one : (c : ℕ) (frame : WsFrame) (answer : Answer) (line : PlainLine) → HearsOne policy now c frame line s ids answer t left → SimHolding (λ a b. HearsOne policy now c frame line a ids answer b left) s t g
     hears-one c frame answer line does = by (is_too_long frame) does
       where
         by : (b : Bool) → elim b as (λ (b : Bool). Type 0) [ true ↦ ClosesUnread now c cause.TooLong s answer t × (left ≡ ids) | false ↦ HearsFrame policy now c frame line s ids answer t left ]
@@ -227,11 +227,11 @@ module _ (keeps : StaysSound) (now : ℕ) (s t : Place) (g : History) (alike : A
         by true (closes, drawn) = let (m, grown, also) = closes-unread c cause.TooLong answer closes in (m, grown, (also, drawn))
         by false does = hears-frame c frame answer line does
 
-    hears-alike : (c : ℕ) (frame : WsFrame) (answer : Answer) (line : PlainLine) → Hears policy now c frame line s ids answer t left → SimPlace (λ a b. Hears policy now c frame line a ids answer b left) s t g
+    hears-alike : (c : ℕ) (frame : WsFrame) (answer : Answer) (line : PlainLine) → Hears policy now c frame line s ids answer t left → SimHolding (λ a b. Hears policy now c frame line a ids answer b left) s t g
     hears-alike c frame answer line (inl (polls, refusal, drawn)) = let (m, grown, also) = refused keeps now s t g alike answer _ refusal in (m, grown, inl (polls, also, drawn))
     hears-alike c frame answer line (inr (on, does)) = let (m, grown, also) = hears-one c frame answer line does in (m, grown, inr (on, also))
 
-    hears-for : (c : ℕ) (frame : WsFrame) (answer : Answer) → HearsFor policy now c frame s ids answer t left → SimPlace (λ a b. HearsFor policy now c frame a ids answer b left) s t g
+    hears-for : (c : ℕ) (frame : WsFrame) (answer : Answer) → HearsFor policy now c frame s ids answer t left → SimHolding (λ a b. HearsFor policy now c frame a ids answer b left) s t g
     hears-for c frame answer does = on (s.lines c) does
       where
         on : (o : Option PlainLine) → elim o as (λ (o : Option PlainLine). Type 0) [ None ↦ Refused UnknownClient s answer t × (left ≡ ids) | Some line ↦ Hears policy now c frame line s ids answer t left ]
@@ -243,7 +243,7 @@ module _ (keeps : StaysSound) (now : ℕ) (s t : Place) (g : History) (alike : A
     -- ---- the row of an event
 
     row-alike : OfOpen s → (timing : Timing) (numbers : Numbers) (happened : Event) (answer : Answer) → Row policy now timing numbers happened s ids answer t left
-        → SimPlace (λ a b. Row policy now timing numbers happened a ids answer b left) s t g
+        → SimHolding (λ a b. Row policy now timing numbers happened a ids answer b left) s t g
     row-alike known timing numbers (event.Opened socket) answer (does, drawn) = let (m, grown, also) = opens-alike timing numbers socket (ids 0) answer does in (m, grown, (also, drawn))
     row-alike known timing numbers (event.Post c body) answer does = posts-for c body answer does
     row-alike known timing numbers (event.Frame c frame) answer does = hears-for c frame answer does
@@ -269,15 +269,15 @@ module _ (keeps : StaysSound) (now : ℕ) (s t : Place) (g : History) (alike : A
 
 -- ---- an event
 
-module _ (keeps : StaysSound) (now : ℕ) (s t : Place) (g : History) (alike : AreAlike s.history g)
+module _ (keeps : StaysSound) (now : ℕ) (s t : Holding) (g : History) (alike : AreAlike s.history g)
     (policy : Policy) (ids left : ℕ → ℕ) where
   pub does-alike : OfOpen s → (timing : Timing) (numbers : Numbers) (happened : Event) (answer : Answer) → Does policy now timing numbers happened s ids answer t left
-      → SimPlace (λ a b. Does policy now timing numbers happened a ids answer b left) s t g
+      → SimHolding (λ a b. Does policy now timing numbers happened a ids answer b left) s t g
   does-alike known timing numbers happened answer (h, said, row, heard) =
       let (m, grown, also) = row-alike keeps now s (put t h) g alike policy ids left known timing numbers happened said row in
       let (n, further, hears) = after-alike keeps policy now (ended_since s.history h) h t.history m grown.alike said answer (client_of happened) heard in
       let same = ended-alike s.history h g m grown in (
         n,
         grown-on s.history h t.history g m n grown further,
-        (m, said, also, subst (λ (ended : List PlainDeparted). HearsAfter policy now (client_of happened) ended m said answer n) (sym same) hears),
+        (m, said, also, subst (λ (ended : List PlainEnded). HearsAfter policy now (client_of happened) ended m said answer n) (sym same) hears),
       )

@@ -9,7 +9,7 @@ use Rattle.sio_wire.specs.declared.error.SioError.{SioError}
 use Rattle.sio_wire.specs.declared.error.SioError.TheVariants as sio
 use Rattle.sio_wire.specs.declared.assembler.Progress.TheVariants.{Failed}
 use Rattle.sio_wire.specs.Frames.{Frame, text, binary, exceeds}
-use Rattle.connection.specs.History.{Entered}
+use Rattle.connection.specs.History.{Connected}
 use Rattle.connection.specs.Line.{Advances}
 use Rattle.journal.specs.declared.error.HubError.TheVariants as hub
 use Rattle.journal.specs.declared.socket.Socket.{Socket}
@@ -37,28 +37,28 @@ use Rattle.events.specs.declared.fault.CoreFault.{CoreFault}
 use Rattle.events.specs.declared.fault.CoreFault.TheVariants.{Memory}
 use Rattle.events.specs.declared.fault.Stopped.{Stopped}
 use Rattle.events.specs.App.{Policy}
-use Rattle.hub_state.specs.Returning.{return_of}
-use Rattle.effects.specs.Commands.{Makes, IsRefused, StopsAt, CannotReturn, IsSeated, seat}
+use Rattle.hub_state.specs.Recovering.{recovery_asked}
+use Rattle.effects.specs.Commands.{Makes, IsRefused, StopsAt, CannotRecover, IsSeated, seat}
 use Rattle.effects.specs.Effects.{Scene, told_to, counted}
 use Rattle.effects.specs.Runs.{Runs}
 use Rattle.epochs.specs.Epochs.{AreAlike}
-use Rattle.dispatch.specs.Packets.{Stage, Upshot, StopsFor, IsShort, DrawsNone, ClosesFor, ParksFor, refusal_entry, Refuses, DoesAll, Leaves, Decides, TakesAck, Serves, ServesJoined, ConnectsAs, Returns, AsksApp, ComesBack, MayComeBack, AsksToConnect, Works, GoesOn, with_line, TakesFrame, TakesText, ReadsBinary, TakesBinary, Handles, begun, HandlesOrBreaks, HandlesInTurn, BreaksAfter}
+use Rattle.dispatch.specs.Packets.{Course, Upshot, StopsFor, IsShort, DrawsNone, ClosesFor, ParksFor, refusal_entry, Refuses, DoesAll, ClientDisconnects, Decides, TakesAck, Serves, ServesJoined, ConnectsAs, IsRecovered, AsksApp, AsksToRecover, MayRecover, AsksToConnect, Works, GoesOn, with_line, TakesFrame, TakesText, ReadsBinary, TakesBinary, Handles, begun, HandlesOrBreaks, HandlesInTurn, BreaksAfter}
 use Rattle.dispatch.specs.Parking.{ParksOrCloses, FailsToPark}
 use Rattle.epochs.proofs.EpochSteps.{with-limits, Grown, grown-none, grown-on, StaysSound}
 use Rattle.epochs.proofs.EpochEffects.{moved, Sim, make-alike, refused-alike, stops-alike, closes-alike, runs-alike, effects-alike, stopped-alike, seated-alike}
 
--- the stage with another history
-abbrev pub shifted : Stage → History → Stage
+-- the course with another history
+abbrev pub shifted : Course → History → Course
 shifted s g = record s { scene = moved s.scene g }
 
-abbrev pub SimStage : (Stage → Stage → Type 0) → Stage → Stage → History → Type 0
+abbrev pub SimStage : (Course → Course → Type 0) → Course → Course → History → Type 0
 SimStage R s t g = (m : History) × Grown s.scene.history t.scene.history g m × R (shifted s g) (shifted t m)
 
 -- how a packet is answered doesn't change
 abbrev pub SimFor : (Scene → Upshot → Scene → Type 0) → Scene → Upshot → Scene → History → Type 0
 SimFor R s result t g = Sim (λ a b. R a result b) s t g
 
-abbrev pub SimFrom : (Stage → Upshot → Stage → Type 0) → Stage → Upshot → Stage → History → Type 0
+abbrev pub SimFrom : (Course → Upshot → Course → Type 0) → Course → Upshot → Course → History → Type 0
 SimFrom R s result t g = SimStage (λ a b. R a result b) s t g
 
 same-scene : (s t : Scene) (g : History) → AreAlike s.history g → t ≡ s → Grown s.history t.history g g
@@ -74,20 +74,20 @@ socket-alike h g alike c space =
 pub space-alike : (h g : History) → AreAlike h g → (space : List ℕ) → is_space g.limits (place_of g.limits space) ≡ is_space h.limits (place_of h.limits space)
 space-alike h g alike space = ap (λ (l : Limits). is_space l (place_of l space)) alike.same.same_limits
 
-return-alike : (h g : History) → AreAlike h g → (c : ℕ) (space : List ℕ) (pid offset : ℕ) → return_of c space pid offset g ≡ return_of c space pid offset h
+return-alike : (h g : History) → AreAlike h g → (c : ℕ) (space : List ℕ) (pid offset : ℕ) → recovery_asked c space pid offset g ≡ recovery_asked c space pid offset h
 return-alike h g alike c space pid offset = λ i.
     let p = place_of (alike.same.same_limits i) space in
     brought_back c p pid offset (alike.same.same_log i) (unwrap_or (session_with pid (alike.same.same_sessions i)) (no_session p pid))
 
-return-right : (h : History) (now c : ℕ) (space : List ℕ) (pid offset : ℕ) (k : History) → Makes h now (what.Recovered (return_of c space pid offset h)) k → RightRecovery h.base h.limits h.journal (return_of c space pid offset h)
+return-right : (h : History) (now c : ℕ) (space : List ℕ) (pid offset : ℕ) (k : History) → Makes h now (what.Recovered (recovery_asked c space pid offset h)) k → RightRecovery h.base h.limits h.journal (recovery_asked c space pid offset h)
 return-right h now c space pid offset k (free, is) =
     let p = place_of h.limits space in
     right h.base h.limits h.journal c p pid offset
     (may-recover h.base h.limits h.journal c p pid offset (moment_at h now)
-    (unrefused (recover_refusal h.base h.limits h.journal c p pid offset (moment_at h now)) (is_spent h.base h.limits h.journal (what.Recovered (return_of c space pid offset h))) (sym free)))
+    (unrefused (recover_refusal h.base h.limits h.journal c p pid offset (moment_at h now)) (is_spent h.base h.limits h.journal (what.Recovered (recovery_asked c space pid offset h))) (sym free)))
 
 module _ (keeps : StaysSound) (now : ℕ) where
-  cannot-alike : (h g : History) → AreAlike h g → (w : What) → CannotReturn h now w → CannotReturn g now w
+  cannot-alike : (h g : History) → AreAlike h g → (w : What) → CannotRecover h now w → CannotRecover g now w
   cannot-alike h g alike w (inl (why, refused)) = inl (why, refused-alike keeps now h g alike w (hub.NotRecoverable why) refused)
   cannot-alike h g alike w (inr refused) = inr (refused-alike keeps now h g alike w hub.OutboxFull refused)
 
@@ -147,7 +147,7 @@ module _ (keeps : StaysSound) (now : ℕ) where
   does-all who before effects s (Ok done) t g alike run = effects-alike keeps now who effects s t g alike run
   does-all who before effects s (Err e) t g alike stops = stopped-alike keeps now who before effects s e t g alike stops
 
-  leaves-alike : (who : Who) (s : Scene) (result : Upshot) (t : Scene) (g : History) → AreAlike s.history g → Leaves who now s result t → SimFor (Leaves who now) s result t g
+  leaves-alike : (who : Who) (s : Scene) (result : Upshot) (t : Scene) (g : History) → AreAlike s.history g → ClientDisconnects who now s result t → SimFor (ClientDisconnects who now) s result t g
   leaves-alike who s (Ok done) t g alike (makes, advances, is) =
       let both = make-alike keeps now s.history g t.history alike (what.Ended who.sid side.Client) tt makes in
       let m = with_step g now (what.Ended who.sid side.Client) in
@@ -202,7 +202,7 @@ module _ (keeps : StaysSound) (now : ℕ) where
 
   -- ---- connecting
 
-  draws-none : (R : Scene → Upshot → Scene → Type 0) (s : Stage) (result : Upshot) (t : Stage) (g : History) → SimFor R s.scene result t.scene g → t.ids ≡ s.ids → SimFrom (DrawsNone R) s result t g
+  draws-none : (R : Scene → Upshot → Scene → Type 0) (s : Course) (result : Upshot) (t : Course) (g : History) → SimFor R s.scene result t.scene g → t.ids ≡ s.ids → SimFrom (DrawsNone R) s result t g
   draws-none R s result t g (m, grown, also) drawn = (m, grown, (also, drawn))
 
   connects-as : (who : Who) (pid : ℕ) (effects : List Effect) (s : Scene) (result : Upshot) (t : Scene) (g : History) → AreAlike s.history g → ConnectsAs who pid effects now s result t → SimFor (ConnectsAs who pid effects now) s result t g
@@ -211,7 +211,7 @@ module _ (keeps : StaysSound) (now : ℕ) where
     where
       Attaches : Socket → Scene → Scene → Type 0
       Attaches k a b =
-          ((between : Scene) × Makes a.history now (what.Attached k) between.history × Advances a.line (Entered who.sid ∷ []) between.line
+          ((between : Scene) × Makes a.history now (what.Attached k) between.history × Advances a.line (Connected who.sid ∷ []) between.line
           × (between ≡ record (counted a) { history = between.history; line = between.line }) × DoesAll who now 1 effects between result b)
           ⊎ (IsRefused a.history now (what.Attached k) hub.OutboxFull × ClosesFor who.client now cause.OutboxFull a result b)
           ⊎ ((e : Stopped) × (result ≡ Err e) × StopsAt a.history now (what.Attached k) e.fault × StopsFor e.fault a e b)
@@ -230,15 +230,15 @@ module _ (keeps : StaysSound) (now : ℕ) where
           (g, same-scene s t g alike same, inr (inr (e, is, stops-alike keeps now s.history g alike (what.Attached (seat who pid s.history)) e.fault stops, (none, ap (λ (u : Scene). moved u g) same))))
 
   returns-alike : (c : ℕ) (space : List ℕ) (pid offset : ℕ) (s : Scene) (result : Upshot) (t : Scene) (g : History) → AreAlike s.history g
-      → Returns (what.Recovered (return_of c space pid offset s.history)) (return_of c space pid offset s.history).socket.sid now s result t
-      → SimFor (Returns (what.Recovered (return_of c space pid offset s.history)) (return_of c space pid offset s.history).socket.sid now) s result t g
+      → IsRecovered (what.Recovered (recovery_asked c space pid offset s.history)) (recovery_asked c space pid offset s.history).socket.sid now s result t
+      → SimFor (IsRecovered (what.Recovered (recovery_asked c space pid offset s.history)) (recovery_asked c space pid offset s.history).socket.sid now) s result t g
   returns-alike c space pid offset s result t g alike (is, makes, advances, same) =
-      let w = what.Recovered (return_of c space pid offset s.history) in
+      let w = what.Recovered (recovery_asked c space pid offset s.history) in
       let both = make-alike keeps now s.history g t.history alike w (return-right s.history now c space pid offset t.history makes) makes in
       let m = with_step g now w in
       (m, both.0, (is, both.1, advances, ap (λ (u : Scene). moved u m) same))
 
-  module _ (policy : Policy) (c : ℕ) (space payload : List ℕ) (s : Stage) (result : Upshot) (t : Stage) (g : History) (alike : AreAlike s.scene.history g) where
+  module _ (policy : Policy) (c : ℕ) (space payload : List ℕ) (s : Course) (result : Upshot) (t : Course) (g : History) (alike : AreAlike s.scene.history g) where
     asks-app : AsksApp policy c space payload now s result t → SimFrom (AsksApp policy c space payload now) s result t g
     asks-app (inl (short, drawn)) = let (m, grown, also) = short-alike s.scene result t.scene g alike short in (m, grown, inl (also, drawn))
     asks-app (inr (inl (effects, allowed, clean, (drawn, does)))) =
@@ -248,39 +248,39 @@ module _ (keeps : StaysSound) (now : ℕ) where
         let (m, grown, also) = refuses-alike c space message s.scene result t.scene g alike refuses in (m, grown, inr (inr (message, allowed, (also, drawn))))
 
     -- the session that is brought back, whichever recovery it is
-    abbrev ReturnsBy : PlainRecovery → Stage → Stage → Type 0
-    ReturnsBy r a b =
-        DrawsNone (Returns (what.Recovered r) r.socket.sid now) a result b
-        ⊎ (CannotReturn a.scene.history now (what.Recovered r) × AsksApp policy c space payload now a result b)
+    abbrev RecoversBy : PlainRecovery → Course → Course → Type 0
+    RecoversBy r a b =
+        DrawsNone (IsRecovered (what.Recovered r) r.socket.sid now) a result b
+        ⊎ (CannotRecover a.scene.history now (what.Recovered r) × AsksApp policy c space payload now a result b)
         ⊎ ((e : Stopped) × (result ≡ Err e) × StopsAt a.scene.history now (what.Recovered r) e.fault × StopsFor e.fault a.scene e b.scene × (b.ids ≡ a.ids))
 
-    comes-back : (pid offset : ℕ) → ComesBack policy c space payload pid offset now s result t → SimFrom (ComesBack policy c space payload pid offset now) s result t g
+    comes-back : (pid offset : ℕ) → AsksToRecover policy c space payload pid offset now s result t → SimFrom (AsksToRecover policy c space payload pid offset now) s result t g
     comes-back pid offset does =
-        subst (λ (r : PlainRecovery). (m : History) × Grown s.scene.history t.scene.history g m × ReturnsBy r (shifted s g) (shifted t m)) (sym (return-alike s.scene.history g alike c space pid offset)) (on does)
+        subst (λ (r : PlainRecovery). (m : History) × Grown s.scene.history t.scene.history g m × RecoversBy r (shifted s g) (shifted t m)) (sym (return-alike s.scene.history g alike c space pid offset)) (on does)
       where
         r : PlainRecovery
-        r = return_of c space pid offset s.scene.history
+        r = recovery_asked c space pid offset s.scene.history
 
-        on : ReturnsBy r s t → (m : History) × Grown s.scene.history t.scene.history g m × ReturnsBy r (shifted s g) (shifted t m)
+        on : RecoversBy r s t → (m : History) × Grown s.scene.history t.scene.history g m × RecoversBy r (shifted s g) (shifted t m)
         on (inl (returns, drawn)) = let (m, grown, also) = returns-alike c space pid offset s.scene result t.scene g alike returns in (m, grown, inl (also, drawn))
         on (inr (inl (cannot, asks))) =
             let (m, grown, also) = asks-app asks in (m, grown, inr (inl (cannot-alike s.scene.history g alike (what.Recovered r) cannot, also)))
         on (inr (inr (e, is, stops, (none, same), drawn))) =
             (g, same-scene s.scene t.scene g alike same, inr (inr (e, is, stops-alike keeps now s.scene.history g alike (what.Recovered r) e.fault stops, (none, ap (λ (u : Scene). moved u g) same), drawn)))
 
-    may-come-back : MayComeBack policy c space payload now s result t → SimFrom (MayComeBack policy c space payload now) s result t g
+    may-come-back : MayRecover policy c space payload now s result t → SimFrom (MayRecover policy c space payload now) s result t g
     may-come-back (inl (short, drawn)) = let (m, grown, also) = short-alike s.scene result t.scene g alike short in (m, grown, inl (also, drawn))
     may-come-back (inr (inl (none, asks))) = let (m, grown, also) = asks-app asks in (m, grown, inr (inl (none, also)))
     may-come-back (inr (inr (named, names, comes))) = let (m, grown, also) = comes-back named.0 named.1 comes in (m, grown, inr (inr (named, names, also)))
 
     -- the row of a CONNECT, by the namespace and the client's socket in it
-    abbrev FindsSocket : Option Socket → Stage → Stage → Type 0
+    abbrev FindsSocket : Option Socket → Course → Course → Type 0
     FindsSocket o a b = elim o as (λ (o : Option Socket). Type 0) [
       | Some k ↦ DrawsNone (ClosesFor c now cause.AlreadyConnected) a result b
-      | None ↦ MayComeBack policy c space payload now a result b
+      | None ↦ MayRecover policy c space payload now a result b
     ]
 
-    abbrev FindsSpace : Bool → Option Socket → Stage → Stage → Type 0
+    abbrev FindsSpace : Bool → Option Socket → Course → Course → Type 0
     FindsSpace there o a b = elim there as (λ (there : Bool). Type 0) [ false ↦ DrawsNone (Refuses c now space (codes "Invalid namespace")) a result b | true ↦ FindsSocket o a b ]
 
     asks-to-connect : AsksToConnect policy c space payload now s result t → SimFrom (AsksToConnect policy c space payload now) s result t g
@@ -298,7 +298,7 @@ module _ (keeps : StaysSound) (now : ℕ) where
   -- ---- a packet
 
   module _ (policy : Policy) (c : ℕ) where
-    works-alike : (p : SioPacket) (s : Stage) (result : Upshot) (t : Stage) (g : History) → AreAlike s.scene.history g → Works policy c p now s result t → SimFrom (Works policy c p now) s result t g
+    works-alike : (p : SioPacket) (s : Course) (result : Upshot) (t : Course) (g : History) → AreAlike s.scene.history g → Works policy c p now s result t → SimFrom (Works policy c p now) s result t g
     works-alike p s result t g alike does = on p.header.kind does
       where
         joins : ServesJoined policy c p now s.scene result t.scene × (t.ids ≡ s.ids) → SimFrom (DrawsNone (ServesJoined policy c p now)) s result t g
@@ -316,17 +316,17 @@ module _ (keeps : StaysSound) (now : ℕ) where
         on kind.BinaryEvent does = joins does
         on kind.BinaryAck does = joins does
 
-    same-stage : (s t : Stage) (g : History) → AreAlike s.scene.history g → t ≡ s → Grown s.scene.history t.scene.history g g
-    same-stage s t g alike is = grown-none s.scene.history t.scene.history g alike (ap (λ (u : Stage). u.scene.history) is)
+    same-course : (s t : Course) (g : History) → AreAlike s.scene.history g → t ≡ s → Grown s.scene.history t.scene.history g g
+    same-course s t g alike is = grown-none s.scene.history t.scene.history g alike (ap (λ (u : Course). u.scene.history) is)
 
-    closes-one : (why : Cause) (s : Stage) (result : Upshot) (t : Stage) (g : History) → AreAlike s.scene.history g → DrawsNone (ClosesFor c now why) s result t → SimFrom (DrawsNone (ClosesFor c now why)) s result t g
+    closes-one : (why : Cause) (s : Course) (result : Upshot) (t : Course) (g : History) → AreAlike s.scene.history g → DrawsNone (ClosesFor c now why) s result t → SimFrom (DrawsNone (ClosesFor c now why)) s result t g
     closes-one why s result t g alike (closes, drawn) = let (m, grown, also) = closes-for c why s.scene result t.scene g alike closes in (m, grown, (also, drawn))
 
-    short-one : (s : Stage) (result : Upshot) (t : Stage) (g : History) → AreAlike s.scene.history g → DrawsNone IsShort s result t → SimFrom (DrawsNone IsShort) s result t g
+    short-one : (s : Course) (result : Upshot) (t : Course) (g : History) → AreAlike s.scene.history g → DrawsNone IsShort s result t → SimFrom (DrawsNone IsShort) s result t g
     short-one s result t g alike (short, drawn) = let (m, grown, also) = short-alike s.scene result t.scene g alike short in (m, grown, (also, drawn))
 
-    goes-on : (given : Result (Option SioPacket) SioError) (s : Stage) (result : Upshot) (t : Stage) (g : History) → AreAlike s.scene.history g → GoesOn policy c given now s result t → SimFrom (GoesOn policy c given now) s result t g
-    goes-on (Ok None) s result t g alike (is, same) = (g, same-stage s t g alike same, (is, ap (λ (u : Stage). shifted u g) same))
+    goes-on : (given : Result (Option SioPacket) SioError) (s : Course) (result : Upshot) (t : Course) (g : History) → AreAlike s.scene.history g → GoesOn policy c given now s result t → SimFrom (GoesOn policy c given now) s result t g
+    goes-on (Ok None) s result t g alike (is, same) = (g, same-course s t g alike same, (is, ap (λ (u : Course). shifted u g) same))
     goes-on (Ok (Some p)) s result t g alike (whole, works) = let (m, grown, also) = works-alike p s result t g alike works in (m, grown, (whole, also))
     goes-on (Err sio.Memory) s result t g alike does = short-one s result t g alike does
     goes-on (Err sio.BadKind) s result t g alike does = closes-one _ s result t g alike does
@@ -340,27 +340,27 @@ module _ (keeps : StaysSound) (now : ℕ) where
     goes-on (Err sio.TextAwaitingBinary) s result t g alike does = closes-one _ s result t g alike does
     goes-on (Err sio.BinaryUnawaited) s result t g alike does = closes-one _ s result t g alike does
 
-    takes-frame : (frame : Frame) (s : Stage) (result : Upshot) (t : Stage) (g : History) → AreAlike s.scene.history g → TakesFrame policy c frame now s result t → SimFrom (TakesFrame policy c frame now) s result t g
+    takes-frame : (frame : Frame) (s : Course) (result : Upshot) (t : Course) (g : History) → AreAlike s.scene.history g → TakesFrame policy c frame now s result t → SimFrom (TakesFrame policy c frame now) s result t g
     takes-frame frame s result t g alike (given, line, accepts, advances, does) =
         let (m, grown, also) = goes-on (Ok given) (with_line policy s line) result t g alike does in (m, grown, (given, line, accepts, advances, also))
 
-    takes-text : (content : List ℕ) (s : Stage) (result : Upshot) (t : Stage) (g : History) → AreAlike s.scene.history g → TakesText policy c content now s result t → SimFrom (TakesText policy c content now) s result t g
+    takes-text : (content : List ℕ) (s : Course) (result : Upshot) (t : Course) (g : History) → AreAlike s.scene.history g → TakesText policy c content now s result t → SimFrom (TakesText policy c content now) s result t g
     takes-text content s result t g alike (inl short) = let (m, grown, also) = short-one s result t g alike short in (m, grown, inl also)
     takes-text content s result t g alike (inr (inl takes)) = let (m, grown, also) = takes-frame (text content) s result t g alike takes in (m, grown, inr (inl also))
     takes-text content s result t g alike (inr (inr (error, refuses, does))) =
         let (m, grown, also) = goes-on (Err error) (with_line policy s (record s.scene.line { assembler = Failed error })) result t g alike does in (m, grown, inr (inr (error, refuses, also)))
 
-    reads-binary : (content : List ℕ) (s : Stage) (result : Upshot) (t : Stage) (g : History) → AreAlike s.scene.history g → ReadsBinary policy c content now s result t → SimFrom (ReadsBinary policy c content now) s result t g
+    reads-binary : (content : List ℕ) (s : Course) (result : Upshot) (t : Course) (g : History) → AreAlike s.scene.history g → ReadsBinary policy c content now s result t → SimFrom (ReadsBinary policy c content now) s result t g
     reads-binary content s result t g alike (inl short) = let (m, grown, also) = short-one s result t g alike short in (m, grown, inl also)
     reads-binary content s result t g alike (inr (inl takes)) = let (m, grown, also) = takes-frame (binary content) s result t g alike takes in (m, grown, inr (inl also))
     reads-binary content s result t g alike (inr (inr (error, refuses, does))) =
         let (m, grown, also) = goes-on (Err error) (with_line policy s (record s.scene.line { assembler = Failed error })) result t g alike does in (m, grown, inr (inr (error, refuses, also)))
 
     -- the row of bytes, by whether they are too many
-    abbrev FindsLong : List ℕ → Upshot → Bool → Stage → Stage → Type 0
+    abbrev FindsLong : List ℕ → Upshot → Bool → Course → Course → Type 0
     FindsLong content result long a b = elim long as (λ (long : Bool). Type 0) [ true ↦ DrawsNone (ClosesFor c now cause.TooLong) a result b | false ↦ ReadsBinary policy c content now a result b ]
 
-    takes-binary : (content : List ℕ) (s : Stage) (result : Upshot) (t : Stage) (g : History) → AreAlike s.scene.history g → TakesBinary policy c content now s result t → SimFrom (TakesBinary policy c content now) s result t g
+    takes-binary : (content : List ℕ) (s : Course) (result : Upshot) (t : Course) (g : History) → AreAlike s.scene.history g → TakesBinary policy c content now s result t → SimFrom (TakesBinary policy c content now) s result t g
     takes-binary content s result t g alike does =
         subst (λ (l : Limits). (m : History) × Grown s.scene.history t.scene.history g m × FindsLong content result (exceeds s.scene.line.assembler l.bytes (length content)) (shifted s g) (shifted t m)) (sym alike.same.same_limits)
         (on (exceeds s.scene.line.assembler s.scene.history.limits.bytes (length content)) does)
@@ -369,31 +369,31 @@ module _ (keeps : StaysSound) (now : ℕ) where
         on true does = closes-one cause.TooLong s result t g alike does
         on false does = reads-binary content s result t g alike does
 
-    handles-alike : (packet : Packet) (s : Stage) (result : Upshot) (t : Stage) (g : History) → AreAlike s.scene.history g → Handles policy c packet now s result t → SimFrom (Handles policy c packet now) s result t g
+    handles-alike : (packet : Packet) (s : Course) (result : Upshot) (t : Course) (g : History) → AreAlike s.scene.history g → Handles policy c packet now s result t → SimFrom (Handles policy c packet now) s result t g
     handles-alike (eio.Close content) s result t g alike (does, drawn) = let (m, grown, also) = parks-for c s.scene result t.scene g alike does in (m, grown, (also, drawn))
     handles-alike (eio.Ping content) s result t g alike does = closes-one cause.PingFromClient s result t g alike does
     handles-alike (eio.Pong content) s result t g alike (is, advances, same) =
-        (g, grown-none s.scene.history t.scene.history g alike (ap (λ (u : Stage). u.scene.history) same), (is, advances, ap (λ (u : Stage). shifted u g) same))
+        (g, grown-none s.scene.history t.scene.history g alike (ap (λ (u : Course). u.scene.history) same), (is, advances, ap (λ (u : Course). shifted u g) same))
     handles-alike (eio.Message content) s result t g alike does = takes-text content s result t g alike does
     handles-alike (eio.Binary content) s result t g alike does = takes-binary content s result t g alike does
-    handles-alike (eio.Open content) s result t g alike (is, same) = (g, same-stage s t g alike same, (is, ap (λ (u : Stage). shifted u g) same))
-    handles-alike (eio.Upgrade content) s result t g alike (is, same) = (g, same-stage s t g alike same, (is, ap (λ (u : Stage). shifted u g) same))
-    handles-alike (eio.Noop content) s result t g alike (is, same) = (g, same-stage s t g alike same, (is, ap (λ (u : Stage). shifted u g) same))
+    handles-alike (eio.Open content) s result t g alike (is, same) = (g, same-course s t g alike same, (is, ap (λ (u : Course). shifted u g) same))
+    handles-alike (eio.Upgrade content) s result t g alike (is, same) = (g, same-course s t g alike same, (is, ap (λ (u : Course). shifted u g) same))
+    handles-alike (eio.Noop content) s result t g alike (is, same) = (g, same-course s t g alike same, (is, ap (λ (u : Course). shifted u g) same))
 
-    pub packet-alike : (packet : Packet) (s : Stage) (result : Upshot) (t : Stage) (g : History) → AreAlike s.scene.history g → HandlesOrBreaks policy c packet now s result t → SimFrom (HandlesOrBreaks policy c packet now) s result t g
+    pub packet-alike : (packet : Packet) (s : Course) (result : Upshot) (t : Course) (g : History) → AreAlike s.scene.history g → HandlesOrBreaks policy c packet now s result t → SimFrom (HandlesOrBreaks policy c packet now) s result t g
     packet-alike packet s result t g alike does = on s.scene.done.closed does
       where
         on : (o : Option Cause) → elim o as (λ (o : Option Cause). Type 0) [ Some why ↦ (result ≡ Ok tt) × (t ≡ s) | None ↦ Handles policy c packet now (begun policy s) result t ]
             → (m : History) × Grown s.scene.history t.scene.history g m
             × elim o as (λ (o : Option Cause). Type 0) [ Some why ↦ (result ≡ Ok tt) × (shifted t m ≡ shifted s g) | None ↦ Handles policy c packet now (begun policy (shifted s g)) result (shifted t m) ]
-        on (Some why) (is, same) = (g, same-stage s t g alike same, (is, ap (λ (u : Stage). shifted u g) same))
+        on (Some why) (is, same) = (g, same-course s t g alike same, (is, ap (λ (u : Course). shifted u g) same))
         on None handles = handles-alike packet (begun policy s) result t g alike handles
 
-    pub packets-alike : (packets : List Packet) (s t : Stage) (g : History) → AreAlike s.scene.history g → Runs (HandlesInTurn policy c now) packets s t → SimStage (Runs (HandlesInTurn policy c now) packets) s t g
+    pub packets-alike : (packets : List Packet) (s t : Course) (g : History) → AreAlike s.scene.history g → Runs (HandlesInTurn policy c now) packets s t → SimStage (Runs (HandlesInTurn policy c now) packets) s t g
     packets-alike packets s t g alike run =
-        runs-alike (λ (u : Stage). u.scene.history) shifted (HandlesInTurn policy c now) (λ a packet b k same does. packet-alike packet a (Ok tt) b k same does) packets s t g alike run
+        runs-alike (λ (u : Course). u.scene.history) shifted (HandlesInTurn policy c now) (λ a packet b k same does. packet-alike packet a (Ok tt) b k same does) packets s t g alike run
 
-    pub breaks-alike : (packets : List Packet) (s : Stage) (e : CoreError) (t : Stage) (g : History) → AreAlike s.scene.history g → BreaksAfter policy c now packets s e t → SimStage (λ a b. BreaksAfter policy c now packets a e b) s t g
+    pub breaks-alike : (packets : List Packet) (s : Course) (e : CoreError) (t : Course) (g : History) → AreAlike s.scene.history g → BreaksAfter policy c now packets s e t → SimStage (λ a b. BreaksAfter policy c now packets a e b) s t g
     breaks-alike packets s e t g alike (at, run, packet, there, breaks) =
         let (m, grown, also) = packets-alike (take e.packets packets) s at g alike run in
         let (n, further, ends) = packet-alike packet at (Err (record { fault = e.fault; effects = e.effects })) t m grown.alike breaks in

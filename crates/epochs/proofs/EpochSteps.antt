@@ -8,9 +8,9 @@ use Rattle.journal.specs.Command.{refusal}
 use Rattle.journal.specs.Seal.{SaysTheSame, IsLegalAndSound, MayFollow}
 use Rattle.journal.proofs.EpochsLemmas.{composes-forth}
 use Rattle.journal.proofs.EpochsRefusalsLemmas.{refusal-same}
-use Rattle.effects.specs.Departed.{ended_since}
+use Rattle.effects.specs.Hearing.{ended_since}
 use Rattle.epochs.specs.Epochs.{AreAlike, with_steps}
-use Rattle.epochs.proofs.EpochDeparted.{departed_in, departed-both, since-steps, departed-alike}
+use Rattle.epochs.proofs.EpochEnded.{sockets_ended_in, ended_sockets-both, since-steps, ended_sockets-alike}
 
 pub says-same-turned : (g h : History) → SaysTheSame g h → SaysTheSame h g
 says-same-turned g h same = record {
@@ -54,7 +54,7 @@ pub record Grown (h k g m : History) : Type 0 where
   pub one : k ≡ with_steps steps h
   pub other : m ≡ with_steps steps g
   pub alike : AreAlike k m
-  pub gone : departed_in g.base g.journal steps ≡ departed_in h.base h.journal steps
+  pub gone : sockets_ended_in g.base g.journal steps ≡ sockets_ended_in h.base h.journal steps
 
 pub grown-none : (h k g : History) → AreAlike h g → k ≡ h → Grown h k g g
 grown-none h k g alike is = record { steps = []; one = is; other = refl; alike = subst (λ (j : History). AreAlike j g) (sym is) alike; gone = refl }
@@ -66,16 +66,16 @@ grown-on h k l g m n first next = record {
   other = next.other ∙ ap (with_steps next.steps) first.other ∙ ap (λ (steps : List Step). history g.base g.limits steps) (sym (append_assoc next.steps first.steps g.journal));
   alike = next.alike;
   gone =
-      departed-both g.base g.journal first.steps next.steps
+      ended_sockets-both g.base g.journal first.steps next.steps
       ∙ (λ i. first.gone i ++ later i)
-      ∙ sym (departed-both h.base h.journal first.steps next.steps);
+      ∙ sym (ended_sockets-both h.base h.journal first.steps next.steps);
 }
   where
-    later : departed_in g.base (first.steps ++ g.journal) next.steps ≡ departed_in h.base (first.steps ++ h.journal) next.steps
+    later : sockets_ended_in g.base (first.steps ++ g.journal) next.steps ≡ sockets_ended_in h.base (first.steps ++ h.journal) next.steps
     later =
-        ap (λ (j : History). departed_in j.base j.journal next.steps) (sym first.other)
+        ap (λ (j : History). sockets_ended_in j.base j.journal next.steps) (sym first.other)
         ∙ next.gone
-        ∙ ap (λ (j : History). departed_in j.base j.journal next.steps) first.one
+        ∙ ap (λ (j : History). sockets_ended_in j.base j.journal next.steps) first.one
 
 -- the same sockets ended on the way
 pub ended-alike : (h k g m : History) → Grown h k g m → ended_since g m ≡ ended_since h k
@@ -97,5 +97,5 @@ module _ (keeps : StaysSound) where
     one = is;
     other = ap (λ (at : ℕ). history g.base g.limits (record { at = at; what = w } ∷ g.journal)) (moment-alike h g alike now);
     alike = subst (λ (j : History). AreAlike j (with_step g now w)) (sym is) (step-alike h g alike now w may);
-    gone = departed-alike h g alike w;
+    gone = ended_sockets-alike h g alike w;
   }

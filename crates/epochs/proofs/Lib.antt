@@ -1,6 +1,6 @@
 mod EpochAccounts
 mod EpochCasts
-mod EpochDeparted
+mod EpochEnded
 mod EpochEffects
 mod EpochHearing
 mod EpochLaws

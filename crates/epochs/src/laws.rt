@@ -16,7 +16,7 @@ ghost use Rattle.events.specs.Answer.{Answer};
 ghost use Rattle.epochs.specs.Epochs.{all_placements, BeginsAfter, HandedInAll, SparesInAll};
 ghost use Rattle.epochs.specs.Epochs.{AreAlike, in_one};
 ghost use Rattle.dispatch.specs.Machine.{Does, Machine};
-ghost use Rattle.dispatch.specs.Place.{Place, place, Agree};
+ghost use Rattle.dispatch.specs.Holding.{Holding, holding, Agree};
 ghost use Rattle.dispatch.specs.Handed.{Turn, is_opened_in, Handed};
 
 use events::App;
@@ -69,29 +69,29 @@ pub fn does_in_all_epochs<A: App>(app: &A)
         (sealed : List History) (h k : History) (old new : List (ℕ × PlainLine)) (ids left : ℕ → ℕ)
         → AreAlike h (in_one sealed h) → Agree h old
         → Does (A.policy app.now) now timing numbers event
-        (place h old) ids answer (place k new) left
+        (holding h old) ids answer (holding k new) left
         → Does (A.policy app.now) now timing numbers event
-        (place (in_one sealed h) old) ids answer (place (in_one sealed k) new) left
+        (holding (in_one sealed h) old) ids answer (holding (in_one sealed k) new) left
         × AreAlike k (in_one sealed k) × Agree k new }
     ensures back { (now : ℕ) (timing : Timing) (numbers : Numbers) (event : Event) (answer : Answer)
         (sealed : List History) (h m : History) (old new : List (ℕ × PlainLine)) (ids left : ℕ → ℕ)
         → AreAlike h (in_one sealed h) → Agree h old
         → Does (A.policy app.now) now timing numbers event
-        (place (in_one sealed h) old) ids answer (place m new) left
+        (holding (in_one sealed h) old) ids answer (holding m new) left
         → (k : History) × (m ≡ in_one sealed k)
         × Does (A.policy app.now) now timing numbers event
-        (place h old) ids answer (place k new) left }
+        (holding h old) ids answer (holding k new) left }
 
     // the account of all events so far, with one more
     ensures account { (now : ℕ) (timing : Timing) (numbers : Numbers) (event : Event)
-        (answer : Answer) (events : List (Event × ℕ)) (answers : List Answer) (s : Place)
+        (answer : Answer) (events : List (Event × ℕ)) (answers : List Answer) (s : Holding)
         (sealed : List History) (h k : History) (old new : List (ℕ × PlainLine))
         (ids left rest : ℕ → ℕ) → AreAlike h (in_one sealed h) → Agree h old
         → Machine (A.policy app.now) timing numbers
-        events answers s ids (place (in_one sealed h) old) left
+        events answers s ids (holding (in_one sealed h) old) left
         → Does (A.policy app.now) now timing numbers event
-        (place h old) left answer (place k new) rest
+        (holding h old) left answer (holding k new) rest
         → Machine (A.policy app.now) timing numbers
         (events ++ (event, now) ∷ []) (answers ++ answer ∷ [])
-        s ids (place (in_one sealed k) new) rest }
+        s ids (holding (in_one sealed k) new) rest }
 {}

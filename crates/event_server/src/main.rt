@@ -2,7 +2,7 @@
 //! script` serves the clients of a script.
 #![tactic(auto)]
 
-use arguments::refused::tell_refused;
+use arguments::refused::print_refused;
 use arguments::task::{Task, read_arguments};
 use guarded::Guarded;
 use relay::{Presence, RelayApp};
@@ -46,6 +46,6 @@ fn main(rt: HostRuntime) -> ExitCode {
                 Err(fault) => end_with(&rt, NAME, Err(fault)),
             }
         }
-        Err(refused) => end_with(&rt, NAME, tell_refused(&rt, &refused)),
+        Err(refused) => end_with(&rt, NAME, print_refused(&rt, &refused)),
     }
 }

@@ -20,7 +20,7 @@ pub data PlainVerdict : Type 0 where
 pub record Policy : Type 1 where
   pub allows : (space payload : List ℕ) → PlainVerdict → Type 0
   pub decides : Who → Arrived → List Effect → Type 0
-  pub leaves : Who → (rooms : List (List ℕ)) → Ending → List Effect → Type 0
+  pub ends : Who → (rooms : List (List ℕ)) → Ending → List Effect → Type 0
 
 abbrev pub plain_verdict : Verdict → PlainVerdict
 plain_verdict (Accept effects) = Accepted effects.items

@@ -34,7 +34,7 @@ noted refused done = record done { skipped = option_or done.skipped refused }
 abbrev pub told : ℕ → List ℕ → PlainDone → PlainDone
 told c ids done = record done { clients = done.clients ++ filter (λ d. not (d == c)) ids ∷ [] }
 
--- lists of clients, one for each broadcast, and for how many more there is room
+-- lists of clients, one for each broadcast, and how many more can be added
 pub record PlainReceivers : Type 0 where
   pub lists : List (List ℕ)
-  pub room : ℕ
+  pub free : ℕ

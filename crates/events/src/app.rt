@@ -172,9 +172,9 @@ pub trait App {
 
     /// What is done where a socket has ended, which was in these rooms, its own among them. It can
     /// do nothing any more, so of all effects only `Emit` may follow.
-    fn left(&self, alloc: Global, who: &Who, rooms: &[Room], ending: Ending) -> Wanted
-        ensures left { IfOk result (λ effects.
-            (policy self.now).leaves who.now rooms.now ending effects.items) }
+    fn ended(&self, alloc: Global, who: &Who, rooms: &[Room], ending: Ending) -> Wanted
+        ensures ended { IfOk result (λ effects.
+            (policy self.now).ends who.now rooms.now ending effects.items) }
         ensures clean { IfOk result (λ effects. AllClean effects.items) };
 }
 

@@ -3,10 +3,11 @@
 ghost use Rattle.std.specs.Prelude.{◌≡◌, ◌≢◌};
 ghost use Rattle.eio_wire.specs.declared.error.WireError.TheVariants as wire;
 ghost use Rattle.sio_wire.specs.declared.error.SioError.TheVariants as sio;
-ghost use Rattle.events.specs.Cause.{cause_of_wire, cause_of_sio};
+ghost use Rattle.events.specs.Cause.{cause_name, cause_of_wire, cause_of_sio};
 
 use eio_wire::WireError;
 use sio_wire::SioError;
+use terms::name_of;
 
 /// Why the server closed a client, or that the client closed itself.
 #[derive(Clone, Copy, Debug, PartialEq, Eq)]
@@ -54,7 +55,7 @@ pub enum Cause {
     PingTimeout,
     /// No namespace was joined in time.
     ConnectTimeout,
-    /// What the client must be told has no place in its outbox.
+    /// What the client must be told has no space in its outbox.
     OutboxFull,
 }
 
@@ -90,5 +91,14 @@ impl Cause {
             SioError::BinaryUnawaited => Cause::BinaryUnawaited,
             SioError::Memory => unreachable!(),
         }
+    }
+
+    /// The name of the variant.
+    pub fn name(self) -> &'static str
+        ensures { result.now ≡ cause_name self }
+    {
+        name_of!(self, Cause: Empty BadType BadBase64 BadKind BadCount BadId BadJson BadShape Reserved
+            BadPlaceholder TooMany TextAwaitingBinary BinaryUnawaited NotJoined AlreadyConnected
+            PingFromClient ClientClosed DoubleGet TooLong PingTimeout ConnectTimeout OutboxFull)
     }
 }

@@ -17,6 +17,6 @@ pub use app::{
 pub use cause::Cause;
 pub use event::{Event, WsFrame};
 pub use fault::{CoreError, CoreFault, Stopped, Worked};
-pub use loss::{Loss, Telling};
+pub use loss::{Loss, Retry};
 pub use outcome::{Answered, Done, Frames, Opening, Outcome, Receivers};
 pub use peer::{Peer, PeerFault};

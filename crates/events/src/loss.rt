@@ -11,7 +11,7 @@ const TRIES: u32 = 3;
 
 /// Whether the core is told of a loss once more.
 #[derive(Clone, Copy, Debug, PartialEq, Eq)]
-pub enum Telling {
+pub enum Retry {
     /// It refused that, and is told again.
     Again,
     /// It accepted that, or was told as often as it may be.
@@ -44,16 +44,16 @@ impl Loss {
     }
 
     /// The core was told, and answered this.
-    pub fn hears(&mut self, got: &Answered) -> Telling
+    pub fn hears(&mut self, got: &Answered) -> Retry
         ensures told { self.new ≡ record self.old { left = self.old.left - 1 } }
-        ensures telling { result ≡ follows self.old.left got.now }
+        ensures retry { result ≡ follows self.old.left got.now }
     {
         let is_last = self.left <= 1;
         self.left = self.left.saturating_sub(1);
         if got.is_ok() || is_last {
-            Telling::Over
+            Retry::Over
         } else {
-            Telling::Again
+            Retry::Again
         }
     }
 }

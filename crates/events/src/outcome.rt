@@ -136,7 +136,7 @@ impl Done {
 }
 
 /// The clients that got something, one list for each broadcast. In a contract they are these lists,
-/// and for how many more there is room.
+/// and how many more can be added.
 #[derive(Drop)]
 pub struct Receivers {
     lists: Vec<Vec<u128>>,
@@ -147,7 +147,7 @@ impl Model for Receivers {
 
     ghost view = { λ r. record {
       lists = map (λ ids. ids.items) r.lists.items;
-      room = vec_capacity r.lists - vec_len r.lists;
+      free = vec_capacity r.lists - vec_len r.lists;
     } };
 }
 
@@ -167,18 +167,18 @@ impl Receivers {
         self.lists.as_slice()
     }
 
-    /// Makes room for one more list.
+    /// Makes sure that one more list can be added.
     pub fn reserve(&mut self) -> Result<(), AllocError>
         ensures same { self.new.lists ≡ self.old.lists }
-        ensures ok { OnOk result (0 < self.new.room) }
+        ensures ok { OnOk result (0 < self.new.free) }
     {
         self.lists.reserve(1)?;
         Ok(())
     }
 
-    /// Adds a list, for which there is room.
+    /// Adds a list where one can be added.
     pub fn push(&mut self, ids: Vec<u128>)
-        requires { 0 < self.old.room }
+        requires { 0 < self.old.free }
         ensures { self.new.lists ≡ self.old.lists ++ ids.items ∷ [] }
     {
         self.lists.push_reserved(ids);

@@ -40,8 +40,8 @@ impl<A: App> App for Guarded<A> {
         self.app.decides(alloc, who, arrived)
     }
 
-    fn left(&self, alloc: Global, who: &Who, rooms: &[Room], ending: Ending) -> Wanted {
-        self.app.left(alloc, who, rooms, ending)
+    fn ended(&self, alloc: Global, who: &Who, rooms: &[Room], ending: Ending) -> Wanted {
+        self.app.ended(alloc, who, rooms, ending)
     }
 }
 

@@ -7,9 +7,9 @@ use Rattle.std.proofs.lemmas.List.Sums.{fold-append}
 use Rattle.std.proofs.lemmas.List.Folds.{list_any-append}
 use Rattle.httparse.specs.Grammar.{LineEnd, crlf, lf, print_end}
 use Rattle.http_edge.specs.Reading.{is_text, HasEmptyLine, HasBegun}
-use Rattle.http_edge.specs.Line.{next, walk}
-use Rattle.http_edge.specs.declared.line.Line.{Line}
-use Rattle.http_edge.specs.declared.line.Line.TheVariants.{Blank, Text, Ended, Return, Empty}
+use Rattle.http_edge.specs.LineState.{next, walk}
+use Rattle.http_edge.specs.declared.line_state.LineState.{LineState}
+use Rattle.http_edge.specs.declared.line_state.LineState.TheVariants.{Blank, Text, Ended, Return, Empty}
 
 -- ---- an empty line is found
 
@@ -19,7 +19,7 @@ stays [] = refl
 stays (b ∷ bytes) = stays bytes
 
 -- the walk has left the empty lines at the start
-abbrev begun : Line → Bool
+abbrev begun : LineState → Bool
 begun Blank = false
 begun Text = true
 begun Ended = true
@@ -39,14 +39,14 @@ from_return : (t : Bool) → begun (cond t Empty Text) ≡ true
 from_return true = refl
 from_return false = refl
 
-begun_next : (line : Line) (b : ℕ) → begun line ≡ true → begun (next line b) ≡ true
+begun_next : (line : LineState) (b : ℕ) → begun line ≡ true → begun (next line b) ≡ true
 begun_next Blank b on = absurd (search rules)
 begun_next Text b on = from_text (b == 10)
 begun_next Ended b on = from_ended (b == 10) (b == 13)
 begun_next Return b on = from_return (b == 10)
 begun_next Empty b on = refl
 
-begun_walk : (line : Line) (bytes : List ℕ) → begun line ≡ true → begun (walk line bytes) ≡ true
+begun_walk : (line : LineState) (bytes : List ℕ) → begun line ≡ true → begun (walk line bytes) ≡ true
 begun_walk line [] on = on
 begun_walk line (b ∷ bytes) on = begun_walk (next line b) bytes (begun_next line b on)
 
@@ -60,7 +60,7 @@ begins : (bytes : List ℕ) → list_any is_text bytes ≡ true → begun (walk 
 begins [] any = cc
 begins (b ∷ bytes) any = begins_by (is_text b) b bytes refl any (begins bytes)
 
-empty_next : (line : Line) (end : LineEnd) (rest : List ℕ) → begun line ≡ true → walk line ((10 ∷ print_end end) ++ rest) ≡ Empty
+empty_next : (line : LineState) (end : LineEnd) (rest : List ℕ) → begun line ≡ true → walk line ((10 ∷ print_end end) ++ rest) ≡ Empty
 empty_next Blank end rest on = cc
 empty_next Text crlf rest on = stays rest
 empty_next Text lf rest on = stays rest
@@ -78,7 +78,7 @@ finds_empty bytes h =
 -- ---- and nothing else is
 
 -- what a walk says of the bytes behind it
-abbrev After : Line → List ℕ → Type 0
+abbrev After : LineState → List ℕ → Type 0
 After Blank p = ⊤
 After Text p = list_any is_text p ≡ true
 After Ended p = (lines : List ℕ) × (p ≡ lines ++ 10 ∷ []) × (list_any is_text lines ≡ true)
@@ -126,18 +126,18 @@ more_after bytes more h = (
   h.4,
 )
 
-after_next : (line : Line) (p : List ℕ) (b : ℕ) → After line p → After (next line b) (p ++ b ∷ [])
+after_next : (line : LineState) (p : List ℕ) (b : ℕ) → After line p → After (next line b) (p ++ b ∷ [])
 after_next Blank p b h = blank_next (is_text b) p b refl
 after_next Text p b h = text_next (b == 10) p b refl h
 after_next Ended p b h = ended_next (b == 10) (b == 13) p h.0 b refl refl h.1 h.2
 after_next Return p b h = return_next (b == 10) p h.0 b refl h.1 h.2
 after_next Empty p b h = more_after p (b ∷ []) h
 
-after_walk : (line : Line) (p bytes : List ℕ) → After line p → After (walk line bytes) (p ++ bytes)
+after_walk : (line : LineState) (p bytes : List ℕ) → After line p → After (walk line bytes) (p ++ bytes)
 after_walk line p [] h = rw (append-nil p) h
 after_walk line p (b ∷ bytes) h = rw (← append_assoc p (b ∷ []) bytes) (after_walk (next line b) (p ++ b ∷ []) bytes (after_next line p b h))
 
-text_after : (line : Line) (p : List ℕ) → After line p → line ≢ Blank → HasBegun p
+text_after : (line : LineState) (p : List ℕ) → After line p → line ≢ Blank → HasBegun p
 text_after Blank p h other = absurd (other refl)
 text_after Text p h other = h
 text_after Ended p h other = rw h.1 (any_more h.0 (10 ∷ []) h.2)

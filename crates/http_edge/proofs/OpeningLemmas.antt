@@ -9,21 +9,21 @@ use Rattle.httparse.specs.Grammar.{RequestHead, ReadsRequest, MayBecomeRequest, 
 use Rattle.httparse.specs.Spans.{RequestOverflows}
 use Rattle.http_edge.specs.Reading.{front, HasEmptyLine, HasBegun, EndsNoLine, MayBegin, HasNoHead, HasHead, StartsWith, LacksLength, NamesTooMuch, IsFault, IsUnfinished}
 use Rattle.http_edge.specs.Head.{IsHeadOf, IsOpening, IsJudged, HasParsed, Begins, Decided}
-use Rattle.http_edge.specs.Line.{next, walk}
-use Rattle.http_edge.specs.Stages.{StepsTo, so_far, fed}
+use Rattle.http_edge.specs.LineState.{next, walk}
+use Rattle.http_edge.specs.SoFar.{StepsTo, so_far, fed}
 use Rattle.http_edge.specs.declared.head.Head.{Head}
-use Rattle.http_edge.specs.declared.gathered.Stage.{Stage}
-use Rattle.http_edge.specs.declared.gathered.Step.{Step}
-use Rattle.http_edge.specs.declared.gathered.Step.TheVariants.{More}
-use Rattle.http_edge.specs.declared.line.Line.{Line}
-use Rattle.http_edge.specs.declared.line.Line.TheVariants.{Blank, Empty}
+use Rattle.http_edge.specs.declared.gathered.SoFar.{SoFar}
+use Rattle.http_edge.specs.declared.gathered.Fed.{Fed}
+use Rattle.http_edge.specs.declared.gathered.Fed.TheVariants.{More}
+use Rattle.http_edge.specs.declared.line_state.LineState.{LineState}
+use Rattle.http_edge.specs.declared.line_state.LineState.TheVariants.{Blank, Empty}
 use Rattle.http_edge.specs.declared.error.EdgeError.{EdgeError}
 use Rattle.http_edge.specs.declared.error.EdgeError.TheVariants.{Memory, Device, EarlyEnd, BadHead, HeadTooLong, BodyTooLong, NoLength, NotUtf8, TurnsSpent}
 use Rattle.http_edge.proofs.LineLemmas.{finds_empty, empty_found, has_begun, none_begun}
 
 -- ---- the walk
 
-walk_more : (line : Line) (bytes more : List ℕ) → line ≡ walk Blank bytes → walk Blank (bytes ++ more) ≡ walk line more
+walk_more : (line : LineState) (bytes more : List ℕ) → line ≡ walk Blank bytes → walk Blank (bytes ++ more) ≡ walk line more
 walk_more line bytes more is = rw is (fold-append next Blank bytes more)
 
 -- ---- what was judged
@@ -45,61 +45,61 @@ part bytes piece m unended = record {
 }
 
 -- nothing was to be judged
-pub rests_judged : (before after : Line) (piece bytes : List ℕ) → (after ≡ Blank) ⊎ ((before ≢ Blank) × EndsNoLine piece) → IsJudged before piece after bytes
+pub rests_judged : (before after : LineState) (piece bytes : List ℕ) → (after ≡ Blank) ⊎ ((before ≢ Blank) × EndsNoLine piece) → IsJudged before piece after bytes
 rests_judged before after piece bytes (inl blank) = inl blank
 rests_judged before after piece bytes (inr rests) = inr (inl rests)
 
-still_may : (bytes piece : List ℕ) (line after : Line) → line ≡ walk Blank bytes → after ≡ walk Blank (bytes ++ piece) → (HasBegun bytes → MayBegin bytes)
+still_may : (bytes piece : List ℕ) (line after : LineState) → line ≡ walk Blank bytes → after ≡ walk Blank (bytes ++ piece) → (HasBegun bytes → MayBegin bytes)
     → IsJudged line piece after (bytes ++ piece) → HasBegun (bytes ++ piece) → MayBegin (bytes ++ piece)
 still_may bytes piece line after before is may (inl blank) begun = absurd (none_begun (bytes ++ piece) (sym is ∙ blank) begun)
 still_may bytes piece line after before is may (inr (inl rests)) begun =
     part bytes piece (may (has_begun bytes (λ e. rests.0 (before ∙ e)))) rests.1
 still_may bytes piece line after before is may (inr (inr judged)) begun = whole (bytes ++ piece) begun judged
 
-walked_all : (bytes piece : List ℕ) (line after : Line) (room : ℕ) → IsOpening line bytes → length piece < room
-    → after ≡ walk line (take (min room (length piece)) piece) → after ≡ walk Blank (bytes ++ piece)
-walked_all bytes piece line after room is short walked =
-    let all : take (min room (length piece)) piece ≡ piece = take_all _ _ (grind (arith, short)) in
+walked_all : (bytes piece : List ℕ) (line after : LineState) (free : ℕ) → IsOpening line bytes → length piece < free
+    → after ≡ walk line (take (min free (length piece)) piece) → after ≡ walk Blank (bytes ++ piece)
+walked_all bytes piece line after free is short walked =
+    let all : take (min free (length piece)) piece ≡ piece = take_all _ _ (grind (arith, short)) in
     walked ∙ rw all (sym (walk_more line bytes piece is.walked))
 
-pub none_ended : (bytes piece : List ℕ) (line after : Line) (room : ℕ) → IsOpening line bytes → length piece < room
-    → after ≡ walk line (take (min room (length piece)) piece) → after ≢ Empty → ¬ HasEmptyLine (bytes ++ piece)
-none_ended bytes piece line after room is short walked other h = other (walked_all bytes piece line after room is short walked ∙ finds_empty (bytes ++ piece) h)
+pub none_ended : (bytes piece : List ℕ) (line after : LineState) (free : ℕ) → IsOpening line bytes → length piece < free
+    → after ≡ walk line (take (min free (length piece)) piece) → after ≢ Empty → ¬ HasEmptyLine (bytes ++ piece)
+none_ended bytes piece line after free is short walked other h = other (walked_all bytes piece line after free is short walked ∙ finds_empty (bytes ++ piece) h)
 
 -- all that came was walked over, and no empty line was found
-pub unfinished : (bytes piece : List ℕ) (line after : Line) (room : ℕ) → IsOpening line bytes → room ≡ 16384 - length bytes → length piece < room
-    → after ≡ walk line (take (min room (length piece)) piece) → after ≢ Empty → IsJudged line piece after (bytes ++ piece) → IsUnfinished (bytes ++ piece)
-unfinished bytes piece line after room is room_is short walked other judged =
+pub unfinished : (bytes piece : List ℕ) (line after : LineState) (free : ℕ) → IsOpening line bytes → free ≡ 16384 - length bytes → length piece < free
+    → after ≡ walk line (take (min free (length piece)) piece) → after ≢ Empty → IsJudged line piece after (bytes ++ piece) → IsUnfinished (bytes ++ piece)
+unfinished bytes piece line after free is free_is short walked other judged =
     inl (
-      grind (arith, length-append, short, room_is),
-      none_ended bytes piece line after room is short walked other,
-      still_may bytes piece line after is.walked (walked_all bytes piece line after room is short walked) is.may judged,
+      grind (arith, length-append, short, free_is),
+      none_ended bytes piece line after free is short walked other,
+      still_may bytes piece line after is.walked (walked_all bytes piece line after free is short walked) is.may judged,
     )
 
-pub still_opening : (bytes piece : List ℕ) (line after : Line) (room : ℕ) → IsOpening line bytes → room ≡ 16384 - length bytes → length piece < room
-    → after ≡ walk line (take (min room (length piece)) piece) → after ≢ Empty → IsJudged line piece after (bytes ++ piece) → IsOpening after (bytes ++ piece)
-still_opening bytes piece line after room is room_is short walked other judged =
+pub still_opening : (bytes piece : List ℕ) (line after : LineState) (free : ℕ) → IsOpening line bytes → free ≡ 16384 - length bytes → length piece < free
+    → after ≡ walk line (take (min free (length piece)) piece) → after ≢ Empty → IsJudged line piece after (bytes ++ piece) → IsOpening after (bytes ++ piece)
+still_opening bytes piece line after free is free_is short walked other judged =
     record {
-      walked = walked_all bytes piece line after room is short walked;
+      walked = walked_all bytes piece line after free is short walked;
       unended = other;
-      short = grind (arith, length-append, short, room_is);
-      may = still_may bytes piece line after is.walked (walked_all bytes piece line after room is short walked) is.may judged;
+      short = grind (arith, length-append, short, free_is);
+      may = still_may bytes piece line after is.walked (walked_all bytes piece line after free is short walked) is.may judged;
     }
 
-take_least : (room : ℕ) (piece : List ℕ) (n : ℕ) → n ≡ min room (length piece) → (room ≤ length piece) ⊎ (length piece ≤ room) → take n piece ≡ take room piece
-take_least room piece n is (inl less) = ap (λ k. take k piece) (grind (arith, is, less))
-take_least room piece n is (inr more) = take_all n piece (grind (arith, is, more)) ∙ sym (take_all room piece more)
+take_least : (free : ℕ) (piece : List ℕ) (n : ℕ) → n ≡ min free (length piece) → (free ≤ length piece) ⊎ (length piece ≤ free) → take n piece ≡ take free piece
+take_least free piece n is (inl less) = ap (λ k. take k piece) (grind (arith, is, less))
+take_least free piece n is (inr more) = take_all n piece (grind (arith, is, more)) ∙ sym (take_all free piece more)
 
-take_min : (room : ℕ) (piece : List ℕ) → take (min room (length piece)) piece ≡ take room piece
-take_min room piece = take_least room piece _ refl (grind arith)
+take_min : (free : ℕ) (piece : List ℕ) → take (min free (length piece)) piece ≡ take free piece
+take_min free piece = take_least free piece _ refl (grind arith)
 
 -- the walk over the bytes in which a head has to end
-pub walked_front : (bytes piece : List ℕ) (line after : Line) (room : ℕ) → IsOpening line bytes → room ≡ 16384 - length bytes
-    → after ≡ walk line (take (min room (length piece)) piece) → after ≡ walk Blank (front (bytes ++ piece))
-walked_front bytes piece line after room is room_is walked =
-    let sum : 16384 ≡ length bytes + room = grind (arith, room_is, is.short) in
-    let cut : front (bytes ++ piece) ≡ bytes ++ take room piece = ap (λ n. take n (bytes ++ piece)) sum ∙ take-append-add bytes piece room in
-    walked ∙ rw (take_min room piece) (rw cut (sym (walk_more line bytes (take room piece) is.walked)))
+pub walked_front : (bytes piece : List ℕ) (line after : LineState) (free : ℕ) → IsOpening line bytes → free ≡ 16384 - length bytes
+    → after ≡ walk line (take (min free (length piece)) piece) → after ≡ walk Blank (front (bytes ++ piece))
+walked_front bytes piece line after free is free_is walked =
+    let sum : 16384 ≡ length bytes + free = grind (arith, free_is, is.short) in
+    let cut : front (bytes ++ piece) ≡ bytes ++ take free piece = ap (λ n. take n (bytes ++ piece)) sum ∙ take-append-add bytes piece free in
+    walked ∙ rw (take_min free piece) (rw cut (sym (walk_more line bytes (take free piece) is.walked)))
 
 -- ---- what was found in them
 
@@ -129,17 +129,17 @@ too_long_head false bytes decided long = (decided.0, decided.1, long.1)
 pub cut_front : (bytes : List ℕ) → take (min 16384 (length bytes)) bytes ≡ front bytes
 cut_front bytes = take_min 16384 bytes
 
-decided_by : (ended : Bool) (line : Line) (bytes : List ℕ) → line ≡ walk Blank (front bytes) → (ended ≡ true → line ≡ Empty) → (ended ≡ false → line ≢ Empty)
+decided_by : (ended : Bool) (line : LineState) (bytes : List ℕ) → line ≡ walk Blank (front bytes) → (ended ≡ true → line ≡ Empty) → (ended ≡ false → line ≢ Empty)
     → (ended ≡ false → 16384 ≤ length bytes) → Decided ended bytes
 decided_by true line bytes walked empty other many = empty_found (front bytes) (sym walked ∙ empty refl)
 decided_by false line bytes walked empty other many = (many refl, λ h. other refl (walked ∙ finds_empty (front bytes) h))
 
-pub decided : (ended : Bool) (bytes piece : List ℕ) (line after : Line) (room : ℕ) → IsOpening line bytes → room ≡ 16384 - length bytes
-    → after ≡ walk line (take (min room (length piece)) piece) → (ended ≡ true → after ≡ Empty) → (ended ≡ false → after ≢ Empty)
-    → (ended ≡ false → room ≤ length piece) → Decided ended (bytes ++ piece)
-decided ended bytes piece line after room is room_is walked empty other many =
-    decided_by ended after (bytes ++ piece) (walked_front bytes piece line after room is room_is walked) empty other
-    (λ e. grind (arith, length-append bytes piece, many e, room_is))
+pub decided : (ended : Bool) (bytes piece : List ℕ) (line after : LineState) (free : ℕ) → IsOpening line bytes → free ≡ 16384 - length bytes
+    → after ≡ walk line (take (min free (length piece)) piece) → (ended ≡ true → after ≡ Empty) → (ended ≡ false → after ≢ Empty)
+    → (ended ≡ false → free ≤ length piece) → Decided ended (bytes ++ piece)
+decided ended bytes piece line after free is free_is walked empty other many =
+    decided_by ended after (bytes ++ piece) (walked_front bytes piece line after free is free_is walked) empty other
+    (λ e. grind (arith, length-append bytes piece, many e, free_is))
 
 pub head_fault : (e : EdgeError) (ended : Bool) (bytes : List ℕ) → Decided ended bytes
     → (e ≡ BadHead → HasNoHead (front bytes) × (ended ≡ false → RequestOverflows 100 (front bytes)))
@@ -166,10 +166,10 @@ cant_begin bytes short over =
 
 -- ---- one piece more
 
-pub more_fed : (old : Result (List ℕ) EdgeError) (stage : Stage) (r : Result Step EdgeError) (piece : List ℕ) → r ≡ Ok (More stage)
-    → ((bytes : List ℕ) → old ≡ Ok bytes → StepsTo (bytes ++ piece) r) → ((fault : EdgeError) → old ≡ Err fault → r ≡ Err fault) → so_far stage ≡ fed old piece
-more_fed (Ok bytes) stage r piece is step failed = (rw is at (step bytes refl)).1
-more_fed (Err e) stage r piece is step failed = let f = sym is ∙ failed e refl in cc
+pub more_fed : (old : Result (List ℕ) EdgeError) (come : SoFar) (r : Result Fed EdgeError) (piece : List ℕ) → r ≡ Ok (More come)
+    → ((bytes : List ℕ) → old ≡ Ok bytes → StepsTo (bytes ++ piece) r) → ((fault : EdgeError) → old ≡ Err fault → r ≡ Err fault) → so_far come ≡ fed old piece
+more_fed (Ok bytes) come r piece is step failed = (rw is at (step bytes refl)).1
+more_fed (Err e) come r piece is step failed = let f = sym is ∙ failed e refl in cc
 
 -- ---- what is found in them is found in all of them
 

@@ -4,7 +4,7 @@ use Rattle.std.specs.Prelude.{IsOk, IfOk, IfErr, take}
 use Rattle.std.specs.Io.KnownBytes.{Consumes, Keeps}
 use Rattle.std.proofs.KnownBytes.{Consumes-trans, Consumes-kept}
 use Rattle.http_edge.specs.Reading.{Answers, IsFault}
-use Rattle.http_edge.specs.Stages.{fed}
+use Rattle.http_edge.specs.SoFar.{fed}
 use Rattle.http_edge.specs.Taken.{TakesPart, TakesOn, TakesRequest, TakesFault, IsReadFault, ReadsMore}
 use Rattle.http_edge.specs.declared.request.Request.{Request}
 use Rattle.http_edge.specs.declared.error.EdgeError.{EdgeError}

@@ -4,9 +4,9 @@ use Rattle.std.specs.List.{list_any}
 use Rattle.httparse.specs.Grammar.{RequestHead, ReadsRequest, MayBecomeRequest, print_request}
 use Rattle.http_edge.specs.Request.{HasBodyOf, IsTargetOf, IsOnlyText, values, fields_of, is_upgrade}
 use Rattle.http_edge.specs.Reading.{StartsWith, HasEmptyLine, HasBegun, EndsNoLine, MayBegin, front}
-use Rattle.http_edge.specs.Line.{walk}
-use Rattle.http_edge.specs.declared.line.Line.{Line}
-use Rattle.http_edge.specs.declared.line.Line.TheVariants.{Blank, Empty}
+use Rattle.http_edge.specs.LineState.{walk}
+use Rattle.http_edge.specs.declared.line_state.LineState.{LineState}
+use Rattle.http_edge.specs.declared.line_state.LineState.TheVariants.{Blank, Empty}
 use Rattle.http_edge.specs.declared.head.Head.{Head}
 
 -- the parts of the head h
@@ -34,7 +34,7 @@ abbrev pub Begins : Head → List ℕ → Type 0
 Begins head bytes = (h : RequestHead) × (rest : List ℕ) × StartsWith bytes h rest × IsHeadOf head h
 
 -- the empty line hasn't come
-pub record IsOpening (line : Line) (bytes : List ℕ) : Type 0 where
+pub record IsOpening (line : LineState) (bytes : List ℕ) : Type 0 where
   pub walked : line ≡ walk Blank bytes
   pub unended : line ≢ Empty
   pub short : length bytes < 16384
@@ -43,7 +43,7 @@ pub record IsOpening (line : Line) (bytes : List ℕ) : Type 0 where
 -- where this piece leaves the start line unbegun, or ends no line of a head that has
 -- begun, nothing is judged
 abbrev pub IsJudged :
-    (before : Line) → (piece : List ℕ) → (after : Line) → (bytes : List ℕ) → Type 0
+    (before : LineState) → (piece : List ℕ) → (after : LineState) → (bytes : List ℕ) → Type 0
 IsJudged before piece after bytes =
     (after ≡ Blank) ⊎ ((before ≢ Blank) × EndsNoLine piece) ⊎ MayBecomeRequest bytes
 

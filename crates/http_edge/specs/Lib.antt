@@ -3,9 +3,9 @@ pub mod Written
 pub mod Request
 pub mod Values
 pub mod Reading
-pub mod Line
+pub mod LineState
 pub mod Head
-pub mod Stages
+pub mod SoFar
 pub mod Taken
 pub mod Routes
 pub mod Origins

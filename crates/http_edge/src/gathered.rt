@@ -3,12 +3,12 @@
 ghost use Rattle.std.specs.Prelude.{◌≡◌, ◌++◌, [], ℕ, List, Ok, Err, None, IfOk, IfErr, IfSome};
 ghost use Rattle.http_edge.specs.Reading.{Answers};
 ghost use Rattle.http_edge.specs.Head.{Begins};
-ghost use Rattle.http_edge.specs.Stages.{StepsTo, fed, so_far};
+ghost use Rattle.http_edge.specs.SoFar.{StepsTo, fed, so_far};
 ghost use Rattle.http_edge.specs.declared.error.EdgeError.{EdgeError};
 
 use crate::error::EdgeError;
 use crate::head::{Head, find_head, judge};
-use crate::line::Line;
+use crate::line_state::LineState;
 use crate::request::Request;
 use std::alloc::Global;
 use std::marker::Model;
@@ -21,17 +21,17 @@ const HEAD_LIMIT: usize = 16_384;
 /// them.
 #[derive(Drop)]
 pub struct Gathered {
-    stage: Stage,
+    come: SoFar,
 }
 
 impl Model for Gathered {
     ghost use Rattle.std.specs.Prelude.{List, ℕ, Result};
     ghost use Rattle.http_edge.specs.declared.error.EdgeError.{EdgeError};
-    ghost use Rattle.http_edge.specs.Stages.{so_far};
+    ghost use Rattle.http_edge.specs.SoFar.{so_far};
 
     ghost Value = { Result (List ℕ) EdgeError };
 
-    ghost view = { λ g. so_far g.stage };
+    ghost view = { λ g. so_far g.come };
 }
 
 impl Gathered {
@@ -40,9 +40,9 @@ impl Gathered {
         ensures { result ≡ Ok [] }
     {
         Gathered {
-            stage: Stage::Opening(Opening {
+            come: SoFar::Opening(Opening {
                 bytes: Vec::new(alloc),
-                line: Line::Blank,
+                line: LineState::Blank,
             }),
         }
     }
@@ -60,18 +60,18 @@ impl Gathered {
         ensures done { IfOk result (λ answer. IfSome answer (λ q. self.new ≡ Ok [])) }
         ensures fault { IfErr result (λ e. self.new ≡ Err e) }
     {
-        let stage = mem::replace(&mut self.stage, Stage::Failed(EdgeError::Memory));
-        match step_of(alloc, stage, piece) {
-            Ok(Step::More(stage)) => {
-                self.stage = stage;
+        let come = mem::replace(&mut self.come, SoFar::Failed(EdgeError::Memory));
+        match step_of(alloc, come, piece) {
+            Ok(Fed::More(come)) => {
+                self.come = come;
                 Ok(None)
             }
-            Ok(Step::Done(request)) => {
+            Ok(Fed::Done(request)) => {
                 *self = Gathered::new(alloc);
                 Ok(Some(request))
             }
             Err(fault) => {
-                self.stage = Stage::Failed(fault);
+                self.come = SoFar::Failed(fault);
                 Err(fault)
             }
         }
@@ -80,7 +80,7 @@ impl Gathered {
 
 /// How far a request has come.
 #[derive(Drop)]
-enum Stage {
+enum SoFar {
     Opening(Opening),
     Filling(Filling),
     Failed(EdgeError),
@@ -90,7 +90,7 @@ enum Stage {
 #[derive(Drop)]
 struct Opening {
     bytes: Vec<u8>,
-    line: Line,
+    line: LineState,
 }
 
 impl Model for Opening {
@@ -124,39 +124,39 @@ impl Model for Filling {
 
 /// What bytes that came have led to.
 #[derive(Drop)]
-enum Step {
-    More(Stage),
+enum Fed {
+    More(SoFar),
     Done(Request),
 }
 
 /// What these bytes, after those so far, lead to.
-fn step_of(alloc: Global, stage: Stage, piece: &[u8]) -> Result<Step, EdgeError>
+fn step_of(alloc: Global, come: SoFar, piece: &[u8]) -> Result<Fed, EdgeError>
     ensures step { (bytes : List ℕ)
-        → so_far stage ≡ Ok bytes → StepsTo (bytes ++ piece.now) result }
-    ensures failed { (fault : EdgeError) → so_far stage ≡ Err fault → result ≡ Err fault }
+        → so_far come ≡ Ok bytes → StepsTo (bytes ++ piece.now) result }
+    ensures failed { (fault : EdgeError) → so_far come ≡ Err fault → result ≡ Err fault }
 {
-    match stage {
-        Stage::Opening(opening) => opening.step(alloc, piece),
-        Stage::Filling(filling) => filling.step(alloc, piece),
-        Stage::Failed(fault) => Err(fault),
+    match come {
+        SoFar::Opening(opening) => opening.step(alloc, piece),
+        SoFar::Filling(filling) => filling.step(alloc, piece),
+        SoFar::Failed(fault) => Err(fault),
     }
 }
 
 impl Opening {
-    fn step(self, alloc: Global, piece: &[u8]) -> Result<Step, EdgeError>
+    fn step(self, alloc: Global, piece: &[u8]) -> Result<Fed, EdgeError>
         ensures { StepsTo (self ++ piece.now) result }
     {
         let Opening { mut bytes, line } = self;
-        let room = HEAD_LIMIT - bytes.len();
-        let after = line.after_all(&piece[..room.min(piece.len())]);
+        let free = HEAD_LIMIT - bytes.len();
+        let after = line.after_all(&piece[..free.min(piece.len())]);
         bytes.extend_from_slice(piece)?;
-        let ended = after == Line::Empty;
-        if !ended && piece.len() < room {
+        let ended = after == LineState::Empty;
+        if !ended && piece.len() < free {
             // So a head has at most 102 looks, in whatever pieces it comes.
             if after.is_due(line, piece) {
                 judge(&bytes)?;
             }
-            return Ok(Step::More(Stage::Opening(Opening { bytes, line: after })));
+            return Ok(Fed::More(SoFar::Opening(Opening { bytes, line: after })));
         }
         let head = find_head(alloc, &bytes[..HEAD_LIMIT.min(bytes.len())], ended)?;
         filled(alloc, bytes, head)
@@ -164,7 +164,7 @@ impl Opening {
 }
 
 impl Filling {
-    fn step(self, alloc: Global, piece: &[u8]) -> Result<Step, EdgeError>
+    fn step(self, alloc: Global, piece: &[u8]) -> Result<Fed, EdgeError>
         ensures { StepsTo (self ++ piece.now) result }
     {
         let Filling { mut bytes, head } = self;
@@ -174,18 +174,18 @@ impl Filling {
 }
 
 // The request, where its body is whole.
-fn filled(alloc: Global, bytes: Vec<u8>, head: Head) -> Result<Step, EdgeError>
+fn filled(alloc: Global, bytes: Vec<u8>, head: Head) -> Result<Fed, EdgeError>
     requires { Begins head bytes.items }
     ensures { StepsTo bytes.items result }
 {
     if bytes.len() - head.len < head.body_len {
-        return Ok(Step::More(Stage::Filling(Filling { bytes, head })));
+        return Ok(Fed::More(SoFar::Filling(Filling { bytes, head })));
     }
     let end = head.len + head.body_len;
     let Ok(text) = std::str::from_utf8(&bytes[head.len..end]) else {
         return Err(EdgeError::NotUtf8);
     };
-    Ok(Step::Done(Request {
+    Ok(Fed::Done(Request {
         body: String::from_str(alloc, text)?,
         rest: Vec::from_slice(alloc, &bytes[end..])?,
         head: Vec::from_slice(alloc, &bytes[..head.len])?,

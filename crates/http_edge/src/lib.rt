@@ -7,7 +7,7 @@ mod field_lines;
 mod fields;
 mod gathered;
 mod head;
-mod line;
+mod line_state;
 mod origins;
 mod reading;
 mod replay;

@@ -8,7 +8,7 @@ use Rattle.events.specs.declared.event.Event.{Event}
 use Rattle.events.specs.declared.event.Event.TheVariants as event
 use Rattle.dispatch.specs.Machine.{IsOf}
 use Rattle.events.specs.Answer.{Answer}
-use Rattle.dispatch.specs.Place.{PlainCore}
+use Rattle.dispatch.specs.Holding.{PlainCore}
 use Rattle.events.specs.App.{Policy}
 use Rattle.events.specs.declared.peer.PeerFault.{PeerFault}
 use Rattle.hub_gate.specs.Turns.{Applied, Attempt, Desk, Serves, ServesAll, TellsLost, TellsWhere}
@@ -114,5 +114,5 @@ module _ {P : Type 0} {gives : P → Result (Option (Event × ℕ)) PeerFault �
       → ServesAll gives hears policy turns old failed new → Grows old.1.pass new.1.pass
   serves_grow {turns} {old} {failed} {new} serves =
       let talks = folds_grow (Serves gives hears policy) (λ (d : P × Desk). d.1.pass)
-      (λ d r e s. applied_grows r.event r.now r.before d.1 r.got r.after e.1 s.applied) old serves.talk.rounds (serves.talk.last, serves.between) serves.talk.talks in
+      (λ d r e s. applied_grows r.event r.now r.before d.1 r.got r.after e.1 s.applied) old serves.talk.served (serves.talk.last, serves.between) serves.talk.talks in
       grows_trans old.1.pass serves.between.pass new.1.pass talks (where_grows policy failed serves.lost serves.between new.1 serves.told)

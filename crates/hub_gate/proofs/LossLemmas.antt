@@ -5,17 +5,17 @@ use Rattle.std.proofs.lemmas.List.{length-map, map-append}
 use Rattle.std.proofs.lemmas.List.Elements.{All-append, All-cons, All-nil}
 use Rattle.std.specs.List.{All}
 use Rattle.events.specs.Answer.{Answer}
-use Rattle.events.specs.declared.loss.Telling.TheVariants as telling
+use Rattle.events.specs.declared.loss.Retry.TheVariants as retry
 use Rattle.events.specs.Loss.{AreTries, follows}
 use Rattle.hub_gate.specs.Turns.{Attempt}
 
-again_by : (refused more : Bool) → cond (refused && more) telling.Again telling.Over ≡ telling.Again → (refused ≡ true) × (more ≡ true)
+again_by : (refused more : Bool) → cond (refused && more) retry.Again retry.Over ≡ retry.Again → (refused ≡ true) × (more ≡ true)
 again_by true true is = (refl, refl)
 again_by true false is = absurd (cc (is))
 again_by false more is = absurd (cc (is))
 
 -- it refused that, and this wasn't the last time
-pub told_again : (left : ℕ) (got : Answer) → follows left got ≡ telling.Again → (is_err got ≡ true) × (1 < left)
+pub told_again : (left : ℕ) (got : Answer) → follows left got ≡ retry.Again → (is_err got ≡ true) × (1 < left)
 told_again left got is =
     let both = again_by (is_err got) (nat_lt 1 left) is in
     (both.0, grind (arith, nat_tests, both.1))
@@ -30,7 +30,7 @@ refused_more attempts a all one =
     (All-append Refused (map (λ (x : Attempt). x.got) attempts) (a.got ∷ []) all (All-cons Refused a.got [] one (All-nil Refused)))
 
 -- the last try
-pub tries_end : (attempts : List Attempt) (a : Attempt) (left : ℕ) → AreRefused attempts → left + length attempts ≡ 3 → 0 < left → follows left a.got ≡ telling.Over
+pub tries_end : (attempts : List Attempt) (a : Attempt) (left : ℕ) → AreRefused attempts → left + length attempts ≡ 3 → 0 < left → follows left a.got ≡ retry.Over
     → AreTries (map (λ (x : Attempt). x.got) (attempts ++ a ∷ []))
 tries_end attempts a left all count more over =
     let long : length (map (λ (x : Attempt). x.got) attempts) ≡ length attempts = length-map attempts (λ (x : Attempt). x.got) in
@@ -41,5 +41,5 @@ tries_end attempts a left all count more over =
       are = map-append (λ (x : Attempt). x.got) attempts (a ∷ []);
       again = all;
       fewer = omega (arith, long);
-      over = subst (λ (n : ℕ). follows n a.got ≡ telling.Over) same over;
+      over = subst (λ (n : ℕ). follows n a.got ≡ retry.Over) same over;
     }

@@ -11,7 +11,7 @@ use Rattle.hub_gate.specs.declared.peer.Queue.{Queue}
 use Rattle.hub_gate.specs.declared.worker.WorkerCounts.{WorkerCounts}
 use Rattle.hub_gate.specs.Serving.{AreDealt, dealt}
 
--- ---- two lists, place by place
+-- ---- two lists, element by element
 
 pub zip_push : {A B : Type 0} (R : A → B → Type 0) (xs : List A) (ys : List B) (x : A) (y : B) → AllZip R xs ys → R x y → AllZip R (xs ++ x ∷ []) (ys ++ y ∷ [])
 zip_push R [] [] x y all one = (one, all)
@@ -49,7 +49,7 @@ moved_on {A} {X} f xs x y rest all same is =
 
 -- ---- what each worker did
 
--- worker w had the job at its place, and its counts are those at its place
+-- worker w had the job at its index, and its counts are those there
 pub served : {J F P I : Type 0} (peers_of : J → List P) (ids_of : J → I) (counts_of : F → WorkerCounts) (Works : List P → I → WorkerCounts → Type 0)
     (jobs : List J) (finished : List F) (queues : List (List P)) (ids : List I) (workers : List WorkerCounts) (n : ℕ) (peers : List P)
     → map peers_of jobs ≡ queues → map ids_of jobs ≡ ids → workers ≡ map counts_of finished

@@ -1,13 +1,13 @@
--- One round, one attempt or one peer more.
+-- One turn, one attempt or one peer more.
 use Rattle.std.proofs.Common.{◌≡◌, ℕ, ◌+◌, List, [], ◌∷◌, ◌++◌, Bool, Option, Some, option_map, refl, sym, subst, arith, if◌then◌else◌}
 use Rattle.std.proofs.lemmas.List.Sums.{sum_by-append}
 use Rattle.std.specs.Iterator.{Yields}
-use Rattle.hub_gate.specs.Turns.{Round, Handled, lost_by, failures, last_client}
+use Rattle.hub_gate.specs.Turns.{Turn, Handled, lost_by, failures, last_client}
 
-pub last_client-push : (known : Option (ℕ × ℕ)) (rounds : List Round) (r : Round)
-    → last_client known (rounds ++ r ∷ []) ≡ option_map (λ c. (c, r.now)) (lost_by r.event r.got)
+pub last_client-push : (known : Option (ℕ × ℕ)) (served : List Turn) (r : Turn)
+    → last_client known (served ++ r ∷ []) ≡ option_map (λ c. (c, r.now)) (lost_by r.event r.got)
 last_client-push known [] r = refl
-last_client-push known (s ∷ rounds) r = last_client-push (option_map (λ c. (c, s.now)) (lost_by s.event s.got)) rounds r
+last_client-push known (s ∷ served) r = last_client-push (option_map (λ c. (c, s.now)) (lost_by s.event s.got)) served r
 
 pub failures-push : {P : Type 0} (handled : List (Handled P)) (h : Handled P) (b : Bool) → h.failed ≡ b → failures (handled ++ h ∷ []) ≡ failures handled + (if b then 1 else 0)
 failures-push {P} handled h b is =

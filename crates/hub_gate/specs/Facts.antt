@@ -15,7 +15,7 @@ use Rattle.journal.specs.Legal.{IsLegal, IsSound}
 use Rattle.journal.specs.Seal.{PlainEpoch, SealsAs}
 use Rattle.journal.specs.Totals.{held}
 use Rattle.events.specs.declared.fault.CoreError.{CoreError}
-use Rattle.dispatch.specs.Place.{PlainCore, Agree, IsClean}
+use Rattle.dispatch.specs.Holding.{PlainCore, Agree, IsClean}
 
 -- a map of sockets to rooms and one of rooms to sockets hold what these hold: the same sockets, each with the same
 -- rooms, and the same sockets in each room

@@ -5,7 +5,7 @@ use Rattle.journal.specs.declared.totals.Totals.{Totals}
 use Rattle.hub_totals.specs.declared.books.NotAll.{NotAll}
 use Rattle.hub_totals.specs.Pass.{PlainPass, Settles, new_pass}
 use Rattle.events.specs.App.{Policy}
-use Rattle.dispatch.specs.Place.{PlainCore}
+use Rattle.dispatch.specs.Holding.{PlainCore}
 use Rattle.hub_gate.specs.declared.worker.WorkerCounts.{WorkerCounts}
 use Rattle.hub_gate.specs.Turns.{Desk, Gives, Handled, Hears, ServesAll, desk, failures}
 use Rattle.hub_gate.specs.declared.serve.ServeError.{ServeError}
@@ -70,8 +70,8 @@ module _ {P : Type 0} (gives : Gives P) (hears : Hears P) (policy : Policy) wher
     pub peers_are : counts.peers ≡ min (length peers) 18446744073709551615
     pub faults_are : counts.faults ≡ min (failures handled) 18446744073709551615
 
-  -- worker w of so many served the peers that were dealt to it, with the source of ids at its place, and its counts
-  -- stand at its place
+  -- worker w of so many served the peers that were dealt to it, with the source of ids of this index, and its counts
+  -- stand at this index
   abbrev pub AreServed : {I : Type 0} → (I → ℕ → ℕ) → (turns workers : ℕ) → List P → List I → List WorkerCounts → Type 0
   AreServed {I} stream turns workers peers ids all = (w : ℕ) (own : I) (counts : WorkerCounts)
       → slice_get ids w ≡ Some own → slice_get all w ≡ Some counts → WorksAs turns (dealt workers peers w) (stream own) counts

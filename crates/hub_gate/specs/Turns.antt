@@ -12,9 +12,10 @@ use Rattle.events.specs.declared.event.Event.TheVariants as event
 use Rattle.events.specs.declared.outcome.Outcome.TheVariants as outcome
 use Rattle.events.specs.Answer.{Answer}
 use Rattle.events.specs.Event.{client_of}
-use Rattle.dispatch.specs.Handed.{Turn, Handed}
+use Rattle.dispatch.specs.Handed as core
+use Rattle.dispatch.specs.Handed.{Handed}
 use Rattle.dispatch.specs.Machine.{Does, IsOf, listed}
-use Rattle.dispatch.specs.Place.{PlainCore, place}
+use Rattle.dispatch.specs.Holding.{PlainCore, holding}
 use Rattle.events.specs.declared.peer.PeerFault.{PeerFault}
 use Rattle.hub_gate.specs.Facts.{IsSoundCore}
 use Rattle.events.specs.Loss.{AreTries}
@@ -34,9 +35,9 @@ module _ (policy : Policy) where
   pub record Applied (event : Event) (now : ℕ)
       (before : PlainCore) (old : Desk) (got : Answer) (after : PlainCore) (new : Desk) : Type 0 where
     pub does : Does policy now before.timing before.numbers event
-        (place before.hub.history before.lines) old.ids got (place after.hub.history after.lines) new.ids
+        (holding before.hub.history before.lines) old.ids got (holding after.hub.history after.lines) new.ids
     pub settings : (after.timing ≡ before.timing) × (after.numbers ≡ before.numbers)
-    pub handed : (c : ℕ) (turns : List Turn) → Handed c turns before.hub.history → Handed c ((event, got) ∷ turns) after.hub.history
+    pub handed : (c : ℕ) (turns : List core.Turn) → Handed c turns before.hub.history → Handed c ((event, got) ∷ turns) after.hub.history
     pub turns : (c : ℕ) → IsOf event old.ids c → TurnsFor c before.hub after.hub old.pass new.pass
     pub spares : IfOk got (λ o. (c : ℕ) → IsOf event old.ids c → Spares c before.hub.history after.hub.history (listed o))
     pub sound_before : IsSoundCore before
@@ -83,7 +84,7 @@ module _ (policy : Policy) where
 
 -- one turn of a peer: its event and moment, the core as it was lent, the answer, the core as it was given back, and
 -- whether the peer heard the answer
-pub record Round : Type 0 where
+pub record Turn : Type 0 where
   pub event : Event
   pub now : ℕ
   pub before : PlainCore
@@ -91,14 +92,14 @@ pub record Round : Type 0 where
   pub after : PlainCore
   pub heard : Bool
 
--- the client of the last round, with its moment
-abbrev pub last_client : Option (ℕ × ℕ) → List Round → Option (ℕ × ℕ)
+-- the client of the last turn, with its moment
+abbrev pub last_client : Option (ℕ × ℕ) → List Turn → Option (ℕ × ℕ)
 last_client known [] = known
-last_client known (r ∷ rounds) = last_client (option_map (λ c. (c, r.now)) (lost_by r.event r.got)) rounds
+last_client known (r ∷ served) = last_client (option_map (λ c. (c, r.now)) (lost_by r.event r.got)) served
 
--- the answer of the last round wasn't heard
-abbrev pub IsUnheard : List Round → Type 0
-IsUnheard rounds = (before : List Round) × (last : Round) × (rounds ≡ before ++ last ∷ []) × (last.heard ≡ false)
+-- the answer of the last turn wasn't heard
+abbrev pub IsUnheard : List Turn → Type 0
+IsUnheard served = (before : List Turn) × (last : Turn) × (served ≡ before ++ last ∷ []) × (last.heard ≡ false)
 
 -- how peers give their next event, and how they hear an answer
 abbrev pub Gives : Type 0 → Type 1
@@ -109,7 +110,7 @@ Hears P = P → Answer → Result (Unit {0}) PeerFault → P → Type 0
 
 module _ {P : Type 0} (gives : Gives P) (hears : Hears P) (policy : Policy) where
   -- the peer gave the event, it was applied to the core as it was lent, and the peer heard that very answer
-  pub record Serves (old : P × Desk) (r : Round) (new : P × Desk) : Type 0 where
+  pub record Serves (old : P × Desk) (r : Turn) (new : P × Desk) : Type 0 where
     pub asking : P
     pub gave : gives old.0 (Ok (Some (r.event, r.now))) asking
     pub applied : Applied policy r.event r.now r.before old.1 r.got r.after new.1
@@ -118,19 +119,19 @@ module _ {P : Type 0} (gives : Gives P) (hears : Hears P) (policy : Policy) wher
     pub told : hears asking r.got reply new.0
 
   -- how it ends with a peer: it has no more events, or it fails, by its own fault or since its turns are spent
-  abbrev pub Ends : (turns : ℕ) → List Round → P → (failed : Bool) → P → Type 0
-  Ends turns rounds last false new = gives last (Ok None) new
-  Ends turns rounds last true new = ((fault : PeerFault) × gives last (Err fault) new)
-      ⊎ ((new ≡ last) × (IsUnheard rounds ⊎ (length rounds ≡ turns)))
+  abbrev pub Ends : (turns : ℕ) → List Turn → P → (failed : Bool) → P → Type 0
+  Ends turns served last false new = gives last (Ok None) new
+  Ends turns served last true new = ((fault : PeerFault) × gives last (Err fault) new)
+      ⊎ ((new ≡ last) × (IsUnheard served ⊎ (length served ≡ turns)))
 
   -- the peer's events, and no others, were applied in turn, until it ended; so many of them at the most
   pub record Talks (turns : ℕ) (old : P × Desk) (failed : Bool) (lost : Option (ℕ × ℕ)) (new : P × Desk) : Type 0 where
-    pub rounds : List Round
+    pub served : List Turn
     pub last : P
-    pub talks : FoldsTo Serves old rounds (last, new.1)
-    pub within : length rounds ≤ turns
-    pub ends : Ends turns rounds last failed new.0
-    pub lost_is : lost ≡ last_client None rounds
+    pub talks : FoldsTo Serves old served (last, new.1)
+    pub within : length served ≤ turns
+    pub ends : Ends turns served last failed new.0
+    pub lost_is : lost ≡ last_client None served
 
   -- the peer was served to its end; where it failed, the core was told that its client's connection is lost
   pub record ServesAll (turns : ℕ) (old : P × Desk) (failed : Bool) (new : P × Desk) : Type 0 where

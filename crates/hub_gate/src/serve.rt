@@ -221,9 +221,9 @@ fn run_all<
             ensures len { IfOk result (λ v. vec_len v ≡ vec_len jobs) }
             ensures error { IfErr result IsFromStarting }
         {
-            let room = jobs.len();
-            let mut handles = Vec::with_capacity(pool.alloc, room).or(Err(ServeError::Memory))?;
-            let all = Vec::with_capacity(pool.alloc, room).or(Err(ServeError::Memory))?;
+            let most = jobs.len();
+            let mut handles = Vec::with_capacity(pool.alloc, most).or(Err(ServeError::Memory))?;
+            let all = Vec::with_capacity(pool.alloc, most).or(Err(ServeError::Memory))?;
             let mut worker = 0usize;
             for job in jobs {
                 let begun = Started {
@@ -242,14 +242,14 @@ fn run_all<
     )
 }
 
-/// Joins these threads in turn, and lists what they hand back in the place that is kept for it.
+/// Joins these threads in turn, and lists what they hand back in the list that is reserved for that.
 fn join_all<R: Threads, X: Drop, P: Promise<X>>(
     rt: &R,
     handles: Vec<PromisedHandle<X, P>>,
     mut all: Vec<X>,
 ) -> Vec<X>
     requires none { (vec_len all ≡ 0) × (all.items ≡ []) }
-    requires room { vec_len handles ≤ vec_capacity all }
+    requires fits { vec_len handles ≤ vec_capacity all }
     ensures len { vec_len result ≡ vec_len handles }
     ensures kept { AllZip (λ h x. P.kept_by h.promise x) handles.items result.items }
 {
@@ -277,14 +277,14 @@ fn work<R: Wait, C: Ledger, T: Ledger, A: App, P: Peer + Drop, G: Turnstile, I: 
     Finished { pass, counts }
 }
 
-/// Absorbs the passes of all workers, and lists their counts in the place that is kept for them.
+/// Absorbs the passes of all workers, and lists their counts in the list that is reserved for that.
 fn gather<C: Ledger, T: Ledger>(
     pass: &mut Pass<C, T>,
     finished: Vec<Finished<C, T>>,
     mut all: Vec<WorkerCounts>,
 ) -> Vec<WorkerCounts>
     requires none { (vec_len all ≡ 0) × (all.items ≡ []) }
-    requires room { vec_len finished ≤ vec_capacity all }
+    requires fits { vec_len finished ≤ vec_capacity all }
     ensures len { vec_len result ≡ vec_len finished }
     ensures counts { result.items ≡ map (λ f. f.counts) finished.items }
     ensures commands { pass.new.commands ≡ pass.old.commands + sum_by (λ w. w.commands) result.items }

@@ -5,7 +5,7 @@ ghost use Rattle.hub_gate.specs.Turns.{Applied, ServesAll, Talks, TellsLost, Wor
 
 use crate::locked::{Locked, Turn, note_facts};
 use crate::peer::{PeerSource, Turnstile};
-use events::{Answered, App, Event, IdSource, Loss, Outcome, Peer, Telling};
+use events::{Answered, App, Event, IdSource, Loss, Outcome, Peer, Retry};
 use hub_totals::Pass;
 use std::alloc::Global;
 use std::snapshot::Snapshot;
@@ -74,7 +74,7 @@ impl<R: Wait, C: Ledger, T: Ledger, A: App, G: Turnstile> Pool<'_, R, C, T, A, G
     }
 
     /// Tells the core that a client is lost, up to three times until it accepts that.
-    fn tell_lost<I: IdSource>(&self, pass: &mut Pass<C, T>, client: u128, now: u64, ids: &mut I)
+    fn lose<I: IdSource>(&self, pass: &mut Pass<C, T>, client: u128, now: u64, ids: &mut I)
         ensures { TellsLost (A.policy self.now.app.now) client now
             (desk pass.old (I.stream ids.old)) (desk pass.new (I.stream ids.new)) }
     {
@@ -82,8 +82,8 @@ impl<R: Wait, C: Ledger, T: Ledger, A: App, G: Turnstile> Pool<'_, R, C, T, A, G
         'tries: loop {
             let told = self.apply(pass, &loss.event(), now, ids);
             match loss.hears(&told.got) {
-                Telling::Again => {}
-                Telling::Over => return,
+                Retry::Again => {}
+                Retry::Over => return,
             }
         }
     }
@@ -138,7 +138,7 @@ impl<R: Wait, C: Ledger, T: Ledger, A: App, G: Turnstile> Pool<'_, R, C, T, A, G
     {
         let (failed, lost) = self.talk(pass, peer, worker, turn, ids);
         if failed && let Some((client, now)) = lost {
-            self.tell_lost(pass, client, now, ids);
+            self.lose(pass, client, now, ids);
         }
         failed
     }

@@ -38,7 +38,7 @@ pub record IsIndex (by_sid : SeatMap) (by_space : BTreeSet (ℕ × ℕ)) : Type 
 abbrev pub SameSeats : SeatMap → SeatMap → Type 0
 SameSeats old new = (s : ℕ) → get nat_cmp new s ≡ get nat_cmp old s
 
--- one socket more, in place of one with its session id
+-- one socket more, instead of one with its session id
 abbrev pub WithSeat : Socket → SeatMap → SeatMap → Type 0
 WithSeat socket old new = (s : ℕ) → get nat_cmp new s ≡ (if socket.sid == s then Some socket else get nat_cmp old s)
 

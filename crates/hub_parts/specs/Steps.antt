@@ -2,7 +2,7 @@
 use Rattle.std.specs.Prelude.{ℕ, List}
 use Rattle.journal.specs.declared.step.Step.{Step}
 
--- the steps, the newest first, and for how many more there is room
+-- the steps, the newest first, and how many more can be added
 pub record PlainSteps : Type 0 where
   pub steps : List Step
-  pub room : ℕ
+  pub free : ℕ

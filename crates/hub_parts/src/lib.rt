@@ -10,6 +10,6 @@ mod steps;
 
 pub use client::{Client, Sockets};
 pub use limits::Limits;
-pub use outbox::{Outbox, room_after};
+pub use outbox::{Outbox, free_after};
 pub use seats::Seats;
 pub use steps::Steps;

@@ -4,7 +4,7 @@ ghost use Rattle.std.specs.Prelude.{◌≡◌, ◌+◌, ◌<◌, ◌≤◌, [], 
 ghost use Rattle.std.specs.Arc.{arc_value};
 ghost use Rattle.terms.specs.Entry.{entry_size};
 ghost use Rattle.journal.specs.Plain.{PlainOutbox};
-ghost use Rattle.journal.specs.Outboxes.{total_size, has_no_place};
+ghost use Rattle.journal.specs.Outboxes.{total_size, has_no_space};
 
 use circular_buffer::HeapCircularBuffer;
 use std::alloc::{AllocError, Global};
@@ -18,8 +18,8 @@ pub struct Outbox {
     ring: HeapCircularBuffer<Arc<Entry>>,
     /// How many bytes may wait.
     bytes: usize,
-    /// How many more bytes there is room for.
-    room: usize,
+    /// How many more bytes it takes.
+    free: usize,
 }
 
 impl Model for Outbox {
@@ -31,7 +31,7 @@ impl Model for Outbox {
       bytes = o.bytes;
     } };
 
-    ghost invariant = { λ o. o.room + total_size (map arc_value o.ring.items) ≡ o.bytes };
+    ghost invariant = { λ o. o.free + total_size (map arc_value o.ring.items) ≡ o.bytes };
 }
 
 /// How many bytes an entry has, or `None` past the greatest usize.
@@ -41,18 +41,18 @@ pub(crate) fn size_of(entry: &Entry) -> Option<usize>
     ensures none { IfNone result (usize.MAX < entry_size entry.now) }
 {
     let mut size = entry.text.as_str().len();
-    for part in entry.attachments.as_slice() {
-        size = size.checked_add(part.as_slice().len())?;
+    for attachment in entry.attachments.as_slice() {
+        size = size.checked_add(attachment.as_slice().len())?;
     }
     Some(size)
 }
 
-/// The room that is left after an entry, or `None` where there isn't room for it.
-pub fn room_after(room: usize, entry: &Entry) -> Option<usize>
-    ensures some { IfSome result (λ left. left + entry_size entry.now ≡ room) }
-    ensures none { IfNone result (room < entry_size entry.now) }
+/// How many bytes are free after an entry, or `None` where it has more than these.
+pub fn free_after(free: usize, entry: &Entry) -> Option<usize>
+    ensures some { IfSome result (λ left. left + entry_size entry.now ≡ free) }
+    ensures none { IfNone result (free < entry_size entry.now) }
 {
-    room.checked_sub(size_of(entry)?)
+    free.checked_sub(size_of(entry)?)
 }
 
 impl Outbox {
@@ -66,7 +66,7 @@ impl Outbox {
         Ok(Outbox {
             ring,
             bytes,
-            room: bytes,
+            free: bytes,
         })
     }
 
@@ -81,7 +81,7 @@ impl Outbox {
     pub fn used(&self) -> usize
         ensures { result ≡ total_size self.now.waiting }
     {
-        self.bytes - self.room
+        self.bytes - self.free
     }
 
     /// An entry that waits, counted from the oldest.
@@ -91,33 +91,33 @@ impl Outbox {
         Some(&**self.ring.get(index)?)
     }
 
-    /// Whether there is no place for an entry.
-    pub fn has_no_place(&self, entry: &Entry) -> bool
+    /// Whether there is no space for an entry.
+    pub fn has_no_space(&self, entry: &Entry) -> bool
         ensures { result
-            ≡ has_no_place self.now.capacity self.now.bytes self.now.waiting entry.now }
+            ≡ has_no_space self.now.capacity self.now.bytes self.now.waiting entry.now }
     {
-        self.ring.len() >= self.ring.capacity() || room_after(self.room, entry).is_none()
+        self.ring.len() >= self.ring.capacity() || free_after(self.free, entry).is_none()
     }
 
-    /// Whether there is no place for an entry of this many bytes.
+    /// Whether there is no space for an entry of this many bytes.
     pub fn lacks(&self, size: usize) -> bool
         ensures { result ≡ (nat_le self.now.capacity (length self.now.waiting)
             || nat_lt self.now.bytes (total_size self.now.waiting + size)) }
     {
-        self.ring.len() >= self.ring.capacity() || self.room < size
+        self.ring.len() >= self.ring.capacity() || self.free < size
     }
 
-    /// Puts an entry at the end, where there is a place for it.
+    /// Puts an entry at the end, where there is space for it.
     pub fn push(&mut self, entry: Arc<Entry>)
         requires { let o = self.old
-            in has_no_place o.capacity o.bytes o.waiting (arc_value entry) ≡ false }
+            in has_no_space o.capacity o.bytes o.waiting (arc_value entry) ≡ false }
         ensures { self.new
             ≡ record self.old { waiting = self.old.waiting ++ arc_value entry ∷ [] } }
     {
-        let Some(left) = room_after(self.room, &entry) else {
+        let Some(left) = free_after(self.free, &entry) else {
             unreachable!()
         };
-        self.room = left;
+        self.free = left;
         let Ok(()) = self.ring.try_push_back(entry) else {
             unreachable!()
         };
@@ -128,8 +128,8 @@ impl Outbox {
         ensures { self.new ≡ record self.old { waiting = drop 1 self.old.waiting } }
     {
         if let Some(entry) = self.ring.pop_front() {
-            // What waits fits into the room.
-            self.room += size_of(&entry).unwrap_or(0);
+            // What waits had its bytes free before.
+            self.free += size_of(&entry).unwrap_or(0);
         }
     }
 

@@ -12,8 +12,8 @@ use std::alloc::Global;
 use std::marker::Model;
 use std::mem::replace;
 
-/// The steps since the base. In a contract they are the steps, the newest first, and for how many
-/// more there is room.
+/// The steps since the base. In a contract they are the steps, the newest first, and how many
+/// more can be added.
 #[derive(Drop)]
 pub struct Steps {
     steps: Vec<Step>,
@@ -27,7 +27,7 @@ impl Model for Steps {
 
     ghost view = { λ s. record {
       steps = reverse s.steps.items;
-      room = vec_capacity s.steps - vec_len s.steps;
+      free = vec_capacity s.steps - vec_len s.steps;
     } };
 
     ghost invariant = { λ s. s.bytes
@@ -58,19 +58,19 @@ impl Steps {
         }
     }
 
-    /// Makes room for one more step. Refused for `Memory`.
+    /// Makes sure that one more step can be added. Refused for `Memory`.
     pub fn reserve(&mut self) -> Result<(), HubError>
         ensures same { self.new.steps ≡ self.old.steps }
-        ensures ok { OnOk result (0 < self.new.room) }
+        ensures ok { OnOk result (0 < self.new.free) }
         ensures memory { IfErr result (λ e. e ≡ HubError.Memory) }
     {
         Ok(self.steps.reserve(1)?)
     }
 
-    /// Adds a step, for which there is room.
+    /// Adds a step where one can be added.
     #[tactic(auto, unfolding(journal::specs::Totals::held, journal::specs::Journal::total))]
     pub fn push(&mut self, step: Step)
-        requires { 0 < self.old.room }
+        requires { 0 < self.old.free }
         ensures { self.new.steps ≡ step ∷ self.old.steps }
     {
         self.bytes = self.bytes.saturating_add(held_by(&step.what));

@@ -17,7 +17,7 @@ use Rattle.journal.specs.Membership.{is_open, is_space, sockets, sockets_of, soc
 use Rattle.journal.proofs.EndLemmas.{all-filter}
 use Rattle.journal.proofs.SealListsLemmas.{all-append}
 use Rattle.room_maps.specs.Membership.{RoomSets}
-use Rattle.hub_state.specs.Departing.{PlainDeparted, departing, found, departed_by, departed}
+use Rattle.hub_state.specs.EndedSockets.{PlainEnded, as_ended, found, sockets_ended_by, ended_sockets}
 
 -- where nothing speaks against a step, its own command isn't refused
 own-none : (o : Option HubError) (spent : Bool) → or_spent o spent ≡ None → o ≡ None
@@ -73,10 +73,10 @@ module _ (base : PlainBase) (limits : Limits) where
 
   -- ---- those that ended
 
-  abbrev IsGoneIn : PlainDeparted → Type 0
+  abbrev IsGoneIn : PlainEnded → Type 0
   IsGoneIn gone = is_space limits gone.socket.space ≡ true
 
-  gone-in : (how : Ending) (sets : RoomSets) (ks : List Socket) → AllIn ks → AllByRecursion IsGoneIn (map (departing how sets) ks)
+  gone-in : (how : Ending) (sets : RoomSets) (ks : List Socket) → AllIn ks → AllByRecursion IsGoneIn (map (as_ended how sets) ks)
   gone-in how sets [] all = tt
   gone-in how sets (k ∷ ks) all = (all.0, gone-in how sets ks all.1)
 
@@ -88,15 +88,15 @@ module _ (base : PlainBase) (limits : Limits) where
   unfolding sockets_of
   of-in before all c = all-filter IsIn _ (sockets base before) all
 
-  by-in : (before : List Step) (what : What) → AllIn (sockets base before) → AllByRecursion IsGoneIn (departed_by base before what)
+  by-in : (before : List Step) (what : What) → AllIn (sockets base before) → AllByRecursion IsGoneIn (sockets_ended_by base before what)
   by-in before (Ended s by) all = gone-in _ (rooms base before) _ (with-in before all s)
   by-in before (AllEnded d) all = gone-in _ (rooms base before) _ (each-in _ (λ s. here-in d.space _ (with-in before all s)) d.ended)
   by-in before (Parked c) all = gone-in _ (rooms base before) _ (of-in before all c)
   by-in before (Closed c) all = gone-in _ (rooms base before) _ (of-in before all c)
   by-in before _ all = tt
 
-  pub departed-in : (journal : List Step) → IsLegal base limits journal → AllByRecursion IsGoneIn (departed base journal)
-  unfolding departed IsLegal
-  departed-in [] legal = tt
-  departed-in (step ∷ before) legal =
-      all-append IsGoneIn (departed base before) (departed_by base before step.what) (departed-in before legal.2) (by-in before step.what (sockets-in before legal.2))
+  pub ended_sockets-in : (journal : List Step) → IsLegal base limits journal → AllByRecursion IsGoneIn (ended_sockets base journal)
+  unfolding ended_sockets IsLegal
+  ended_sockets-in [] legal = tt
+  ended_sockets-in (step ∷ before) legal =
+      all-append IsGoneIn (ended_sockets base before) (sockets_ended_by base before step.what) (ended_sockets-in before legal.2) (by-in before step.what (sockets-in before legal.2))

@@ -1,7 +1,7 @@
 pub mod CastLemmas
-pub mod DepartLemmas
+pub mod EndedLemmas
 pub mod InSpaceLemmas
 pub mod WalkLemmas
 pub mod RetainLemmas
-pub mod ReturnLemmas
+pub mod RecoverLemmas
 pub mod SpaceLemmas

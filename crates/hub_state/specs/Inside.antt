@@ -6,7 +6,7 @@ use Rattle.std.specs.BTreeSet as sorted
 use Rattle.journal.specs.Journal.{History}
 use Rattle.journal.specs.Legal.{IsLegal, IsSound}
 use Rattle.journal.specs.Fields.{Fields, Counted}
-use Rattle.hub_state.specs.Departing.{departed}
+use Rattle.hub_state.specs.EndedSockets.{ended_sockets}
 use Rattle.hub_state.specs.declared.state.State.TheInside.{Inside}
 
 abbrev pub history_of : Inside → History
@@ -18,4 +18,4 @@ Describes h =
     × IsLegal h.base h.limits (h.records.steps.steps)
     × IsSound h.base h.limits (h.records.steps.steps)
     × Counted h.base h.limits h.records.counts (h.records.steps.steps)
-    × (h.departed.items ≡ departed h.base (h.records.steps.steps))
+    × (h.ended_sockets.items ≡ ended_sockets h.base (h.records.steps.steps))

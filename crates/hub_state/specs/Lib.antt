@@ -1,6 +1,6 @@
-pub mod Departing
+pub mod EndedSockets
 pub mod Inside
-pub mod Returning
+pub mod Recovering
 pub mod Changes
 pub mod Counting
 pub mod Sending

@@ -1,8 +1,8 @@
 //! Clients, their sockets, rooms and outboxes, kept as the journal of all accepted commands says.
 #![tactic(auto)]
 
-mod departed;
+mod ended_socket;
 mod state;
 
-pub use departed::Departed;
+pub use ended_socket::EndedSocket;
 pub use state::State;

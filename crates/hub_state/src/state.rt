@@ -26,13 +26,13 @@ mod deliver;
 mod dismiss;
 mod end;
 mod missed;
-mod note_departed;
+mod note_ended;
 mod park;
 mod recover;
 mod rooms;
 mod seal;
 
-use crate::departed::Departed;
+use crate::ended_socket::EndedSocket;
 use continuity::heard_is_due;
 use hub_parts::{Client, Limits, Seats, Steps};
 use journal::{Base, Config, Counts, HubError, Step, Totals, What};
@@ -56,13 +56,13 @@ pub struct State {
     /// The broadcasts that a session which comes back may have missed.
     log: PacketLog,
     /// The sockets that ended since the base.
-    departed: Vec<Departed>,
+    ended_sockets: Vec<EndedSocket>,
 }
 
 /// Written out, so that a crate above takes the drop of all that lies in it by this one call.
 impl Drop for State {
     fn drop(self) {
-        let_go!(self; limits, base, records, clients, live, saved, log, departed);
+        let_go!(self; limits, base, records, clients, live, saved, log, ended_sockets);
     }
 }
 
@@ -108,7 +108,7 @@ impl Records {
     /// Adds a step, for which there is room, and counts one more command, with what it adds beside
     /// itself. A moment before the last counts as the last.
     fn add(&mut self, now: u64, what: What, added: Counts)
-        requires room { 0 < self.old.steps.room }
+        requires free { 0 < self.old.steps.free }
         requires counted { CanCount self.old.counts
             added.placed added.dropped added.taken added.discarded }
         ensures last { self.new.last ≡ max now self.old.last }
@@ -195,7 +195,7 @@ impl State {
             live,
             saved,
             log,
-            departed: Vec::new(alloc),
+            ended_sockets: Vec::new(alloc),
         })
     }
 

@@ -12,7 +12,7 @@ ghost use Rattle.journal.specs.declared.ending.Side.{Side};
 ghost use Rattle.journal.specs.declared.error.HubError.{HubError};
 ghost use Rattle.journal.specs.declared.step.What.{What};
 ghost use Rattle.journal.specs.declared.step.What.TheVariants.{Closed, Left, Opened, Parked};
-ghost use Rattle.hub_state.specs.Returning.{return_of};
+ghost use Rattle.hub_state.specs.Recovering.{recovery_asked};
 ghost use Rattle.hub_state.specs.Words.{socket_for, told, took, waits, AllHear};
 ghost use Rattle.hub_totals.specs.Pass.{new_hub, new_pass, AtLeast, CastDoesCounted, DoesCounted, Drops, GivesPass, IsBlankOf, PlainHub, PlainPass, Rises, Settles};
 
@@ -311,9 +311,9 @@ impl<C: Ledger, T: Ledger> Hub<C, T> {
         offset: u64,
         now: u64,
     ) -> Result<Sid>
-        ensures sid { let back = return_of client space.now pid offset self.old.history in
+        ensures sid { let back = recovery_asked client space.now pid offset self.old.history in
             IfOk result (λ sid. sid ≡ back.socket.sid) }
-        ensures does { let back = return_of client space.now pid offset self.old.history in
+        ensures does { let back = recovery_asked client space.now pid offset self.old.history in
             DoesCounted self.old self.new pass.old pass.new now (What.Recovered back) result }
         ensures continuity { AllHear self.new.history }
     {

@@ -19,7 +19,7 @@ use Rattle.journal.specs.Plain.{PlainClient, PlainMessage}
 use Rattle.journal.specs.Fields.{with_entry}
 use Rattle.journal.specs.Membership.{has_id, sid_of}
 use Rattle.journal.specs.Legal.{EachTwo, AreApart}
-use Rattle.journal.specs.Outboxes.{has_no_place, entries_for}
+use Rattle.journal.specs.Outboxes.{has_no_space, entries_for}
 use Rattle.journal.specs.Casting.{in_space, ListsInside, client_of, is_full_in, message_for, messages_for, missing_of, missing, receiver_of, pair_of, with_entries}
 
 -- ---- tests of lists
@@ -419,9 +419,9 @@ none-before m (n ∷ done) rest once = on (n.client == m.client) refl (none-befo
 pub has-place : (find mid : ℕ → Option PlainClient) (m : PlainMessage) (done rest : List PlainMessage)
     → ((q : ℕ) → mid q ≡ option_map (with_entries (entries_for q (map pair_of done))) (find q))
     → IsDistinct nat_eq (map receiver_of (done ++ m ∷ rest)) → AllByRecursion (λ (m : PlainMessage). is_full_in find m.entry m.client ≡ false) (done ++ m ∷ rest)
-    → IfSome (mid m.client) (λ known. has_no_place known.outbox.capacity known.outbox.bytes known.outbox.waiting m.entry ≡ false)
+    → IfSome (mid m.client) (λ known. has_no_space known.outbox.capacity known.outbox.bytes known.outbox.waiting m.entry ≡ false)
 has-place find mid m done rest was once places =
-    subst (λ o. IfSome o (λ known. has_no_place known.outbox.capacity known.outbox.bytes known.outbox.waiting m.entry ≡ false))
+    subst (λ o. IfSome o (λ known. has_no_space known.outbox.capacity known.outbox.bytes known.outbox.waiting m.entry ≡ false))
     (sym (was m.client ∙ ap (λ es. option_map (with_entries es) (find m.client)) (none-before m done rest once)))
     (on (find m.client) (later done places))
   where
@@ -429,8 +429,8 @@ has-place find mid m done rest was once places =
     later [] all = all.0
     later (l ∷ ls) all = later ls all.1
 
-    on : (o : Option PlainClient) → option_map_or (λ (known : PlainClient). has_no_place known.outbox.capacity known.outbox.bytes known.outbox.waiting m.entry) o false ≡ false
-        → IfSome (option_map (with_entries []) o) (λ known. has_no_place known.outbox.capacity known.outbox.bytes known.outbox.waiting m.entry ≡ false)
+    on : (o : Option PlainClient) → option_map_or (λ (known : PlainClient). has_no_space known.outbox.capacity known.outbox.bytes known.outbox.waiting m.entry) o false ≡ false
+        → IfSome (option_map (with_entries []) o) (λ known. has_no_space known.outbox.capacity known.outbox.bytes known.outbox.waiting m.entry ≡ false)
     on None e = tt
     on (Some x) e = rw (append-nil x.outbox.waiting) e
 
@@ -467,7 +467,7 @@ module _ (find : ℕ → Option PlainClient) (e : Entry) where
       on true = refl
       on false = refl
 
-  -- each has a place
+  -- each has space
   pub all-places : (ks : List Socket) → AllByRecursion (λ (m : PlainMessage). is_full_in find m.entry m.client ≡ false) (map message_to (filter (λ (k : Socket). not (is_full_in find e k.client)) ks))
   all-places [] = tt
   all-places (k ∷ ks) = on (is_full_in find e k.client) refl (all-places ks)

@@ -26,11 +26,11 @@ use Rattle.journal.specs.Journal.{history}
 use Rattle.journal.specs.Membership.{is_open, is_space, rooms, matches}
 use Rattle.journal.specs.Sessions.{session_with, is_sid_saved, is_pid_saved}
 use Rattle.journal.specs.Log.{next}
-use Rattle.journal.specs.Outboxes.{answer, farewell, has_no_place, is_full, is_addressed, entries_of, placements}
+use Rattle.journal.specs.Outboxes.{answer, farewell, has_no_space, is_full, is_addressed, entries_of, placements}
 use Rattle.journal.specs.Broadcast.{RightCast}
 use Rattle.journal.specs.ManySockets.{may_enter, may_exit, may_hear}
 use Rattle.journal.specs.Totals.{dropped_by, handed_out_by, is_past, is_spent}
-use Rattle.journal.specs.Refusals.{or_spent, tell_refusal, is_taken, attach_refusal, room_refusal, session_refusal, have_no_place, recover_refusal, joining_refusal, leaving_refusal}
+use Rattle.journal.specs.Refusals.{or_spent, tell_refusal, is_taken, attach_refusal, room_refusal, session_refusal, have_no_space, recover_refusal, joining_refusal, leaving_refusal}
 use Rattle.journal.specs.Command.{own_refusal, refusal}
 use Rattle.journal.specs.Legal.{IsSound, IsRight, IsAllowed}
 use Rattle.journal.specs.Seal.{SaysTheSame}
@@ -64,7 +64,7 @@ abbrev recovery_refusal : Limits → Bool → Option Socket → List PlainSaved 
 recovery_refusal limits opened connected saved entries waits c space p offset at =
     let session = session_with p saved in
     let refused = session_refusal limits entries session space offset at in
-    let crowded = λ (s : PlainSaved). have_no_place limits waits (answer limits (record { client = c; space = space; sid = s.sid; pid = p }) ∷ entries_of entries (missed offset space s.rooms entries)) in
+    let crowded = λ (s : PlainSaved). have_no_space limits waits (answer limits (record { client = c; space = space; sid = s.sid; pid = p }) ∷ entries_of entries (missed offset space s.rooms entries)) in
     first_refusal (
     (not opened, UnknownClient)
     ∷ (not (is_space limits space), UnknownNamespace)
@@ -77,7 +77,7 @@ module _ (limits : Limits) (base base' : PlainBase) (before before' : List Step)
   -- ---- refusals
 
   is_full-same : (c : ℕ) → is_open base before c ≡ true → (entry : Entry) → is_full base' limits before' c entry ≡ is_full base limits before c entry
-  is_full-same c known entry = ap (λ w. has_no_place limits.capacity limits.bytes w entry) (same.same_waiting c known)
+  is_full-same c known entry = ap (λ w. has_no_space limits.capacity limits.bytes w entry) (same.same_waiting c known)
 
   matches-same : (space : ℕ) (named excepted : List (List ℕ)) (k : Socket) → matches base' before' space named excepted k ≡ matches base before space named excepted k
   matches-same space named excepted k = ap (λ sets. k.space == space && broadcast.is_addressed sets named excepted k.sid) same.same_rooms

@@ -89,15 +89,15 @@ take_after (y ∷ xs) (suc i) x e = ap (λ l. y ∷ l) (take_after xs i x e)
 pub take_next : {A : Type 0} (xs : List A) (i : ℕ) (x : A) → Some x ≡ slice_get xs i → take (i + 1) xs ≡ take i xs ++ x ∷ []
 take_next xs i x e = rw add-one (take_after xs i x e)
 
--- what was put takes its bytes from the room
-pub put_room : {A : Type 0} (value : A → Entry) (items : List A) (e : A) (bytes room left : ℕ) → room + total_size (map value items) ≡ bytes → left + entry_size (value e) ≡ room
+-- what was put takes its bytes from those that are free
+pub put_free : {A : Type 0} (value : A → Entry) (items : List A) (e : A) (bytes free left : ℕ) → free + total_size (map value items) ≡ bytes → left + entry_size (value e) ≡ free
     → left + total_size (map value (items ++ e ∷ [])) ≡ bytes
-put_room value items e bytes room left was some = let more = total_size-push value items e in omega (arith, was, some, more)
+put_free value items e bytes free left was some = let more = total_size-push value items e in omega (arith, was, some, more)
 
 -- what is taken away gives its bytes back
-pub popped_fits : {A : Type 0} (value : A → Entry) (items : List A) (e : A) (bytes room : ℕ) → room + total_size (map value items) ≡ bytes → Some e ≡ slice_get items 0 → room + entry_size (value e) ≤ bytes
-popped_fits value items e bytes room was is = let front = total_size-front value items e is in omega (arith, was, front)
+pub popped_fits : {A : Type 0} (value : A → Entry) (items : List A) (e : A) (bytes free : ℕ) → free + total_size (map value items) ≡ bytes → Some e ≡ slice_get items 0 → free + entry_size (value e) ≤ bytes
+popped_fits value items e bytes free was is = let front = total_size-front value items e is in omega (arith, was, front)
 
-pub popped_room : {A : Type 0} (value : A → Entry) (items : List A) (e : A) (bytes room : ℕ) → room + total_size (map value items) ≡ bytes → Some e ≡ slice_get items 0
-    → room + entry_size (value e) + total_size (map value (drop 1 items)) ≡ bytes
-popped_room value items e bytes room was is = let front = total_size-front value items e is in omega (arith, was, front)
+pub popped_free : {A : Type 0} (value : A → Entry) (items : List A) (e : A) (bytes free : ℕ) → free + total_size (map value items) ≡ bytes → Some e ≡ slice_get items 0
+    → free + entry_size (value e) + total_size (map value (drop 1 items)) ≡ bytes
+popped_free value items e bytes free was is = let front = total_size-front value items e is in omega (arith, was, front)

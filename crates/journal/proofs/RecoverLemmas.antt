@@ -13,7 +13,7 @@ use Rattle.recovery.specs.PacketLog.{PlainLogged, IsRun, later_than}
 use Rattle.recovery.specs.SavedTable.{PlainSaved}
 use Rattle.recovery.specs.Missed.{missed, is_for}
 use Rattle.journal.specs.Plain.{PlainOutbox}
-use Rattle.journal.specs.Outboxes.{total_size, entries_of, has_no_place}
+use Rattle.journal.specs.Outboxes.{total_size, entries_of, has_no_space}
 use Rattle.journal.specs.Sessions.{session_with, is_sid_saved, is_pid_saved}
 use Rattle.journal.specs.Recovery.{gets}
 use Rattle.journal.specs.Legal.{EachTwo, DifferInIds}
@@ -273,7 +273,7 @@ nothing-left [] h = refl
 nothing-left (x ∷ xs) h = absurd (omega arith)
 
 pub still-place : {A : Type 0} (value : A → Entry) (old : List Entry) (all yielded rest : List A) (x : A) (capacity bytes : ℕ) → yielded ++ x ∷ rest ≡ all
-    → length old + length all ≤ capacity → total_size old + total_size (map value all) ≤ bytes → has_no_place capacity bytes (old ++ map value yielded) (value x) ≡ false
+    → length old + length all ≤ capacity → total_size old + total_size (map value all) ≤ bytes → has_no_space capacity bytes (old ++ map value yielded) (value x) ≡ false
 still-place value old all yielded rest x capacity bytes is places room =
     let n = length-append old (map value yielded) in let m = length-map yielded value in
     let l = ap length is in let l2 = length-append yielded (x ∷ rest) in

@@ -28,7 +28,7 @@ use Rattle.journal.specs.Outboxes.{put, answer, waiting, entries_of, total_size}
 use Rattle.terms.specs.Entry.{entry_size}
 use Rattle.journal.specs.Recovery.{brought_back, no_session, recovery_of, gets}
 use Rattle.journal.specs.Totals.{placed_by, is_spent}
-use Rattle.journal.specs.Refusals.{or_spent, session_refusal, have_no_place, recovered_entries, recover_refusal}
+use Rattle.journal.specs.Refusals.{or_spent, session_refusal, have_no_space, recovered_entries, recover_refusal}
 use Rattle.journal.specs.Legal.{RightRecovery, IsSound, IsAway}
 use Rattle.journal.specs.Journal.{moment_at, History, with_step}
 use Rattle.journal.specs.Command.{refusal, Does}
@@ -45,7 +45,7 @@ three false false true x y z e = cc
 three false false false x y z e = (refl, refl, refl)
 
 module _ (base : PlainBase) (limits : Limits) where
-  -- the session is there, the log reaches back to the offset, and there is place for all that is put
+  -- the session is there, the log reaches back to the offset, and there is space for all that is put
   pub record MayRecover (before : List Step) (c space p offset : ℕ) : Type 0 where
     pub known : is_open base before c ≡ true
     pub has_space : is_space limits space ≡ true
@@ -55,10 +55,10 @@ module _ (base : PlainBase) (limits : Limits) where
     pub same_space : session.space ≡ space
     pub same_pid : session.pid ≡ p
     pub reaches : stands offset (log base limits before) ≡ true
-    pub place : have_no_place limits (waiting base limits before c) (recovered_entries base limits before (record { client = c; space = space; sid = session.sid; pid = p }) offset session.rooms) ≡ false
+    pub place : have_no_space limits (waiting base limits before c) (recovered_entries base limits before (record { client = c; space = space; sid = session.sid; pid = p }) offset session.rooms) ≡ false
 
   abbrev crowded : List Step → (c space p offset : ℕ) → PlainSaved → Bool
-  crowded before c space p offset s = have_no_place limits (waiting base limits before c) (recovered_entries base limits before (record { client = c; space = space; sid = s.sid; pid = p }) offset s.rooms)
+  crowded before c space p offset s = have_no_space limits (waiting base limits before c) (recovered_entries base limits before (record { client = c; space = space; sid = s.sid; pid = p }) offset s.rooms)
 
   pub may-recover : (before : List Step) (c space p offset at : ℕ) → recover_refusal base limits before c space p offset at ≡ None → MayRecover before c space p offset
   may-recover before c space p offset at e = on (session_with p (sessions base limits before)) refl
@@ -120,7 +120,7 @@ module _ (base : PlainBase) (limits : Limits) where
 
   -- a right recovery that isn't refused has place for what it puts
   pub place-right : (before : List Step) (r : PlainRecovery) (at : ℕ) → recover_refusal base limits before r.socket.client r.socket.space r.socket.pid r.offset at ≡ None → RightRecovery base limits before r
-      → have_no_place limits (waiting base limits before r.socket.client) (recovered_entries base limits before r.socket r.offset r.rooms) ≡ false
+      → have_no_space limits (waiting base limits before r.socket.client) (recovered_entries base limits before r.socket r.offset r.rooms) ≡ false
   place-right before r at e right =
       let may = may-recover before r.socket.client r.socket.space r.socket.pid r.offset at e in
       subst (λ (s : PlainSaved). crowded before r.socket.client r.socket.space r.socket.pid r.offset s ≡ false) (same-session before r may.session may.found right) may.place
@@ -148,10 +148,10 @@ module _ (base : PlainBase) (limits : Limits) where
   chain false false false false true x e g h i = refl
   chain false false false false false x e g h i = refl
 
-  -- but for the places nothing speaks against it
+  -- but for the space nothing speaks against it
   pub decided : (before : List Step) (c space p offset at : ℕ) (s : PlainSaved) (b : Bool) → is_open base before c ≡ true → is_space limits space ≡ true → socket_of base before c space ≡ None
       → session_refusal limits (log base limits before) (session_with p (sessions base limits before)) space offset at ≡ None → session_with p (sessions base limits before) ≡ Some s
-      → have_no_place limits (waiting base limits before c) (recovered_entries base limits before (record { client = c; space = s.space; sid = s.sid; pid = s.pid }) offset s.rooms) ≡ b
+      → have_no_space limits (waiting base limits before c) (recovered_entries base limits before (record { client = c; space = s.space; sid = s.sid; pid = s.pid }) offset s.rooms) ≡ b
       → recover_refusal base limits before c space p offset at ≡ (if b then Some OutboxFull else None)
   decided before c space p offset at s b known has_space alone refused found place =
       let same_space = session-space (session_with p (sessions base limits before)) s (log base limits before) space offset at found refused in
@@ -160,7 +160,7 @@ module _ (base : PlainBase) (limits : Limits) where
       chain (not (is_open base before c)) (not (is_space limits space)) (is_some (socket_of base before c space)) (is_some refusal) (option_map_or (crowded before c space p offset) (session_with p (sessions base limits before)) false) (unwrap_or refusal Spent)
       (ap not known) (ap not has_space) (ap is_some alone) (ap is_some refused)
       ∙ ap (λ o. if option_map_or (crowded before c space p offset) o false then Some OutboxFull else None) found
-      ∙ (λ i. if have_no_place limits (waiting base limits before c) (recovered_entries base limits before (record { client = c; space = sym same_space i; sid = s.sid; pid = sym same_pid i }) offset s.rooms) then Some OutboxFull else None)
+      ∙ (λ i. if have_no_space limits (waiting base limits before c) (recovered_entries base limits before (record { client = c; space = sym same_space i; sid = s.sid; pid = sym same_pid i }) offset s.rooms) then Some OutboxFull else None)
       ∙ ap (λ t. if t then Some OutboxFull else None) place
 
   pub placed_found : (before : List Step) (c space p offset n : ℕ) (s : PlainSaved) → session_with p (sessions base limits before) ≡ Some s → s.space ≡ space → s.pid ≡ p
@@ -199,7 +199,7 @@ module _ (base : PlainBase) (limits : Limits) where
         ∙ ap (λ n. or_spent (recover_refusal base limits before c space p offset n) (is_spent base limits before (Recovered (recovery_of base limits before c space p offset)))) same
         ∙ ap (λ (r : PlainRecovery). or_spent (recover_refusal base limits before r.socket.client r.socket.space r.socket.pid r.offset at') (is_spent base limits before (Recovered r))) (sym (is-recovery may))
 
-  -- ---- places for an answer and for what was missed
+  -- ---- space for an answer and for what was missed
 
   module _ (ws es g : List Entry) (a : Entry) (is : es ≡ a ∷ g) where
     lengths : length es ≡ 1 + length g
@@ -208,19 +208,19 @@ module _ (base : PlainBase) (limits : Limits) where
     sizes : total_size es ≡ entry_size a + total_size g
     sizes = ap total_size is ∙ total_size-append (a ∷ []) g ∙ ap (λ n. n + total_size g) (total_size-one a)
 
-    pub lacks-answer : (nat_lt limits.capacity (length ws + 1) || nat_lt limits.bytes (total_size ws + entry_size a)) ≡ true → have_no_place limits ws es ≡ true
+    pub lacks-answer : (nat_lt limits.capacity (length ws + 1) || nat_lt limits.bytes (total_size ws + entry_size a)) ≡ true → have_no_space limits ws es ≡ true
     lacks-answer short = grow limits.capacity limits.bytes (length ws) (total_size ws) (length es) (total_size es) (length g) (total_size g) (entry_size a) lengths sizes short
       where
         grow : (c b w u n t m v s : ℕ) → n ≡ 1 + m → t ≡ s + v → (nat_lt c (w + 1) || nat_lt b (u + s)) ≡ true → (nat_lt c (w + n) || nat_lt b (u + t)) ≡ true
         grow c b w u n t m v s e h short = grind (arith, nat_tests, e, h, short)
 
-    pub lacks-missed : (p q : ℕ) → p + 1 + length ws ≡ limits.capacity → q + entry_size a + total_size ws ≡ limits.bytes → (nat_lt p (length g) || nat_lt q (total_size g)) ≡ true → have_no_place limits ws es ≡ true
+    pub lacks-missed : (p q : ℕ) → p + 1 + length ws ≡ limits.capacity → q + entry_size a + total_size ws ≡ limits.bytes → (nat_lt p (length g) || nat_lt q (total_size g)) ≡ true → have_no_space limits ws es ≡ true
     lacks-missed p q places bytes short = grow limits.capacity limits.bytes (length ws) (total_size ws) (length es) (total_size es) (length g) (total_size g) (entry_size a) p q lengths sizes places bytes short
       where
         grow : (c b w u n t m v s p q : ℕ) → n ≡ 1 + m → t ≡ s + v → p + 1 + w ≡ c → q + s + u ≡ b → (nat_lt p m || nat_lt q v) ≡ true → (nat_lt c (w + n) || nat_lt b (u + t)) ≡ true
         grow c b w u n t m v s p q e h k l short = grind (arith, nat_tests, e, h, k, l, short)
 
-    pub has-places : (p q n : ℕ) → p + 1 + length ws ≡ limits.capacity → q + entry_size a + total_size ws ≡ limits.bytes → n ≡ length g → n ≤ p → total_size g ≤ q → have_no_place limits ws es ≡ false
+    pub has-places : (p q n : ℕ) → p + 1 + length ws ≡ limits.capacity → q + entry_size a + total_size ws ≡ limits.bytes → n ≡ length g → n ≤ p → total_size g ≤ q → have_no_space limits ws es ≡ false
     has-places p q n places bytes number few small = grow limits.capacity limits.bytes (length ws) (total_size ws) (length es) (total_size es) (length g) (total_size g) (entry_size a) p q lengths sizes places bytes (omega (arith, number, few)) small
       where
         grow : (c b w u n t m v s p q : ℕ) → n ≡ 1 + m → t ≡ s + v → p + 1 + w ≡ c → q + s + u ≡ b → m ≤ p → v ≤ q → (nat_lt c (w + n) || nat_lt b (u + t)) ≡ false

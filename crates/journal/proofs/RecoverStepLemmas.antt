@@ -23,7 +23,7 @@ use Rattle.journal.specs.Log.{log, log_calls, next}
 use Rattle.journal.specs.Outboxes.{put, taken_by, entries_for, entries_of, waiting, answer, total_size}
 use Rattle.journal.specs.Recovery.{with_entries}
 use Rattle.journal.specs.Totals.{is_spent}
-use Rattle.journal.specs.Refusals.{or_spent, have_no_place, recover_refusal}
+use Rattle.journal.specs.Refusals.{or_spent, have_no_space, recover_refusal}
 use Rattle.journal.specs.Legal.{RightRecovery, IsAllowed, IsLegal, IsSound, IsAway, EachTwo, AreApart, DifferInIds}
 use Rattle.journal.specs.Fields.{Fields, client_at, plus_socket}
 use Rattle.journal.proofs.SumsLemmas.{sum-zero}
@@ -227,8 +227,8 @@ returned find mid new c k es first second q = second q ∙ ap (λ o. if c == q t
     on true (Some x) = refl
     on false o = refl
 
--- there is place for all in the client's outbox
-module _ (base : PlainBase) (limits : Limits) (before : List Step) (k : Socket) (es : List Entry) (place : have_no_place limits (waiting base limits before k.client) es ≡ false) (find mid : ℕ → Option PlainClient)
+-- there is space for all in the client's outbox
+module _ (base : PlainBase) (limits : Limits) (before : List Step) (k : Socket) (es : List Entry) (place : have_no_space limits (waiting base limits before k.client) es ≡ false) (find mid : ℕ → Option PlainClient)
     (was : (c : ℕ) → find c ≡ client_at base limits before c) (more : (q : ℕ) → mid q ≡ (if k.client == q then option_map (plus_socket k) (find q) else find q)) where
   in-both : (P : PlainClient → Type 0) → ((ks : List Socket) → P (record { sockets = ks; outbox = record { waiting = waiting base limits before k.client; capacity = limits.capacity; bytes = limits.bytes } })) → IfSome (mid k.client) P
   in-both P h = subst (λ o. IfSome o P) (sym (more k.client ∙ ap (λ o. if k.client == k.client then option_map (plus_socket k) o else o) (was k.client))) (on (k.client == k.client) (is_open base before k.client))

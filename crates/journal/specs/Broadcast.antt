@@ -32,7 +32,7 @@ SpellsEvent limits b payload =
     (get_or limits.spaces b.space []) payload (length b.entry.attachments) b.offset)
     b.entry.text
 
--- the socket with this session id is addressed, and its client's outbox has no place
+-- the socket with this session id is addressed, and its client's outbox has no space
 abbrev pub is_dropped : PlainBase → Limits → List Step → PlainBroadcast → ℕ → Bool
 is_dropped base limits before b s =
     list_any
@@ -44,7 +44,7 @@ is_dropped base limits before b s =
 abbrev pub reaches : PlainBase → List Step → PlainBroadcast → ℕ → Bool
 reaches base before b c = list_any (λ k. k.client == c) (receivers base before b)
 
--- the dropped sockets are just those addressed ones whose clients have no place for it, each
+-- the dropped sockets are just those addressed ones whose clients have no space for it, each
 -- once; each client of another addressed socket gets the entry once, after all that it got; no
 -- other client gets anything
 pub record RightCast (base : PlainBase) (limits : Limits) (before : List Step) (step : Step)

@@ -15,7 +15,7 @@ use Rattle.journal.specs.Plain.{Limits, PlainBase, PlainBroadcast, PlainCast, Pl
 use Rattle.journal.specs.Journal.{History, with_step}
 use Rattle.journal.specs.Membership.{place_of}
 use Rattle.journal.specs.Log.{next}
-use Rattle.journal.specs.Outboxes.{has_no_place, entries_for, put}
+use Rattle.journal.specs.Outboxes.{has_no_space, entries_for, put}
 use Rattle.journal.specs.Broadcast.{RightCast, SpellsEvent, reaches}
 use Rattle.journal.specs.Totals.{is_spent}
 use Rattle.journal.specs.Refusals.{cast_refusal}
@@ -38,29 +38,29 @@ pub record ListsInside (inside test : ℕ → Bool) (ids : List ℕ) : Type 0 wh
   pub rises : IsStrictlySortedBy nat_cmp ids
   pub exactly : (id : ℕ) → inside id ≡ true → list_any (eq_by_cmp nat_cmp id) ids ≡ test id
 
--- what is held of the client has no place for the entry
+-- what is held of the client has no space for the entry
 abbrev pub is_full_in : (ℕ → Option PlainClient) → Entry → ℕ → Bool
 is_full_in find entry c =
     option_map_or
     (λ (known : PlainClient).
-    has_no_place known.outbox.capacity known.outbox.bytes known.outbox.waiting entry)
+    has_no_space known.outbox.capacity known.outbox.bytes known.outbox.waiting entry)
     (find c)
     false
 
--- the message for a client that has a place
+-- the message for a client that has space
 abbrev pub message_for : (ℕ → Option PlainClient) → Entry → ℕ → List PlainMessage
 message_for find entry c =
     if is_full_in find entry c then [] else record { client = c; entry = entry } ∷ []
 
--- one for each socket whose client has a place
+-- one for each socket whose client has space
 abbrev pub messages_for : (ℕ → Option PlainClient) → Entry → List Socket → List PlainMessage
 messages_for find entry sockets = flat_map (λ (k : Socket). message_for find entry k.client) sockets
 
--- the socket, where its client has no place
+-- the socket, where its client has no space
 abbrev pub missing_of : (ℕ → Option PlainClient) → Entry → Socket → List ℕ
 missing_of find entry k = if is_full_in find entry k.client then k.sid ∷ [] else []
 
--- the sockets whose clients have no place
+-- the sockets whose clients have no space
 abbrev pub missing : (ℕ → Option PlainClient) → Entry → List Socket → List ℕ
 missing find entry sockets = flat_map (missing_of find entry) sockets
 
@@ -89,7 +89,7 @@ with_logged log None = log
 with_logged log (Some e) = with_entry log e
 
 -- these messages tell the broadcast: they put what it puts, no two of them are for one client, and
--- each client has a place; and the broadcast drops just those that it should
+-- each client has space; and the broadcast drops just those that it should
 pub record Tells (base : PlainBase) (limits : Limits) (before : List Step) (b : PlainBroadcast)
     (messages : List PlainMessage) : Type 0 where
   pub right : (at : ℕ) → RightCast base limits before (record { at = at; what = Cast b }) b
@@ -140,7 +140,7 @@ IsSpentBy h c =
     × ((at : ℕ) → RightCast h.base h.limits h.journal (record { at = at; what = Cast b }) b)
     × (is_spent h.base h.limits h.journal (Cast b) ≡ true))
 
--- want of memory may come in place of a count that would pass the greatest u64
+-- want of memory may come instead of a count that would pass the greatest u64
 abbrev pub IsShortOf : History → PlainCast → HubError → Type 0
 IsShortOf h c e = (e ≡ Memory) ⊎ ((e ≡ Spent) × IsSpentBy h c)
 

@@ -35,7 +35,7 @@ abbrev pub may_exit :
 may_exit base journal space named excepted room k =
     matches base journal space named excepted k && is_in (rooms base journal) k.sid room
 
--- the socket matches, and its client's outbox has a place for the farewell
+-- the socket matches, and its client's outbox has space for the farewell
 abbrev pub may_hear :
     PlainBase → Limits → List Step → (space : ℕ) → (named excepted : List (List ℕ)) → Socket → Bool
 may_hear base limits journal space named excepted k =
@@ -100,7 +100,7 @@ pub record RightLeaving (base : PlainBase) (before : List Step) (m : PlainRoomCh
       (may_exit base before m.space m.rooms m.excepted m.room) (sockets base before) m.changed
 
 -- those that ended are just those that match; of their clients just those were told whose
--- outboxes have a place for it
+-- outboxes have space for it
 pub record RightDismissal (base : PlainBase) (limits : Limits) (before : List Step)
     (d : PlainDismissal) : Type 0 where
   pub ended : ListsSockets sid_of

@@ -99,19 +99,19 @@ taken base (step ∷ before) c =
 unfoldable pub waiting : PlainBase → Limits → List Step → ℕ → List Entry
 waiting base limits journal c = drop (taken base journal c) (placements base limits journal c)
 
--- ---- places
+-- ---- space
 
 -- the bytes of these entries together
 unfoldable pub total_size : List Entry → ℕ
 total_size entries = sum_by entry_size entries
 
--- among these entries there is no place for one more: there are `capacity`, or with it they would
+-- among these entries there is no space for one more: there are `capacity`, or with it they would
 -- have more than `bytes`
-abbrev pub has_no_place : (capacity bytes : ℕ) → List Entry → Entry → Bool
-has_no_place capacity bytes entries entry =
+abbrev pub has_no_space : (capacity bytes : ℕ) → List Entry → Entry → Bool
+has_no_space capacity bytes entries entry =
     nat_le capacity (length entries) || nat_lt bytes (total_size entries + entry_size entry)
 
--- the client's outbox has no place for the entry
+-- the client's outbox has no space for the entry
 abbrev pub is_full : PlainBase → Limits → List Step → ℕ → Entry → Bool
 is_full base limits journal c entry =
-    has_no_place limits.capacity limits.bytes (waiting base limits journal c) entry
+    has_no_space limits.capacity limits.bytes (waiting base limits journal c) entry

@@ -21,7 +21,7 @@ pub record Limits : Type 0 where
   pub spaces : List (List ℕ)
 
 -- a broadcast that was accepted: the place of its namespace, its rooms and excepted rooms, the
--- offset where it was logged, what is sent, and the sockets whose clients had no place for it
+-- offset where it was logged, what is sent, and the sockets whose clients had no space for it
 pub record PlainBroadcast : Type 0 where
   pub space : ℕ
   pub rooms : List (List ℕ)

@@ -22,7 +22,7 @@ brought_back c space p offset entries s =
       missed = missed offset space s.rooms entries;
     }
 
--- in place of a session where none is saved
+-- instead of a session where none is saved
 abbrev pub no_session : (space pid : ℕ) → PlainSaved
 no_session space p = record { sid = 0; pid = p; space = space; rooms = []; lost_at = 0 }
 

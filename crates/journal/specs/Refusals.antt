@@ -138,9 +138,9 @@ session_refusal limits entries (Some session) space offset at =
     ∷ (not (stands offset entries), NotRecoverable OffsetGone)
     ∷ [])
 
--- there is no place for all of these entries after those that wait
-abbrev pub have_no_place : Limits → List Entry → List Entry → Bool
-have_no_place limits waits entries =
+-- there is no space for all of these entries after those that wait
+abbrev pub have_no_space : Limits → List Entry → List Entry → Bool
+have_no_space limits waits entries =
     nat_lt limits.capacity (length waits + length entries)
     || nat_lt limits.bytes (total_size waits + total_size entries)
 
@@ -157,7 +157,7 @@ recover_refusal base limits journal c space p offset at =
     let saved = session_with p (sessions base limits journal) in
     let refused = session_refusal limits (log base limits journal) saved space offset at in
     let crowded = λ (s : PlainSaved).
-    have_no_place limits (waiting base limits journal c)
+    have_no_space limits (waiting base limits journal c)
     (recovered_entries base limits journal
     (record { client = c; space = space; sid = s.sid; pid = p }) offset s.rooms) in
     first_refusal (

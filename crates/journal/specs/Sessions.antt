@@ -30,7 +30,7 @@ lost_session base before at k =
       lost_at = at;
     }
 
--- these sessions and more, each at its place by private ids
+-- these sessions and more, all in the order of private ids
 abbrev pub with_sessions : List PlainSaved → List PlainSaved → List PlainSaved
 with_sessions [] saved = saved
 with_sessions (s ∷ ss) saved = with_sessions ss (with_session s saved)

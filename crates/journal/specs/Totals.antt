@@ -1,5 +1,5 @@
 -- What a hub counts: sums over the steps, and over the open clients.
-use Rattle.std.specs.Prelude.{◌≡◌, ℕ, ◌+◌, Bool, ◌||◌, List, length, nat_lt}
+use Rattle.std.specs.Prelude.{◌≡◌, ℕ, ◌+◌, Bool, ◌||◌, List, ◌++◌, codes, decimal, length, nat_lt}
 use Rattle.std.specs.List.{sum_by}
 use Rattle.journal.specs.declared.step.Step.{Step}
 use Rattle.journal.specs.declared.step.What.{What}
@@ -36,7 +36,7 @@ commands base journal = base.totals.commands + length journal
 unfoldable pub placed : PlainBase → Limits → List Step → ℕ
 placed base limits journal = total (placed_by base limits) base.totals.placed journal
 
--- the sockets that a broadcast was for and whose clients had no place for it
+-- the sockets that a broadcast was for and whose clients had no space for it
 unfoldable pub dropped : PlainBase → List Step → ℕ
 dropped base journal = total (λ _ what. dropped_by what) base.totals.dropped journal
 
@@ -91,3 +91,8 @@ is_spent base limits before what =
     || is_past (dropped base before + dropped_by what)
     || is_past (handed_out base before + handed_out_by what)
     || is_past (discarded base limits before + discarded_by base limits before what)
+
+-- the counts as they are printed
+abbrev pub totals_text : Totals → List ℕ
+totals_text t = codes "commands " ++ decimal t.commands ++ codes ", placed " ++ decimal t.placed ++ codes ", dropped " ++ decimal t.dropped
+    ++ codes ", taken " ++ decimal t.taken ++ codes ", discarded " ++ decimal t.discarded ++ codes ", waiting " ++ decimal t.waiting

@@ -42,7 +42,7 @@ pub struct CastDone {
     pub offset: Option<u64>,
     /// How many outboxes it was put into.
     pub placed: u64,
-    /// How many sockets miss it, since their clients' outboxes have no place for it.
+    /// How many sockets miss it, since their clients' outboxes have no space for it.
     pub dropped: u64,
     /// The clients that got it, each once.
     pub clients: Vec<u128>,

@@ -35,7 +35,7 @@ pub enum HubError {
     AlreadyConnected,
     /// There are as many clients as there may be.
     TooManyClients,
-    /// The client's outbox has no place for what would be put.
+    /// The client's outbox has no space for what would be put.
     OutboxFull,
     /// The rooms don't allow it.
     RoomRefused(RoomError),
@@ -43,7 +43,7 @@ pub enum HubError {
     NotRecoverable(RecoveryRefusal),
     /// A count or the offset would pass the greatest u64.
     Spent,
-    /// The table of saved sessions has not as many free places as the client has sockets.
+    /// The table of saved sessions has less space than the client has sockets.
     SavedFull,
     /// The payload has no `]`, or there are more than 32 attachments.
     BadPayload,

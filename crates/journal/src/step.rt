@@ -65,7 +65,7 @@ pub struct Broadcast {
     pub offset: Option<u64>,
     /// What is sent, shared with the outboxes.
     pub entry: Arc<Entry>,
-    /// The sockets that miss it, each once, since their clients' outboxes have no place for it.
+    /// The sockets that miss it, each once, since their clients' outboxes have no space for it.
     pub dropped: Vec<Sid>,
 }
 
@@ -121,7 +121,7 @@ pub struct Dismissal {
     pub excepted: Vec<Room>,
     /// The sockets that were ended, rising.
     pub ended: Vec<Sid>,
-    /// The clients that were told so, rising: those whose outboxes had a place for it.
+    /// The clients that were told so, rising: those whose outboxes had space for it.
     pub told: Vec<u128>,
 }
 

@@ -1,5 +1,9 @@
 //! What a hub counts.
 
+ghost use Rattle.std.specs.Prelude.{Some};
+
+use std::fmt;
+
 /// The counts of a hub, from its first step on.
 #[derive(Clone, Copy, Debug, Default, PartialEq, Eq)]
 pub struct Totals {
@@ -7,7 +11,7 @@ pub struct Totals {
     pub commands: u64,
     /// The entries that were put into clients' outboxes.
     pub placed: u64,
-    /// The sockets that missed a broadcast, since their client's outbox had no place for it.
+    /// The sockets that missed a broadcast, since their client's outbox had no space for it.
     pub dropped: u64,
     /// The entries that were handed out.
     pub taken: u64,
@@ -15,6 +19,20 @@ pub struct Totals {
     pub discarded: u64,
     /// The entries that wait.
     pub waiting: u64,
+}
+
+impl fmt::Display for Totals {
+    ghost use Rattle.journal.specs.Totals.{totals_text};
+
+    ghost output = { λ totals. Some (totals_text totals) };
+
+    fn fmt<W: fmt::Write>(&self, f: &mut fmt::Formatter<W>) -> fmt::Result {
+        write!(
+            f,
+            "commands {}, placed {}, dropped {}, taken {}, discarded {}, waiting {}",
+            self.commands, self.placed, self.dropped, self.taken, self.discarded, self.waiting
+        )
+    }
 }
 
 /// The counts that a hub keeps. What waits is what was placed and neither taken nor discarded.

@@ -6,9 +6,9 @@ use Rattle.loop_rules.specs.declared.looks.Found.{Found}
 use Rattle.loop_rules.specs.declared.looks.Found.TheVariants as found
 use Rattle.loop_rules.specs.declared.looks.Pause.{Pause}
 use Rattle.loop_rules.specs.declared.looks.Pause.TheVariants as pause
-use Rattle.loop_rules.specs.declared.looks.Verdict.{Verdict}
-use Rattle.loop_rules.specs.declared.looks.Verdict.TheVariants as verdict
-use Rattle.loop_rules.specs.Turns.{verdict_for}
+use Rattle.loop_rules.specs.declared.looks.Decision.{Decision}
+use Rattle.loop_rules.specs.declared.looks.Decision.TheVariants as decision
+use Rattle.loop_rules.specs.Stints.{decision_for}
 use Rattle.loop_rules.specs.Looks.{is_awake, called, begun, paused, followed, is_dry, is_calm, finds_dry, has_looked, may_rest, Step, Comes, Begins, Follows, Pauses, state_after, was_dry, is_under_way, came_since_look, NeverRests}
 
 awake-called : (s : LookState) → is_awake (called s) ≡ true
@@ -49,13 +49,13 @@ awake-paused state.Early pause.Done a = refl
 awake-paused (state.Stirred dry) pause.Done a = refl
 
 goes-on : (spent : Bool) (s : LookState) (f : Found) → is_awake s ≡ true → has_looked (is_dry s) f ≡ false → is_calm s ≡ false
-    → is_awake (followed s f (cond spent verdict.Again verdict.GoesOn)) ≡ true
+    → is_awake (followed s f (cond spent decision.Again decision.GoesOn)) ≡ true
 goes-on true s f a n c = refl
 goes-on false s f a n c = rw (n, c) refl
 
 -- one that was awake doesn't rest after an answer that ends no look
 awake-followed : (s : LookState) (f : Found) (left : ℕ) (full : Bool) → is_awake s ≡ true → has_looked (is_dry s) f ≡ false
-    → is_awake (followed s f (verdict_for left (may_rest s f) full)) ≡ true
+    → is_awake (followed s f (decision_for left (may_rest s f) full)) ≡ true
 awake-followed state.Rests f left full a n = absurd (cc)
 awake-followed (state.Looks dry) f left full a n = absurd (cc)
 awake-followed s f left true a n = refl
@@ -94,11 +94,11 @@ goes-on-dry true calm dry d = absurd (cc)
 goes-on-dry false true dry d = d
 goes-on-dry false false dry d = d
 
-dry-followed : (s : LookState) (f : Found) (v : Verdict) → is_dry (followed s f v) ≡ true → finds_dry f ≡ true
-dry-followed s f verdict.Rests d = absurd (cc)
-dry-followed s f verdict.Held d = absurd (cc)
-dry-followed s f verdict.Again d = absurd (cc)
-dry-followed s f verdict.GoesOn d = goes-on-dry (has_looked (is_dry s) f) (is_calm s) (finds_dry f) d
+dry-followed : (s : LookState) (f : Found) (v : Decision) → is_dry (followed s f v) ≡ true → finds_dry f ≡ true
+dry-followed s f decision.Rests d = absurd (cc)
+dry-followed s f decision.Held d = absurd (cc)
+dry-followed s f decision.Again d = absurd (cc)
+dry-followed s f decision.GoesOn d = goes-on-dry (has_looked (is_dry s) f) (is_calm s) (finds_dry f) d
 
 -- what is kept of a dry stream is so by the history
 dry : (h : List Step) → is_dry (state_after h) ≡ true → was_dry h ≡ true
@@ -106,7 +106,7 @@ unfolding state_after was_dry
 dry [] d = absurd (cc)
 dry (Comes ∷ h) d = dry h (dry-called (state_after h) d)
 dry (Begins ∷ h) d = absurd (cc (not-dry-begun (state_after h)))
-dry (Follows f left full ∷ h) d = dry-followed (state_after h) f (verdict_for left (may_rest (state_after h) f) full) d
+dry (Follows f left full ∷ h) d = dry-followed (state_after h) f (decision_for left (may_rest (state_after h) f) full) d
 dry (Pauses p ∷ h) d = absurd (cc (not-dry-paused (state_after h) p))
 
 -- a look that isn't over by the history isn't by the state
@@ -148,7 +148,7 @@ going-on-under-way false true dry = refl
 going-on-under-way false false dry = refl
 
 followed-under-way : (s : LookState) (f : Found) (full spent : Bool)
-    → rests-or-called (followed s f (cond full verdict.Held (cond spent verdict.Again verdict.GoesOn))) ≡ false
+    → rests-or-called (followed s f (cond full decision.Held (cond spent decision.Again decision.GoesOn))) ≡ false
 unfolding rests-or-called
 followed-under-way s f true spent = refl
 followed-under-way s f false true = refl
@@ -156,7 +156,7 @@ followed-under-way s f false false = going-on-under-way (has_looked (is_dry s) f
 
 -- one that rests after an answer has looked
 rests-over : (calm over full spent : Bool) (s : LookState) (f : Found)
-    → rests-or-called (followed s f (cond full verdict.Held (cond (calm && over) verdict.Rests (cond spent verdict.Again verdict.GoesOn)))) ≡ true → over ≡ true
+    → rests-or-called (followed s f (cond full decision.Held (cond (calm && over) decision.Rests (cond spent decision.Again decision.GoesOn)))) ≡ true → over ≡ true
 rests-over calm true full spent s f r = refl
 rests-over true false full spent s f r = absurd (cc (followed-under-way s f full spent))
 rests-over false false full spent s f r = absurd (cc (followed-under-way s f full spent))
@@ -229,12 +229,12 @@ never_calm s calm h is came rests =
     let s-awake : is_awake s ≡ true = subst (λ s. is_awake s ≡ true) is (awake h came) in
     absurd (cc (awake-not-calm s s-awake))
 
-rests-calm : (left : ℕ) (calm over full : Bool) → verdict_for left (calm && over) full ≡ verdict.Rests → calm ≡ true
+rests-calm : (left : ℕ) (calm over full : Bool) → decision_for left (calm && over) full ≡ decision.Rests → calm ≡ true
 rests-calm left true over full r = refl
 rests-calm left false over true r = absurd (cc)
-rests-calm left false over false r = elim (nat_eq left 0) as (λ b. cond b verdict.Again verdict.GoesOn ≡ verdict.Rests → false ≡ true) [ true ↦ λ e. absurd (cc) | false ↦ λ e. absurd (cc) ] r
+rests-calm left false over false r = elim (nat_eq left 0) as (λ b. cond b decision.Again decision.GoesOn ≡ decision.Rests → false ≡ true) [ true ↦ λ e. absurd (cc) | false ↦ λ e. absurd (cc) ] r
 
--- so may one of which the verdict says so
-pub never_rested : (s : LookState) (f : Found) (left : ℕ) (full : Bool) → verdict_for left (may_rest s f) full ≡ verdict.Rests
+-- so may one of which the decision says so
+pub never_rested : (s : LookState) (f : Found) (left : ℕ) (full : Bool) → decision_for left (may_rest s f) full ≡ decision.Rests
     → NeverRests s state.Rests
 never_rested s f left full r = never_calm s (rests-calm left (is_calm s) (has_looked (is_dry s) f) full r)

@@ -14,12 +14,12 @@ or-left : (a b : Bool) → a ≡ true → (a || b) ≡ true
 or-left true b is = refl
 or-left false b is = absurd (cc)
 
--- where there was no room, everybody is noted
-pub by_room : (ok all any : Bool) → (ok ≡ true → (all || any) ≡ true) → ((all || not ok) || any) ≡ true
-by_room true true any is = refl
-by_room true false any is = is refl
-by_room false true any is = refl
-by_room false false any is = refl
+-- where there was no memory, everybody is noted
+pub by_fit : (ok all any : Bool) → (ok ≡ true → (all || any) ≡ true) → ((all || not ok) || any) ≡ true
+by_fit true true any is = refl
+by_fit true false any is = is refl
+by_fit false true any is = refl
+by_fit false false any is = refl
 
 one : (c : ℕ) → list_any (λ x. nat_eq x c) (c ∷ []) ≡ true
 one c = rw (itself c) refl

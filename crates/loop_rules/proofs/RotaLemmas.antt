@@ -7,7 +7,7 @@ use Rattle.std.proofs.lemmas.Bool.Decides.{eqb_tells, leb_tells}
 use Rattle.loop_rules.specs.declared.looks.LookState.{LookState}
 use Rattle.loop_rules.specs.declared.looks.LookState.TheVariants as state
 use Rattle.loop_rules.specs.Looks.{is_queued, is_to_queue, begun, called}
-use Rattle.loop_rules.specs.Rotas.{Waiting, IsOrderly, look_of, one_if, times, queued_count, has_turn, will_look, with_look, called_at}
+use Rattle.loop_rules.specs.Rotas.{Waiting, IsOrderly, look_of, one_if, times, queued_count, has_stint, will_look, with_look, called_at}
 
 -- where one isn't queued, fewer are than there are
 pub fewer : (looks : List LookState) (key : ℕ) → key < length looks → is_queued (look_of looks key) ≡ false
@@ -17,10 +17,10 @@ fewer looks key below isnt =
     let there : one_if (is_queued (look_of looks key)) ≡ 0 = rw isnt refl in
     omega (arith, put, there, count_by-le-length is_queued (slice_set looks key state.Called), length-set looks key state.Called)
 
--- so there is room for one that isn't queued yet
-pub room : (looks : List LookState) (keys : List ℕ) (count rr ar key : ℕ) → IsOrderly looks keys count rr ar
+-- so there is space for one that isn't queued yet
+pub fits_one : (looks : List LookState) (keys : List ℕ) (count rr ar key : ℕ) → IsOrderly looks keys count rr ar
     → key < length looks → is_queued (look_of looks key) ≡ false → (count < rr) × (count < ar)
-room looks keys count rr ar key o below isnt =
+fits_one looks keys count rr ar key o below isnt =
     let less : queued_count looks < length looks = fewer looks key below isnt in
     (omega (arith, o.all, o.ready_fits, less), omega (arith, o.all, o.again_fits, less))
 
@@ -132,22 +132,22 @@ known : (looks : List LookState) (key : ℕ) → is_queued (look_of looks key) �
 known looks key is =
     known-or-rests looks key (look_of looks key) refl (queued-moves (look_of looks key) is) (leb_tells (length looks) key)
 
-turn-moves : (s : LookState) → has_turn s ≡ true → s ≡ state.Rests → ⊥
-turn-moves s is rests = cc
+stint-moves : (s : LookState) → has_stint s ≡ true → s ≡ state.Rests → ⊥
+stint-moves s is rests = cc
 
--- one whose turn it is is there, and doesn't stand in the queue
-pub turn_known : (looks : List LookState) (key : ℕ) → has_turn (look_of looks key) ≡ true → key < length looks
-turn_known looks key is =
-    known-or-rests looks key (look_of looks key) refl (turn-moves (look_of looks key) is) (leb_tells (length looks) key)
+-- one whose stint it is is there, and doesn't stand in the queue
+pub stint_known : (looks : List LookState) (key : ℕ) → has_stint (look_of looks key) ≡ true → key < length looks
+stint_known looks key is =
+    known-or-rests looks key (look_of looks key) refl (stint-moves (look_of looks key) is) (leb_tells (length looks) key)
 
-pub turn_isnt_queued : (s : LookState) → has_turn s ≡ true → is_queued s ≡ false
-turn_isnt_queued state.Rests is = refl
-turn_isnt_queued state.Called is = absurd (cc)
-turn_isnt_queued state.Again is = absurd (cc)
-turn_isnt_queued state.Full is = refl
-turn_isnt_queued state.Early is = refl
-turn_isnt_queued (state.Looks dry) is = refl
-turn_isnt_queued (state.Stirred dry) is = refl
+pub stint_isnt_queued : (s : LookState) → has_stint s ≡ true → is_queued s ≡ false
+stint_isnt_queued state.Rests is = refl
+stint_isnt_queued state.Called is = absurd (cc)
+stint_isnt_queued state.Again is = absurd (cc)
+stint_isnt_queued state.Full is = refl
+stint_isnt_queued state.Early is = refl
+stint_isnt_queued (state.Looks dry) is = refl
+stint_isnt_queued (state.Stirred dry) is = refl
 
 pub to_queue_isnt_queued : (s : LookState) → is_to_queue s ≡ true → is_queued s ≡ false
 to_queue_isnt_queued state.Rests is = refl
@@ -230,10 +230,10 @@ left looks key keys count rest rr ar s o isnt one =
       again_fits = omega (arith, length-set looks key s, o.again_fits);
     }
 
-pub popped : (looks : List LookState) (all : List ℕ) (key : ℕ) (keys : List ℕ) (count rest rr ar room : ℕ) (s : LookState)
-    → IsOrderly looks all count rr ar → all ≡ key ∷ keys → is_queued s ≡ false → count ≡ rest + 1 → room ≡ rr
-    → IsOrderly (slice_set looks key s) keys rest room ar
-popped looks all key keys count rest rr ar room s o first isnt one same =
+pub popped : (looks : List LookState) (all : List ℕ) (key : ℕ) (keys : List ℕ) (count rest rr ar most : ℕ) (s : LookState)
+    → IsOrderly looks all count rr ar → all ≡ key ∷ keys → is_queued s ≡ false → count ≡ rest + 1 → most ≡ rr
+    → IsOrderly (slice_set looks key s) keys rest most ar
+popped looks all key keys count rest rr ar most s o first isnt one same =
     let was : IsOrderly looks (key ∷ keys) count rr ar = subst (λ ks. IsOrderly looks ks count rr ar) first o in
     subst (λ r. IsOrderly (slice_set looks key s) keys rest r ar) (sym same) (left looks key keys count rest rr ar s was isnt one)
 

@@ -8,4 +8,4 @@ pub mod Owners
 pub mod Rosters
 pub mod Rotas
 pub mod Takers
-pub mod Turns
+pub mod Stints

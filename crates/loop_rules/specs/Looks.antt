@@ -6,9 +6,9 @@ use Rattle.loop_rules.specs.declared.looks.Found.{Found}
 use Rattle.loop_rules.specs.declared.looks.Found.TheVariants as found
 use Rattle.loop_rules.specs.declared.looks.Pause.{Pause}
 use Rattle.loop_rules.specs.declared.looks.Pause.TheVariants as pause
-use Rattle.loop_rules.specs.declared.looks.Verdict.{Verdict}
-use Rattle.loop_rules.specs.declared.looks.Verdict.TheVariants as verdict
-use Rattle.loop_rules.specs.Turns.{verdict_for}
+use Rattle.loop_rules.specs.declared.looks.Decision.{Decision}
+use Rattle.loop_rules.specs.declared.looks.Decision.TheVariants as decision
+use Rattle.loop_rules.specs.Stints.{decision_for}
 
 -- ## The table
 
@@ -16,7 +16,7 @@ use Rattle.loop_rules.specs.Turns.{verdict_for}
 abbrev pub first : LookState
 first = state.Rests
 
--- something came: one that rested is called, one in its turn looks once more, and any other goes on with
+-- something came: one that rested is called, one in its stint looks once more, and any other goes on with
 -- its look, and then looks once more
 abbrev pub called : LookState → LookState
 called state.Rests = state.Called
@@ -31,14 +31,14 @@ is_queued state.Called = true
 is_queued state.Again = true
 is_queued _ = false
 
--- something came for one that is to be put into the queue: it stands there not, and it isn't its turn
+-- something came for one that is to be put into the queue: it stands there not, and it isn't its stint
 abbrev pub is_to_queue : LookState → Bool
 is_to_queue state.Rests = true
 is_to_queue state.Full = true
 is_to_queue state.Early = true
 is_to_queue _ = false
 
--- its turn begins: so does a look, unless one is under way; then it looks once more after it
+-- its stint begins: so does a look, unless one is under way; then it looks once more after it
 abbrev pub begun : LookState → LookState
 begun state.Rests = state.Looks false
 begun state.Called = state.Looks false
@@ -74,13 +74,13 @@ going_on s f =
     (cond (is_calm s) (state.Looks (finds_dry f)) (state.Stirred (finds_dry f)))
 
 -- an event was answered, and this follows
-abbrev pub followed : LookState → Found → Verdict → LookState
-followed s f verdict.Rests = state.Rests
-followed s f verdict.Held = state.Full
-followed s f verdict.Again = state.Again
-followed s f verdict.GoesOn = going_on s f
+abbrev pub followed : LookState → Found → Decision → LookState
+followed s f decision.Rests = state.Rests
+followed s f decision.Held = state.Full
+followed s f decision.Again = state.Again
+followed s f decision.GoesOn = going_on s f
 
--- a turn is over in which no event was answered last
+-- a stint is over in which no event was answered last
 abbrev pub paused : LookState → Pause → LookState
 paused s pause.Full = state.Full
 paused s pause.Early = state.Early
@@ -95,7 +95,7 @@ is_awake state.Rests = false
 is_awake (state.Looks dry) = false
 is_awake _ = true
 
--- what may happen to a connection; at an answer, how many events its turn has left, and whether it has
+-- what may happen to a connection; at an answer, how many events its stint has left, and whether it has
 -- too much unsent
 pub data Step : Type 0 where
   Comes : Step
@@ -109,22 +109,22 @@ state_after [] = first
 state_after (Comes ∷ h) = called (state_after h)
 state_after (Begins ∷ h) = begun (state_after h)
 state_after (Follows f left full ∷ h) =
-    followed (state_after h) f (verdict_for left (may_rest (state_after h) f) full)
+    followed (state_after h) f (decision_for left (may_rest (state_after h) f) full)
 state_after (Pauses p ∷ h) = paused (state_after h) p
 
--- in its present turn the last answer but for what came has found the stream dry
+-- in its present stint the last answer but for what came has found the stream dry
 unfoldable pub was_dry : List Step → Bool
 was_dry (Follows f left full ∷ h) = finds_dry f
 was_dry (Comes ∷ h) = was_dry h
 was_dry _ = false
 
--- a look is cut in two where its turn ends before its bytes have gone, or its moment has come
+-- a look is cut in two where its stint ends before its bytes have gone, or its moment has come
 abbrev pub cuts : Pause → Bool
 cuts pause.Full = true
 cuts pause.Early = true
 cuts _ = false
 
--- a look is under way: some of its events were answered, and it isn't over. Only then does a turn go on
+-- a look is under way: some of its events were answered, and it isn't over. Only then does a stint go on
 -- with one, and else a look begins with it
 unfoldable pub is_under_way : List Step → Bool
 is_under_way [] = false
@@ -133,7 +133,7 @@ is_under_way (Begins ∷ h) = is_under_way h
 is_under_way (Follows f left full ∷ h) = cond (has_looked (was_dry h) f) false true
 is_under_way (Pauses p ∷ h) = cuts p && is_under_way h
 
--- something came since the last look began: one begins with a turn, and where one is over
+-- something came since the last look began: one begins with a stint, and where one is over
 unfoldable pub came_since_look : List Step → Bool
 came_since_look [] = false
 came_since_look (Comes ∷ h) = true

@@ -4,12 +4,12 @@ use Rattle.loop_rules.specs.declared.looks.LookState.{LookState}
 use Rattle.loop_rules.specs.declared.looks.LookState.TheVariants as state
 use Rattle.loop_rules.specs.declared.looks.Pause.{Pause}
 use Rattle.loop_rules.specs.declared.looks.Found.{Found}
-use Rattle.loop_rules.specs.declared.looks.Verdict.{Verdict}
-use Rattle.loop_rules.specs.declared.looks.Verdict.TheVariants as verdict
+use Rattle.loop_rules.specs.declared.looks.Decision.{Decision}
+use Rattle.loop_rules.specs.declared.looks.Decision.TheVariants as decision
 use Rattle.loop_rules.specs.Looks.{called, begun, paused, followed, is_queued, is_to_queue, may_rest}
-use Rattle.loop_rules.specs.Turns.{verdict_for}
+use Rattle.loop_rules.specs.Stints.{decision_for}
 
--- how each connection stands; the keys of those that have something to do in this turn of the loop, and
+-- how each connection stands; the keys of those that have something to do in this round of the loop, and
 -- of those that have more to do in its next one, each in the order in which they came
 pub record Waiting : Type 0 where
   pub looks : List LookState
@@ -36,23 +36,23 @@ abbrev pub queued_count : List LookState → ℕ
 queued_count looks = count_by is_queued looks
 
 -- who is called, or goes on with its look, stands in the queue once, and nobody else does; and each of the
--- two queues has room for all
-pub record IsOrderly (looks : List LookState) (keys : List ℕ) (count ready_room again_room : ℕ) : Type 0 where
+-- two queues has space for all
+pub record IsOrderly (looks : List LookState) (keys : List ℕ) (count ready_most again_most : ℕ) : Type 0 where
   pub once : (key : ℕ) → times key keys ≡ one_if (is_queued (look_of looks key))
   pub all : count ≡ queued_count looks
-  pub ready_fits : length looks ≤ ready_room
-  pub again_fits : length looks ≤ again_room
+  pub ready_fits : length looks ≤ ready_most
+  pub again_fits : length looks ≤ again_most
 
--- it is its turn
-abbrev pub has_turn : LookState → Bool
-has_turn (state.Looks dry) = true
-has_turn (state.Stirred dry) = true
-has_turn _ = false
+-- it is its stint
+abbrev pub has_stint : LookState → Bool
+has_stint (state.Looks dry) = true
+has_stint (state.Stirred dry) = true
+has_stint _ = false
 
-abbrev pub turn_of : LookState → Option LookState
-turn_of s = cond (has_turn s) (Some s) None
+abbrev pub stint_of : LookState → Option LookState
+stint_of s = cond (has_stint s) (Some s) None
 
--- it stands in the queue, or it is its turn and it looks once more
+-- it stands in the queue, or it is its stint and it looks once more
 abbrev pub will_look : LookState → Bool
 will_look state.Called = true
 will_look state.Again = true
@@ -73,44 +73,44 @@ called_at key w =
     (with_look key (called s) w))
     w
 
--- whose turn is next
+-- whose stint is next
 abbrev pub next_of : List ℕ → Option ℕ
 next_of [] = None
 next_of (key ∷ keys) = Some key
 
--- the turn of the first one begins
+-- the stint of the first one begins
 abbrev pub begun_at : List ℕ → Waiting → Waiting
 begun_at [] w = w
 begun_at (key ∷ keys) w =
     record { looks = slice_set w.looks key (begun (look_of w.looks key)); ready = keys; again = w.again }
 
--- a turn is over: where the connection is queued, it stands at the end of those of the loop's next turn
+-- a stint is over: where the connection is queued, it stands at the end of those of the loop's next round
 abbrev pub left_so : ℕ → LookState → Waiting → Waiting
 left_so key s w =
     cond (is_queued s)
     (record { looks = slice_set w.looks key s; ready = w.ready; again = w.again ++ key ∷ [] })
     (with_look key s w)
 
--- so it is where it was its turn
+-- so it is where it was its stint
 abbrev pub paused_at : ℕ → Pause → Waiting → Waiting
-paused_at key p w = cond (has_turn (look_of w.looks key)) (left_so key (paused (look_of w.looks key) p) w) w
+paused_at key p w = cond (has_stint (look_of w.looks key)) (left_so key (paused (look_of w.looks key) p) w) w
 
-abbrev pub followed_at : ℕ → Found → Verdict → Waiting → Waiting
+abbrev pub followed_at : ℕ → Found → Decision → Waiting → Waiting
 followed_at key f v w =
-    cond (has_turn (look_of w.looks key)) (left_so key (followed (look_of w.looks key) f v) w) w
+    cond (has_stint (look_of w.looks key)) (left_so key (followed (look_of w.looks key) f v) w) w
 
--- what follows an answer in its turn
-abbrev pub verdict_at : ℕ → ℕ → Found → Bool → Waiting → Verdict
-verdict_at key left f full w =
-    cond (has_turn (look_of w.looks key)) (verdict_for left (may_rest (look_of w.looks key) f) full) verdict.Rests
+-- what follows an answer in its stint
+abbrev pub decision_at : ℕ → ℕ → Found → Bool → Waiting → Decision
+decision_at key left f full w =
+    cond (has_stint (look_of w.looks key)) (decision_for left (may_rest (look_of w.looks key) f) full) decision.Rests
 
 -- a connection is gone: its key stays in the queue, if it stands there
 abbrev pub dismissed_at : ℕ → Waiting → Waiting
 dismissed_at key w = cond (is_queued (look_of w.looks key)) w (with_look key state.Rests w)
 
--- the next turn of the loop begins
-abbrev pub turned : Waiting → Waiting
-turned w = record { looks = w.looks; ready = w.ready ++ w.again; again = [] }
+-- the next round of the loop begins
+abbrev pub next_round : Waiting → Waiting
+next_round w = record { looks = w.looks; ready = w.ready ++ w.again; again = [] }
 
 -- nobody stands in the queue
 abbrev pub IsQuiet : Waiting → Type 0

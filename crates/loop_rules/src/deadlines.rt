@@ -20,7 +20,7 @@ const END: u64 = 2_000;
 
 /// What a connection is at.
 #[derive(Clone, Copy, Debug, PartialEq, Eq)]
-pub enum Part {
+pub enum Period {
     /// Its request is coming.
     Request,
     /// It is a GET that waits.
@@ -47,24 +47,24 @@ pub enum Overdue {
     Cut,
     /// Its client is lost.
     Fail,
-    /// It gets a turn, in which it finds whether its client is still there.
+    /// It gets a stint, in which it finds whether its client is still there.
     Look,
 }
 
-/// What is to be done with a connection that has been so long at this part, and whose bytes to be
+/// What is to be done with a connection that has been so long at this period, and whose bytes to be
 /// sent have not gone on for so long, if there are any.
-pub fn find_overdue(part: Part, age: u64, stalled: Option<u64>) -> Overdue
-    ensures { result ≡ overdue_at part age stalled }
+pub fn find_overdue(period: Period, age: u64, stalled: Option<u64>) -> Overdue
+    ensures { result ≡ overdue_at period age stalled }
 {
     let is_stuck = matches!(stalled, Some(time) if time >= STALL);
-    match part {
-        Part::Request if age >= REQUEST => Overdue::Close,
-        Part::Waits if age >= WAIT => Overdue::GiveUp,
-        Part::Knocks if age >= PROBE => Overdue::Cut,
-        Part::Knocks => Overdue::Look,
-        Part::Served if is_stuck => Overdue::Fail,
-        Part::Sends if is_stuck => Overdue::Close,
-        Part::Ends if age >= END => Overdue::Close,
+    match period {
+        Period::Request if age >= REQUEST => Overdue::Close,
+        Period::Waits if age >= WAIT => Overdue::GiveUp,
+        Period::Knocks if age >= PROBE => Overdue::Cut,
+        Period::Knocks => Overdue::Look,
+        Period::Served if is_stuck => Overdue::Fail,
+        Period::Sends if is_stuck => Overdue::Close,
+        Period::Ends if age >= END => Overdue::Close,
         _ => Overdue::Nothing,
     }
 }

@@ -9,8 +9,8 @@ mod owners;
 mod roster;
 mod rota;
 
-pub use deadlines::{Overdue, Part, find_overdue};
-pub use looks::{Found, LookState, Pause, Turn, Verdict, left_after_message};
+pub use deadlines::{Overdue, Period, find_overdue};
+pub use looks::{Decision, Found, LookState, Pause, Stint, left_after_message};
 pub use mailbox::{Mail, Mailbox};
 pub use owners::{LOOPS, dealt_to, loop_of, marked, owner_of};
 pub use roster::{Notes, Roster, Takers};

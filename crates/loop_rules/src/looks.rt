@@ -4,11 +4,11 @@ ghost use Rattle.std.specs.Prelude.{◌≡◌};
 ghost use Rattle.loop_rules.specs.Frames as frames;
 ghost use Rattle.loop_rules.specs.Looks as looks;
 ghost use Rattle.loop_rules.specs.Looks.{NeverRests};
-ghost use Rattle.loop_rules.specs.Turns.{left_after, verdict_for};
+ghost use Rattle.loop_rules.specs.Stints.{left_after, decision_for};
 
 use std::marker::Model;
 
-/// How many events one turn of a connection brings before it goes to the end of the queue.
+/// How many events one stint of a connection brings before it goes to the end of the queue.
 const EVENTS: u32 = 48;
 
 /// How a connection stands to what comes for it. From something that came until it looked again it
@@ -17,7 +17,7 @@ const EVENTS: u32 = 48;
 pub enum LookState {
     /// It has looked at all that came, and rests until something comes.
     Rests,
-    /// Something came while it rested: it stands in the queue, and its look begins with its turn.
+    /// Something came while it rested: it stands in the queue, and its look begins with its stint.
     Called,
     /// It stands in the queue while a look is under way: it goes on with that, and then looks once
     /// more.
@@ -26,10 +26,10 @@ pub enum LookState {
     Full,
     /// It is not served until its moment has come.
     Early,
-    /// It is its turn, and nothing came since it began to look. Whether its stream had no more
+    /// It is its stint, and nothing came since it began to look. Whether its stream had no more
     /// while all that waited for its client was taken.
     Looks { dry: bool },
-    /// It is its turn, and something came since it began to look: it looks once more.
+    /// It is its stint, and something came since it began to look: it looks once more.
     Stirred { dry: bool },
 }
 
@@ -46,12 +46,12 @@ pub enum Found {
     Idle,
 }
 
-/// Why a turn is over in which no event was answered.
+/// Why a stint is over in which no event was answered.
 #[derive(Clone, Copy, Debug, PartialEq, Eq)]
 pub enum Pause {
     /// It has looked at all that came.
     Done,
-    /// It has more to do, once others had their turns.
+    /// It has more to do, once others had their stints.
     More,
     /// Its bytes are to go first.
     Full,
@@ -61,10 +61,10 @@ pub enum Pause {
 
 /// What follows an event of a connection.
 #[derive(Clone, Copy, Debug, PartialEq, Eq)]
-pub enum Verdict {
+pub enum Decision {
     /// Its next event.
     GoesOn,
-    /// Its next turn, once others had theirs.
+    /// Its next stint, once others had theirs.
     Again,
     /// Nothing, until something comes for it.
     Rests,
@@ -72,13 +72,13 @@ pub enum Verdict {
     Held,
 }
 
-/// What is left of a connection's turn. In a contract it is how many events.
+/// What is left of a connection's stint. In a contract it is how many events.
 #[derive(Clone, Copy, Debug)]
-pub struct Turn {
+pub struct Stint {
     left: u32,
 }
 
-impl Model for Turn {
+impl Model for Stint {
     ghost use Rattle.std.specs.Prelude.{ℕ};
 
     ghost Value = { ℕ };
@@ -88,27 +88,27 @@ impl Model for Turn {
     ghost inverse = { λ n. record { left = n } };
 }
 
-impl Turn {
-    /// A turn begins.
-    pub fn begin() -> Turn
+impl Stint {
+    /// A stint begins.
+    pub fn begin() -> Stint
         ensures { result ≡ 48 }
     {
-        Turn { left: EVENTS }
+        Stint { left: EVENTS }
     }
 
     /// What follows, where a connection is idle or not and has too much unsent or not. One more
-    /// event of the turn is counted where the connection goes on.
-    pub fn next(&mut self, idle: bool, full: bool) -> Verdict
-        ensures verdict { result ≡ verdict_for self.old idle full }
+    /// event of the stint is counted where the connection goes on.
+    pub fn next(&mut self, idle: bool, full: bool) -> Decision
+        ensures decision { result ≡ decision_for self.old idle full }
         ensures left { self.new ≡ left_after self.old result }
     {
         match (full, idle, self.left) {
-            (true, _, _) => Verdict::Held,
-            (_, true, _) => Verdict::Rests,
-            (_, _, 0) => Verdict::Again,
+            (true, _, _) => Decision::Held,
+            (_, true, _) => Decision::Rests,
+            (_, _, 0) => Decision::Again,
             _ => {
                 self.left -= 1;
-                Verdict::GoesOn
+                Decision::GoesOn
             }
         }
     }
@@ -156,7 +156,7 @@ impl LookState {
         self.is_queued() && !old.is_queued()
     }
 
-    /// Its turn begins, and with it a look, unless one is under way.
+    /// Its stint begins, and with it a look, unless one is under way.
     pub fn begin(&mut self)
         ensures state { self.new ≡ looks.begun self.old }
         ensures law { NeverRests self.old self.new }
@@ -168,27 +168,27 @@ impl LookState {
     }
 
     /// An event was answered. Answers what follows, where it has too much unsent or not.
-    pub fn follow(&mut self, turn: &mut Turn, found: Found, full: bool) -> Verdict
-        ensures verdict { result ≡ verdict_for turn.old (looks.may_rest self.old found) full }
-        ensures left { turn.new ≡ left_after turn.old result }
+    pub fn follow(&mut self, stint: &mut Stint, found: Found, full: bool) -> Decision
+        ensures decision { result ≡ decision_for stint.old (looks.may_rest self.old found) full }
+        ensures left { stint.new ≡ left_after stint.old result }
         ensures state { self.new ≡ looks.followed self.old found result }
         ensures law { NeverRests self.old self.new }
     {
         let (calm, over, dry) = (self.is_calm(), self.has_looked(found), found == Found::Dry);
-        let verdict = turn.next(calm && over, full);
-        *self = match verdict {
-            Verdict::Rests => LookState::Rests,
-            Verdict::Held => LookState::Full,
-            Verdict::Again => LookState::Again,
+        let decision = stint.next(calm && over, full);
+        *self = match decision {
+            Decision::Rests => LookState::Rests,
+            Decision::Held => LookState::Full,
+            Decision::Again => LookState::Again,
             // Where its look is over, another begins.
-            Verdict::GoesOn if over => LookState::Looks { dry: false },
-            Verdict::GoesOn if calm => LookState::Looks { dry },
-            Verdict::GoesOn => LookState::Stirred { dry },
+            Decision::GoesOn if over => LookState::Looks { dry: false },
+            Decision::GoesOn if calm => LookState::Looks { dry },
+            Decision::GoesOn => LookState::Stirred { dry },
         };
-        verdict
+        decision
     }
 
-    /// Its turn is over, and no event was answered.
+    /// Its stint is over, and no event was answered.
     pub fn pause(&mut self, pause: Pause)
         ensures state { self.new ≡ looks.paused self.old pause }
         ensures law { NeverRests self.old self.new }

@@ -44,6 +44,6 @@ pub fn owner_of(target: Target, loops: usize, own: usize) -> usize
 pub fn dealt_to(given: u64, together: u64, loops: usize) -> usize
     ensures { result ≡ dealt_to loops together given }
 {
-    let turns = given / together.max(1);
-    turns.checked_rem(loops as u64).unwrap_or(0) as usize
+    let rounds = given / together.max(1);
+    rounds.checked_rem(loops as u64).unwrap_or(0) as usize
 }

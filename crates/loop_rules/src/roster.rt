@@ -126,7 +126,7 @@ impl Roster {
 
     /// An event put something for the clients of these lists: each one of this loop is woken, and
     /// each other one is noted.
-    pub fn tell_lists(&mut self, own: usize, loops: usize, lists: &[Vec<u128>], notes: &mut Notes)
+    pub fn wake_lists(&mut self, own: usize, loops: usize, lists: &[Vec<u128>], notes: &mut Notes)
         requires { 0 < loops }
         ensures { (k : ℕ) → k < length lists.now →
             AreTold own loops (slice_index_or (map (λ ids. ids.items) lists.now) k []) self.new notes.new }

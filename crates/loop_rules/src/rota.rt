@@ -1,25 +1,25 @@
-//! Which connections of a loop have something to do, and whose turn is next.
+//! Which connections of a loop have something to do, and whose stint is next.
 
 ghost use Rattle.std.specs.Prelude.{◌≡◌, ◌+◌, ◌≤◌, ◌<◌, ◌↔◌, true, false, ℕ, IsTrue, length};
 ghost use Rattle.std.specs.VecDeque.{DequeUnchanged, deque_capacity};
 ghost use Rattle.loop_rules.specs.Looks.{is_queued};
 ghost use Rattle.loop_rules.specs.Rotas as rotas;
-ghost use Rattle.loop_rules.specs.Rotas.{IsQuiet, has_turn, look_of, will_look};
+ghost use Rattle.loop_rules.specs.Rotas.{IsQuiet, has_stint, look_of, will_look};
 
-use crate::looks::{Found, LookState, Pause, Turn, Verdict};
+use crate::looks::{Decision, Found, LookState, Pause, Stint};
 use std::alloc::Global;
 use std::collections::VecDeque;
 use std::marker::Model;
 
-/// Which connections of a loop have something to do, by their keys, and whose turn is next. A key
+/// Which connections of a loop have something to do, by their keys, and whose stint is next. A key
 /// stands in the queue once where its connection is called or goes on with its look, and else not
-/// at all; and there is room for all, so that no wake needs memory.
+/// at all; and all fit into the queue, so that no wake needs memory.
 #[derive(Drop)]
 pub struct Rota {
     looks: Vec<LookState>,
-    /// Those that have their turn in this turn of the loop.
+    /// Those that have their stint in this round of the loop.
     ready: VecDeque<usize>,
-    /// Those that have more to do in the loop's next turn.
+    /// Those that have more to do in the loop's next round.
     again: VecDeque<usize>,
 }
 
@@ -36,11 +36,11 @@ impl Model for Rota {
         (deque_len r.ready + deque_len r.again) (deque_capacity r.ready) (deque_capacity r.again) };
 }
 
-/// Makes room for so many keys in a queue, and tells whether there was memory for it.
-fn make_room(queue: &mut VecDeque<usize>, most: usize) -> bool
+/// Makes sure that so many keys fit into a queue. Answers whether there was memory for that.
+fn reserve(queue: &mut VecDeque<usize>, most: usize) -> bool
     ensures same { DequeUnchanged queue.old queue.new }
     ensures kept { deque_capacity queue.old ≤ deque_capacity queue.new }
-    ensures room { IsTrue result → most ≤ deque_capacity queue.new }
+    ensures fits { IsTrue result → most ≤ deque_capacity queue.new }
 {
     let more = most.saturating_sub(queue.len());
     queue.reserve(more).is_ok()
@@ -65,7 +65,7 @@ impl Rota {
         self.looks.get(key).copied().unwrap_or(LookState::Rests)
     }
 
-    /// Makes a place for a connection with this key, which is at most one above all others. Answers
+    /// Adds a connection with this key, which is at most one above all others. Answers
     /// whether there was memory for it.
     pub fn admit(&mut self, key: usize) -> bool
         ensures known { IsTrue result → key < length self.new.looks }
@@ -78,7 +78,7 @@ impl Rota {
             return key < count;
         }
         let most = count.saturating_add(1);
-        if !make_room(&mut self.ready, most) || !make_room(&mut self.again, most) {
+        if !reserve(&mut self.ready, most) || !reserve(&mut self.again, most) {
             return false;
         }
         self.looks.push(LookState::Rests).is_ok()
@@ -94,7 +94,7 @@ impl Rota {
     }
 
     /// Something came for the connection with this key: it stands in the queue from now on, or
-    /// looks once more in its turn.
+    /// looks once more in its stint.
     pub fn call(&mut self, key: usize)
         ensures state { self.new ≡ rotas.called_at key self.old }
         ensures looks { key < length self.old.looks → will_look (look_of self.new.looks key) ≡ true }
@@ -114,7 +114,7 @@ impl Rota {
         }
     }
 
-    /// The turn of the first one begins.
+    /// The stint of the first one begins.
     pub fn pop(&mut self) -> Option<usize>
         ensures first { result ≡ rotas.next_of self.old.ready }
         ensures state { self.new ≡ rotas.begun_at self.old.ready self.old }
@@ -124,17 +124,17 @@ impl Rota {
         Some(key)
     }
 
-    /// How the connection stands whose turn it is, if this is its key.
-    fn turn_of(&self, key: usize) -> Option<LookState>
-        ensures { result ≡ rotas.turn_of (look_of self.now.looks key) }
+    /// How the connection stands whose stint it is, if this is its key.
+    fn stint_of(&self, key: usize) -> Option<LookState>
+        ensures { result ≡ rotas.stint_of (look_of self.now.looks key) }
     {
         let look = self.look(key);
         matches!(look, LookState::Looks { .. } | LookState::Stirred { .. }).then_some(look)
     }
 
-    /// The connection whose turn it is stands so from now on.
-    fn leave(&mut self, key: usize, look: LookState)
-        requires { has_turn (look_of self.old.looks key) ≡ true }
+    /// The connection whose stint it is stands so from now on.
+    fn put_back(&mut self, key: usize, look: LookState)
+        requires { has_stint (look_of self.old.looks key) ≡ true }
         ensures { self.new ≡ rotas.left_so key look self.old }
     {
         self.looks[key] = look;
@@ -143,35 +143,35 @@ impl Rota {
         }
     }
 
-    /// An event was answered in the turn of this connection. Answers what follows, where it has too
-    /// much unsent or not. Where it isn't its turn, it rests.
-    pub fn follow(&mut self, key: usize, turn: &mut Turn, found: Found, full: bool) -> Verdict
-        ensures verdict { result ≡ rotas.verdict_at key turn.old found full self.old }
+    /// An event was answered in the stint of this connection. Answers what follows, where it has too
+    /// much unsent or not. Where it isn't its stint, it rests.
+    pub fn follow(&mut self, key: usize, stint: &mut Stint, found: Found, full: bool) -> Decision
+        ensures decision { result ≡ rotas.decision_at key stint.old found full self.old }
         ensures state { self.new ≡ rotas.followed_at key found result self.old }
     {
-        let Some(mut look) = self.turn_of(key) else {
-            return Verdict::Rests;
+        let Some(mut look) = self.stint_of(key) else {
+            return Decision::Rests;
         };
-        let verdict = look.follow(turn, found, full);
-        self.leave(key, look);
-        verdict
+        let decision = look.follow(stint, found, full);
+        self.put_back(key, look);
+        decision
     }
 
-    /// The turn of this connection is over, and no event was answered last.
+    /// The stint of this connection is over, and no event was answered last.
     pub fn pause(&mut self, key: usize, pause: Pause)
         ensures { self.new ≡ rotas.paused_at key pause self.old }
     {
-        if let Some(mut look) = self.turn_of(key) {
+        if let Some(mut look) = self.stint_of(key) {
             look.pause(pause);
-            self.leave(key, look);
+            self.put_back(key, look);
         }
     }
 
-    /// The next turn of the loop begins.
-    pub fn begin_turn(&mut self)
-        ensures { self.new ≡ rotas.turned self.old }
+    /// The next round of the loop begins.
+    pub fn begin_round(&mut self)
+        ensures { self.new ≡ rotas.next_round self.old }
     {
-        // There is room for all.
+        // All fit.
         let _ = self.ready.append(&mut self.again);
     }
 

@@ -27,7 +27,7 @@ abbrev pub file_for : List ℕ → Files → Option File
 file_for [] files = None
 file_for (b ∷ name) files = cond (b == 47) (file_behind name files) None
 
--- why a file has no place: there are a thousand, or the bytes would be more than 16 MiB
+-- why a file is not taken: there are a thousand, or the bytes would be more than 16 MiB
 abbrev pub refusal : Files → File → Option PageError
 refusal files file =
     first_refusal

@@ -18,7 +18,7 @@ pub const MOST_BYTES: usize = 16_777_216;
 /// The file that the path `/` asks for.
 const INDEX: &str = "index.html";
 
-/// Why a file has no place in a page, in the order in which it is tested.
+/// Why a file is not taken in a page, in the order in which it is tested.
 #[derive(Clone, Copy, Debug, PartialEq, Eq)]
 pub enum PageError {
     /// There are as many files as a page may have.

@@ -3,7 +3,7 @@ use Rattle.std.proofs.Common.{◌≡◌, ℕ, Bool, false, refl}
 use Rattle.peers.specs.declared.socket_stage.Phase.{Phase}
 use Rattle.peers.specs.declared.socket_stage.SocketStage.{SocketStage}
 use Rattle.peers.specs.declared.socket_stage.SocketStage.TheVariants as stage
-use Rattle.peers.specs.Turning.{reads}
+use Rattle.peers.specs.Rounds.{reads}
 
 pub not_reading : (s : SocketStage) → ((c : ℕ) (p : Phase) (idle : Bool) → s ≡ stage.Reads c p idle → ⊥) → reads s ≡ false
 not_reading stage.Opens not = refl

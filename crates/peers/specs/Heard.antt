@@ -11,7 +11,7 @@ use Rattle.peers.specs.declared.socket_stage.Phase.{Phase}
 use Rattle.peers.specs.declared.socket_stage.Phase.TheVariants as phase
 use Rattle.peers.specs.declared.socket_stage.SocketStage.{SocketStage}
 use Rattle.peers.specs.declared.socket_stage.SocketStage.TheVariants as stage
-use Rattle.peers.specs.Turning.{client_of}
+use Rattle.peers.specs.Rounds.{client_of}
 
 -- ---- what an answer leads to
 

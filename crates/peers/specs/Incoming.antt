@@ -46,9 +46,9 @@ IsHeardAs (Err e) came = came ≡ of_error e
 
 module _ {S : Type 0} (contents : S → Option (List ℕ)) where
   -- at a close what waits is flushed, as far as the stream takes it; else nothing is done
-  abbrev pub Settles : Result Message Error → Socket S → Socket S → Type 0
-  Settles (Ok (message.Close why)) old new = Flushed contents old new
-  Settles _ old new = new ≡ old
+  abbrev pub FlushesAtClose : Result Message Error → Socket S → Socket S → Type 0
+  FlushesAtClose (Ok (message.Close why)) old new = Flushed contents old new
+  FlushesAtClose _ old new = new ≡ old
 
 module _ {S : Type 0} (remaining contents : S → Option (List ℕ)) where
   -- one read of the socket, and what it gave
@@ -56,5 +56,5 @@ module _ {S : Type 0} (remaining contents : S → Option (List ℕ)) where
     pub gave : Result Message Error
     pub between : Socket S
     pub reads : Reads remaining old between gave
-    pub settles : Settles contents gave between new
+    pub flushes : FlushesAtClose contents gave between new
     pub heard : IsHeardAs gave came

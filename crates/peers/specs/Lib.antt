@@ -1,8 +1,8 @@
 pub mod Sent
-pub mod Replies
+pub mod Responses
 pub mod Polling
 pub mod Polled
-pub mod Turning
+pub mod Rounds
 pub mod Heard
 pub mod Incoming
 pub mod Spoken

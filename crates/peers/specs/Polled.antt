@@ -11,7 +11,7 @@ use Rattle.peers.specs.declared.poll_stage.PollStage.{PollStage}
 use Rattle.peers.specs.Moments.{PausesIf, IsTimed}
 use Rattle.peers.specs.Noops.{is_noop}
 use Rattle.peers.specs.Polling.{next_of, after, is_idle}
-use Rattle.peers.specs.Replies.{PlainReply, answer_to}
+use Rattle.peers.specs.Responses.{PlainResponse, answer_to}
 
 -- how far the request has come, the wire that it came by, its moments, how many entries one payload may have, and the
 -- origin that the answer names, if it names one
@@ -43,27 +43,27 @@ module _ {W M : Type 0} (gives : M → ℕ → M → Type 0) (pauses : M → M �
 module _ {W : Type 0} (written : W → Option (List ℕ)) (is_broken : W → Bool) where
   -- the whole answer was written; or memory was refused, and nothing was asked of the wire; or the wire broke, and a
   -- first part was written
-  abbrev pub Writes : Option (List ℕ) → PlainReply → W → Result (Unit {0}) PeerFault → W → Type 0
-  Writes origin reply old (Ok _) new = Appends (written old) (written new) (http.answer reply.status origin reply.body)
-  Writes origin reply old (Err fault.Memory) new = new ≡ old
-  Writes origin reply old (Err fault.Device) new =
-      AppendsFront (written old) (written new) (http.answer reply.status origin reply.body) × (is_broken new ≡ true)
-  Writes origin reply old (Err fault.Ended) new = ⊥
+  abbrev pub Writes : Option (List ℕ) → PlainResponse → W → Result (Unit {0}) PeerFault → W → Type 0
+  Writes origin response old (Ok _) new = Appends (written old) (written new) (http.answer response.status origin response.body)
+  Writes origin response old (Err fault.Memory) new = new ≡ old
+  Writes origin response old (Err fault.Device) new =
+      AppendsFront (written old) (written new) (http.answer response.status origin response.body) × (is_broken new ≡ true)
+  Writes origin response old (Err fault.Ended) new = ⊥
 
   -- where the table names no answer, nothing is written
-  abbrev pub Replies : Option (List ℕ) → Option PlainReply → W → Result (Unit {0}) PeerFault → W → Type 0
-  Replies origin None old result new = (result ≡ Ok tt) × (new ≡ old)
-  Replies origin (Some reply) old result new = Writes origin reply old result new
+  abbrev pub Responds : Option (List ℕ) → Option PlainResponse → W → Result (Unit {0}) PeerFault → W → Type 0
+  Responds origin None old result new = (result ≡ Ok tt) × (new ≡ old)
+  Responds origin (Some response) old result new = Writes origin response old result new
 
 module _ {W M : Type 0} (written : W → Option (List ℕ)) (is_broken : W → Bool) (pauses : M → M → Type 0) where
   -- before it is written that nothing waits, the peer pauses, and before no other answer
-  abbrev pub Paces : Option PlainReply → Answer → M → M → Type 0
+  abbrev pub Paces : Option PlainResponse → Answer → M → M → Type 0
   Paces None got old new = new ≡ old
-  Paces (Some reply) got old new = PausesIf pauses (is_noop got) old new
+  Paces (Some response) got old new = PausesIf pauses (is_noop got) old new
 
   -- the stage and the answer are the tables'
   pub record Hears (old : Polled W M) (got : Answer) (result : Result (Unit {0}) PeerFault) (new : Polled W M) : Type 0 where
     pub stage : new.stage ≡ after old.stage got
-    pub answered : Replies written is_broken old.origin (answer_to old.stage got) old.wire result new.wire
+    pub answered : Responds written is_broken old.origin (answer_to old.stage got) old.wire result new.wire
     pub paces : Paces (answer_to old.stage got) got old.moments new.moments
     pub kept : (new.most ≡ old.most) × (new.origin ≡ old.origin)

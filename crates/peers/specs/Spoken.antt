@@ -14,7 +14,7 @@ use Rattle.peers.specs.Incoming.{Brings}
 use Rattle.peers.specs.Moments.{IsTimed}
 use Rattle.peers.specs.Polled.{event_of}
 use Rattle.peers.specs.Sent.{AddsFrame}
-use Rattle.peers.specs.Turning.{reads, next_of}
+use Rattle.peers.specs.Rounds.{reads, next_of}
 use Rattle.peers.specs.Heard.{after, to_send, unsent}
 
 -- how far the WebSocket has come, its socket, and its moments

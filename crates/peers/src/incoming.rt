@@ -1,6 +1,6 @@
 //! What comes over a WebSocket.
 
-ghost use Rattle.peers.specs.Incoming.{Brings, IsHeardAs, Settles};
+ghost use Rattle.peers.specs.Incoming.{Brings, IsHeardAs, FlushesAtClose};
 
 use events::{PeerFault, WsFrame};
 use std::alloc::Global;
@@ -46,11 +46,11 @@ fn heard(alloc: Global, gave: &Result<Message, Error>) -> Incoming
 }
 
 /// At a close the reply that waits is flushed once, as far as the stream takes it.
-fn settle<S: Read + Write + Drop, K: MaskKeys + Drop>(
+fn flush_at_close<S: Read + Write + Drop, K: MaskKeys + Drop>(
     socket: &mut WebSocket<S, K>,
     gave: &Result<Message, Error>,
 )
-    ensures { Settles S.contents gave.now socket.old socket.new }
+    ensures { FlushesAtClose S.contents gave.now socket.old socket.new }
 {
     if let Ok(Message::Close(_)) = gave {
         let _ = socket.flush();
@@ -65,6 +65,6 @@ pub(crate) fn read_incoming<S: Read + Write + Drop, K: MaskKeys + Drop>(
     ensures { Brings S.remaining S.contents socket.old result socket.new }
 {
     let gave = socket.read();
-    settle(socket, &gave);
+    flush_at_close(socket, &gave);
     heard(alloc, &gave)
 }

@@ -7,7 +7,7 @@ mod incoming;
 mod moments;
 mod poll_peer;
 mod poll_stage;
-mod replies;
+mod responses;
 mod socket_peer;
 mod socket_stage;
 
@@ -15,6 +15,6 @@ pub use accept::accept_socket;
 pub use moments::{Moments, is_noop, is_recent, served_from};
 pub use poll_peer::PollPeer;
 pub use poll_stage::PollRequest;
-pub use replies::{Reply, reply_to_fault, reply_to_target};
+pub use responses::{Response, response_to_fault, response_to_target};
 pub use socket_peer::{SocketPeer, send_frame};
 pub use socket_stage::{FRAMES_PER_TAKE, PROBE, SocketRequest, UPGRADE};

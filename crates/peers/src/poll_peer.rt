@@ -6,7 +6,7 @@ ghost use Rattle.peers.specs.declared.poll_stage.PollStage.TheVariants as stage;
 
 use crate::moments::{Moments, is_noop};
 use crate::poll_stage::{PollRequest, PollStage};
-use crate::replies::{Reply, reply_to};
+use crate::responses::{Response, response_to};
 use events::{Answered, Event, Peer, PeerFault};
 use http_edge::{EdgeError, Wire, write_response};
 use std::alloc::Global;
@@ -138,9 +138,9 @@ impl<W: Wire, M: Moments> Peer for PollPeer<W, M> {
     }
 
     fn answer(&mut self, got: &Answered) -> Result<(), PeerFault> {
-        let reply = reply_to(&self.stage, got);
+        let response = response_to(&self.stage, got);
         self.stage = mem::replace(&mut self.stage, PollStage::Opening).after(got);
-        let Some(Reply { status, body }) = reply else {
+        let Some(Response { status, body }) = response else {
             return Ok(());
         };
         if is_noop(got) {

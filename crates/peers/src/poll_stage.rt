@@ -2,7 +2,7 @@
 
 ghost use Rattle.std.specs.Prelude.{◌≡◌, string_bytes};
 ghost use Rattle.peers.specs.Polling as polling;
-ghost use Rattle.peers.specs.Replies.{poll_request};
+ghost use Rattle.peers.specs.Responses.{poll_request};
 
 use events::{Answered, CoreFault, Event, Outcome};
 use http_edge::Target;

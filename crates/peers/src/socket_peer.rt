@@ -7,7 +7,7 @@ ghost use Rattle.events.specs.declared.peer.PeerFault.TheVariants.{Memory, Devic
 ghost use Rattle.peers.specs.Heard.{to_send};
 ghost use Rattle.peers.specs.Sent.{AddsFrame};
 ghost use Rattle.peers.specs.Spoken.{Sends};
-ghost use Rattle.peers.specs.Turning.{client_of, first_stage, has_read_nothing, is_idle};
+ghost use Rattle.peers.specs.Rounds.{client_of, first_stage, has_read_nothing, is_idle};
 
 use crate::incoming::{Incoming, read_incoming};
 use crate::moments::Moments;
@@ -19,8 +19,8 @@ use std::marker::Model;
 use terms::let_go;
 use tungstenite::{Error, MaskKeys, Message, NoMask, WebSocket};
 
-/// Serves one WebSocket by turns: a read, a take of what waits, and a look at what is due. A client
-/// that polls says first that it probes, and then that the probe succeeded; until then its turn is a
+/// Serves one WebSocket by rounds: a read, a take of what waits, and a look at what is due. A client
+/// that polls says first that it probes, and then that the probe succeeded; until then its round is a
 /// read and a look at what is due. In a contract it is its stage, its socket and its moments.
 pub struct SocketPeer<S, M> {
     alloc: Global,
@@ -74,7 +74,7 @@ impl<S: Drop, M> SocketPeer<S, M> {
         self.stage.client()
     }
 
-    /// Whether the last turn brought nothing: nothing was read, nothing waited, nothing was due. Then
+    /// Whether the last round brought nothing: nothing was read, nothing waited, nothing was due. Then
     /// it need not be driven until its stream can be read or something was put for its client.
     pub fn is_idle(&self) -> bool
         ensures { result ≡ is_idle self.now.stage }
@@ -83,7 +83,7 @@ impl<S: Drop, M> SocketPeer<S, M> {
     }
 
     /// Whether what waits is being taken, after a read that brought nothing at all: where fewer entries
-    /// are taken than one take may have, and nothing is due, the turn need not be followed by another.
+    /// are taken than one take may have, and nothing is due, the round need not be followed by another.
     pub fn has_read_nothing(&self) -> bool
         ensures { result ≡ has_read_nothing self.now.stage }
     {

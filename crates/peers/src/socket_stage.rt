@@ -3,9 +3,9 @@
 ghost use Rattle.std.specs.Prelude.{◌≡◌, false};
 ghost use Rattle.peers.specs.declared.socket_stage.SocketStage.TheVariants as stages;
 ghost use Rattle.peers.specs.Heard as heard;
-ghost use Rattle.peers.specs.Replies.{socket_request};
-ghost use Rattle.peers.specs.Turning as turning;
-ghost use Rattle.peers.specs.Turning.{with_event, without_fault};
+ghost use Rattle.peers.specs.Responses.{socket_request};
+ghost use Rattle.peers.specs.Rounds as rounds;
+ghost use Rattle.peers.specs.Rounds.{with_event, without_fault};
 
 use crate::incoming::Incoming;
 use events::{Answered, CoreFault, Event, Outcome, PeerFault, WsFrame};
@@ -53,14 +53,14 @@ pub(crate) enum Phase {
     Speaks,
 }
 
-/// How far a WebSocket has come. A turn that is idle has brought nothing so far.
+/// How far a WebSocket has come. A round that is idle has brought nothing so far.
 #[derive(Clone, Copy)]
 pub(crate) enum SocketStage {
     /// The client is to be opened.
     Opens,
     /// It is being opened.
     Opening,
-    /// A turn begins by a read; it says whether the turn before was idle.
+    /// A round begins by a read; it says whether the round before was idle.
     Reads { client: u128, at: Phase, idle: bool },
     /// The client is said to probe.
     Probing { client: u128 },
@@ -86,7 +86,7 @@ pub(crate) enum SocketStage {
 
 /// Whether it is just this text.
 fn says(incoming: &Incoming, word: &str) -> bool
-    ensures { result ≡ turning.says word.now incoming.now }
+    ensures { result ≡ rounds.says word.now incoming.now }
 {
     matches!(incoming, Incoming::Frame(WsFrame::Text(text)) if text.as_str() == word)
 }
@@ -102,7 +102,7 @@ fn is_gone(got: &Answered) -> bool
 type Step = (SocketStage, Result<Option<Event>, PeerFault>);
 
 impl SocketStage {
-    /// The first turn of a client that has come so far.
+    /// The first round of a client that has come so far.
     pub(crate) fn begin(client: u128, at: Phase) -> Self
         ensures { result ≡ stages.Reads client at false }
     {
@@ -118,7 +118,7 @@ impl SocketStage {
     }
 
     fn take(client: u128, idle: bool) -> Step
-        ensures { result ≡ without_fault (with_event (turning.takes client idle)) }
+        ensures { result ≡ without_fault (with_event (rounds.takes client idle)) }
     {
         let most = FRAMES_PER_TAKE;
         Self::Taking { client, idle }.with(Event::FrameTake { client, most })
@@ -126,7 +126,7 @@ impl SocketStage {
 
     /// What follows a read.
     fn after_read(client: u128, at: Phase, incoming: Incoming) -> Step
-        ensures { result ≡ turning.after_read client at incoming }
+        ensures { result ≡ rounds.after_read client at incoming }
     {
         let idle = matches!(incoming, Incoming::Nothing);
         match (at, incoming) {
@@ -151,7 +151,7 @@ impl SocketStage {
 
     /// What comes next. What was read counts where the stage reads.
     pub(crate) fn next(self, incoming: Incoming) -> Step
-        ensures { result ≡ turning.next_of self incoming }
+        ensures { result ≡ rounds.next_of self incoming }
     {
         match self {
             Self::Opens => Self::Opening.with(Event::Opened { socket: true }),
@@ -206,7 +206,7 @@ impl SocketStage {
 
     /// Whose WebSocket it is, once that is known.
     pub(crate) fn client(self) -> Option<u128>
-        ensures { result ≡ turning.client_of self }
+        ensures { result ≡ rounds.client_of self }
     {
         match self {
             Self::Opens | Self::Opening => None,

@@ -9,7 +9,7 @@ use Rattle.events.specs.App.{AllClean, IsCleanArrival}
 use Rattle.events.specs.declared.app.Arrived.{Arrived}
 use Rattle.events.specs.declared.app.Arrived.TheVariants.{Event, Answer}
 use Rattle.events.specs.declared.app.Effect.{Effect}
-use Rattle.quiz.specs.Quiz.{begins_with, ask, tell, reply, decided}
+use Rattle.quiz.specs.Quiz.{begins_with, ask, announce, reply, decided}
 
 holds_none : List ℕ → Bool
 holds_none [] = true
@@ -42,7 +42,7 @@ clean-event true false = (question, tt)
 clean-event false true = (brackets, tt)
 clean-event false false = tt
 
-clean-answer : (knows : Bool) → AllClean ((if knows then tell else ask) ∷ [])
+clean-answer : (knows : Bool) → AllClean ((if knows then announce else ask) ∷ [])
 clean-answer true = (solved, tt)
 clean-answer false = (question, tt)
 

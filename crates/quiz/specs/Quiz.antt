@@ -37,8 +37,8 @@ ask =
     })
 
 -- everybody hears that it is solved
-abbrev pub tell : Effect
-tell =
+abbrev pub announce : Effect
+announce =
     effect.Emit (record {
       rooms = [];
       excepted = [];
@@ -56,4 +56,4 @@ abbrev pub decided : Arrived → List Effect
 decided (Event message) =
     (if begins_with message.payload (codes "play") then ask ∷ [] else [])
     ++ (if message.asked then reply ∷ [] else [])
-decided (Answer answer) = (if begins_with answer.payload (codes "42") then tell else ask) ∷ []
+decided (Answer answer) = (if begins_with answer.payload (codes "42") then announce else ask) ∷ []

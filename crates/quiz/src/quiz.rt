@@ -23,7 +23,7 @@ impl App for Quiz {
     ghost policy = { λ app. record {
       allows = λ space payload verdict. Allows verdict;
       decides = λ who arrived effects. effects ≡ decided arrived;
-      leaves = λ who rooms ending effects. effects ≡ [];
+      ends = λ who rooms ending effects. effects ≡ [];
     } };
 
     fn connects(&self, alloc: Global, _space: &str, _payload: &str) -> Result<Verdict, AllocError> {
@@ -34,7 +34,7 @@ impl App for Quiz {
         decide(alloc, arrived)
     }
 
-    fn left(&self, alloc: Global, _who: &Who, _rooms: &[Room], _ending: Ending) -> Wanted {
+    fn ended(&self, alloc: Global, _who: &Who, _rooms: &[Room], _ending: Ending) -> Wanted {
         Ok(Vec::new(alloc))
     }
 }
@@ -55,7 +55,7 @@ fn decide(alloc: Global, arrived: &Arrived) -> Wanted
         }
         Arrived::Answer(answer) => {
             let next = if begins_with(alloc, answer.payload.as_str(), "42")? {
-                tell(alloc)?
+                announce(alloc)?
             } else {
                 ask(alloc)?
             };
@@ -89,8 +89,8 @@ fn ask(alloc: Global) -> Result<Effect, AllocError>
 }
 
 /// Everybody hears that somebody knew it; who comes back later too.
-fn tell(alloc: Global) -> Result<Effect, AllocError>
-    ensures { IfOk result (λ effect. effect ≡ table.tell) }
+fn announce(alloc: Global) -> Result<Effect, AllocError>
+    ensures { IfOk result (λ effect. effect ≡ table.announce) }
 {
     Ok(Effect::Emit(Emission {
         rooms: Vec::new(alloc),

@@ -9,7 +9,7 @@ use Rattle.std.proofs.lemmas.Bool.{cases_lt}
 use Rattle.std.proofs.lemmas.Bool.Decides.{nat_tests}
 use Rattle.std.proofs.lemmas.List.Elements.{filter-append}
 use Rattle.recovery.specs.Expiry.{is_outdated}
-use Rattle.recovery.specs.PacketLog.{PlainLogged, LogContents, LogCall, Pushed, Swept, pushed, pushes, latest, drops, survives, kept, Rises, IsNumbered, IsRun, IsLogOf, IsLog, RisesTo, is_fresh, newest, next_after, offset_at, number_of, with_entry, swept, stands, later_than, IsPlace, HasNone}
+use Rattle.recovery.specs.PacketLog.{PlainLogged, LogContents, LogCall, Pushed, Swept, pushed, pushes, latest, drops, survives, kept, Rises, IsNumbered, IsRun, IsLogOf, IsLog, RisesTo, is_fresh, newest, next_after, offset_at, number_of, with_entry, swept, stands, later_than, IsIndex, HasNone}
 
 -- ---- tests of numbers and of truth values
 
@@ -113,16 +113,16 @@ push_outdated limit p e c d =
     ∙ sym (rest_if_none (nat_le limit (p + 0)))
     ∙ ap (λ b. rest_if (nat_le limit (p + length ([] ++ (if b then e ∷ [] else [])))) ([] ++ (if b then e ∷ [] else []))) (sym (and_false d))
 
--- no place for the older ones
+-- no space for the older ones
 push_full : (limit p : ℕ) (e : PlainLogged) (d : Bool) → limit ≤ suc p → [] ≡ rest_if (nat_le limit (p + length ([] ++ own d false e))) ([] ++ own d false e)
 push_full limit p e true h = ap (λ b. rest_if b (e ∷ [])) (sym (reached limit (p + 1) (omega arith)))
 push_full limit p e false h = sym (rest_if_none (nat_le limit (p + 0)))
 
-push_room : (limit p : ℕ) (e : PlainLogged) (ks : List PlainLogged) → suc p < limit → rest_if (nat_le limit (suc p + length ks)) ks ++ e ∷ [] ≡ rest_if (nat_le limit (p + length (ks ++ e ∷ []))) (ks ++ e ∷ [])
-push_room limit p e [] h =
+push_fits : (limit p : ℕ) (e : PlainLogged) (ks : List PlainLogged) → suc p < limit → rest_if (nat_le limit (suc p + length ks)) ks ++ e ∷ [] ≡ rest_if (nat_le limit (p + length (ks ++ e ∷ []))) (ks ++ e ∷ [])
+push_fits limit p e [] h =
     ap (λ b. rest_if b [] ++ e ∷ []) (unreached limit (suc p + 0) (omega arith))
     ∙ ap (λ b. rest_if b (e ∷ [])) (sym (unreached limit (p + 1) (omega arith)))
-push_room limit p e (x ∷ xs) h =
+push_fits limit p e (x ∷ xs) h =
     same (nat_le limit (suc p + length (x ∷ xs)))
     ∙ ap (λ n. rest_if (nat_le limit n) (x ∷ (xs ++ e ∷ []))) (omega (arith, length-append xs (e ∷ [])))
   where
@@ -138,9 +138,9 @@ push_step limit p e true ks old full =
     ∙ ap (λ ks. rest_if (nat_le limit (p + length (ks ++ own (nat_lt p limit) true e))) (ks ++ own (nat_lt p limit) true e)) (sym (old refl))
 push_step limit p e false ks old full =
     ⊎_elim
-    (λ room.
-    ap (λ b. rest_if (nat_le limit (suc p + length ks)) ks ++ own b false e) (below (suc p) limit room)
-    ∙ push_room limit p e ks room
+    (λ fits.
+    ap (λ b. rest_if (nat_le limit (suc p + length ks)) ks ++ own b false e) (below (suc p) limit fits)
+    ∙ push_fits limit p e ks fits
     ∙ ap (λ b. rest_if (nat_le limit (p + length (ks ++ own b false e))) (ks ++ own b false e)) (sym (below p limit (omega arith))))
     (λ none.
     ap (λ ks. rest_if (nat_le limit (suc p + length ks)) ks ++ own (nat_lt (suc p) limit) false e) (full none)
@@ -163,13 +163,13 @@ kept_pushed limit (Swept keep now ∷ h) l n count any rises =
 
 -- ---- how many are left
 
-room : (p q : Bool) (n limit : ℕ) → nat_lt n limit ≡ p → (p && q) ≡ true → n < limit
-room true q n limit same is = grind (arith, nat_tests, same)
-room false q n limit same is = absurd (cc)
+fits : (p q : Bool) (n limit : ℕ) → nat_lt n limit ≡ p → (p && q) ≡ true → n < limit
+fits true q n limit same is = grind (arith, nat_tests, same)
+fits false q n limit same is = absurd (cc)
 
 one_short : (b : Bool) (limit : ℕ) (l : List LogCall) (e : PlainLogged) (ks : List PlainLogged) → survives limit l e ≡ b → length ks + suc (pushes l) ≤ max limit (suc (pushes l)) → length (ks ++ (if b then e ∷ [] else [])) + pushes l ≤ max limit (pushes l)
 one_short true limit l e ks is short =
-    let fewer : pushes l < limit = room (nat_lt (pushes l) limit) (not (list_any (drops e.at) l)) (pushes l) limit refl is in
+    let fewer : pushes l < limit = fits (nat_lt (pushes l) limit) (not (list_any (drops e.at) l)) (pushes l) limit refl is in
     omega (arith, fewer, short, length-append ks (e ∷ []))
 one_short false limit l e ks is short = omega (arith, short, length-append ks [])
 
@@ -184,7 +184,7 @@ kept_short limit l (Swept keep now ∷ h) = kept_short limit (Swept keep now ∷
 newest_pushed : (limit : ℕ) (es : List PlainLogged) (e : PlainLogged) → length es ≤ limit → 1 ≤ limit → newest limit (es ++ e ∷ []) ≡ rest_if (nat_le limit (0 + length es)) es ++ e ∷ []
 newest_pushed limit es e fits some =
     ⊎_elim
-    (λ room.
+    (λ fits.
     (let z : length (es ++ e ∷ []) - limit ≡ 0 = omega (arith, length-append es (e ∷ [])) in ap (λ n. drop n (es ++ e ∷ [])) z)
     ∙ ap (λ b. rest_if b es ++ e ∷ []) (sym (unreached limit (0 + length es) (omega arith))))
     (λ full.
@@ -433,7 +433,7 @@ kept_run first limit h rises numbered =
     let split = kept_suffix limit [] h rises in
     run_suffix (first + pushes h) split.0 (kept limit [] h) (subst (IsRun (first + pushes h)) split.1 (run_pushed first h numbered))
 
--- ---- an offset's place in a run
+-- ---- an offset's index in a run
 
 no_offset : (n o : ℕ) (es : List PlainLogged) → IsRun n es → o + length es < n → stands o es ≡ false
 unfolding IsRun
@@ -457,15 +457,15 @@ find_none o (e ∷ es) none = at (e.offset == o) none (find_none o es)
     at true none rest = absurd (cc)
     at false none rest = rest none
 
-find_place : (n i : ℕ) (e : PlainLogged) (es : List PlainLogged) → IsRun n (e ∷ es) → find (λ (x : PlainLogged). x.offset == (e.offset + i)) (e ∷ es) ≡ slice_get (e ∷ es) i
+find_index : (n i : ℕ) (e : PlainLogged) (es : List PlainLogged) → IsRun n (e ∷ es) → find (λ (x : PlainLogged). x.offset == (e.offset + i)) (e ∷ es) ≡ slice_get (e ∷ es) i
 unfolding IsRun
-find_place n zero e es run =
+find_index n zero e es run =
     let test : (e.offset == (e.offset + 0)) ≡ true = grind (arith, nat_tests) in
     ap (λ b. if b then Some e else find (λ (x : PlainLogged). x.offset == (e.offset + 0)) es) test
-find_place n (suc i) e es run =
+find_index n (suc i) e es run =
     let test : (e.offset == (e.offset + suc i)) ≡ false = grind (arith, nat_tests) in
     ap (λ b. if b then Some e else find (λ (x : PlainLogged). x.offset == (e.offset + suc i)) es) test
-    ∙ next es run (find_place n i)
+    ∙ next es run (find_index n i)
   where
     next : (es : List PlainLogged) → IsRun n (e ∷ es) → ((f : PlainLogged) (fs : List PlainLogged) → IsRun n (f ∷ fs) → find (λ (x : PlainLogged). x.offset == (f.offset + i)) (f ∷ fs) ≡ slice_get (f ∷ fs) i)
         → find (λ (x : PlainLogged). x.offset == (e.offset + suc i)) es ≡ slice_get (e ∷ es) (suc i)
@@ -474,16 +474,16 @@ find_place n (suc i) e es run =
         let same : e.offset + suc i ≡ f.offset + i = omega (arith, run.0, run.1.0) in
         ap (λ o. find (λ (x : PlainLogged). x.offset == o) (f ∷ fs)) same ∙ at f fs run.1
 
-later_place : (n i : ℕ) (e : PlainLogged) (es : List PlainLogged) → IsRun n (e ∷ es) → later_than (e.offset + i) (e ∷ es) ≡ drop (suc i) (e ∷ es)
+later_index : (n i : ℕ) (e : PlainLogged) (es : List PlainLogged) → IsRun n (e ∷ es) → later_than (e.offset + i) (e ∷ es) ≡ drop (suc i) (e ∷ es)
 unfolding IsRun
-later_place n zero e es run =
+later_index n zero e es run =
     let test : nat_lt (e.offset + 0) e.offset ≡ false = not_below (e.offset + 0) e.offset (omega arith) in
     ap (λ b. if b then e ∷ later_than (e.offset + 0) es else later_than (e.offset + 0) es) test
     ∙ all_later n (e.offset + 0) es run.1 (omega (arith, run.0))
-later_place n (suc i) e es run =
+later_index n (suc i) e es run =
     let test : nat_lt (e.offset + suc i) e.offset ≡ false = not_below (e.offset + suc i) e.offset (omega arith) in
     ap (λ b. if b then e ∷ later_than (e.offset + suc i) es else later_than (e.offset + suc i) es) test
-    ∙ next es run (later_place n i)
+    ∙ next es run (later_index n i)
   where
     next : (es : List PlainLogged) → IsRun n (e ∷ es) → ((f : PlainLogged) (fs : List PlainLogged) → IsRun n (f ∷ fs) → later_than (f.offset + i) (f ∷ fs) ≡ drop (suc i) (f ∷ fs))
         → later_than (e.offset + suc i) es ≡ drop (suc i) es
@@ -492,12 +492,12 @@ later_place n (suc i) e es run =
         let same : e.offset + suc i ≡ f.offset + i = omega (arith, run.0, run.1.0) in
         ap (λ o. later_than o (f ∷ fs)) same ∙ at f fs run.1
 
-stands_place : (n i : ℕ) (e : PlainLogged) (es : List PlainLogged) → IsRun n (e ∷ es) → i < length (e ∷ es) → stands (e.offset + i) (e ∷ es) ≡ true
+stands_index : (n i : ℕ) (e : PlainLogged) (es : List PlainLogged) → IsRun n (e ∷ es) → i < length (e ∷ es) → stands (e.offset + i) (e ∷ es) ≡ true
 unfolding IsRun
-stands_place n zero e es run within =
+stands_index n zero e es run within =
     let test : (e.offset == (e.offset + 0)) ≡ true = grind (arith, nat_tests) in
     ap (λ b. b || stands (e.offset + 0) es) test
-stands_place n (suc i) e es run within = or_right (e.offset == (e.offset + suc i)) (stands (e.offset + suc i) es) (next es run within (stands_place n i))
+stands_index n (suc i) e es run within = or_right (e.offset == (e.offset + suc i)) (stands (e.offset + suc i) es) (next es run within (stands_index n i))
   where
     next : (es : List PlainLogged) → IsRun n (e ∷ es) → suc i < length (e ∷ es) → ((f : PlainLogged) (fs : List PlainLogged) → IsRun n (f ∷ fs) → i < length (f ∷ fs) → stands (f.offset + i) (f ∷ fs) ≡ true)
         → stands (e.offset + suc i) es ≡ true
@@ -515,8 +515,8 @@ stands_low n o (e ∷ es) run is = at (e.offset == o) refl is (stands_low n o es
     at true same found rest = let here : e.offset ≡ o = grind (arith, nat_tests) in omega (arith, here, run.0)
     at false other found rest = rest found
 
-past_place : (n o : ℕ) (es : List PlainLogged) → IsRun n es → n ≤ o → stands o es ≡ false
-past_place n o es run past = absent (stands o es) refl
+past_index : (n o : ℕ) (es : List PlainLogged) → IsRun n es → n ≤ o → stands o es ≡ false
+past_index n o es run past = absent (stands o es) refl
   where
     absent : (b : Bool) → stands o es ≡ b → b ≡ false
     absent true is = absurd (omega (arith, stands_low n o es run is, past))
@@ -527,23 +527,23 @@ first_entry [] e is = absurd (cc)
 first_entry (x ∷ es) e is = (es, cc)
 
 -- an offset from the first entry's on stands as many places after it as it is greater
-pub place_within : (n offset : ℕ) (e : PlainLogged) (entries : List PlainLogged) → IsRun n entries → slice_get entries 0 ≡ Some e → e.offset ≤ offset → offset - e.offset < length entries → IsPlace offset entries (offset - e.offset)
-place_within n offset e entries run first high within =
+pub index_within : (n offset : ℕ) (e : PlainLogged) (entries : List PlainLogged) → IsRun n entries → slice_get entries 0 ≡ Some e → e.offset ≤ offset → offset - e.offset < length entries → IsIndex offset entries (offset - e.offset)
+index_within n offset e entries run first high within =
     let split = first_entry entries e first in
     let same : e.offset + (offset - e.offset) ≡ offset = omega (arith, high) in
-    subst (λ o. IsPlace o entries (offset - e.offset)) same
-    (subst (λ xs. IsPlace (e.offset + (offset - e.offset)) xs (offset - e.offset)) (sym split.1)
+    subst (λ o. IsIndex o entries (offset - e.offset)) same
+    (subst (λ xs. IsIndex (e.offset + (offset - e.offset)) xs (offset - e.offset)) (sym split.1)
     (at (offset - e.offset) split.0 (subst (IsRun n) split.1 run) (subst (λ xs. offset - e.offset < length xs) split.1 within)))
   where
     plus_one : (i : ℕ) → suc i ≡ i + 1
     plus_one i = omega arith
 
-    at : (i : ℕ) (es : List PlainLogged) → IsRun n (e ∷ es) → i < length (e ∷ es) → IsPlace (e.offset + i) (e ∷ es) i
+    at : (i : ℕ) (es : List PlainLogged) → IsRun n (e ∷ es) → i < length (e ∷ es) → IsIndex (e.offset + i) (e ∷ es) i
     at i es run within = record {
       within = within;
-      stands = stands_place n i e es run within;
-      found = find_place n i e es run;
-      later = later_place n i e es run ∙ ap (λ k. drop k (e ∷ es)) (plus_one i);
+      stands = stands_index n i e es run within;
+      found = find_index n i e es run;
+      later = later_index n i e es run ∙ ap (λ k. drop k (e ∷ es)) (plus_one i);
     }
 
 pub none_past : (n offset : ℕ) (e : PlainLogged) (entries : List PlainLogged) → IsRun n entries → slice_get entries 0 ≡ Some e → e.offset ≤ offset → length entries ≤ offset - e.offset → HasNone offset entries
@@ -552,7 +552,7 @@ none_past n offset e entries run first high past =
     let split = first_entry entries e first in
     let here : IsRun n (e ∷ split.0) = subst (IsRun n) split.1 run in
     let long : length (e ∷ split.0) ≤ offset - e.offset = subst (λ xs. length xs ≤ offset - e.offset) split.1 past in
-    let none : stands offset entries ≡ false = past_place n offset entries run (omega (arith, here.0, long, high)) in
+    let none : stands offset entries ≡ false = past_index n offset entries run (omega (arith, here.0, long, high)) in
     record { stands = none; found = find_none offset entries none }
 
 pub none_before : (n offset : ℕ) (e : PlainLogged) (entries : List PlainLogged) → IsRun n entries → slice_get entries 0 ≡ Some e → offset < e.offset → HasNone offset entries

@@ -60,9 +60,9 @@ unfoldable pub IsRun : ℕ → List PlainLogged → Type 0
 IsRun n [] = Unit {0}
 IsRun n (e ∷ es) = (e.offset + length (e ∷ es) ≡ n) × IsRun n es
 
--- the entry with this offset stands at this place, and those after it are all
+-- the entry with this offset stands at this index, and those after it are all
 -- that have a greater one
-pub record IsPlace (offset : ℕ) (entries : List PlainLogged) (i : ℕ) : Type 0 where
+pub record IsIndex (offset : ℕ) (entries : List PlainLogged) (i : ℕ) : Type 0 where
   pub within : i < length entries
   pub stands : stands offset entries ≡ true
   pub found : find (λ (e : PlainLogged). e.offset == offset) entries ≡ slice_get entries i

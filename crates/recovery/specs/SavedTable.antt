@@ -37,7 +37,7 @@ has_sid table sid = list_any (λ (s : PlainSaved). s.sid == sid) table.sessions
 abbrev pub is_alive : (keep now : ℕ) → PlainSaved → Bool
 is_alive keep now s = not (is_outdated keep now s.lost_at)
 
--- the sessions with one more, at its place by private ids
+-- the sessions with one more, in the order of private ids
 abbrev pub with_session : PlainSaved → List PlainSaved → List PlainSaved
 with_session s [] = s ∷ []
 with_session s (t ∷ ts) = if nat_lt s.pid t.pid then s ∷ t ∷ ts else t ∷ with_session s ts

@@ -4,7 +4,7 @@ ghost use Rattle.std.specs.Prelude.{◌≡◌, ℕ, ◌+◌, ◌^◌, ◌<◌, �
 ghost use Rattle.std.specs.List.{find, list_any, take_while};
 ghost use Rattle.std.specs.Arc.{arc_value};
 ghost use Rattle.recovery.specs.Expiry as expiry;
-ghost use Rattle.recovery.specs.PacketLog.{LogCall, LogContents, PlainLogged, Pushed, Swept, IsLog, IsLogOf, IsRun, IsPlace, HasNone, contents, offset_or_spent, pushed, stands, later_than, number_of, with_entry, swept, logged_as};
+ghost use Rattle.recovery.specs.PacketLog.{LogCall, LogContents, PlainLogged, Pushed, Swept, IsLog, IsLogOf, IsRun, IsIndex, HasNone, contents, offset_or_spent, pushed, stands, later_than, number_of, with_entry, swept, logged_as};
 ghost use Rattle.recovery.specs.Missed.{missed, missed_refusal, is_for, is_one_of};
 
 use crate::error::RecoveryError;
@@ -183,11 +183,11 @@ impl PacketLog {
         outdated
     }
 
-    /// The place of the entry with this offset, counted from the oldest: as many after the first
+    /// The index of the entry with this offset, counted from the oldest: as many after the first
     /// as it is greater than the first one's.
-    fn place_of(&self, offset: u64) -> Option<usize>
-        ensures place { IfSome result (IsPlace offset self.now.entries) }
-        ensures small { IfSome result (λ place. place + 1 < 2 ^ 64) }
+    fn index_of(&self, offset: u64) -> Option<usize>
+        ensures index { IfSome result (IsIndex offset self.now.entries) }
+        ensures small { IfSome result (λ index. index + 1 < 2 ^ 64) }
         ensures none { IfNone result (HasNone offset self.now.entries) }
     {
         let Some(first) = self.ring.front() else {
@@ -196,9 +196,9 @@ impl PacketLog {
         if offset < first.offset {
             return None;
         }
-        let place = (offset - first.offset) as usize;
-        if place < self.ring.len() {
-            Some(place)
+        let index = (offset - first.offset) as usize;
+        if index < self.ring.len() {
+            Some(index)
         } else {
             None
         }
@@ -208,7 +208,7 @@ impl PacketLog {
     pub fn find(&self, offset: u64) -> Option<&Logged>
         ensures { option_copied result ≡ find (λ entry. entry.offset == offset) self.now.entries }
     {
-        self.ring.get(self.place_of(offset)?)
+        self.ring.get(self.index_of(offset)?)
     }
 
     /// The entries past this offset, in their order and in two pieces, or `None` where the log has
@@ -218,7 +218,7 @@ impl PacketLog {
         ensures later { IfSome result
             (λ pieces. pieces.0.now ++ pieces.1.now ≡ later_than offset self.now.entries) }
     {
-        let past = self.place_of(offset)? + 1;
+        let past = self.index_of(offset)? + 1;
         let (front, back) = self.ring.as_slices();
         let split = past.min(front.len());
         Some((&front[split..], &back[past - split..]))

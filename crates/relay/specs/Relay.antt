@@ -65,9 +65,9 @@ room_of (Some (Some name)) = if nat_lt 64 (length name) then None else Some name
 room_of (Some None) = None
 room_of None = None
 
--- the room that the text at a place names
-abbrev pub room_in : (place : ℕ) → List (Option (List ℕ)) → Option (List ℕ)
-room_in place texts = room_of (slice_get texts place)
+-- the room that the text at an index names
+abbrev pub room_in : (index : ℕ) → List (Option (List ℕ)) → Option (List ℕ)
+room_in index texts = room_of (slice_get texts index)
 
 -- ---- the effects
 

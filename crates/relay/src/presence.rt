@@ -19,8 +19,8 @@ pub struct Presence<A> {
 
 impl<A: App> App for Presence<A> {
     ghost policy = { λ presence. record (A.policy presence.app) {
-      leaves = λ who rooms ending.
-          Leaves ((A.policy presence.app).leaves who rooms ending)
+      ends = λ who rooms ending.
+          Leaves ((A.policy presence.app).ends who rooms ending)
           (told presence.tells who.sid rooms ending);
     } };
 
@@ -32,17 +32,17 @@ impl<A: App> App for Presence<A> {
         self.app.decides(alloc, who, arrived)
     }
 
-    fn left(&self, alloc: Global, who: &Who, rooms: &[Room], ending: Ending) -> Wanted {
-        let mut effects = self.app.left(alloc, who, rooms, ending)?;
+    fn ended(&self, alloc: Global, who: &Who, rooms: &[Room], ending: Ending) -> Wanted {
+        let mut effects = self.app.ended(alloc, who, rooms, ending)?;
         if self.tells {
-            tell(alloc, &mut effects, who.sid, rooms, ending)?;
+            announce(alloc, &mut effects, who.sid, rooms, ending)?;
         }
         Ok(effects)
     }
 }
 
 /// Adds the event for the rooms besides the socket's own, where there are some.
-fn tell(
+fn announce(
     alloc: Global,
     effects: &mut Vec<Effect>,
     sid: Sid,

@@ -26,7 +26,7 @@ impl App for RelayApp {
     ghost policy = { λ app. record {
       allows = λ space payload verdict. Allows payload verdict;
       decides = λ who arrived effects. effects ≡ decided who arrived;
-      leaves = λ who rooms ending effects. effects ≡ [];
+      ends = λ who rooms ending effects. effects ≡ [];
     } };
 
     fn connects(&self, alloc: Global, _space: &str, payload: &str) -> Result<Verdict, AllocError> {
@@ -43,7 +43,7 @@ impl App for RelayApp {
         }
     }
 
-    fn left(&self, alloc: Global, _who: &Who, _rooms: &[Room], _ending: Ending) -> Wanted {
+    fn ended(&self, alloc: Global, _who: &Who, _rooms: &[Room], _ending: Ending) -> Wanted {
         Ok(Vec::new(alloc))
     }
 }
@@ -216,10 +216,10 @@ fn word_in(texts: &[Option<Text>]) -> Word
     }
 }
 
-/// The room that the text at a place names, where there is one of at most 64 bytes.
-fn room_in(texts: &[Option<Text>], place: usize) -> Option<Room>
-    ensures { result ≡ room_in place texts.now }
+/// The room that the text at an index names, where there is one of at most 64 bytes.
+fn room_in(texts: &[Option<Text>], index: usize) -> Option<Room>
+    ensures { result ≡ room_in index texts.now }
 {
-    let name = texts.get(place)?.as_ref()?;
+    let name = texts.get(index)?.as_ref()?;
     Room::read(name.as_str())
 }

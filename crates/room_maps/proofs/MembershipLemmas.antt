@@ -216,7 +216,7 @@ len_grows v s xs (y ∷ ys) =
     grows true n = omega arith
     grows false n = omega arith
 
--- where all the rooms are few enough, there is a place for the next one
+-- where all the rooms are few enough, there is space for the next one
 pub place_for : (v : RoomSets) (s : ℕ) (xs : List (List ℕ)) (y : List ℕ) (ys : List (List ℕ)) → set.len (rooms_in (with_pairs v s (xs ++ y ∷ ys)) s) ≤ 256 → is_in (with_pairs v s xs) s y ≡ false → is_full (with_pairs v s xs) s ≡ false
 place_for v s xs y ys few absent =
     let more : set.len (rooms_in (with_pairs v s (xs ++ y ∷ [])) s) ≡ set.len (rooms_in (with_pairs v s xs) s) + 1 =

@@ -67,7 +67,7 @@ without_members-more v sids s r =
     ∙ ap (λ b. not (eq_by_cmp nat_cmp s q && eq_by_cmp room_cmp r w) && b) (sym (is_in-without_members v sids r q w))
     ∙ sym (is_in-without_pair (without_members v sids r) s r q w))
 
--- one who isn't in the room yet has as much place as before
+-- one who isn't in the room yet has as much space as before
 pub is_full-with_members : (v : RoomSets) (sids : List ℕ) (r : List ℕ) (s : ℕ) → is_in (with_members v sids r) s r ≡ false → is_full (with_members v sids r) s ≡ is_full v s
 is_full-with_members v sids r s absent =
     ap (nat_le 256)

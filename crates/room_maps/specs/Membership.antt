@@ -132,7 +132,7 @@ leave_refusal sets sid room =
 abbrev pub has_unknown : RoomSets → List ℕ → Bool
 has_unknown sets sids = list_any (λ sid. not (is_socket sets sid)) sids
 
--- one of these isn't in the room, and has no place for it
+-- one of these isn't in the room, and has no space for it
 abbrev pub has_full : RoomSets → List ℕ → List ℕ → Bool
 has_full sets sids room = list_any (λ sid. not (is_in sets sid room) && is_full sets sid) sids
 

@@ -3,11 +3,12 @@ use Rattle.std.specs.Prelude.{ℕ, ◌==◌, ◌&&◌, not, Bool, true, false, i
 use Rattle.hex.specs.Hex.{encode_lower}
 use Rattle.terms.specs.Ids.{id_digits}
 use Rattle.journal.specs.declared.answers.Swept.{Swept}
-use Rattle.journal.specs.declared.totals.Totals.{Totals}
+use Rattle.journal.specs.Totals.{totals_text}
 use Rattle.room_maps.specs.declared.error.RoomError.{RoomError}
 use Rattle.room_maps.specs.declared.error.RoomError.TheVariants as room
 use Rattle.events.specs.declared.cause.Cause.{Cause}
 use Rattle.events.specs.declared.cause.Cause.TheVariants as cause
+use Rattle.events.specs.Cause.{cause_name}
 use Rattle.events.specs.declared.fault.CoreFault.{CoreFault}
 use Rattle.events.specs.declared.fault.CoreFault.TheVariants as fault
 use Rattle.events.specs.Plain.{PlainDone}
@@ -21,31 +22,6 @@ use Rattle.script.specs.declared.printing.Posted.{Posted}
 use Rattle.script.specs.declared.printing.Answer.{Answer}
 use Rattle.script.specs.declared.printing.Answer.TheVariants as answer
 use Rattle.script.specs.ScriptLine.{SPACE}
-
--- the name of a cause
-abbrev pub cause_name : Cause → List ℕ
-cause_name cause.Empty = codes "Empty"
-cause_name cause.BadType = codes "BadType"
-cause_name cause.BadBase64 = codes "BadBase64"
-cause_name cause.BadKind = codes "BadKind"
-cause_name cause.BadCount = codes "BadCount"
-cause_name cause.BadId = codes "BadId"
-cause_name cause.BadJson = codes "BadJson"
-cause_name cause.BadShape = codes "BadShape"
-cause_name cause.Reserved = codes "Reserved"
-cause_name cause.BadPlaceholder = codes "BadPlaceholder"
-cause_name cause.TooMany = codes "TooMany"
-cause_name cause.TextAwaitingBinary = codes "TextAwaitingBinary"
-cause_name cause.BinaryUnawaited = codes "BinaryUnawaited"
-cause_name cause.NotJoined = codes "NotJoined"
-cause_name cause.AlreadyConnected = codes "AlreadyConnected"
-cause_name cause.PingFromClient = codes "PingFromClient"
-cause_name cause.ClientClosed = codes "ClientClosed"
-cause_name cause.DoubleGet = codes "DoubleGet"
-cause_name cause.TooLong = codes "TooLong"
-cause_name cause.PingTimeout = codes "PingTimeout"
-cause_name cause.ConnectTimeout = codes "ConnectTimeout"
-cause_name cause.OutboxFull = codes "OutboxFull"
 
 -- the name of a fault
 abbrev pub fault_name : CoreFault → List ℕ
@@ -131,11 +107,6 @@ frames_text name (first ∷ rest) = frame_text name first ++ more_text name rest
 -- what the server dropped
 abbrev pub swept_text : Swept → List ℕ
 swept_text s = codes "swept log " ++ decimal s.log ++ codes ", saved " ++ decimal s.saved
-
--- what the server has counted
-abbrev pub totals_text : Totals → List ℕ
-totals_text t = codes "commands " ++ decimal t.commands ++ codes ", placed " ++ decimal t.placed ++ codes ", dropped " ++ decimal t.dropped
-    ++ codes ", taken " ++ decimal t.taken ++ codes ", discarded " ++ decimal t.discarded ++ codes ", waiting " ++ decimal t.waiting
 
 -- ids, each after a space
 abbrev pub ids_text : List ℕ → List ℕ

@@ -17,31 +17,31 @@ use Rattle.script.specs.declared.run.Run.TheVariants as run
 use Rattle.script.specs.Printing.{fault_name}
 use Rattle.script.specs.ScriptLine.{IsReadAs}
 use Rattle.script.specs.Setup.{USUAL, with_limit, new_core}
-use Rattle.script.specs.Playing.{Server, new_server, server_of, Plays}
+use Rattle.script.specs.Playing.{PlainPlay, new_play, play_of, Plays}
 
 -- how far a script has come: limits may be set, or the server is there, or there is none and nothing is answered any more
-pub data Stage : Type 0 where
-  Setting : Limits → Stage
-  Playing : Server → Stage
-  Over : Stage
+pub data PlainRun : Type 0 where
+  Setting : Limits → PlainRun
+  Playing : PlainPlay → PlainRun
+  Over : PlainRun
 
 -- the stage of a run
-abbrev pub stage_of : {C T : Type 0} {of_c : Ghosts C} {of_t : Ghosts T} → Run C T of_c of_t → Stage
-stage_of (run.Setting limits ledgers) = Setting limits
-stage_of (run.Playing play) = Playing (server_of play)
-stage_of run.Over = Over
+abbrev pub plain_run : {C T : Type 0} {of_c : Ghosts C} {of_t : Ghosts T} → Run C T of_c of_t → PlainRun
+plain_run (run.Setting limits ledgers) = Setting limits
+plain_run (run.Playing play) = Playing (play_of play)
+plain_run run.Over = Over
 
 -- ---- limits, and the server
 
 -- a limit is set, as long as there is no server
-abbrev pub Sets : Key → ℕ → Stage → (said : Option (List ℕ)) → Stage → Type 0
+abbrev pub Sets : Key → ℕ → PlainRun → (said : Option (List ℕ)) → PlainRun → Type 0
 Sets key number (Setting limits) said t = (said ≡ None) × (t ≡ Setting (with_limit key number limits))
 Sets key number (Playing server) said t = (said ≡ Some (codes "bad line")) × (t ≡ Playing server)
 Sets key number Over said t = (said ≡ None) × (t ≡ Over)
 
 -- the first line that isn't about the limits makes the server, unless they allow none
-abbrev pub Begins : Stage → Option CoreFault → Stage → Type 0
-Begins (Setting limits) None t = (config_refusal limits ≡ None) × (t ≡ Playing (new_server (new_core limits)))
+abbrev pub Begins : PlainRun → Option CoreFault → PlainRun → Type 0
+Begins (Setting limits) None t = (config_refusal limits ≡ None) × (t ≡ Playing (new_play (new_core limits)))
 Begins (Setting limits) (Some fault) t = (config_refusal limits ≢ None) × (fault ≡ BadConfig) × (t ≡ Over)
 Begins (Playing server) fault t = (fault ≡ None) × (t ≡ Playing server)
 Begins Over fault t = (fault ≡ None) × (t ≡ Over)
@@ -75,50 +75,50 @@ Gives before (Some bytes) after = Consumes before after bytes.now
 -- with an app of this policy
 module _ (policy : Policy) where
   -- the line is played where there is a server
-  abbrev pub PlaysOn : ScriptLine → Stage → (said : Option (List ℕ)) → Stage → Type 0
-  PlaysOn line (Playing server) said t = (after : Server) × Plays policy line server said after × (t ≡ Playing after)
+  abbrev pub PlaysOn : ScriptLine → PlainRun → (said : Option (List ℕ)) → PlainRun → Type 0
+  PlaysOn line (Playing server) said t = (after : PlainPlay) × Plays policy line server said after × (t ≡ Playing after)
   PlaysOn line stage said t = (said ≡ None) × (t ≡ stage)
 
   -- where there is none that is the answer
-  abbrev pub PlaysUnless : Option CoreFault → ScriptLine → Stage → (said : Option (List ℕ)) → Stage → Type 0
+  abbrev pub PlaysUnless : Option CoreFault → ScriptLine → PlainRun → (said : Option (List ℕ)) → PlainRun → Type 0
   PlaysUnless None line s said t = PlaysOn line s said t
   PlaysUnless (Some fault) line s said t = (said ≡ Some (codes "refused: " ++ fault_name fault)) × (t ≡ s)
 
   -- what a line does and prints
-  abbrev pub Answers : ScriptLine → Stage → (said : Option (List ℕ)) → Stage → Type 0
+  abbrev pub Answers : ScriptLine → PlainRun → (said : Option (List ℕ)) → PlainRun → Type 0
   Answers line.Nothing s said t = (said ≡ None) × (t ≡ s)
   Answers (line.Config key number) s said t = Sets key number s said t
-  Answers line s said t = (fault : Option CoreFault) × (m : Stage) × Begins s fault m × PlaysUnless fault line m said t
+  Answers line s said t = (fault : Option CoreFault) × (m : PlainRun) × Begins s fault m × PlaysUnless fault line m said t
 
   -- what the bytes of a line do and print
-  abbrev pub AnswersBytes : (bytes : List ℕ) → Stage → (said : Option (List ℕ)) → Stage → Type 0
+  abbrev pub AnswersBytes : (bytes : List ℕ) → PlainRun → (said : Option (List ℕ)) → PlainRun → Type 0
   AnswersBytes bytes s said t = (line : ScriptLine) × IsReadAs bytes line × Answers line s said t
 
   -- ---- a script
 
   -- the lines are answered in order, each once, and the output is their answers and nothing else
-  unfoldable pub Script : (lines : List (List ℕ)) → (before : Stage) → (output : List ℕ) → (after : Stage) → Type 0
+  unfoldable pub Script : (lines : List (List ℕ)) → (before : PlainRun) → (output : List ℕ) → (after : PlainRun) → Type 0
   Script [] s output t = (output ≡ []) × (t ≡ s)
   Script (line ∷ lines) s output t =
-      (said : Option (List ℕ)) × (m : Stage) × (rest : List ℕ)
+      (said : Option (List ℕ)) × (m : PlainRun) × (rest : List ℕ)
       × AnswersBytes line s said m × (output ≡ printed said ++ rest) × Script lines m rest t
 
   -- the writer got the answers to the lines of the input, from a stage where nothing is set, and nothing else
   abbrev pub IsAnswered : (input : Option (List ℕ)) → (before after : Option (List ℕ)) → Type 0
-  IsAnswered input before after = IfSome input (λ text. (output : List ℕ) × (last : Stage) × Script (lines_of text) (Setting USUAL) output last × Appends before after output)
+  IsAnswered input before after = IfSome input (λ text. (output : List ℕ) × (last : PlainRun) × Script (lines_of text) (Setting USUAL) output last × Appends before after output)
 
   -- ---- a script of which a part was read
 
   -- from a stage with `begun` of a line, these bytes were read and this was written, and `left` of a line is left: whatever
   -- follows, the answers to it complete those that were written
-  abbrev pub Continues : Stage → (begun read written left : List ℕ) → Stage → Type 0
-  Continues s begun read written left m = (rest output : List ℕ) (t : Stage)
+  abbrev pub Continues : PlainRun → (begun read written left : List ℕ) → PlainRun → Type 0
+  Continues s begun read written left m = (rest output : List ℕ) (t : PlainRun)
       → Script (lines_of (left ++ rest)) m output t → Script (lines_of (begun ++ (read ++ rest))) s (written ++ output) t
 
   -- what was written so continues
-  abbrev pub WritesOn : (before after : Option (List ℕ)) → Stage → (begun read left : List ℕ) → Stage → Type 0
+  abbrev pub WritesOn : (before after : Option (List ℕ)) → PlainRun → (begun read left : List ℕ) → PlainRun → Type 0
   WritesOn before after s begun read left m = (written : List ℕ) × Appends before after written × Continues s begun read written left m
 
   -- what was written answers one line
-  abbrev pub WritesLine : (before after : Option (List ℕ)) → (bytes : List ℕ) → Stage → Stage → Type 0
+  abbrev pub WritesLine : (before after : Option (List ℕ)) → (bytes : List ℕ) → PlainRun → PlainRun → Type 0
   WritesLine before after bytes s t = (said : Option (List ℕ)) × Appends before after (printed said) × AnswersBytes bytes s said t

@@ -2,7 +2,7 @@
 use Rattle.std.specs.Prelude.{ℕ}
 use Rattle.eio_wire.specs.declared.handshake.Numbers.{Numbers}
 use Rattle.journal.specs.Plain.{Limits}
-use Rattle.dispatch.specs.Place.{PlainCore, new_core as core_with}
+use Rattle.dispatch.specs.Holding.{PlainCore, new_core as core_with}
 use Rattle.script.specs.declared.script_line.Key.{Key}
 use Rattle.script.specs.declared.script_line.Key.TheVariants.{Capacity, Clients, Bytes, Log, Saved, Keep, FirstOffset}
 use Rattle.settings.specs.Usual as usual

@@ -3,7 +3,7 @@
 ghost use Rattle.std.specs.Prelude.{◌≡◌, ◌<◌, IfOk, OnOk, IsOkUnless, None, Some, Ok, option_map, length};
 ghost use Rattle.std.specs.BTreeMap.{get_by_text};
 ghost use Rattle.script.specs.declared.faults.RunError.TheVariants.{Memory};
-ghost use Rattle.script.specs.Playing.{new_server, server_of, Happens, Asks, IsOfNone, NamesOpened, Opens, AsksMembers, RepliesForClient, Replies, Plays, told};
+ghost use Rattle.script.specs.Playing.{new_play, play_of, Happens, Asks, IsOfNone, NamesOpened, Opens, AsksMembers, RepliesForClient, Replies, Plays, told};
 ghost use Rattle.script.specs.Printing.{answer_text, done_text};
 
 use crate::faults::RunError;
@@ -37,7 +37,7 @@ pub(crate) struct Play<C: Ledger, T: Ledger> {
 impl<C: Ledger, T: Ledger> Play<C, T> {
     /// A server, of which nothing was asked yet.
     pub(crate) fn new(alloc: Global, core: Core<C, T>, pass: Pass<C, T>) -> Play<C, T>
-        ensures { server_of result ≡ new_server core }
+        ensures { play_of result ≡ new_play core }
     {
         Play {
             alloc,
@@ -58,7 +58,7 @@ impl<C: Ledger, T: Ledger> Play<C, T> {
         ensures nothing { line.entry ≡ ScriptLine.Nothing → result ≡ Ok None }
         ensures bad { line.entry ≡ ScriptLine.Bad → result ≡ Ok (Some Answer.BadLine) }
         ensures plays { IfOk result (λ answer. Plays (A.policy app.now)
-            line.entry (server_of self.old) (option_map answer_text answer) (server_of self.new)) }
+            line.entry (play_of self.old) (option_map answer_text answer) (play_of self.new)) }
         ensures err { IsOkUnless result Memory }
     {
         match line {
@@ -75,7 +75,7 @@ impl<C: Ledger, T: Ledger> Play<C, T> {
     fn reply<'a, A: App>(&mut self, app: &A, line: ScriptLine<'a>) -> Reply<'a>
         ensures bad { line.entry ≡ ScriptLine.Bad → result ≡ Ok Answer.BadLine }
         ensures replies { IfOk result (λ answer. Replies (A.policy app.now)
-            line.entry (server_of self.old) (answer_text answer) (server_of self.new)) }
+            line.entry (play_of self.old) (answer_text answer) (play_of self.new)) }
         ensures err { IsOkUnless result Memory }
     {
         match line {
@@ -87,7 +87,7 @@ impl<C: Ledger, T: Ledger> Play<C, T> {
                 Ok(epoch) => Ok(Answer::Sealed(epoch.steps.len())),
                 Err(_) => Err(RunError::Memory),
             },
-            ScriptLine::Sweep => self.tell(app, "", &Event::Sweep),
+            ScriptLine::Sweep => self.ask(app, "", &Event::Sweep),
             other => self.reply_for_client(app, other),
         }
     }
@@ -99,7 +99,7 @@ impl<C: Ledger, T: Ledger> Play<C, T> {
             → result ≡ Ok Answer.BadLine }
         ensures replies { IfOk result (λ answer.
             RepliesForClient (A.policy app.now) line.entry
-            (server_of self.old) (answer_text answer) (server_of self.new)) }
+            (play_of self.old) (answer_text answer) (play_of self.new)) }
         ensures err { IsOkUnless result Memory }
     {
         let Some(name) = name_in(line) else {
@@ -109,7 +109,7 @@ impl<C: Ledger, T: Ledger> Play<C, T> {
             return Ok(Answer::BadLine);
         };
         match event_of(self.alloc, line, client, self.core.transport(client))? {
-            Some(event) => self.tell(app, name, &event),
+            Some(event) => self.ask(app, name, &event),
             None => Ok(Answer::BadLine),
         }
     }
@@ -117,7 +117,7 @@ impl<C: Ledger, T: Ledger> Play<C, T> {
     /// What becomes of an event, or why it is refused. Want of memory ends the run.
     fn apply<A: App>(&mut self, app: &A, event: &Event) -> Result<Answered, RunError>
         ensures happens { IfOk result (λ answer. Happens (A.policy app.now)
-            (server_of self.old) event.now answer (server_of self.new)) }
+            (play_of self.old) event.now answer (play_of self.new)) }
         ensures err { IsOkUnless result Memory }
     {
         let (alloc, core) = (self.alloc, &mut self.core);
@@ -128,10 +128,10 @@ impl<C: Ledger, T: Ledger> Play<C, T> {
     }
 
     /// What the client of this name is answered at an event.
-    fn tell<'a, A: App>(&mut self, app: &A, name: &'a str, event: &Event) -> Reply<'a>
+    fn ask<'a, A: App>(&mut self, app: &A, name: &'a str, event: &Event) -> Reply<'a>
         ensures asks { IfOk result (λ answer.
             Asks (A.policy app.now) name.entry.now event.now
-            (server_of self.old) (answer_text answer) (server_of self.new)) }
+            (play_of self.old) (answer_text answer) (play_of self.new)) }
         ensures err { IsOkUnless result Memory }
     {
         let answer = self.apply(app, event)?;
@@ -141,7 +141,7 @@ impl<C: Ledger, T: Ledger> Play<C, T> {
     /// Opens a client, for which the name stands from now on.
     fn open<'a, A: App>(&mut self, app: &A, name: &'a str, socket: bool) -> Reply<'a>
         ensures opens { IfOk result (λ answer. Opens (A.policy app.now)
-            name.entry.now socket (server_of self.old) (answer_text answer) (server_of self.new)) }
+            name.entry.now socket (play_of self.old) (answer_text answer) (play_of self.new)) }
         ensures err { IsOkUnless result Memory }
     {
         let event = Event::Opened { socket };
@@ -153,7 +153,7 @@ impl<C: Ledger, T: Ledger> Play<C, T> {
     /// From now on the name stands for the client that was opened, if one was.
     fn call_opened(&mut self, name: &str, answer: &Answered) -> Result<(), RunError>
         ensures names { OnOk result
-            (NamesOpened name.now answer.now (server_of self.old) (server_of self.new)) }
+            (NamesOpened name.now answer.now (play_of self.old) (play_of self.new)) }
         ensures err { IsOkUnless result Memory }
     {
         if let Ok(Outcome::Opened(opening)) = answer {
@@ -167,7 +167,7 @@ impl<C: Ledger, T: Ledger> Play<C, T> {
     fn members(&self, space: &str, room: &str) -> Reply<'static>
         ensures long { 64 < length room.now → result ≡ Ok Answer.BadLine }
         ensures asks { IfOk result (λ answer.
-            AsksMembers space.now room.now (server_of self.entry.now) (answer_text answer)) }
+            AsksMembers space.now room.now (play_of self.entry.now) (answer_text answer)) }
         ensures err { IsOkUnless result Memory }
     {
         let Some(room) = Room::read(room) else {

@@ -1,14 +1,14 @@
 //! What a script line prints.
 
 ghost use Rattle.std.specs.Prelude.{◌≡◌, ◌++◌, Some, IfOk, OnOk, string_bytes};
-ghost use Rattle.script.specs.Printing.{cause_name, fault_name, reason_name, ids_text, frame_text, frames_text, is_read, posted_of};
+ghost use Rattle.script.specs.Printing.{fault_name, reason_name, ids_text, frame_text, frames_text, is_read, posted_of};
 
 use events::{Cause, CoreFault, Done, WsFrame};
 use journal::{Swept, Totals};
 use room_maps::RoomError;
 use std::alloc::{AllocError, Global};
 use std::fmt;
-use terms::{Sid, Text, ascii_text, id_text};
+use terms::{Sid, Text, ascii_text, id_text, name_of};
 
 /// The answer to one line of a script. Its `Display` is the line that is printed.
 #[derive(Drop)]
@@ -29,7 +29,7 @@ pub enum Answer<'a> {
     Probed(&'a str, Text),
     /// Whether a ping is due to the client of this name, and why it was given up, where it was.
     Ticked(&'a str, bool, Option<Cause>),
-    /// The client is gone, and its sessions have no place.
+    /// The client is gone, and its sessions have no space.
     NotSaved,
     /// The ids of sockets, with a space before each, or `None` where there are none.
     Members(Option<Text>),
@@ -149,27 +149,16 @@ impl fmt::Display for Answer<'_> {
             | Answer::Taken(name, Some(text)) => write!(f, "{name} {}", text.as_str()),
             Answer::Posted(posted) => write!(f, "{posted}"),
             Answer::Ok => f.write_str("ok"),
-            Answer::Closed(cause) => write!(f, "closed: {}", cause_name(*cause)),
+            Answer::Closed(cause) => write!(f, "closed: {}", cause.name()),
             Answer::Taken(name, None) => write!(f, "{name} -"),
             Answer::Frames(lines) => f.write_str(lines.as_str()),
-            Answer::Ticked(name, _, Some(cause)) => {
-                write!(f, "{name} closed: {}", cause_name(*cause))
-            }
+            Answer::Ticked(name, _, Some(cause)) => { write!(f, "{name} closed: {}", cause.name()) }
             Answer::Ticked(name, true, None) => write!(f, "{name} ping"),
             Answer::Ticked(name, false, None) => write!(f, "{name} nothing"),
             Answer::NotSaved => f.write_str("ok, not saved: SavedFull"),
             Answer::Members(Some(ids)) => write!(f, "members{}", ids.as_str()),
             Answer::Members(None) => f.write_str("members -"),
-            Answer::Totals(counted) => write!(
-                f,
-                "commands {}, placed {}, dropped {}, taken {}, discarded {}, waiting {}",
-                counted.commands,
-                counted.placed,
-                counted.dropped,
-                counted.taken,
-                counted.discarded,
-                counted.waiting
-            ),
+            Answer::Totals(counted) => write!(f, "{counted}"),
             Answer::Sealed(steps) => write!(f, "sealed {steps}"),
             Answer::Swept(swept) => write!(f, "swept log {}, saved {}", swept.log, swept.saved),
             Answer::Refused(fault) => write!(f, "refused: {}", fault_name(*fault)),
@@ -193,36 +182,21 @@ impl fmt::Display for Posted {
             f.write_str(", ignored")?;
         }
         if let Some(cause) = self.closed {
-            write!(f, ", closed: {}", cause_name(cause))?;
+            write!(f, ", closed: {}", cause.name())?;
         }
         Ok(())
     }
 }
 
-/// The name of the variant that a value is, of an enum with just these.
-macro_rules! name {
-    ($value:ident, $type:ident: $($variant:ident)*) => {
-        match $value { $($type::$variant => stringify!($variant)),* }
-    };
-}
-
-fn cause_name(cause: Cause) -> &'static str
-    ensures { result.now ≡ cause_name cause }
-{
-    name!(cause, Cause: Empty BadType BadBase64 BadKind BadCount BadId BadJson BadShape Reserved
-        BadPlaceholder TooMany TextAwaitingBinary BinaryUnawaited NotJoined AlreadyConnected
-        PingFromClient ClientClosed DoubleGet TooLong PingTimeout ConnectTimeout OutboxFull)
-}
-
 fn fault_name(fault: CoreFault) -> &'static str
     ensures { result.now ≡ fault_name fault }
 {
-    name!(fault, CoreFault: Memory UnknownClient WrongTransport AlreadyProbing AlreadyUpgraded
+    name_of!(fault, CoreFault: Memory UnknownClient WrongTransport AlreadyProbing AlreadyUpgraded
         NotProbing TooManyClients IdTaken Spent BadEffect BadConfig)
 }
 
 fn reason_name(reason: RoomError) -> &'static str
     ensures { result.now ≡ reason_name reason }
 {
-    name!(reason, RoomError: Memory UnknownSocket AlreadyIn NotIn OwnRoom TooManyRooms SidTaken)
+    name_of!(reason, RoomError: Memory UnknownSocket AlreadyIn NotIn OwnRoom TooManyRooms SidTaken)
 }

@@ -4,7 +4,7 @@ ghost use Rattle.std.specs.Prelude.{◌≡◌, ◌≢◌, ◌<◌, [], ◌∷◌
 ghost use Rattle.std.specs.Io.KnownBytes.{Appends, Keeps, IsAtEnd};
 ghost use Rattle.script.specs.declared.faults.RunError.TheVariants.{Memory, Reading, Writing};
 ghost use Rattle.script.specs.Printing.{answer_text};
-ghost use Rattle.script.specs.Script.{stage_of, Sets, Begins, PlaysOn, Answers, printed, IsAnswered, IsUnended, WritesLine, WritesOn, Gives};
+ghost use Rattle.script.specs.Script.{plain_run, Sets, Begins, PlaysOn, Answers, printed, IsAnswered, IsUnended, WritesLine, WritesOn, Gives};
 
 use crate::faults::RunError;
 use crate::play::Play;
@@ -143,8 +143,8 @@ fn answer_lines<C: Ledger, T: Ledger, A: App, W: Write>(
     ensures unended { OnOk result (IsUnended line.old.items → IsUnended line.new.items) }
     ensures answered { OnOk result (IsUnended line.old.items
         → WritesOn (A.policy app.now) (W.contents writer.old)
-        (W.contents writer.new) (stage_of run.old) line.old.items bytes.now
-        line.new.items (stage_of run.new)) }
+        (W.contents writer.new) (plain_run run.old) line.old.items bytes.now
+        line.new.items (plain_run run.new)) }
     ensures err { IfErr result (λ fault. fault ≢ Reading) }
 {
     for byte in bytes {
@@ -164,8 +164,8 @@ fn answer_byte<C: Ledger, T: Ledger, A: App, W: Write>(
     ensures unended { OnOk result (IsUnended line.old.items → IsUnended line.new.items) }
     ensures answered { OnOk result (IsUnended line.old.items
         → WritesOn (A.policy app.now) (W.contents writer.old)
-        (W.contents writer.new) (stage_of run.old) line.old.items (byte ∷ [])
-        line.new.items (stage_of run.new)) }
+        (W.contents writer.new) (plain_run run.old) line.old.items (byte ∷ [])
+        line.new.items (plain_run run.new)) }
     ensures err { IfErr result (λ fault. fault ≢ Reading) }
 {
     if byte == b'\n' {
@@ -185,7 +185,7 @@ fn answer_line<C: Ledger, T: Ledger, A: App, W: Write>(
     ensures emptied { OnOk result (line.new.items ≡ []) }
     ensures answered { OnOk result (WritesLine (A.policy app.now)
         (W.contents writer.old) (W.contents writer.new) line.old.items
-        (stage_of run.old) (stage_of run.new)) }
+        (plain_run run.old) (plain_run run.new)) }
     ensures err { IfErr result (λ fault. fault ≢ Reading) }
 {
     print_any(writer, run.answer(app, read_line(line.as_slice()))?)?;
@@ -225,7 +225,7 @@ impl<C: Ledger, T: Ledger> Run<C, T> {
     ) -> Result<Option<Answer<'a>>, RunError>
         ensures nothing { line.entry ≡ ScriptLine.Nothing → result ≡ Ok None }
         ensures answers { IfOk result (λ answer. Answers (A.policy app.now)
-            line.entry (stage_of self.old) (option_map answer_text answer) (stage_of self.new)) }
+            line.entry (plain_run self.old) (option_map answer_text answer) (plain_run self.new)) }
         ensures err { IsOkUnless result Memory }
     {
         match line {
@@ -241,7 +241,7 @@ impl<C: Ledger, T: Ledger> Run<C, T> {
     /// Sets a limit, as long as there is no server.
     fn set(&mut self, key: Key, number: u64) -> Option<Answer<'static>>
         ensures { Sets key number
-            (stage_of self.old) (option_map answer_text result) (stage_of self.new) }
+            (plain_run self.old) (option_map answer_text result) (plain_run self.new) }
     {
         match self {
             Run::Setting(limits, _) => {
@@ -256,7 +256,7 @@ impl<C: Ledger, T: Ledger> Run<C, T> {
     /// Makes the server at the first line that isn't about its limits, unless it is refused.
     fn begin(&mut self) -> Result<Option<CoreFault>, RunError>
         ensures begins { IfOk result (λ fault.
-            Begins (stage_of self.old) fault (stage_of self.new)) }
+            Begins (plain_run self.old) fault (plain_run self.new)) }
         ensures err { IsOkUnless result Memory }
     {
         match replace(self, Run::Over) {
@@ -280,7 +280,7 @@ impl<C: Ledger, T: Ledger> Run<C, T> {
         line: ScriptLine<'a>,
     ) -> Result<Option<Answer<'a>>, RunError>
         ensures plays { IfOk result (λ answer. PlaysOn (A.policy app.now)
-            line.entry (stage_of self.old) (option_map answer_text answer) (stage_of self.new)) }
+            line.entry (plain_run self.old) (option_map answer_text answer) (plain_run self.new)) }
         ensures err { IsOkUnless result Memory }
     {
         match self {

@@ -1,8 +1,8 @@
 //! Servers and their clients over loopback sockets. Many more scenes are played beside the program
 //! itself (scripts/try_scenes).
 
-mod place;
 mod scenes;
 mod server;
+mod site;
 mod vague;
 mod wire;

@@ -89,7 +89,7 @@ awaited (Failed error) = 0
 -- where attachments are awaited
 abbrev pub exceeds : Progress → (limit : ℕ) → (more : ℕ) → Bool
 exceeds (Waiting packet) limit more =
-    nat_lt limit (sum_by (λ part. length part) packet.attachments + more)
+    nat_lt limit (sum_by (λ attachment. length attachment) packet.attachments + more)
 exceeds _ limit more = false
 
 -- an unfinished packet lacks attachments, and want of memory is no failure

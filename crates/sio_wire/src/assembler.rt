@@ -96,7 +96,7 @@ impl Assembler {
         ensures fault { IfErr result (λ error. ((error ≡ SioError.Memory) × (self.new ≡ self.old))
             ⊎ ((binary_refusal self.old ≡ Some error) × (self.new ≡ Progress.Failed error))) }
     {
-        let part = match &self.progress {
+        let attachment = match &self.progress {
             Progress::Ready => {
                 self.progress = Progress::Failed(SioError::BinaryUnawaited);
                 return Err(SioError::BinaryUnawaited);
@@ -106,7 +106,7 @@ impl Assembler {
         };
         match mem::replace(&mut self.progress, Progress::Ready) {
             Progress::Waiting(mut packet) => {
-                if packet.attachments.push(part).is_err() {
+                if packet.attachments.push(attachment).is_err() {
                     self.progress = Progress::Waiting(packet);
                     return Err(SioError::Memory);
                 }
@@ -136,8 +136,8 @@ impl Assembler {
             return false;
         };
         let mut left = limit;
-        for part in packet.attachments.as_slice() {
-            left = match left.checked_sub(part.as_slice().len()) {
+        for attachment in packet.attachments.as_slice() {
+            left = match left.checked_sub(attachment.as_slice().len()) {
                 Some(left) => left,
                 None => return true,
             };

@@ -31,7 +31,7 @@ pub struct Header {
 
 /// Reads the header that a text spells. Of several faults the first one is answered: those of the
 /// parts from left to right, then those of the payload in the order `BadJson`, `BadShape`,
-/// `Reserved`, `BadPlaceholder`. `Memory` may come in place of any answer.
+/// `Reserved`, `BadPlaceholder`. `Memory` may come instead of any answer.
 pub fn read_header(alloc: Global, text: &str) -> Result<Header, SioError>
     ensures ok { IfOk result (λ h. Sio h text.now) }
     ensures fault { IfErr result (λ e. (e ≡ SioError.Memory) ⊎ HasFault text.now e) }

@@ -1,8 +1,8 @@
 //! The connections of a loop, and which of them have something to do.
 
-use crate::stage::Stage;
+use crate::service::Service;
 use crate::tcp_connection::{Connection, Mode};
-use loop_rules::{Overdue, Part, Roster};
+use loop_rules::{Overdue, Period, Roster};
 use mio::event::Event;
 use mio::{Interest, Registry, Token};
 use slab::Slab;
@@ -77,19 +77,19 @@ impl<'a, R: Clock + Drop> Connections<'a, R> {
     pub fn take(&mut self, key: usize) -> Option<Box<Connection<'a, R>>> {
         let connection = self.slots.try_remove(key)?;
         self.roster.rota.dismiss(key);
-        if let Some(client) = connection.stage.client() {
+        if let Some(client) = connection.service.client() {
             self.roster.takers.release(client, key);
         }
         Some(connection)
     }
 
     /// What is put for this client goes to this connection from now on.
-    pub fn settle(&mut self, client: u128, key: usize) {
+    pub fn assign(&mut self, client: u128, key: usize) {
         self.roster.wake(client);
         self.roster.takers.list(client, key);
     }
 
-    /// It may have bytes to send. Where there is no memory to note that, it gets a turn, at whose
+    /// It may have bytes to send. Where there is no memory to note that, it gets a stint, at whose
     /// end it is noted anew.
     pub fn note_unsent(&mut self, key: usize) {
         if let Some(connection) = self.slots.get_mut(key) {
@@ -114,7 +114,7 @@ impl<'a, R: Clock + Drop> Connections<'a, R> {
         let Token(key) = event.token();
         if event.is_readable() {
             let connection = self.get_mut(key);
-            if let Some(stream) = connection.and_then(|connection| connection.stage.stream()) {
+            if let Some(stream) = connection.and_then(|connection| connection.service.stream()) {
                 stream.note_readable(event.is_read_closed());
             }
             self.roster.rota.call(key);
@@ -130,21 +130,21 @@ impl<'a, R: Clock + Drop> Connections<'a, R> {
         let Some(connection) = self.slots.get_mut(key) else {
             return false;
         };
-        let (stage, takers) = (&connection.stage, &self.roster.takers);
-        let speaks = |client| !stage.is_socket() || takers.is_taker(client, key);
-        let part = match connection.mode {
-            Mode::Gathers => Part::Request,
-            Mode::Loses(_) | Mode::Closes if !cutting => Part::Sends,
-            Mode::Loses(_) | Mode::Closes | Mode::Lingers => Part::Ends,
-            Mode::Serves if stage.is_waiting() => Part::Waits,
-            Mode::Serves if stage.client().is_none_or(speaks) => Part::Served,
-            Mode::Serves => Part::Knocks,
+        let (service, takers) = (&connection.service, &self.roster.takers);
+        let speaks = |client| !service.is_socket() || takers.is_taker(client, key);
+        let period = match connection.mode {
+            Mode::Gathers => Period::Request,
+            Mode::Loses(_) | Mode::Closes if !cutting => Period::Sends,
+            Mode::Loses(_) | Mode::Closes | Mode::Lingers => Period::Ends,
+            Mode::Serves if service.is_waiting() => Period::Waits,
+            Mode::Serves if service.client().is_none_or(speaks) => Period::Served,
+            Mode::Serves => Period::Knocks,
         };
-        match connection.overdue(part, cutting, now) {
+        match connection.overdue(period, cutting, now) {
             Overdue::Nothing => return false,
             Overdue::Close => return true,
             Overdue::GiveUp => {
-                if let Stage::Polling(peer) = &mut connection.stage {
+                if let Service::Polling(peer) = &mut connection.service {
                     peer.give_up();
                 }
             }

@@ -4,7 +4,7 @@
 
 mod connections;
 mod delays;
-mod stage;
+mod service;
 mod tcp_connection;
 mod watch;
 

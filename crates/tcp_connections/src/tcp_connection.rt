@@ -1,9 +1,9 @@
 //! One connection.
 
-use crate::stage::{Stage, of_peer};
-use events::{Answered, Event, Frames, Loss, Outcome, Peer, Telling, WsFrame};
+use crate::service::{Service, of_peer};
+use events::{Answered, Event, Frames, Loss, Outcome, Peer, Retry, WsFrame};
 use http_edge::Gathered;
-use loop_rules::{Found, Overdue, Part, Pause, find_overdue, left_after_message};
+use loop_rules::{Found, Overdue, Pause, Period, find_overdue, left_after_message};
 use peers::{FRAMES_PER_TAKE, PROBE, UPGRADE};
 use std::alloc::Global;
 use std::net::Shutdown;
@@ -39,7 +39,7 @@ pub struct Connection<'a, R> {
     pub mode: Mode,
     /// The core was told of its loss, and isn't told again.
     told: bool,
-    /// The moment at which its present part began: its request, its serving, its end.
+    /// The moment at which its present period began: its request, its serving, its end.
     since: u64,
     /// The moment at which its bytes last went on.
     moved: u64,
@@ -47,13 +47,13 @@ pub struct Connection<'a, R> {
     pub not_before: u64,
     /// The moment at which it was last asked what is due.
     asked: u64,
-    pub stage: Stage<'a, R>,
+    pub service: Service<'a, R>,
 }
 
 /// Written out, so that a crate above takes the drop of all that lies in it by this one call.
 impl<R: Drop> Drop for Connection<'_, R> {
     fn drop(self) {
-        let_go!(self; unsent, mode, told, since, moved, not_before, asked, stage);
+        let_go!(self; unsent, mode, told, since, moved, not_before, asked, service);
     }
 }
 
@@ -92,14 +92,14 @@ impl<'a, R: Clock + Drop> Connection<'a, R> {
             moved: now,
             not_before: 0,
             asked: 0,
-            stage: Stage::Gathering { stream, gathered },
+            service: Service::Gathering { stream, gathered },
         };
         Box::new(alloc, connection).ok()
     }
 
     /// How many of its bytes wait to be sent.
     pub fn bytes_unsent(&mut self) -> usize {
-        self.stage.stream().map_or(0, |stream| stream.unsent())
+        self.service.stream().map_or(0, |stream| stream.unsent())
     }
 
     /// Whether so much is unsent that it is not to be served.
@@ -107,14 +107,14 @@ impl<'a, R: Clock + Drop> Connection<'a, R> {
         self.bytes_unsent() > MOST_UNSENT
     }
 
-    /// What is to be done with it at this part, where that took too long, or where all but those
+    /// What is to be done with it at this period, where that took too long, or where all but those
     /// that end are to fail.
-    pub(crate) fn overdue(&mut self, part: Part, cutting: bool, now: u64) -> Overdue {
-        if cutting && !matches!(part, Part::Ends) {
+    pub(crate) fn overdue(&mut self, period: Period, cutting: bool, now: u64) -> Overdue {
+        if cutting && !matches!(period, Period::Ends) {
             return Overdue::Fail;
         }
         let stalled = (self.bytes_unsent() > 0).then_some(now.saturating_sub(self.moved));
-        find_overdue(part, now.saturating_sub(self.since), stalled)
+        find_overdue(period, now.saturating_sub(self.since), stalled)
     }
 
     /// What it does next. It ends where it has no event any more.
@@ -125,11 +125,11 @@ impl<'a, R: Clock + Drop> Connection<'a, R> {
         if self.not_before > now {
             return Next::Pauses(Pause::Early);
         }
-        if self.stage.is_waiting() && self.stage.drain().is_none() {
+        if self.service.is_waiting() && self.service.drain().is_none() {
             self.fail(now);
             return Next::Fails;
         }
-        match of_peer!(&mut self.stage, peer => peer.next(), Ok(None)) {
+        match of_peer!(&mut self.service, peer => peer.next(), Ok(None)) {
             Ok(Some((event, moment))) => self.bring(event, moment),
             Ok(None) => {
                 self.turn_to(Mode::Closes, now);
@@ -153,7 +153,7 @@ impl<'a, R: Clock + Drop> Connection<'a, R> {
             Event::Upgraded { .. } => Some(UPGRADE.len()),
             _ => None,
         };
-        if let (Some(stream), Some(length)) = (self.stage.stream(), length) {
+        if let (Some(stream), Some(length)) = (self.service.stream(), length) {
             stream.unbrought = left_after_message(stream.unbrought, length);
         }
         if matches!(event, Event::Tick { .. }) {
@@ -167,7 +167,7 @@ impl<'a, R: Clock + Drop> Connection<'a, R> {
 
     /// Whether it brought all that it read, and its stream has no more, as far as is known.
     pub fn has_brought_all(&mut self) -> bool {
-        let stream = self.stage.stream();
+        let stream = self.service.stream();
         stream.is_none_or(|stream| stream.unbrought == 0 && stream.drained)
     }
 
@@ -175,15 +175,15 @@ impl<'a, R: Clock + Drop> Connection<'a, R> {
     pub fn hear(&mut self, got: &Answered, now: u64) -> Option<Found> {
         // All that was read was brought, and the stream has no more.
         let has_brought_all = self.has_brought_all();
-        let dry = matches!(&self.stage, Stage::Speaking(peer)
+        let dry = matches!(&self.service, Service::Speaking(peer)
             if has_brought_all || peer.has_read_nothing());
-        if of_peer!(&mut self.stage, peer => peer.answer(got).is_err(), false) {
+        if of_peer!(&mut self.service, peer => peer.answer(got).is_err(), false) {
             self.fail(now);
             return None;
         }
         let took_all = |frames: &Frames| frames.as_slice().len() < FRAMES_PER_TAKE;
         Some(match got {
-            _ if of_peer!(&self.stage, peer => peer.is_idle(), true) => Found::Idle,
+            _ if of_peer!(&self.service, peer => peer.is_idle(), true) => Found::Idle,
             Ok(Outcome::Ticked { ping, done }) if !*ping && done.closed.is_none() => Found::Quiet,
             Ok(Outcome::Nothing) if dry => Found::Dry,
             Ok(Outcome::Frames(frames)) if dry && took_all(frames) => Found::Dry,
@@ -199,18 +199,18 @@ impl<'a, R: Clock + Drop> Connection<'a, R> {
 
     /// It has failed: its client is lost, if it has one.
     pub(crate) fn fail(&mut self, now: u64) {
-        let client = self.stage.client();
+        let client = self.service.client();
         let mode = client.map_or(Mode::Closes, |client| Mode::Loses(Loss::new(client)));
         self.turn_to(mode, now);
     }
 
     /// Where its client is lost: the core was told so, and answered this. Where it refused, it is
-    /// told again in the loop's next turn; else the connection ends once its bytes have gone.
+    /// told again in the loop's next round; else the connection ends once its bytes have gone.
     pub fn hear_loss(&mut self, got: &Answered, now: u64) -> Option<Pause> {
         let Mode::Loses(loss) = &mut self.mode else {
             return None;
         };
-        if loss.hears(got) == Telling::Again {
+        if loss.hears(got) == Retry::Again {
             return Some(Pause::More);
         }
         self.told = true;
@@ -220,25 +220,25 @@ impl<'a, R: Clock + Drop> Connection<'a, R> {
 
     /// Sends what is unsent.
     pub fn send(&mut self, now: u64) -> Sent {
-        let Ok(count) = self.stage.send() else {
+        let Ok(count) = self.service.send() else {
             return self.after_failure(now);
         };
         let left = self.bytes_unsent();
         if count > 0 || left == 0 {
             self.moved = now;
         }
-        let has_more = matches!(&self.stage, Stage::Answered { rest, .. } if !rest.is_empty());
+        let has_more = matches!(&self.service, Service::Answered { rest, .. } if !rest.is_empty());
         match left {
-            // The next piece of a file has its turn after those of others.
+            // The next piece of a file has its stint after those of others.
             0 if has_more => Sent::Queue,
             // A request over HTTP was read whole, and its stream is closed at once; else it is read
             // on, since a stream that is closed with bytes unread takes back what was sent.
             0 if matches!(self.mode, Mode::Closes) => {
-                if matches!(self.stage, Stage::Polling(_)) {
+                if matches!(self.service, Service::Polling(_)) {
                     return Sent::Remove;
                 }
                 self.turn_to(Mode::Lingers, now);
-                let stream = self.stage.stream();
+                let stream = self.service.stream();
                 match stream.map(|stream| stream.inner.shutdown(Shutdown::Write)) {
                     Some(Ok(())) => Sent::Queue,
                     _ => Sent::Remove,
@@ -252,12 +252,12 @@ impl<'a, R: Clock + Drop> Connection<'a, R> {
     /// Its bytes can't be sent. A WebSocket is read no more, so its peer finds that it has ended.
     /// An answer over HTTP that can't be sent loses its client, unless that is lost already.
     fn after_failure(&mut self, now: u64) -> Sent {
-        if self.told || self.stage.client().is_none() {
+        if self.told || self.service.client().is_none() {
             return Sent::Remove;
         }
         match self.mode {
             Mode::Loses(_) => self.cut(),
-            _ if matches!(self.stage, Stage::Polling(_)) => self.fail(now),
+            _ if matches!(self.service, Service::Polling(_)) => self.fail(now),
             Mode::Serves => self.cut(),
             Mode::Gathers | Mode::Closes | Mode::Lingers => return Sent::Remove,
         }
@@ -266,7 +266,7 @@ impl<'a, R: Clock + Drop> Connection<'a, R> {
 
     /// Nothing more is read of it, or sent.
     pub(crate) fn cut(&mut self) {
-        if let Some(stream) = self.stage.stream() {
+        if let Some(stream) = self.service.stream() {
             stream.cut();
         }
     }

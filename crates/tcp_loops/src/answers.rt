@@ -3,9 +3,9 @@
 use crate::event_loop::EventLoop;
 use events::{Answered, Cause, CoreError, CoreFault, Outcome};
 use http_edge::{EdgeError, Request, Status, Target, direct};
-use loop_rules::{Verdict, owner_of};
+use loop_rules::{Decision, owner_of};
 use metrics::Reason;
-use peers::{Moments, Reply, is_noop, reply_to_fault};
+use peers::{Moments, Response, is_noop, response_to_fault};
 use std::rt::Clock;
 use std::sync::Wait;
 use tcp_connections::Mode;
@@ -17,14 +17,16 @@ impl<R: Wait + Clock + Copy + Drop, L: Log> EventLoop<'_, R, L> {
         if let Some(reason) = Reason::of_edge(fault) {
             self.base.shared.note_refused(self.base.rt, reason);
         }
-        self.reply(key, &None, reply_to_fault(fault));
+        self.respond(key, &None, response_to_fault(fault));
     }
 
     /// Answers by this, if by anything, which pages of this origin may read. The connection ends then.
-    fn reply(&mut self, key: usize, origin: &Option<String>, reply: Option<Reply<'_>>) {
+    fn respond(&mut self, key: usize, origin: &Option<String>, response: Option<Response<'_>>) {
         let now = self.watch.now();
         if let Some(connection) = self.connections.get_mut(key) {
-            connection.stage.reply(self.base.alloc, origin, reply);
+            connection
+                .service
+                .respond(self.base.alloc, origin, response);
             connection.turn_to(Mode::Closes, now);
         }
     }
@@ -39,7 +41,7 @@ impl<R: Wait + Clock + Copy + Drop, L: Log> EventLoop<'_, R, L> {
                     return self.refuse(key, EdgeError::Memory);
                 };
                 let (status, body) = (Status::Success, text.as_str());
-                self.reply(key, &request.origin, Some(Reply { status, body }));
+                self.respond(key, &request.origin, Some(Response { status, body }));
             }
             Ok(target) => {
                 base.shared.note_request(base.rt, self.number);
@@ -61,7 +63,10 @@ impl<R: Wait + Clock + Copy + Drop, L: Log> EventLoop<'_, R, L> {
             return self.serve(key, request, target);
         }
         let taken = self.connections.take(key);
-        if let Some(mut stream) = taken.and_then(|mut connection| connection.stage.take_stream()) {
+        if let Some(mut stream) = taken.and_then(|mut connection| connection
+            .service
+            .take_stream())
+        {
             // The loop hears no more of it.
             let _ = self.ears.poll.registry().deregister(&mut stream.inner);
             let handed = Handed {
@@ -83,8 +88,8 @@ impl<R: Wait + Clock + Copy + Drop, L: Log> EventLoop<'_, R, L> {
         let now = self.watch.now();
         if let Some(connection) = self.connections.get_mut(key) {
             let (base, watch) = (self.base, self.watch);
-            let stage = &mut connection.stage;
-            let served = stage.serve(base.alloc, request, target, watch, base.rules);
+            let service = &mut connection.service;
+            let served = service.serve(base.alloc, request, target, watch, base.rules);
             connection.turn_to(served.unwrap_or(Mode::Closes), now);
             connection.not_before = self.delays.delay(target, key, now);
         }
@@ -106,10 +111,10 @@ impl<R: Wait + Clock + Copy + Drop, L: Log> EventLoop<'_, R, L> {
         let found = connection.hear(got, now);
         let (full, has_brought_all) = (connection.is_full(), connection.has_brought_all());
         let rota = &mut self.connections.roster.rota;
-        let verdict = match found {
-            Some(found) => rota.follow(key, &mut self.turn, found, full),
+        let decision = match found {
+            Some(found) => rota.follow(key, &mut self.stint, found, full),
             // Its next event tells so.
-            None => Verdict::GoesOn,
+            None => Decision::GoesOn,
         };
         if let Err(error) = got {
             base.shared
@@ -120,7 +125,7 @@ impl<R: Wait + Clock + Copy + Drop, L: Log> EventLoop<'_, R, L> {
             // The others may begin while this one goes on.
             base.send(&mut self.notes);
         }
-        if verdict != Verdict::GoesOn {
+        if decision != Decision::GoesOn {
             self.current = None;
             self.send_soon(key);
         }
@@ -128,27 +133,34 @@ impl<R: Wait + Clock + Copy + Drop, L: Log> EventLoop<'_, R, L> {
 
     /// Notes whom the answer to an event of a connection concerns.
     fn note(&mut self, key: usize, got: &Answered, now: u64) {
-        let stage = self.connections.get_mut(key).map(|it| &it.stage);
-        let Some((is_socket, Some(client))) = stage.map(|it| (it.is_socket(), it.client())) else {
+        let service = self.connections.get_mut(key).map(|it| &it.service);
+        let Some((is_socket, Some(client))) = service.map(|it| (it.is_socket(), it.client())) else {
             return;
         };
         if is_noop(got) {
             self.delays.note_noop(client, now);
         }
-        self.tell_others(got);
+        if let Ok(
+            Outcome::Done(done) | Outcome::Lost { done, .. } | Outcome::Ticked { done, .. },
+        ) = got
+        {
+            let (lists, loops) = (done.clients.lists(), self.base.rules.loops);
+            let roster = &mut self.connections.roster;
+            roster.wake_lists(self.number, loops, lists, &mut self.notes);
+        }
         if self.comes_over && matches!(got, Ok(Outcome::Done(_))) {
-            self.connections.settle(client, key);
+            self.connections.assign(client, key);
             self.base.note_upgraded(client);
         }
         match got {
             Ok(Outcome::Opened(_)) => {
                 // What is put for it goes to its WebSocket, if it has one.
                 if is_socket {
-                    self.connections.settle(client, key);
+                    self.connections.assign(client, key);
                 }
                 self.base.note_opened(client, is_socket, now);
             }
-            Ok(Outcome::Begun) => self.connections.settle(client, key),
+            Ok(Outcome::Begun) => self.connections.assign(client, key),
             Ok(Outcome::Probed(_)) => self.connections.roster.wake(client),
             Ok(Outcome::Lost { .. }) => self.note_end(client, None, now),
             Ok(Outcome::Done(done) | Outcome::Ticked { done, .. }) if done.closed.is_some() => {
@@ -160,18 +172,6 @@ impl<R: Wait + Clock + Copy + Drop, L: Log> EventLoop<'_, R, L> {
             }
             Ok(_) => {}
             Err(error) => self.note_error(client, key, error, now),
-        }
-    }
-
-    /// Those for whom something was put are woken.
-    fn tell_others(&mut self, got: &Answered) {
-        let (own, loops) = (self.number, self.base.rules.loops);
-        let roster = &mut self.connections.roster;
-        if let Ok(
-            Outcome::Done(done) | Outcome::Lost { done, .. } | Outcome::Ticked { done, .. },
-        ) = got
-        {
-            roster.tell_lists(own, loops, done.clients.lists(), &mut self.notes);
         }
     }
 

@@ -2,7 +2,7 @@
 
 use crate::base::Base;
 use events::{Done, Event, Outcome};
-use loop_rules::{LookState, Mail, Notes, Pause, Turn};
+use loop_rules::{LookState, Mail, Notes, Pause, Stint};
 use mio::Events;
 use peers::Moments;
 use std::alloc::{AllocError, Global};
@@ -16,15 +16,15 @@ use tcp_streams::{Buffered, Ears, Handed, Inbox, Log, Stream};
 /// How many reports of streams one wait takes.
 const EVENTS: usize = 256;
 
-/// The most new connections that one turn of the loop adds. Where more wait, it doesn't sleep.
+/// The most new connections that one round of the loop adds. Where more wait, it doesn't sleep.
 const STREAMS: usize = 256;
 
-/// So many bytes are sent when their connection's turn ends, while they are at hand in the processor's
-/// caches. Fewer wait for the end of the loop's turn, so that more may go out with them.
+/// So many bytes are sent when their connection's stint ends, while they are at hand in the processor's
+/// caches. Fewer wait for the end of the loop's round, so that more may go out with them.
 const MUCH_UNSENT: usize = 32_768;
 
-/// The most turns of connections in one turn of the loop.
-const TURNS: usize = 1_024;
+/// The most stints of connections in one round of the loop.
+const STINTS: usize = 1_024;
 
 /// How long a loop sleeps at the most, in milliseconds.
 const BEAT: u64 = 1_000;
@@ -40,16 +40,16 @@ pub struct EventLoop<'a, R, L> {
     events: Events<Global>,
     pub(crate) connections: Connections<'a, R>,
     mail: Mail<Handed>,
-    /// The clients of other loops, to be told once a turn.
+    /// The clients of other loops, to be told once a round.
     pub(crate) notes: Notes,
     pub(crate) delays: Delays,
-    /// The connection whose turn it is.
+    /// The connection whose stint it is.
     pub(crate) current: Option<usize>,
     /// Whether the event that it brought has its client come over to it.
     pub(crate) comes_over: bool,
-    pub(crate) turn: Turn,
-    /// How many turns of connections the loop's turn has left.
-    turns_left: usize,
+    pub(crate) stint: Stint,
+    /// How many stints of connections the loop's round has left.
+    stints_left: usize,
     /// The moment of the next beat, 0 until the loop has begun.
     beat: u64,
 }
@@ -70,8 +70,8 @@ impl<'a, R: Wait + Clock + Copy + Drop, L: Log> EventLoop<'a, R, L> {
             delays: Delays::new(alloc),
             current: None,
             comes_over: false,
-            turn: Turn::begin(),
-            turns_left: 0,
+            stint: Stint::begin(),
+            stints_left: 0,
             beat: 0,
         })
     }
@@ -97,19 +97,19 @@ impl<'a, R: Wait + Clock + Copy + Drop, L: Log> EventLoop<'a, R, L> {
         None
     }
 
-    /// The next connection gets its turn; where none has anything to do, the loop's turn ends, and the
+    /// The next connection gets its stint; where none has anything to do, the loop's round ends, and the
     /// next begins once it has waited for streams, for what others hand in, or for the next moment at
     /// which something is due. Answers whether the loop goes on.
     fn pick(&mut self) -> bool {
-        if self.turns_left > 0 {
+        if self.stints_left > 0 {
             if let Some(key) = self.connections.roster.rota.pop() {
-                self.turns_left -= 1;
-                self.turn = Turn::begin();
+                self.stints_left -= 1;
+                self.stint = Stint::begin();
                 self.current = Some(key);
                 return true;
             }
         }
-        self.connections.roster.rota.begin_turn();
+        self.connections.roster.rota.begin_round();
         self.base.send(&mut self.notes);
         let now = self.watch.now();
         for _ in 0..u64::MAX {
@@ -121,7 +121,7 @@ impl<'a, R: Wait + Clock + Copy + Drop, L: Log> EventLoop<'a, R, L> {
         if self.connections.len() == 0 && self.base.shared.standing(self.base.rt).is_over() {
             return false;
         }
-        self.turns_left = TURNS;
+        self.stints_left = STINTS;
         let timeout = Duration::from_millis(self.time_to_sleep());
         if self
             .ears
@@ -221,7 +221,7 @@ impl<'a, R: Wait + Clock + Copy + Drop, L: Log> EventLoop<'a, R, L> {
         key
     }
 
-    /// The next event of a connection, if it has one. The turn of one that is gone is over.
+    /// The next event of a connection, if it has one. The stint of one that is gone is over.
     fn step(&mut self, key: usize) -> Option<(Event, u64)> {
         let now = self.watch.now();
         let Some(connection) = self.connections.get_mut(key) else {
@@ -229,7 +229,7 @@ impl<'a, R: Wait + Clock + Copy + Drop, L: Log> EventLoop<'a, R, L> {
             return None;
         };
         match connection.mode {
-            Mode::Gathers => match connection.stage.read(self.base.alloc) {
+            Mode::Gathers => match connection.service.read(self.base.alloc) {
                 Ok(Ok(request)) => self.direct(key, request),
                 Ok(Err(pause)) => self.pause(key, pause),
                 Err(fault) => self.refuse(key, fault),
@@ -250,7 +250,7 @@ impl<'a, R: Wait + Clock + Copy + Drop, L: Log> EventLoop<'a, R, L> {
             Mode::Loses(loss) => return Some((loss.event(), now)),
             Mode::Closes => self.rest(key, Pause::Done),
             // What still comes is forgotten.
-            Mode::Lingers => match connection.stage.drain() {
+            Mode::Lingers => match connection.service.drain() {
                 Some(pause) => self.pause(key, pause),
                 None => self.close(key),
             },
@@ -258,19 +258,19 @@ impl<'a, R: Wait + Clock + Copy + Drop, L: Log> EventLoop<'a, R, L> {
         None
     }
 
-    /// The turn of a connection is over.
+    /// The stint of a connection is over.
     pub(crate) fn pause(&mut self, key: usize, pause: Pause) {
         self.current = None;
         self.connections.roster.rota.pause(key, pause);
     }
 
-    /// The turn of a connection is over, and what it has to send goes out.
+    /// The stint of a connection is over, and what it has to send goes out.
     pub(crate) fn rest(&mut self, key: usize, pause: Pause) {
         self.pause(key, pause);
         self.send_soon(key);
     }
 
-    /// What a connection has to send goes out at the end of the loop's turn, or at once where that is
+    /// What a connection has to send goes out at the end of the loop's round, or at once where that is
     /// much.
     pub(crate) fn send_soon(&mut self, key: usize) {
         let connection = self.connections.get_mut(key);

@@ -85,7 +85,7 @@ impl<'a, 'c, R: Wait + Clock + Copy, L: Log, C: Ledger, T: Ledger> Keeper<'a, 'c
     }
 
     /// Tells the core's counts where somebody may ask for them, and the log where a report is due.
-    fn tell_counts(&mut self) {
+    fn note_counts(&mut self) {
         let (base, now) = (self.base, self.watch.now());
         let due = base.rules.report.filter(|_| now >= self.report);
         if base.rules.metrics.is_none() && due.is_none() {
@@ -112,7 +112,7 @@ impl<'a, 'c, R: Wait + Clock + Copy, L: Log, C: Ledger, T: Ledger> Keeper<'a, 'c
             // A journal that can't be sealed for want of memory is sealed at the next look.
             let _ = self.locked.seal(base.rt, base.alloc, STEPS, BYTES);
         }
-        self.tell_counts();
+        self.note_counts();
         // Where there is no memory for the list, they are asked about in the next round.
         let core = self.locked.look(base.rt, &mut self.pass);
         let clients = core.clients(base.alloc);

@@ -5,7 +5,6 @@ use crate::server::Server;
 use events::App;
 use hub_gate::Report;
 use journal::Totals;
-use script::Answer;
 use settings::Settings;
 use std::fmt::Display;
 use std::net::Net;
@@ -42,15 +41,17 @@ impl<R: Eprint> Log for ErrorLog<R> {
         let transport = if ended.socket { "websocket" } else { "polling" };
         let _ = match ended.cause {
             Some(cause) => {
-                let closed = Answer::Closed(cause);
-                eprintln!(self.rt; "client {id:032x}, {transport}, {closed}, after {lived} ms")
+                let cause = cause.name();
+                eprintln!(self.rt;
+                    "client {id:032x}, {transport}, closed: {cause}, after {lived} ms"
+                )
             }
             None => eprintln!(self.rt; "client {id:032x}, {transport}, lost, after {lived} ms"),
         };
     }
 
     fn totals(&self, totals: Totals) {
-        let _ = eprintln!(self.rt; "{}", Answer::Totals(totals));
+        let _ = eprintln!(self.rt; "{totals}");
     }
 }
 
@@ -61,10 +62,10 @@ pub fn listen<R: Net + Print + Eprint + AllocGlobal + Copy + Drop + Sync>(
     verbose: bool,
 ) -> Result<Server<ErrorLog<R>>, ServerFault> {
     let alloc = rt.alloc();
-    let place = format!(in alloc; "{}:{}", settings.host, settings.port)?;
+    let address = format!(in alloc; "{}:{}", settings.host, settings.port)?;
     let log = ErrorLog { rt: *rt, verbose };
     let server = Server::listen(rt, alloc, settings, log)?;
-    println!(rt; "listening {place}").map_err(|_| ServerFault::Writing)?;
+    println!(rt; "listening {address}").map_err(|_| ServerFault::Writing)?;
     Ok(server)
 }
 
@@ -79,13 +80,13 @@ where
     R: Copy + Drop + Sync + Send + 'static,
 {
     let report = server.run(rt, rt.alloc(), app)?;
-    tell_report(rt, &report).map_err(|_| ServerFault::Writing)?;
+    print_report(rt, &report).map_err(|_| ServerFault::Writing)?;
     Ok(ExitCode::SUCCESS)
 }
 
 /// Tells what the server did, and then what each worker did of it.
-fn tell_report<R: Print>(rt: &R, report: &Report) -> io::Result<()> {
-    println!(rt; "{}", Answer::Totals(report.totals))?;
+fn print_report<R: Print>(rt: &R, report: &Report) -> io::Result<()> {
+    println!(rt; "{}", report.totals)?;
     for (number, worker) in report.workers.iter().enumerate() {
         let (commands, taken) = (worker.commands, worker.taken);
         println!(rt; "worker {number}: commands {commands}, taken {taken}")?;

@@ -52,7 +52,7 @@ pub struct Acceptor {
     most: u64,
     /// How many one loop is given before the next one is.
     together: u64,
-    /// Those that had no place and were told so. They are closed a little later, since a stream
+    /// Those that had no space and were told so. They are closed a little later, since a stream
     /// that is closed with bytes unread takes back what was sent.
     refused: VecDeque<TcpStream>,
     /// How many were given so far.
@@ -144,7 +144,7 @@ impl Acceptor {
         }
     }
 
-    /// Answers a connection that has no place. It is closed later, or at once where many are.
+    /// Answers a connection that has no space. It is closed later, or at once where many are.
     fn turn_away(&mut self, stream: TcpStream) {
         let mut wire = OnStream::new(stream);
         // It is closed without an answer where none can be written.
@@ -168,9 +168,9 @@ impl Acceptor {
             shared.note_refused(rt, Reason::NoPlace);
             return self.turn_away(stream);
         }
-        let place = dealt_to(self.given, self.together, shared.inboxes.len());
+        let index = dealt_to(self.given, self.together, shared.inboxes.len());
         self.given = self.given.wrapping_add(1);
-        let inbox = shared.inboxes.get(place);
+        let inbox = shared.inboxes.get(index);
         if !inbox.is_some_and(|inbox| inbox.give(rt, stream)) {
             shared.note_closed(rt);
         }

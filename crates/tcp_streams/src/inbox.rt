@@ -19,7 +19,7 @@ pub(crate) const BELL: Token = Token(usize::MAX);
 /// How many new connections may wait for a loop.
 const STREAMS: usize = 256;
 
-/// How long a new connection waits for its place among these, in milliseconds.
+/// How long a new connection waits for space among these, in milliseconds.
 const PATIENCE: u64 = 1_000;
 
 /// A connection whose request is of a client of another loop.
@@ -85,7 +85,7 @@ impl Inbox {
         done
     }
 
-    /// Hands a new connection in, and tells whether it got a place while it waited; else it is
+    /// Hands a new connection in, and tells whether there was space for it within that time; else it is
     /// closed. It is sent before the bell is rung, and a loop that falls asleep looks for it under
     /// the lock that the bell's ringer takes.
     pub fn give<R: Wait + Clock>(&self, rt: &R, stream: TcpStream) -> bool {

@@ -6,7 +6,7 @@ mod acceptor;
 mod buffered;
 mod fault;
 mod inbox;
-mod news;
+mod log;
 mod rules;
 mod shared;
 
@@ -14,6 +14,6 @@ pub use acceptor::{Acceptor, acceptor_for};
 pub use buffered::{Buffered, Stream};
 pub use fault::ServerFault;
 pub use inbox::{Ears, Handed, Inbox, ears_for};
-pub use news::{Ended, Log};
+pub use log::{Ended, Log};
 pub use rules::{Rules, rules_and_limits};
 pub use shared::Shared;

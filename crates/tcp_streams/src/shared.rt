@@ -23,9 +23,9 @@ pub struct Shared {
     pub counts: Mutex<Metrics>,
     standing: Mutex<Standing>,
     /// The workers that have begun, the keeper among them.
-    pub begun: Tally,
+    pub begun: Arrivals,
     /// The loops that have ended.
-    pub ended: Tally,
+    pub ended: Arrivals,
 }
 
 /// Written out, so that a crate above takes the drop of all that lies in it by this one call.
@@ -55,12 +55,12 @@ impl Standing {
 
 /// How many have come to a point of their work.
 #[derive(Default, Drop)]
-pub struct Tally {
+pub struct Arrivals {
     count: Mutex<usize>,
     changed: Condvar,
 }
 
-impl Tally {
+impl Arrivals {
     /// One more has come to it.
     pub fn note(&self, rt: &impl Wait) {
         let mut count = self.count.lock(rt);
@@ -111,20 +111,20 @@ impl Shared {
             acceptor,
             lives: hears_clients.then(|| Mutex::new(HashMap::new(alloc))),
             standing: Mutex::default(),
-            begun: Tally::default(),
-            ended: Tally::default(),
+            begun: Arrivals::default(),
+            ended: Arrivals::default(),
         };
         Ok(Arc::new(alloc, shared)?)
     }
 
-    /// A connection was accepted. Answers whether it has a place among so many.
+    /// A connection was accepted. Answers whether it has space among so many.
     pub fn note_accepted(&self, rt: &impl Wait, most: u64) -> bool {
         let mut standing = self.standing.lock(rt);
-        let has_place = standing.open < most;
-        if has_place {
+        let has_space = standing.open < most;
+        if has_space {
             standing.open = standing.open.saturating_add(1);
         }
-        has_place
+        has_space
     }
 
     /// A connection was closed.

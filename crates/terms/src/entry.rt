@@ -11,13 +11,13 @@ use std::marker::Model;
 /// they are a list of lists of bytes.
 #[derive(Debug, Drop)]
 pub struct Attachments {
-    parts: Vec<Bytes>,
+    list: Vec<Bytes>,
 }
 
 impl Model for Attachments {
     ghost Value = { List (List ℕ) };
 
-    ghost view = { λ a. a.parts.items };
+    ghost view = { λ a. a.list.items };
 }
 
 impl Attachments {
@@ -25,37 +25,37 @@ impl Attachments {
     pub fn new(alloc: Global) -> Attachments
         ensures { result ≡ [] }
     {
-        let parts = Vec::new(alloc);
-        Attachments { parts }
+        let list = Vec::new(alloc);
+        Attachments { list }
     }
 
     /// The attachments themselves.
     pub fn as_slice(&self) -> &[Bytes]
         ensures { result.now ≡ self.now }
     {
-        self.parts.as_slice()
+        self.list.as_slice()
     }
 
     /// How many there are.
     pub fn len(&self) -> usize
         ensures { result ≡ length self.now }
     {
-        self.parts.len()
+        self.list.len()
     }
 
     /// Whether there are none.
     pub fn is_empty(&self) -> bool
         ensures { IsTrue result ↔ (self.now ≡ []) }
     {
-        self.parts.is_empty()
+        self.list.is_empty()
     }
 
     /// Adds one at the end. Where memory is refused, it is dropped.
-    pub fn push(&mut self, part: Bytes) -> Result<(), AllocError>
-        ensures ok { OnOk result (self.new ≡ self.old ++ part ∷ []) }
+    pub fn push(&mut self, attachment: Bytes) -> Result<(), AllocError>
+        ensures ok { OnOk result (self.new ≡ self.old ++ attachment ∷ []) }
         ensures err { OnErr result (self.new ≡ self.old) }
     {
-        self.parts.push(part)?;
+        self.list.push(attachment)?;
         Ok(())
     }
 }
@@ -64,8 +64,8 @@ impl Clone for Attachments {
     ghost is_clone = { λ source copy. copy ≡ source };
 
     fn clone(&self) -> Result<Attachments, AllocError> {
-        let parts = self.parts.clone()?;
-        Ok(Attachments { parts })
+        let list = self.list.clone()?;
+        Ok(Attachments { list })
     }
 }
 

@@ -6,7 +6,7 @@ ghost use Rattle.terms.specs.Hexadecimal.{hex_digits};
 ghost use Rattle.terms.specs.Hexadecimal as hexadecimal;
 ghost use Rattle.terms.specs.Ids.{id_digits};
 
-/// Writes the number's last digits over the text, one for each of its places.
+/// Writes the number's last digits over the text, one for each of its bytes.
 pub fn write_digits(number: u128, text: &mut [u8])
     ensures { text.new ≡ hex_digits (length text.old) number }
 {

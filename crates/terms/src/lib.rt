@@ -1,11 +1,11 @@
 //! Words that the other crates' contracts share: texts and bytes as values, hexadecimal digits,
-//! refusals in their order, lists that rise; and how a drop is written out.
+//! refusals in their order, lists that rise; and how drops and names are written out.
 #![tactic(auto)]
 
 mod bytes;
-mod drops;
 mod entry;
 mod hexadecimal;
+mod macros;
 mod room;
 mod sid;
 mod text;

@@ -34,7 +34,7 @@ struct Band<'a, R> {
     says: &'static [&'static str; 2],
     deeds: &'a [Deed<'a>],
     /// Which of them is at hand, and how often it was done.
-    place: usize,
+    index: usize,
     done: u64,
     /// The id of its first client, or 0 before it came.
     first: u128,
@@ -64,7 +64,7 @@ impl<'a, R: AllocGlobal> Band<'a, R> {
 
 impl<'a, R: Clock + Wait + AllocGlobal> Peer for Band<'a, R> {
     fn next(&mut self) -> Result<Option<(Event, u64)>, PeerFault> {
-        let Some(deed) = self.deeds.get(self.place) else {
+        let Some(deed) = self.deeds.get(self.index) else {
             return Ok(None);
         };
         let event = self.event(deed.name, self.done)?;
@@ -81,7 +81,7 @@ impl<'a, R: Clock + Wait + AllocGlobal> Peer for Band<'a, R> {
             Ok(Outcome::Nothing) | Err(_) => return Err(PeerFault::Ended),
             Ok(_) => {}
         }
-        let (Some(deed), Ok(time)) = (self.deeds.get(self.place), self.started.elapsed(self.rt))
+        let (Some(deed), Ok(time)) = (self.deeds.get(self.index), self.started.elapsed(self.rt))
         else {
             return Err(PeerFault::Device);
         };
@@ -90,7 +90,7 @@ impl<'a, R: Clock + Wait + AllocGlobal> Peer for Band<'a, R> {
         }
         self.done = self.done.saturating_add(1);
         if self.done >= deed.times {
-            self.place = self.place.saturating_add(1);
+            self.index = self.index.saturating_add(1);
             self.done = 0;
         }
         Ok(())
@@ -127,7 +127,7 @@ fn bands<'a, R: Clock + AllocGlobal>(
             tally,
             says,
             deeds,
-            place: 0,
+            index: 0,
             done: 0,
             first: 0,
             started,

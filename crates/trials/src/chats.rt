@@ -68,7 +68,7 @@ fn write_each_way<W: Write>(alloc: Global, chat: &str, writer: &mut W) -> Result
 fn speaks_of_seals(line: &str) -> bool {
     matches!(
         Words::of(line, 0).word(0),
-        "seal" | "steps" | "base" | "kept" | "held" | "departed"
+        "seal" | "steps" | "base" | "kept" | "held" | "ended"
     )
 }
 

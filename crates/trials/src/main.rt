@@ -38,7 +38,7 @@ use std::rt::{Clock, Env};
 use std::sync::Wait;
 use std::thread::Threads;
 
-/// How many bytes of cases there is room for at once.
+/// How many bytes of cases are read at the most.
 const USUAL_LENGTH: usize = 1_000_000;
 
 /// The lines behind which chats, requests and rows stand.
@@ -131,13 +131,13 @@ fn play_cases<R: Print + AllocGlobal>(rt: &R, cases: &[u8]) -> Result<(), RunErr
 
 /// What stands before a line, and what stands behind it, if the line is there.
 fn parted<'a>(text: &'a [u8], mark: &[u8]) -> (&'a [u8], Option<&'a [u8]>) {
-    let mut place: usize = 0;
+    let mut index: usize = 0;
     for line in text.split_inclusive(|byte| *byte == b'\n') {
-        let next = place.saturating_add(line.len());
+        let next = index.saturating_add(line.len());
         if line == mark {
-            return (text.get(..place).unwrap_or(text), text.get(next..));
+            return (text.get(..index).unwrap_or(text), text.get(next..));
         }
-        place = next;
+        index = next;
     }
     (text, None)
 }

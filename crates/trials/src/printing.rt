@@ -1,7 +1,7 @@
 //! What is answered, and what is seen of a hub, in text.
 
 use crate::words::Words;
-use hub_state::{Departed, State};
+use hub_state::{EndedSocket, State};
 use journal::{BaseClient, HubError, Step, Totals, What};
 use recovery::{Logged, Saved};
 use std::alloc::{AllocError, Global};
@@ -87,8 +87,8 @@ fn write_room(room: &Room, text: &mut String) -> Result<(), AllocError> {
 
 /// Sockets that ended: of each its client, the place of its namespace, its ids, how it ended, and the
 /// rooms that it was in.
-fn write_departed(departed: &[Departed], text: &mut String) -> Result<(), AllocError> {
-    for gone in departed {
+fn write_ended(ended_sockets: &[EndedSocket], text: &mut String) -> Result<(), AllocError> {
+    for gone in ended_sockets {
         let (socket, ending) = (gone.socket, gone.ending);
         let (sid, pid) = (socket.sid.number(), socket.pid.number());
         write!(
@@ -139,7 +139,7 @@ fn tell(state: &State, words: &Words<'_>, text: &mut String) -> Result<(), Alloc
         "held" => write!(text, "  {}", state.held()),
         "space" => write!(text, "  {}", state.has_space(words.word(1))),
         "steps" => write_steps(state.steps(), text),
-        "departed" => write_departed(state.departed(), text),
+        "ended" => write_ended(state.ended_sockets(), text),
         "base" => write_base(state, text),
         "kept" => write_kept(state, text),
         "mirrors" => write_mirrors(state, text),
@@ -188,8 +188,8 @@ fn write_base(state: &State, text: &mut String) -> Result<(), AllocError> {
 /// waits.
 fn write_base_client(client: &BaseClient, text: &mut String) -> Result<(), AllocError> {
     write!(text, "  client {}", client.client)?;
-    for (place, sid, pid) in &client.sockets {
-        write!(text, " {place} {} {}", sid.number(), pid.number())?;
+    for (index, sid, pid) in &client.sockets {
+        write!(text, " {index} {} {}", sid.number(), pid.number())?;
     }
     for entry in &client.waiting {
         write_entry(entry, text)?;

@@ -185,9 +185,9 @@ fn write_target(text: &mut String, target: Result<Target, EdgeError>) -> Result<
 /// How many bytes are fed, one by one, until they are judged.
 fn judged_after(alloc: Global, bytes: &[u8]) -> usize {
     let mut gathered = Gathered::new(alloc);
-    for (place, byte) in bytes.iter().enumerate() {
+    for (index, byte) in bytes.iter().enumerate() {
         if !matches!(gathered.feed(alloc, &[*byte]), Ok(None)) {
-            return place.saturating_add(1);
+            return index.saturating_add(1);
         }
     }
     bytes.len()

@@ -94,7 +94,7 @@ impl App for WildApp {
     ghost policy = { λ app. record {
       allows = λ space payload verdict. Unit {0};
       decides = λ who arrived effects. Unit {0};
-      leaves = λ who rooms ending effects. Unit {0};
+      ends = λ who rooms ending effects. Unit {0};
     } };
 
     fn connects(&self, alloc: Global, space: &str, payload: &str) -> Result<Verdict, AllocError> {
@@ -117,7 +117,7 @@ impl App for WildApp {
         RelayApp.decides(alloc, who, arrived)
     }
 
-    fn left(&self, alloc: Global, who: &Who, rooms: &[Room], ending: Ending) -> Wanted {
+    fn ended(&self, alloc: Global, who: &Who, rooms: &[Room], ending: Ending) -> Wanted {
         if was_in(rooms, b"oops") {
             return Ok(vec![in alloc; Effect::Disconnect]?);
         }
@@ -125,6 +125,6 @@ impl App for WildApp {
             app: RelayApp,
             tells: was_in(rooms, b"wake"),
         };
-        app.left(alloc, who, rooms, ending)
+        app.ended(alloc, who, rooms, ending)
     }
 }

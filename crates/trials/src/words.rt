@@ -41,12 +41,12 @@ impl<'a> Words<'a> {
         Words { line, star }
     }
 
-    pub fn word(&self, place: usize) -> &'a str {
-        self.line.split(' ').nth(place).unwrap_or("")
+    pub fn word(&self, index: usize) -> &'a str {
+        self.line.split(' ').nth(index).unwrap_or("")
     }
 
-    pub fn number(&self, place: usize) -> u64 {
-        match self.word(place) {
+    pub fn number(&self, index: usize) -> u64 {
+        match self.word(index) {
             "*" => self.star,
             word => number(word),
         }
@@ -59,16 +59,16 @@ impl<'a> Words<'a> {
         }
     }
 
-    pub fn id(&self, place: usize) -> u128 {
-        self.id_by(self.word(place))
+    pub fn id(&self, index: usize) -> u128 {
+        self.id_by(self.word(index))
     }
 
-    pub fn sid(&self, place: usize) -> Sid {
-        Sid::new(self.id(place))
+    pub fn sid(&self, index: usize) -> Sid {
+        Sid::new(self.id(index))
     }
 
-    pub fn pid(&self, place: usize) -> Pid {
-        Pid::new(self.id(place))
+    pub fn pid(&self, index: usize) -> Pid {
+        Pid::new(self.id(index))
     }
 
     /// A room by its name, or a socket's own by `@` and its id. For `*` it's the own room of a
@@ -83,14 +83,14 @@ impl<'a> Words<'a> {
         }
     }
 
-    pub fn room(&self, place: usize) -> Room {
-        self.room_by(self.word(place))
+    pub fn room(&self, index: usize) -> Room {
+        self.room_by(self.word(index))
     }
 
     /// Rooms with commas between them. One that is called `-` counts for nothing.
-    pub fn rooms(&self, alloc: Global, place: usize) -> Result<Vec<Room>, AllocError> {
+    pub fn rooms(&self, alloc: Global, index: usize) -> Result<Vec<Room>, AllocError> {
         let mut rooms = Vec::new(alloc);
-        for name in self.word(place).split(',') {
+        for name in self.word(index).split(',') {
             if name != "-" {
                 rooms.push(self.room_by(name))?;
             }
@@ -98,8 +98,8 @@ impl<'a> Words<'a> {
         Ok(rooms)
     }
 
-    fn text(&self, alloc: Global, place: usize) -> Result<Text, AllocError> {
-        Text::copy_of(alloc, self.word(place))
+    fn text(&self, alloc: Global, index: usize) -> Result<Text, AllocError> {
+        Text::copy_of(alloc, self.word(index))
     }
 
     /// A text and its attachments.

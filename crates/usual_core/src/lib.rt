@@ -4,5 +4,5 @@
 mod run;
 mod settings;
 
-pub use run::{OnLocked, OnServer, Server, on_new_locked, on_new_server};
-pub use settings::{Limits, NUMBERS, PARTS, Settings, TIMING};
+pub use run::{OnCore, OnLocked, UsualCore, on_new_core, on_new_locked};
+pub use settings::{NUMBERS, PARTS, TIMING, UsualLimits, UsualSettings};

@@ -1,4 +1,4 @@
-//! What a server is made with.
+//! What a core is made with.
 
 use connection::Timing;
 use eio_wire::Numbers;
@@ -25,7 +25,7 @@ pub const NUMBERS: Numbers = Numbers {
 
 /// The limits of a hub: those of its `Config`, but for the namespaces.
 #[derive(Clone, Copy)]
-pub struct Limits {
+pub struct UsualLimits {
     pub clients: usize,
     pub capacity: usize,
     pub bytes: usize,
@@ -35,10 +35,10 @@ pub struct Limits {
     pub first_offset: u64,
 }
 
-impl Limits {
+impl UsualLimits {
     /// The usual limits of a hub for so many clients.
-    pub const fn usual(clients: usize) -> Limits {
-        Limits {
+    pub const fn usual(clients: usize) -> UsualLimits {
+        UsualLimits {
             clients,
             capacity: 64,
             bytes: 8_388_608,
@@ -68,20 +68,20 @@ impl Limits {
     }
 }
 
-/// What a server is made with.
+/// What a core is made with.
 #[derive(Clone, Copy)]
-pub struct Settings {
-    pub limits: Limits,
+pub struct UsualSettings {
+    pub limits: UsualLimits,
     pub spaces: &'static [&'static str],
     pub timing: Timing,
     pub numbers: Numbers,
 }
 
-impl Settings {
+impl UsualSettings {
     /// The usual settings for so many clients, with the namespaces `/` and `/admin`.
-    pub const fn usual(clients: usize) -> Settings {
-        Settings {
-            limits: Limits::usual(clients),
+    pub const fn usual(clients: usize) -> UsualSettings {
+        UsualSettings {
+            limits: UsualLimits::usual(clients),
             spaces: &["/", "/admin"],
             timing: TIMING,
             numbers: NUMBERS,

@@ -72,17 +72,17 @@ fn retain_outside(sids: &mut Vec<Sid>, inside: &Rooms, rooms: &[Room])
     sids.retain(|sid| !is_in_any(inside, *sid, rooms));
 }
 
-/// Whether the client's outbox has no place for the entry.
+/// Whether the client's outbox has no space for the entry.
 pub(crate) fn is_full(clients: &BTreeMap<u128, Client>, client: u128, entry: &Entry) -> bool
     ensures { result ≡ is_full_in (get nat_cmp clients.now) entry.now client }
 {
     match clients.get(&client) {
-        Some(known) => known.outbox.has_no_place(entry),
+        Some(known) => known.outbox.has_no_space(entry),
         None => false,
     }
 }
 
-/// Adds a message for the socket's client where its outbox has a place for the entry, and else the
+/// Adds a message for the socket's client where its outbox has space for the entry, and else the
 /// socket's id to those that miss it.
 fn address(
     messages: &mut Vec<Message>,
@@ -106,7 +106,7 @@ fn address(
     Ok(())
 }
 
-/// One message for each of the sockets whose client's outbox has a place for the entry, and the ids
+/// One message for each of the sockets whose client's outbox has space for the entry, and the ids
 /// of the others.
 pub(crate) fn messages_for(
     alloc: Global,

@@ -32,7 +32,7 @@ use std::collections::BTreeMap;
 use std::sync::Arc;
 use terms::{Attachments, Entry, Text};
 
-/// Puts each message into its client's outbox, which has a place for it. No two of them are for
+/// Puts each message into its client's outbox, which has space for it. No two of them are for
 /// one client.
 pub(crate) fn put_messages(clients: &mut BTreeMap<u128, Client>, messages: Vec<Message>)
     requires apart { IsDistinct nat_eq (map receiver_of messages.items) }
@@ -210,10 +210,10 @@ impl State {
 
     /// Puts an event into the outboxes of the sockets of a namespace that are in one of the rooms,
     /// or where none is named of all, but for those in an excepted room. A socket whose client's
-    /// outbox has no place for it is counted as dropped. Where the cast is logged, the event gets
+    /// outbox has no space for it is counted as dropped. Where the cast is logged, the event gets
     /// the next offset as its payload's last element (Socket.IO server documentation, "Connection
     /// state recovery"). Refused as `UnknownNamespace`, `BadPayload`, `Spent`, then for `Memory`,
-    /// which may come in place of `Spent`. It takes the logarithm of the namespaces, and walks the
+    /// which may come instead of `Spent`. It takes the logarithm of the namespaces, and walks the
     /// members of the rooms in all namespaces, or where no room is named the sockets of its
     /// namespace alone, each with the logarithm and the excepted rooms.
     ///

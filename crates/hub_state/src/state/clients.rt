@@ -8,7 +8,7 @@ ghost use Rattle.journal.specs.Fields.{new_client, held_entries};
 ghost use Rattle.journal.specs.declared.step.What.{What};
 ghost use Rattle.hub_state.specs.Changes.{refusal_now, Reports};
 
-use crate::state::note_departed::departing;
+use crate::state::note_ended::as_ended;
 use crate::state::{NONE, State};
 use hub_parts::{Client, Outbox, Sockets};
 use journal::{Config, Counts, Ending, HubError, What};
@@ -84,9 +84,9 @@ impl State {
     {
         self.may_close(client)?;
         let sockets = self.its_sockets(alloc, client)?;
-        let mut ended = departing(&self.live.rooms, alloc, Ending::Closed, &sockets)?;
+        let mut ended = as_ended(&self.live.rooms, alloc, Ending::Closed, &sockets)?;
         self.records.steps.reserve()?;
-        self.departed.append(&mut ended)?;
+        self.ended_sockets.append(&mut ended)?;
         let discards = forget_client(&mut self.clients, client);
         self.live.forget_all(&sockets);
         self.live.rooms.kept_facts();

@@ -198,7 +198,7 @@ impl State {
         answer_to(alloc, self.name_at(place), sid, pid)
     }
 
-    /// Whether an open client's outbox has no place for the answer to a CONNECT.
+    /// Whether an open client's outbox has no space for the answer to a CONNECT.
     fn lacks_answer(&self, client: u128, place: usize) -> bool
         ensures { let h = self.now in opened h client ≡ true → (sid pid : ℕ) → result
             ≡ is_full h.base h.limits h.journal client (answer_at h client place sid pid) }

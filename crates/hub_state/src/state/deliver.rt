@@ -4,7 +4,7 @@ ghost use Rattle.std.specs.Prelude.{◌≡◌, ◌≤◌, true, false, length, m
 ghost use Rattle.std.specs.Ordering.{nat_cmp};
 ghost use Rattle.std.specs.BTreeMap.{get};
 ghost use Rattle.std.specs.Arc.{arc_value};
-ghost use Rattle.journal.specs.Outboxes.{is_full, has_no_place};
+ghost use Rattle.journal.specs.Outboxes.{is_full, has_no_space};
 ghost use Rattle.journal.specs.Command.{Does};
 ghost use Rattle.journal.specs.Fields.{without_first, with_entry};
 ghost use Rattle.journal.specs.declared.step.What.{What};
@@ -38,10 +38,10 @@ pub(crate) fn shared_text(alloc: Global, text: String) -> Result<Arc<Entry>, All
     Ok(Arc::new(alloc, Entry { text, attachments })?)
 }
 
-/// Puts an entry at the end of a client's outbox, which has a place for it.
+/// Puts an entry at the end of a client's outbox, which has space for it.
 pub(crate) fn put_entry(clients: &mut BTreeMap<u128, Client>, client: u128, entry: Arc<Entry>)
     requires { IfSome (get nat_cmp clients.old client) (λ known. let outbox = known.outbox
-        in has_no_place outbox.capacity outbox.bytes outbox.waiting (arc_value entry) ≡ false) }
+        in has_no_space outbox.capacity outbox.bytes outbox.waiting (arc_value entry) ≡ false) }
     ensures { ChangesClient (with_entry (arc_value entry)) client clients.old clients.new }
 {
     if let Some(known) = clients.get_mut(&client) {

@@ -22,7 +22,7 @@ use crate::state::aim::{messages_for, sockets_in};
 use crate::state::cast::{put_messages, receivers};
 use crate::state::deliver::shared_text;
 use crate::state::end::drop_from;
-use crate::state::note_departed::departing;
+use crate::state::note_ended::as_ended;
 use crate::state::{NONE, State};
 use hub_parts::Client;
 use journal::{Counts, Dismissal, Dismissed, Ending, HubError, Message, Socket, What};
@@ -110,9 +110,9 @@ impl State {
         let placed = dismissal.told.len() as u64;
         let added = Counts { placed, ..NONE };
         let gone = sockets_in(alloc, &self.live.seats, &dismissal.ended, dismissal.space)?;
-        let mut ended = departing(&self.live.rooms, alloc, Ending::Together, &gone)?;
+        let mut ended = as_ended(&self.live.rooms, alloc, Ending::Together, &gone)?;
         self.records.steps.reserve()?;
-        self.departed.append(&mut ended)?;
+        self.ended_sockets.append(&mut ended)?;
         put_messages(&mut self.clients, messages);
         drop_all(&mut self.clients, &sockets, place);
         self.live.forget_all(&sockets);
@@ -123,7 +123,7 @@ impl State {
 
     /// Ends all connected sockets of a namespace that are in one of the rooms, or where none is
     /// named all, but for those in an excepted room: each client is told so by a DISCONNECT packet
-    /// where its outbox has a place for it, nothing is saved, and no drop is counted. It gives the
+    /// where its outbox has space for it, nothing is saved, and no drop is counted. It gives the
     /// sockets that ended, rising, and the clients that were told, rising. Refused as
     /// `UnknownNamespace`, then as `Spent` and for `Memory` in either order. It takes the logarithm
     /// of the namespaces, and walks the members of the rooms in all namespaces, or where no room is

@@ -9,7 +9,7 @@ ghost use Rattle.journal.specs.declared.step.What.{What};
 ghost use Rattle.hub_parts.specs.Seats.{WithoutSeat};
 ghost use Rattle.hub_state.specs.Changes.{ChangesClient, WithoutPid, WithoutSockets, CanForget};
 
-use crate::state::note_departed::departing;
+use crate::state::note_ended::as_ended;
 use crate::state::{Live, NONE, State};
 use hub_parts::Client;
 use journal::{Ending, HubError, Side, Socket, What};
@@ -66,9 +66,9 @@ impl State {
     {
         let socket = self.socket_with(sid).ok_or(HubError::UnknownSocket)?;
         self.may_count(0, 0)?;
-        let mut ended = departing(&self.live.rooms, alloc, Ending::Alone(by), &[socket])?;
+        let mut ended = as_ended(&self.live.rooms, alloc, Ending::Alone(by), &[socket])?;
         self.records.steps.reserve()?;
-        self.departed.append(&mut ended)?;
+        self.ended_sockets.append(&mut ended)?;
         drop_from(&mut self.clients, socket.client, usize::from(socket.space));
         self.live.forget(&socket);
         self.live.rooms.kept_facts();

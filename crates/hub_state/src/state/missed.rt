@@ -6,9 +6,9 @@ ghost use Rattle.std.specs.Arc.{arc_value};
 ghost use Rattle.recovery.specs.Missed.{is_for};
 ghost use Rattle.journal.specs.Outboxes.{total_size};
 ghost use Rattle.journal.specs.Recovery.{gets};
-ghost use Rattle.hub_state.specs.Returning.{gets_back};
+ghost use Rattle.hub_state.specs.Recovering.{gets_back};
 
-use hub_parts::room_after;
+use hub_parts::free_after;
 use recovery::{Logged, Saved};
 use std::alloc::AllocError;
 use std::sync::Arc;
@@ -17,13 +17,13 @@ use terms::{Entry, Room};
 /// A saved session that may come back, and what the log has past the offset that its client named,
 /// in two pieces.
 #[derive(Clone, Copy)]
-pub(crate) struct Found<'a> {
+pub(crate) struct FoundSession<'a> {
     pub(crate) session: &'a Saved,
     pub(crate) front: &'a [Logged],
     pub(crate) back: &'a [Logged],
 }
 
-impl Found<'_> {
+impl FoundSession<'_> {
     /// How many of the broadcasts the session gets, or `None` where so many places and bytes are
     /// too few for them.
     pub(crate) fn count(self, places: usize, bytes: usize) -> Option<usize>
@@ -33,7 +33,7 @@ impl Found<'_> {
         ensures none { let puts = gets_back self.entry in IfNone result
             ((nat_lt places (length puts) || nat_lt bytes (total_size puts)) ≡ true) }
     {
-        let Found {
+        let FoundSession {
             session,
             front,
             back,
@@ -45,7 +45,7 @@ impl Found<'_> {
 }
 
 /// The places and bytes that are left of these once a socket has what it gets of the broadcasts,
-/// or `None` where there is no place for all.
+/// or `None` where there is no space for all.
 fn left_after(
     broadcasts: &[Logged],
     space: u16,
@@ -85,7 +85,7 @@ fn left_after_one(
         return Some(left);
     }
     let places = left.0.checked_sub(1)?;
-    let bytes = room_after(left.1, &logged.entry)?;
+    let bytes = free_after(left.1, &logged.entry)?;
     Some((places, bytes))
 }
 

@@ -12,7 +12,7 @@ ghost use Rattle.hub_state.specs.Changes.{refusal_now, Reports};
 ghost use Rattle.hub_state.specs.Words.{saves, logs};
 
 use crate::state::clients::forget_client;
-use crate::state::note_departed::{departing, rooms_in};
+use crate::state::note_ended::{as_ended, rooms_in};
 use crate::state::{NONE, State};
 use hub_parts::Limits;
 use journal::{Counts, Ending, HubError, Socket, Swept, What};
@@ -113,13 +113,13 @@ impl State {
         self.may_park(client)?;
         let at = now.max(self.records.last);
         let sockets = self.its_sockets(alloc, client)?;
-        let mut ended = departing(&self.live.rooms, alloc, Ending::Saved, &sockets)?;
+        let mut ended = as_ended(&self.live.rooms, alloc, Ending::Saved, &sockets)?;
         self.records.steps.reserve()?;
-        let before = self.departed.len();
-        self.departed.append(&mut ended)?;
+        let before = self.ended_sockets.len();
+        self.ended_sockets.append(&mut ended)?;
         let rooms = &self.live.rooms;
         if let Err(AllocError) = save_all(&mut self.saved, rooms, alloc, &sockets, at) {
-            self.departed.truncate(before);
+            self.ended_sockets.truncate(before);
             return Err(HubError::Memory);
         }
         let discards = forget_client(&mut self.clients, client);

@@ -11,16 +11,16 @@ ghost use Rattle.journal.specs.Membership.{place_of};
 ghost use Rattle.journal.specs.Sessions.{session_with};
 ghost use Rattle.journal.specs.Outboxes.{waiting, total_size};
 ghost use Rattle.journal.specs.Recovery.{brought_back, with_entries};
-ghost use Rattle.journal.specs.Refusals.{have_no_place, recovered_entries};
+ghost use Rattle.journal.specs.Refusals.{have_no_space, recovered_entries};
 ghost use Rattle.journal.specs.Legal.{RightRecovery};
 ghost use Rattle.journal.specs.Command.{refusal, Does};
 ghost use Rattle.journal.specs.declared.step.What.{What};
 ghost use Rattle.hub_state.specs.Changes.{ChangesClient, MakesStep};
-ghost use Rattle.hub_state.specs.Returning.{return_of, return_refusal, recover_refusal_of, puts_again};
+ghost use Rattle.hub_state.specs.Recovering.{recovery_asked, session_refusal_at, recover_refusal_of, puts_again};
 ghost use Rattle.hub_state.specs.Words.{opened, waits, logs, saves, answer_at, AllHear};
 
 use crate::state::connect::seat;
-use crate::state::missed::{Found, add_missed};
+use crate::state::missed::{FoundSession, add_missed};
 use crate::state::{NONE, State};
 use hub_parts::{Client, Outbox};
 use journal::{Counts, HubError, Recovery, RecoveryRefusal, Socket, What};
@@ -30,7 +30,7 @@ use std::collections::BTreeMap;
 use std::sync::Arc;
 use terms::{Entry, Sid};
 
-/// Puts entries at the end of an outbox, which has a place for all.
+/// Puts entries at the end of an outbox, which has space for all.
 fn push_all(outbox: &mut Outbox, entries: Vec<Arc<Entry>>)
     requires places { length outbox.old.waiting + length entries.items ≤ outbox.old.capacity }
     requires bytes { let puts = map arc_value entries.items
@@ -43,7 +43,7 @@ fn push_all(outbox: &mut Outbox, entries: Vec<Arc<Entry>>)
     }
 }
 
-/// Puts entries at the end of a client's outbox, which has a place for all.
+/// Puts entries at the end of a client's outbox, which has space for all.
 fn put_all(clients: &mut BTreeMap<u128, Client>, client: u128, entries: Vec<Arc<Entry>>)
     requires places { IfSome (get nat_cmp clients.old client) (λ known.
         length known.outbox.waiting + length entries.items ≤ known.outbox.capacity) }
@@ -61,13 +61,19 @@ fn put_all(clients: &mut BTreeMap<u128, Client>, client: u128, entries: Vec<Arc<
 impl State {
     /// The session with a private id, with what the log has past an offset, or why it can't come
     /// back at this moment.
-    fn found(&self, pid: Pid, place: usize, offset: u64, at: u64) -> Result<Found<'_>, HubError>
+    fn found(
+        &self,
+        pid: Pid,
+        place: usize,
+        offset: u64,
+        at: u64,
+    ) -> Result<FoundSession<'_>, HubError>
         ensures session { IfOk result (λ found.
             session_with pid (saves self.now) ≡ Some found.session.now) }
         ensures later { IfOk result (λ found.
             found.front.now ++ found.back.now ≡ later_than offset (logs self.now)) }
-        ensures accepted { IfOk result (λ _. return_refusal self.now pid place offset at ≡ None) }
-        ensures refused { IfErr result (λ e. return_refusal self.now pid place offset at ≡ Some e) }
+        ensures accepted { IfOk result (λ _. session_refusal_at self.now pid place offset at ≡ None) }
+        ensures refused { IfErr result (λ e. session_refusal_at self.now pid place offset at ≡ Some e) }
     {
         let Some(session) = self.saved.look_up(pid) else {
             return Err(HubError::NotRecoverable(RecoveryRefusal::UnknownPid));
@@ -82,22 +88,22 @@ impl State {
         let Some((front, back)) = self.log.later(offset) else {
             return Err(HubError::NotRecoverable(RecoveryRefusal::OffsetGone));
         };
-        Ok(Found {
+        Ok(FoundSession {
             session,
             front,
             back,
         })
     }
 
-    /// How many entries and bytes there is room for in an open client's outbox beside the answer to
+    /// How many entries and bytes are free in an open client's outbox beside the answer to
     /// a CONNECT, or `None` where there is none for the answer.
-    fn room_beside_answer(&self, client: u128, place: usize) -> Option<(usize, usize)>
+    fn free_beside_answer(&self, client: u128, place: usize) -> Option<(usize, usize)>
         requires { opened self.now client ≡ true }
-        ensures places { let h = self.now in IfSome result (λ room.
-            room.0 + 1 + length (waits h client) ≡ h.limits.capacity) }
-        ensures small { IfSome result (λ room. room.0 + 1 < 2 ^ 64) }
-        ensures bytes { let h = self.now in IfSome result (λ room. (c sid pid : ℕ)
-            → room.1 + entry_size (answer_at h c place sid pid) + total_size (waits h client)
+        ensures places { let h = self.now in IfSome result (λ free.
+            free.0 + 1 + length (waits h client) ≡ h.limits.capacity) }
+        ensures small { IfSome result (λ free. free.0 + 1 < 2 ^ 64) }
+        ensures bytes { let h = self.now in IfSome result (λ free. (c sid pid : ℕ)
+            → free.1 + entry_size (answer_at h c place sid pid) + total_size (waits h client)
             ≡ h.limits.bytes) }
         ensures none { let h = self.now in IfNone result ((c sid pid : ℕ)
             → let size = entry_size (answer_at h c place sid pid)
@@ -115,22 +121,22 @@ impl State {
 
     /// How many entries the recovery of a session puts for an open client, or `None` where there
     /// is no place for all.
-    fn put_count(&self, client: u128, found: Found, offset: u64) -> Option<u64>
+    fn put_count(&self, client: u128, found: FoundSession, offset: u64) -> Option<u64>
         requires open { opened self.now client ≡ true }
         requires later { found.front.now ++ found.back.now ≡ later_than offset (logs self.now) }
         ensures count { IfSome result (λ puts.
             length (puts_again self.now client found.entry.session.now offset) ≡ puts) }
         ensures place { let puts = puts_again self.now client found.entry.session.now offset
             in IfSome result (λ _.
-            have_no_place self.now.limits (waits self.now client) puts ≡ false) }
+            have_no_space self.now.limits (waits self.now client) puts ≡ false) }
         ensures none { let puts = puts_again self.now client found.entry.session.now offset
-            in IfNone result (have_no_place self.now.limits (waits self.now client) puts ≡ true) }
+            in IfNone result (have_no_space self.now.limits (waits self.now client) puts ≡ true) }
     {
         // The prover needs that the log's offsets rise: so each names one of its entries.
         self.facts();
         let session = found.session;
-        let room = self.room_beside_answer(client, usize::from(session.space))?;
-        let missed = found.count(room.0, room.1)?;
+        let free = self.free_beside_answer(client, usize::from(session.space))?;
+        let missed = found.count(free.0, free.1)?;
         Some(missed as u64 + 1)
     }
 
@@ -143,7 +149,7 @@ impl State {
         pid: Pid,
         offset: u64,
         at: u64,
-    ) -> Result<Found<'_>, HubError>
+    ) -> Result<FoundSession<'_>, HubError>
         ensures session { IfOk result (λ found.
             session_with pid (saves self.now) ≡ Some found.session.now) }
         ensures later { IfOk result (λ found.
@@ -175,7 +181,7 @@ impl State {
         &self,
         alloc: Global,
         client: u128,
-        found: Found,
+        found: FoundSession,
         offset: u64,
     ) -> Result<(Recovery, Vec<Arc<Entry>>), AllocError>
         requires { found.front.now ++ found.back.now ≡ later_than offset (logs self.now) }
@@ -250,7 +256,7 @@ impl State {
     /// Refused as `UnknownClient`, `UnknownNamespace`, `AlreadyConnected`, `NotRecoverable` with
     /// `UnknownPid`, `Expired` or `OffsetGone`, `OutboxFull`, `Spent`, then for `Memory`. It takes
     /// the logarithm of the clients, sockets, namespaces and saved sessions, walks what the log has
-    /// past the offset twice, first to see whether there is place for all, then to share it, and
+    /// past the offset twice, first to see whether there is space for all, then to share it, and
     /// each of the session's rooms takes the logarithm of the sockets and of the rooms.
     ///
     /// After it, accepted or refused, each connected session, so also the one that came back, has
@@ -264,9 +270,9 @@ impl State {
         offset: u64,
         now: u64,
     ) -> Result<Sid, HubError>
-        ensures sid { let r = return_of client space.now pid offset self.old
+        ensures sid { let r = recovery_asked client space.now pid offset self.old
             in IfOk result (λ sid. sid ≡ r.socket.sid) }
-        ensures does { let r = return_of client space.now pid offset self.old
+        ensures does { let r = recovery_asked client space.now pid offset self.old
             in Does self.old self.new now (What.Recovered r) result }
         ensures continuity { AllHear self.new }
     {

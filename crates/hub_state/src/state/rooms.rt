@@ -193,7 +193,7 @@ impl State {
     /// All sockets of a namespace that are in one of the rooms, or where none is named all, but for
     /// those in an excepted room, leave a room, or none does. It gives those that were in it,
     /// rising. Refused as `UnknownNamespace`, then as `RoomRefused(OwnRoom)` where the room is the
-    /// own one of one of them, then `Spent`; want of memory may come in place of these two. It
+    /// own one of one of them, then `Spent`; want of memory may come instead of these two. It
     /// takes as much as `sockets_join`.
     pub fn sockets_leave(
         &mut self,

@@ -84,7 +84,7 @@ impl State {
         let present = self.present(alloc)?;
         let base = replace(&mut self.base, present);
         let steps = self.records.steps.take(alloc);
-        self.departed.clear();
+        self.ended_sockets.clear();
         Ok(Epoch { base, steps })
     }
 }

@@ -29,7 +29,7 @@ impl Rooms {
         sids.iter().any(|sid| !self.is_socket(*sid))
     }
 
-    /// Whether one of these isn't in the room, and has no place for it.
+    /// Whether one of these isn't in the room, and has no space for it.
     fn has_full(&self, sids: &[Sid], room: Room) -> bool
         ensures { result ≡ membership.has_full self.now sids.now room }
     {
@@ -68,7 +68,7 @@ impl Rooms {
     /// The sockets are in the room too, all of them or none. One that is in it already stays, and
     /// one that is named twice counts once. It answers those that weren't in it, rising by their
     /// ids. Refused where one of them is unknown, as `UnknownSocket`, where one that isn't in the
-    /// room has no place for it, as `TooManyRooms`, then for `Memory`. Each socket takes the
+    /// room has no space for it, as `TooManyRooms`, then for `Memory`. Each socket takes the
     /// logarithm, and that of their number.
     pub fn join_all(
         &mut self,

@@ -3,17 +3,17 @@
 use std::io;
 use std::io::{ErrorKind, Read, Write};
 
-/// A place in a list of pieces.
+/// A position in a list of pieces.
 #[derive(Clone, Copy)]
-struct Place<'a> {
+struct Position<'a> {
     pieces: &'a [&'a [u8]],
     index: usize,
     at: usize,
 }
 
-impl<'a> Place<'a> {
-    fn first(pieces: &'a [&'a [u8]]) -> Place<'a> {
-        Place {
+impl<'a> Position<'a> {
+    fn first(pieces: &'a [&'a [u8]]) -> Position<'a> {
+        Position {
             pieces,
             index: 0,
             at: 0,
@@ -47,7 +47,7 @@ impl<'a> Place<'a> {
 /// It may fail once, after the first piece.
 #[derive(Clone, Copy)]
 pub struct Tape<'a> {
-    place: Place<'a>,
+    position: Position<'a>,
     fails: Option<ErrorKind>,
 }
 
@@ -55,7 +55,7 @@ impl<'a> Tape<'a> {
     /// A reader that doesn't fail.
     pub fn sound(pieces: &'a [&'a [u8]]) -> Tape<'a> {
         Tape {
-            place: Place::first(pieces),
+            position: Position::first(pieces),
             fails: None,
         }
     }
@@ -63,7 +63,7 @@ impl<'a> Tape<'a> {
     /// A reader that fails in this way after the first piece.
     pub fn failing(pieces: &'a [&'a [u8]], fails: ErrorKind) -> Tape<'a> {
         Tape {
-            place: Place::first(pieces),
+            position: Position::first(pieces),
             fails: Some(fails),
         }
     }
@@ -71,20 +71,20 @@ impl<'a> Tape<'a> {
 
 impl Read for Tape<'_> {
     fn read(&mut self, buffer: &mut [u8]) -> io::Result<usize> {
-        self.place.skip();
-        if self.place.index == 1 {
+        self.position.skip();
+        if self.position.index == 1 {
             if let Some(kind) = self.fails.take() {
                 return Err(io::Error::from(kind));
             }
         }
-        let Some(piece) = self.place.pieces.get(self.place.index) else {
+        let Some(piece) = self.position.pieces.get(self.position.index) else {
             return Ok(0);
         };
-        let Some(mut rest) = piece.get(self.place.at..) else {
+        let Some(mut rest) = piece.get(self.position.at..) else {
             return Ok(0);
         };
         let count = rest.read(buffer)?;
-        self.place.at = self.place.at.saturating_add(count);
+        self.position.at = self.position.at.saturating_add(count);
         Ok(count)
     }
 }
@@ -92,7 +92,7 @@ impl Read for Tape<'_> {
 /// A writer that compares what is written with what is wanted, and keeps nothing.
 #[derive(Clone, Copy)]
 pub struct Paper<'a> {
-    place: Place<'a>,
+    position: Position<'a>,
     /// How many bytes were as wanted.
     right: u64,
     /// How many bytes were not.
@@ -103,7 +103,7 @@ impl<'a> Paper<'a> {
     /// A writer on which these pieces are wanted, one after the other.
     pub fn wanting(pieces: &'a [&'a [u8]]) -> Paper<'a> {
         Paper {
-            place: Place::first(pieces),
+            position: Position::first(pieces),
             right: 0,
             wrong: 0,
         }
@@ -116,8 +116,8 @@ impl<'a> Paper<'a> {
 
     /// Whether just what is wanted was written.
     pub fn is_whole(&self) -> bool {
-        let mut place = self.place;
-        self.wrong == 0 && place.next().is_none()
+        let mut position = self.position;
+        self.wrong == 0 && position.next().is_none()
     }
 
     /// How many bytes were as wanted.
@@ -129,7 +129,7 @@ impl<'a> Paper<'a> {
 impl Write for Paper<'_> {
     fn write(&mut self, bytes: &[u8]) -> io::Result<usize> {
         for byte in bytes {
-            if self.wrong == 0 && self.place.next() == Some(*byte) {
+            if self.wrong == 0 && self.position.next() == Some(*byte) {
                 self.right = self.right.saturating_add(1);
             } else {
                 self.wrong = self.wrong.saturating_add(1);
@@ -175,8 +175,8 @@ impl Write for Flushes {
     }
 
     fn flush(&mut self) -> io::Result<()> {
-        if let Some(place) = self.noted.get_mut(self.count) {
-            *place = self.written;
+        if let Some(position) = self.noted.get_mut(self.count) {
+            *position = self.written;
         }
         self.count = self.count.saturating_add(1);
         Ok(())

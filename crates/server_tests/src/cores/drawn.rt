@@ -6,7 +6,7 @@ use events::{CoreError, CoreFault};
 use relay::{Counter, RelayApp};
 use std::alloc::{AllocError, Global};
 use std::sync::ledger::Ledger;
-use usual_core::{OnServer, Server, Settings, on_new_server};
+use usual_core::{OnCore, UsualCore, UsualSettings, on_new_core};
 
 /// The id that is drawn next, where that isn't the one after the last, what happens, and after how
 /// many packets an id is taken, if one is.
@@ -25,20 +25,20 @@ static ROWS: [(Option<u128>, Act, Option<usize>); 8] = [
 #[derive(Clone, Copy)]
 struct AllRows;
 
-impl OnServer for AllRows {
+impl OnCore for AllRows {
     type Found = Result<bool, AllocError>;
 
     /// Whether each row ends as it should.
     fn run<C: Ledger + Send + Sync, T: Ledger + Send + Sync>(
         self,
         alloc: Global,
-        server: &mut Server<C, T>,
+        usual: &mut UsualCore<C, T>,
     ) -> Result<bool, AllocError> {
         for (next, act, taken) in ROWS {
             if let Some(id) = next {
-                server.ids = Counter::starting_at(id);
+                usual.ids = Counter::starting_at(id);
             }
-            let got = server.apply(alloc, &RelayApp, &act.event(alloc)?, 0);
+            let got = usual.apply(alloc, &RelayApp, &act.event(alloc)?, 0);
             let want = taken.map(|packets| CoreError {
                 fault: CoreFault::IdTaken,
                 packets,
@@ -53,7 +53,7 @@ impl OnServer for AllRows {
 }
 
 fn goes(alloc: Global) -> bool {
-    on_new_server(alloc, &Settings::usual(3), AllRows) == Ok(Ok(true))
+    on_new_core(alloc, &UsualSettings::usual(3), AllRows) == Ok(Ok(true))
 }
 
 /// Of a run's allocations at most one is refused, so one of two runs has ample memory.

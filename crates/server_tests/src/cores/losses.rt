@@ -1,6 +1,6 @@
 //! How often the core is told of a lost client.
 
-use events::{Answered, CoreFault, Event, Loss, Outcome, Telling};
+use events::{Answered, CoreFault, Event, Loss, Outcome, Retry};
 
 /// The answers of a core that refuses so many times, and then accepts.
 fn answer(refusals: u64, tries: u64) -> Answered {
@@ -16,7 +16,7 @@ fn times_told(refusals: u64) -> u64 {
     let mut loss = Loss::new(7);
     for tries in 0..10 {
         let got = answer(refusals, tries);
-        if loss.hears(&got) == Telling::Over {
+        if loss.hears(&got) == Retry::Over {
             return tries + 1;
         }
     }

@@ -7,7 +7,7 @@ use relay::RelayApp;
 use std::alloc::Global;
 use std::sync::ledger::Ledger;
 use terms::Room;
-use usual_core::{OnServer, Server, Settings, on_new_server};
+use usual_core::{OnCore, UsualCore, UsualSettings, on_new_core};
 
 /// Two clients join a room. The first one joins another room, and speaks to the first.
 static JOINED: [Act; 6] = [
@@ -45,33 +45,33 @@ fn done_by(before: (usize, u64, u64), error: Option<CoreError>) -> Option<(usize
 /// Why this is refused, if it is.
 fn refusal<C: Ledger, T: Ledger>(
     alloc: Global,
-    server: &mut Server<C, T>,
+    usual: &mut UsualCore<C, T>,
     act: Act,
 ) -> Option<Option<CoreError>> {
     let event = act.event(alloc).ok()?;
-    Some(server.apply(alloc, &RelayApp, &event, 0).err())
+    Some(usual.apply(alloc, &RelayApp, &event, 0).err())
 }
 
 /// Whether so much of the payload is done as is told; nothing where memory was refused elsewhere.
 #[derive(Clone, Copy)]
 struct TellsHowFar;
 
-impl OnServer for TellsHowFar {
+impl OnCore for TellsHowFar {
     type Found = Option<bool>;
 
     fn run<C: Ledger + Send + Sync, T: Ledger + Send + Sync>(
         self,
         alloc: Global,
-        server: &mut Server<C, T>,
+        usual: &mut UsualCore<C, T>,
     ) -> Option<bool> {
         for act in JOINED {
-            if refusal(alloc, server, act)?.is_some() {
+            if refusal(alloc, usual, act)?.is_some() {
                 return None;
             }
         }
-        let before = done_of(alloc, server.core.hub().state())?;
-        let error = refusal(alloc, server, TWO_PACKETS)?;
-        let after = done_of(alloc, server.core.hub().state())?;
+        let before = done_of(alloc, usual.core.hub().state())?;
+        let error = refusal(alloc, usual, TWO_PACKETS)?;
+        let after = done_of(alloc, usual.core.hub().state())?;
         Some(done_by(before, error) == Some(after))
     }
 }
@@ -79,7 +79,7 @@ impl OnServer for TellsHowFar {
 #[test]
 fn a_refused_growth_ends_between_two_packets(rt: HostRuntime) {
     for _ in 0..2 {
-        if let Ok(Some(is_right)) = on_new_server(rt.alloc(), &Settings::usual(3), TellsHowFar) {
+        if let Ok(Some(is_right)) = on_new_core(rt.alloc(), &UsualSettings::usual(3), TellsHowFar) {
             assert!(rt; is_right);
             return;
         }

@@ -14,7 +14,7 @@ use std::sync::Wait;
 use std::sync::ledger::{Blank, Ledger};
 use std::thread::Threads;
 use std::time::Clock;
-use usual_core::{Limits, NUMBERS, PARTS, TIMING};
+use usual_core::{NUMBERS, PARTS, TIMING, UsualLimits};
 
 #[derive(Clone, Copy)]
 pub enum Task {
@@ -65,9 +65,9 @@ fn new_locked<C: Ledger, T: Ledger>(
     requires taken { (taken.name ≡ T.name)
         × (taken.parts ≡ T.parts) × (taken.parts ≡ 65536) }
 {
-    let limits = Limits {
+    let limits = UsualLimits {
         capacity: 256,
-        ..Limits::usual(8)
+        ..UsualLimits::usual(8)
     };
     let Ok(config) = limits.config(alloc, &["/"]) else {
         return Err(CoreFault::Memory.at_once());

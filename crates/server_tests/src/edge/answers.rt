@@ -172,9 +172,9 @@ fn is_answered(alloc: Global, (asks, given, want): Row) -> bool {
 /// Of a run's allocations at most one is refused, so one of two runs has ample memory.
 #[test]
 fn to_opened_clients_posts_and_gets(rt: HostRuntime) {
-    for (place, row) in ROWS.iter().enumerate() {
+    for (index, row) in ROWS.iter().enumerate() {
         let is_right = is_answered(rt.alloc(), *row) || is_answered(rt.alloc(), *row);
-        assert!(rt; is_right, "row {place}");
+        assert!(rt; is_right, "row {index}");
     }
 }
 

@@ -7,7 +7,7 @@ use peers::PollRequest;
 use relay::RelayApp;
 use std::alloc::Global;
 use std::sync::ledger::Ledger;
-use usual_core::{OnServer, Server, Settings, on_new_server};
+use usual_core::{OnCore, UsualCore, UsualSettings, on_new_core};
 
 /// What is done with a GET of a client, and seen of it.
 #[derive(Clone, Copy)]
@@ -88,29 +88,29 @@ fn getter(alloc: Global, client: u128) -> Asker<Still> {
 }
 
 /// Opens a client by a request, and says which.
-fn opened<C: Ledger, T: Ledger>(alloc: Global, server: &mut Server<C, T>) -> Option<u128> {
+fn opened<C: Ledger, T: Ledger>(alloc: Global, usual: &mut UsualCore<C, T>) -> Option<u128> {
     let mut peer = asker(alloc, Still, PollRequest::Open, 1_000);
-    serve(alloc, server, &mut peer, 1);
+    serve(alloc, usual, &mut peer, 1);
     peer.client()
 }
 
 /// Whether it goes as the move says.
 fn goes<C: Ledger, T: Ledger>(
     alloc: Global,
-    server: &mut Server<C, T>,
+    usual: &mut UsualCore<C, T>,
     peer: &mut Asker<Still>,
     client: u128,
     one: Move,
 ) -> bool {
     match one {
-        Serve(most, end) => serve(alloc, server, peer, most) == end,
+        Serve(most, end) => serve(alloc, usual, peer, most) == end,
         GiveUp => {
             peer.give_up();
             true
         }
         IsIdle(idle) => peer.is_idle() == idle && peer.client() == Some(client),
         Writes(end) => peer.wire_mut().get_mut().written.as_slice().ends_with(end),
-        Probe => server
+        Probe => usual
             .apply(alloc, &RelayApp, &Event::Probe { client }, 0)
             .is_ok(),
     }
@@ -119,41 +119,41 @@ fn goes<C: Ledger, T: Ledger>(
 /// Makes these moves with two new GETs of a client. Says whether all goes as they say.
 fn all_go<C: Ledger, T: Ledger>(
     alloc: Global,
-    server: &mut Server<C, T>,
+    usual: &mut UsualCore<C, T>,
     client: u128,
     moves: &[(usize, Move)],
 ) -> bool {
     let (mut first, mut second) = (getter(alloc, client), getter(alloc, client));
     let mut is_right = true;
-    for (place, one) in moves {
-        let is_so = match *place {
-            1 => goes(alloc, server, &mut first, client, *one),
-            _ => goes(alloc, server, &mut second, client, *one),
+    for (index, one) in moves {
+        let is_so = match *index {
+            1 => goes(alloc, usual, &mut first, client, *one),
+            _ => goes(alloc, usual, &mut second, client, *one),
         };
         is_right = is_so && is_right;
     }
     is_right
 }
 
-/// Plays all rows, and gives the place of the first one that doesn't go as it should, if any.
+/// Plays all rows, and gives the index of the first one that doesn't go as it should, if any.
 #[derive(Clone, Copy)]
 struct AllRows;
 
-impl OnServer for AllRows {
+impl OnCore for AllRows {
     type Found = Option<usize>;
 
     fn run<C: Ledger + Send + Sync, T: Ledger + Send + Sync>(
         self,
         alloc: Global,
-        server: &mut Server<C, T>,
+        usual: &mut UsualCore<C, T>,
     ) -> Option<usize> {
-        let clients = (opened(alloc, server), opened(alloc, server));
+        let clients = (opened(alloc, usual), opened(alloc, usual));
         if clients != (Some(1), Some(2)) {
             return Some(ROWS.len());
         }
-        for (place, (client, moves)) in ROWS.iter().enumerate() {
-            if !all_go(alloc, server, *client, *moves) {
-                return Some(place);
+        for (index, (client, moves)) in ROWS.iter().enumerate() {
+            if !all_go(alloc, usual, *client, *moves) {
+                return Some(index);
             }
         }
         None
@@ -163,7 +163,7 @@ impl OnServer for AllRows {
 /// Of a run's allocations at most one is refused, so one of two runs has ample memory.
 #[test]
 fn gets_that_wait(rt: HostRuntime) {
-    let once = || on_new_server(rt.alloc(), &Settings::usual(3), AllRows);
+    let once = || on_new_core(rt.alloc(), &UsualSettings::usual(3), AllRows);
     let (first, second) = (once(), once());
     assert!(rt;
         first == Ok(None) || second == Ok(None),

@@ -10,7 +10,7 @@ use std::alloc::{AllocError, Global};
 use std::sync::Wait;
 use std::sync::ledger::Ledger;
 use terms::Text;
-use usual_core::{OnLocked, Settings, on_new_locked};
+use usual_core::{OnLocked, UsualSettings, on_new_locked};
 
 /// What a request asks for.
 #[derive(Clone, Copy, Debug)]
@@ -111,7 +111,7 @@ fn is_lost(rt: &impl Wait, alloc: Global) -> bool {
     let Ok(peers) = askers(alloc) else {
         return false;
     };
-    match on_new_locked(alloc, &Settings::usual(3), Serves { rt, peers }) {
+    match on_new_locked(alloc, &UsualSettings::usual(3), Serves { rt, peers }) {
         Ok((Some((counts, saved)), totals)) => (counts, saved, totals) == LOST,
         _ => false,
     }

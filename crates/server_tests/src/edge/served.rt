@@ -4,7 +4,7 @@ use events::{Peer, PeerFault};
 use relay::RelayApp;
 use std::alloc::Global;
 use std::sync::ledger::Ledger;
-use usual_core::Server;
+use usual_core::UsualCore;
 
 /// How it ended with a peer.
 #[derive(Clone, Copy, Debug, PartialEq, Eq)]
@@ -17,13 +17,13 @@ pub enum End {
 /// One event of the peer. Says whether it had one.
 fn serve_once<C: Ledger, T: Ledger, P: Peer>(
     alloc: Global,
-    server: &mut Server<C, T>,
+    usual: &mut UsualCore<C, T>,
     peer: &mut P,
 ) -> Result<bool, PeerFault> {
     let Some((event, now)) = peer.next()? else {
         return Ok(false);
     };
-    let got = server.apply(alloc, &RelayApp, &event, now);
+    let got = usual.apply(alloc, &RelayApp, &event, now);
     peer.answer(&got)?;
     Ok(true)
 }
@@ -31,12 +31,12 @@ fn serve_once<C: Ledger, T: Ledger, P: Peer>(
 /// Serves a peer for so many events at the most.
 pub fn serve<C: Ledger, T: Ledger, P: Peer>(
     alloc: Global,
-    server: &mut Server<C, T>,
+    usual: &mut UsualCore<C, T>,
     peer: &mut P,
     most: u64,
 ) -> End {
     for _ in 0..most {
-        match serve_once(alloc, server, peer) {
+        match serve_once(alloc, usual, peer) {
             Ok(true) => {}
             Ok(false) => return End::Over,
             Err(fault) => return End::Failed(fault),

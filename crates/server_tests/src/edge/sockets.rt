@@ -10,7 +10,7 @@ use relay::RelayApp;
 use std::alloc::{AllocError, Global};
 use std::sync::ledger::Ledger;
 use tungstenite::{NoMask, Role, WebSocket};
-use usual_core::{OnServer, Server, Settings, on_new_server};
+use usual_core::{OnCore, UsualCore, UsualSettings, on_new_core};
 
 /// One whose head was read before.
 type Accepted = SocketPeer<Replay<Spoken>, Still>;
@@ -196,7 +196,7 @@ fn write_frames(text: &mut String, bytes: &[u8]) -> Result<(), AllocError> {
 fn write_served<C: Ledger, T: Ledger>(
     text: &mut String,
     alloc: Global,
-    server: &mut Server<C, T>,
+    usual: &mut UsualCore<C, T>,
     line: &str,
 ) -> Result<(), AllocError> {
     let (numbers, words) = line.split_once(':').unwrap_or((line, ""));
@@ -210,16 +210,19 @@ fn write_served<C: Ledger, T: Ledger>(
     let stream = Spoken::new(alloc, pieces_of(alloc, words)?, room);
     let socket = WebSocket::from_raw_socket(alloc, stream, NoMask, Role::Server, None);
     let mut peer = SocketPeer::new(alloc, socket, Still, request);
-    let end = serve(alloc, server, &mut peer, events);
-    let (on, idle) = (server.core.transport(1), peer.is_idle());
+    let end = serve(alloc, usual, &mut peer, events);
+    let (on, idle) = (usual.core.transport(1), peer.is_idle());
     write!(text, "= {end:?} {on:?} idle:{idle}")?;
     write_frames(text, peer.stream_mut().written.as_slice())?;
     text.push('\n')
 }
 
 /// Opens a client that polls.
-fn polls<C: Ledger, T: Ledger>(alloc: Global, server: &mut Server<C, T>) -> Result<(), AllocError> {
-    match server.apply(alloc, &RelayApp, &Event::Opened { socket: false }, 0) {
+fn polls<C: Ledger, T: Ledger>(
+    alloc: Global,
+    usual: &mut UsualCore<C, T>,
+) -> Result<(), AllocError> {
+    match usual.apply(alloc, &RelayApp, &Event::Opened { socket: false }, 0) {
         Ok(_) => Ok(()),
         Err(_) => Err(AllocError),
     }
@@ -231,22 +234,22 @@ struct Case {
     case: &'static str,
 }
 
-impl OnServer for Case {
+impl OnCore for Case {
     type Found = Result<String, AllocError>;
 
     fn run<C: Ledger + Send + Sync, T: Ledger + Send + Sync>(
         self,
         alloc: Global,
-        server: &mut Server<C, T>,
+        usual: &mut UsualCore<C, T>,
     ) -> Result<String, AllocError> {
         let mut text = String::new(alloc);
-        polls(alloc, server)?;
+        polls(alloc, usual)?;
         for line in self.case.lines().filter(|line| !line.starts_with('=')) {
             writeln!(text, "{line}")?;
             if line == "polls" {
-                polls(alloc, server)?;
+                polls(alloc, usual)?;
             } else if !line.is_empty() && !line.starts_with(' ') {
-                write_served(&mut text, alloc, server, line)?;
+                write_served(&mut text, alloc, usual, line)?;
             }
         }
         Ok(text)
@@ -255,7 +258,7 @@ impl OnServer for Case {
 
 /// What is written of a case.
 fn played(alloc: Global, case: &'static str) -> Option<String> {
-    match on_new_server(alloc, &Settings::usual(3), Case { case }) {
+    match on_new_core(alloc, &UsualSettings::usual(3), Case { case }) {
         Ok(Ok(text)) => Some(text),
         _ => None,
     }
@@ -313,19 +316,19 @@ struct ComesEarly {
     head: &'static [u8],
 }
 
-impl OnServer for ComesEarly {
+impl OnCore for ComesEarly {
     type Found = Option<bool>;
 
     /// Whether it is told all; nothing where no peer is made.
     fn run<C: Ledger + Send + Sync, T: Ledger + Send + Sync>(
         self,
         alloc: Global,
-        server: &mut Server<C, T>,
+        usual: &mut UsualCore<C, T>,
     ) -> Option<bool> {
-        let is_open = polls(alloc, server).is_ok();
+        let is_open = polls(alloc, usual).is_ok();
         let rest = Vec::from_slice(alloc, FRAME).ok()?;
         let mut peer = accepted(alloc, self.head, rest, "close")?;
-        let end = serve(alloc, server, &mut peer, 1_000);
+        let end = serve(alloc, usual, &mut peer, 1_000);
         let written = peer.stream_mut().get_mut().written.as_slice();
         let mut text = format!(in alloc; "{end:?}").ok()?;
         write_frames(&mut text, written.strip_prefix(SWITCHES).unwrap_or(&[])).ok()?;
@@ -335,7 +338,7 @@ impl OnServer for ComesEarly {
 
 /// Whether this is found in one of two runs.
 fn is_early(alloc: Global, head: &'static [u8], want: Option<bool>) -> bool {
-    let once = || on_new_server(alloc, &Settings::usual(3), ComesEarly { head });
+    let once = || on_new_core(alloc, &UsualSettings::usual(3), ComesEarly { head });
     once() == Ok(want) || once() == Ok(want)
 }
 

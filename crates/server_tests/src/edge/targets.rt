@@ -5,17 +5,17 @@ use http_edge::EdgeError::{
     TurnsSpent,
 };
 use http_edge::{Refusal, Target};
-use peers::{PollRequest, Reply, SocketRequest, reply_to_fault, reply_to_target};
+use peers::{PollRequest, Response, SocketRequest, response_to_fault, response_to_target};
 use std::alloc::Global;
 
-/// The status and the body of a reply, or nothing.
+/// The status and the body of a response, or nothing.
 type Said = Option<(u16, &'static str)>;
 
 const REFUSED: Said = Some((400, "{\"code\":3,\"message\":\"Bad request\"}"));
 
-fn said(reply: Option<Reply<'static>>) -> Said {
-    let reply = reply?;
-    Some((reply.status.line().0, reply.body))
+fn said(response: Option<Response<'static>>) -> Said {
+    let response = response?;
+    Some((response.status.line().0, response.body))
 }
 
 #[test]
@@ -32,7 +32,7 @@ fn where_no_peer_is_made(rt: HostRuntime) {
         (TurnsSpent, None),
     ];
     for (fault, want) in FAULTS {
-        assert!(rt; said(reply_to_fault(fault)) == want, "{fault:?}");
+        assert!(rt; said(response_to_fault(fault)) == want, "{fault:?}");
     }
 }
 
@@ -65,9 +65,12 @@ fn targets(rt: HostRuntime) {
         (Target::Poll(7), None, Some(Some(7)), None),
         (Target::Post(7), None, Some(Some(7)), None),
     ];
-    for (place, (target, reply, request, socket)) in ROWS.iter().enumerate() {
-        assert!(rt; said(reply_to_target(*target)) == *reply, "target {place}");
-        assert!(rt; asked_of(rt.alloc(), *target) == *request, "target {place}");
-        assert!(rt; SocketRequest::of(*target) == *socket, "target {place}");
+    for (index, (target, response, request, socket)) in ROWS.iter().enumerate() {
+        assert!(rt;
+            said(response_to_target(*target)) == *response,
+            "target {index}"
+        );
+        assert!(rt; asked_of(rt.alloc(), *target) == *request, "target {index}");
+        assert!(rt; SocketRequest::of(*target) == *socket, "target {index}");
     }
 }

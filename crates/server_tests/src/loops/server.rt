@@ -1,7 +1,7 @@
 //! A server that runs while its clients play a scene.
 
-use crate::loops::place::Place;
 use crate::loops::scenes::{closing, polling, speaking};
+use crate::loops::site::Site;
 use crate::loops::vague::Vague;
 use events::App;
 use hub_gate::Report;
@@ -53,17 +53,17 @@ fn listen<R: Net>(rt: &R, alloc: Global, connections: u64) -> Option<Server<Deaf
 
 /// Plays a scene, and tells whether all was so; else the server is stopped.
 fn is_so<R: Net<Stream = TcpStream> + Clock + Wait>(
-    place: &Place<'_, R>,
+    site: &Site<'_, R>,
     shared: &Shared,
     scene: Scene,
 ) -> bool {
     let is_so = match scene {
-        Scene::Polling => polling(place),
-        Scene::Speaking => speaking(place),
-        Scene::Closing => closing(place),
+        Scene::Polling => polling(site),
+        Scene::Speaking => speaking(site),
+        Scene::Closing => closing(site),
     };
     if !is_so {
-        shared.stop(place.rt, Duration::from_millis(0));
+        shared.stop(site.rt, Duration::from_millis(0));
     }
     is_so
 }
@@ -106,11 +106,11 @@ fn play<
     let server = listen(rt, alloc, connections)?;
     let shared = server.shared().ok()?;
     let port = server.port();
-    let place = Place { rt, alloc, port };
+    let site = Site { rt, alloc, port };
     let ends = thread::join(
         rt,
         || server.run(rt, alloc, app),
-        || is_so(&place, &shared, scene),
+        || is_so(&site, &shared, scene),
     );
     match ends {
         (Ok(report), true) => counts_of(&report),

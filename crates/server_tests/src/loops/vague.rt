@@ -13,7 +13,7 @@ impl App for Vague {
     ghost policy = { λ app. record {
       allows = λ space payload verdict. Unit {0};
       decides = λ who arrived effects. Unit {0};
-      leaves = λ who rooms ending effects. Unit {0};
+      ends = λ who rooms ending effects. Unit {0};
     } };
 
     fn connects(&self, alloc: Global, _space: &str, _payload: &str) -> Result<Verdict, AllocError> {
@@ -24,7 +24,7 @@ impl App for Vague {
         Ok(Vec::new(alloc))
     }
 
-    fn left(&self, alloc: Global, _who: &Who, _rooms: &[Room], _ending: Ending) -> Wanted {
+    fn ended(&self, alloc: Global, _who: &Who, _rooms: &[Room], _ending: Ending) -> Wanted {
         let mut effects = Vec::new(alloc);
         effects.push(Effect::Disconnect)?;
         Ok(effects)

@@ -38,8 +38,8 @@ pub enum Deed {
     /// A ping is to be carried or not, or is carried.
     PingDue(bool),
     CarryPing,
-    Enter(u128),
-    Leave(u128),
+    Connect(u128),
+    Disconnect(u128),
     Text(&'static str, Frame),
     Bytes(&'static [u8], Frame),
     /// The socket is asked with this tag until a moment, and the question has this id.
@@ -116,8 +116,8 @@ impl Part for Line {
             Deed::End => self.end_get(),
             Deed::CarryPing => self.carry_ping(),
             Deed::Pong(now) => self.pong(*now),
-            Deed::Enter(sid) => self.enter(Sid::new(*sid)),
-            Deed::Leave(sid) => self.leave(Sid::new(*sid)),
+            Deed::Connect(sid) => self.connect(Sid::new(*sid)),
+            Deed::Disconnect(sid) => self.disconnect(Sid::new(*sid)),
             Deed::Text(text, frame) => return is_frame(self.text(alloc, text), *frame),
             Deed::Bytes(bytes, frame) => return is_frame(self.binary(alloc, bytes), *frame),
             Deed::Ask(sid, tag, until, id) => {
@@ -245,7 +245,7 @@ fn lines(rt: HostRuntime) {
         (Deed::Gets(false), YES),
     ];
     static PING: Rows = &[
-        (Deed::Enter(7), YES),
+        (Deed::Connect(7), YES),
         (Deed::Tick(24_999, Due::Nothing), YES),
         (Deed::PingDue(false), YES),
         (Deed::Tick(25_000, Due::SendPing), YES),
@@ -305,8 +305,8 @@ fn lines(rt: HostRuntime) {
         ),
     ];
     static EACH_SOCKET_ASKED: Rows = &[
-        (Deed::Enter(1), YES),
-        (Deed::Enter(2), YES),
+        (Deed::Connect(1), YES),
+        (Deed::Connect(2), YES),
         (Deed::Ask(1, 70, 100, 0), YES),
         (Deed::Ask(1, 71, 200, 1), YES),
         (Deed::Ask(2, 72, 300, 0), YES),
@@ -318,13 +318,13 @@ fn lines(rt: HostRuntime) {
         (Deed::Answer(2, 0, 72), YES),
     ];
     static GONE_WITH_THE_SOCKET: Rows = &[
-        (Deed::Enter(1), YES),
+        (Deed::Connect(1), YES),
         (Deed::Ask(1, 70, 100, 0), YES),
-        (Deed::Leave(1), YES),
+        (Deed::Disconnect(1), YES),
         (Deed::Answer(1, 0, 0), UNKNOWN),
-        (Deed::Enter(1), YES),
+        (Deed::Connect(1), YES),
         (Deed::Ask(1, 71, 100, 0), YES),
-        (Deed::Enter(1), YES),
+        (Deed::Connect(1), YES),
         (Deed::Answer(1, 0, 0), UNKNOWN),
     ];
     for rows in [

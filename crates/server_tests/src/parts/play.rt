@@ -29,15 +29,15 @@ pub fn play<P: Part>(
     part: &mut P,
     rows: &[(P::Row, Result<bool, P::Fault>)],
 ) {
-    for (place, (row, want)) in rows.iter().enumerate() {
+    for (index, (row, want)) in rows.iter().enumerate() {
         let before = part.size();
         let got = match part.act(rt.alloc(), row) {
             Err(fault) if fault == P::MEMORY => {
-                assert!(rt; part.size() == before, "row {place}");
+                assert!(rt; part.size() == before, "row {index}");
                 part.act(rt.alloc(), row)
             }
             got => got,
         };
-        assert!(rt; got == *want, "row {place}");
+        assert!(rt; got == *want, "row {index}");
     }
 }

@@ -281,7 +281,7 @@ fn too_many_rooms(rt: HostRuntime) {
         (Row::JoinAll(&[1, 9], R, &[]), Err(RoomError::UnknownSocket)),
         (Row::MembersOf(R, &[]), YES),
     ];
-    // It leaves this room, which then has socket 2 alone, and has a place for another.
+    // It leaves this room, which then has socket 2 alone, and has space for another.
     static PLACE_MADE: Rows = &[
         (Row::MembersOf(At::Own(1000), &[1]), YES),
         (Row::JoinAll(&[1, 2], At::Own(1000), &[2]), YES),

@@ -15,7 +15,7 @@ act_all-requires-clause-acting g c =
     let old = c.args.scene.now in
     let who : Who = record { client = old.visit.client; space = c.args.header.space; sid = c.new-sid.result } in (
       refl,
-      stands-seated who old.visit.moment (scene c.attach.new.state c.enter.new.self c.count.new.self) (ap (λ (t : Tally). t.done.closed) c.count.ensures ∙ c.requires.ready.1.0)
+      stands-seated who old.visit.moment (scene c.attach.new.state c.connect.new.self c.count.new.self) (ap (λ (t : Tally). t.done.closed) c.count.ensures ∙ c.requires.ready.1.0)
           (seated-new who c.new-pid.result old.visit.moment old.state.now c.attach.new.state (rw c.if-not-branch.false at c.in_ok-attach-in-Ok-Accept.ensures) c.requires.ready.0 c.requires.free.0),
     )
 
@@ -24,13 +24,13 @@ returns-else-not-branch g c =
     let old = c.args.scene.now in
     let who : Who = record { client = old.visit.client; space = c.args.header.space; sid = c.new-sid.result } in
     let said = rw (c.as_str.ensures, c.as_str-2.ensures, c.in-Ok-Accept.field-0-is) at c.in-Ok-Accept.ensures in
-    let between = scene c.attach.new.state c.enter.new.self c.count.new.self in
+    let between = scene c.attach.new.state c.connect.new.self c.count.new.self in
     let connects : ConnectsAs who c.new-pid.result c.in-Ok-Accept.wanted.items old.visit.moment (seen old) c.act_all.result (seen c.act_all.new.scene) =
     inl (
       between,
       rw c.if-not-branch.false at c.in_ok-attach-in-Ok-Accept.ensures,
-      c.enter.ensures,
-      ap (λ (t : Tally). scene c.attach.new.state c.enter.new.self t) c.count.ensures,
+      c.connect.ensures,
+      ap (λ (t : Tally). scene c.attach.new.state c.connect.new.self t) c.count.ensures,
       does-all who old.visit.moment 1 c.in-Ok-Accept.wanted.items _ c.act_all.result _ c.act_all.ensures.ok c.act_all.ensures.err,
     ) in (
       search rules,

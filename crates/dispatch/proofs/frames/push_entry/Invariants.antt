@@ -2,7 +2,7 @@ use Rattle.std.proofs.Common.{◌≡◌, ◌++◌, map, take}
 use Rattle.events.specs.declared.event.WsFrame.TheVariants.{Bytes}
 use Rattle.dispatch.proofs.frames.push_entry.Given as goal
 
-abbrev pub invariant-loop-part : goal.invariant-loop-part
-invariant-loop-part l = record {
-  so_far : l.frames.items ≡ l.initial.frames.items ++ map Bytes (take l.part-index l.part-items);
+abbrev pub invariant-loop-attachment : goal.invariant-loop-attachment
+invariant-loop-attachment l = record {
+  so_far : l.frames.items ≡ l.initial.frames.items ++ map Bytes (take l.attachment-index l.attachment-items);
 }

@@ -1,6 +1,6 @@
 use Rattle.std.proofs.Common.{rules}
 use Rattle.effects.specs.Scene.{seen}
-use Rattle.dispatch.specs.Packets.{stage}
+use Rattle.dispatch.specs.Packets.{course}
 use Rattle.dispatch.proofs.PacketLemmas.{takes-text}
 use Rattle.dispatch.proofs.packets.handle.Goals as goal
 
@@ -10,11 +10,11 @@ returns-in-Message g c =
       search rules,
       rw c.in-Message.is
           (takes-text (g.A.App.policy c.args.app.now) c.args.scene.now.visit.client c.in-Message.text c.args.scene.now.visit.moment
-          (stage (seen c.args.scene.now) (g.I.IdSource.stream c.args.ids.now))
+          (course (seen c.args.scene.now) (g.I.IdSource.stream c.args.ids.now))
           c.text-given.new.self
           c.text-given.result
           c.go_on.result
-          (stage (seen c.go_on.new.scene) (g.I.IdSource.stream c.go_on.new.ids))
+          (course (seen c.go_on.new.scene) (g.I.IdSource.stream c.go_on.new.ids))
           took.given
           took.advances
           took.fault

@@ -4,7 +4,7 @@ use Rattle.events.specs.declared.cause.Cause.{Cause}
 use Rattle.effects.specs.declared.scene.Visit.{Visit}
 use Rattle.effects.specs.Scene.{seen}
 use Rattle.effects.proofs.RunsLemmas.{runs-none}
-use Rattle.dispatch.specs.Packets.{Stage, stage, HandlesInTurn, HandlesOrBreaks}
+use Rattle.dispatch.specs.Packets.{Course, course, HandlesInTurn, HandlesOrBreaks}
 use Rattle.dispatch.proofs.PacketLaws.{all-after}
 use Rattle.dispatch.proofs.PacketLemmas.{in-turn, out-of-turn, still-open}
 use Rattle.dispatch.proofs.RunLemmas.{runs-take}
@@ -21,7 +21,7 @@ handle-requires g c =
     let now = c.loop-packet.scene in
     let open_still = still-open now.state.now now.visit.client now.tally.now.done.closed
     (rw c.loop-packet.invariant.same.visit (all-after c.args.scene.now.visit.client c.args.scene.now.visit.moment c.args.scene.now.state.now (g.A.App.policy c.args.app.now) (take c.loop-packet.packet-index c.args.packets.now)
-    (stage start (g.I.IdSource.stream c.args.ids.now)) (stage (seen c.loop-packet.scene) (g.I.IdSource.stream c.loop-packet.ids)) c.loop-packet.invariant.run
+    (course start (g.I.IdSource.stream c.args.ids.now)) (course (seen c.loop-packet.scene) (g.I.IdSource.stream c.loop-packet.ids)) c.loop-packet.invariant.run
     (record { stays = c.requires.open_client ∙ sym (ap (λ (o : Option Cause). is_none o) c.requires.fresh); has = works-none c.args.scene.now.visit.client c.args.scene.now.state.now start.done.clients })).stays)
     (sym c.is_closed.ensures ∙ c.if-not-is_closed.true) in
     rw c.begin.ensures (open_still.0, (open_still.1, refl))
@@ -31,12 +31,12 @@ loop-packet-preserved g c =
     let policy = g.A.App.policy c.args.app.now in
     let client = c.args.scene.now.visit.client in
     let moment = c.args.scene.now.visit.moment in
-    let at = stage (seen c.loop-packet.scene) (g.I.IdSource.stream c.loop-packet.ids) in
-    let more = λ (after : Stage) (goes : HandlesOrBreaks policy client c.packet-item.result moment at (Ok tt) after).
+    let at = course (seen c.loop-packet.scene) (g.I.IdSource.stream c.loop-packet.ids) in
+    let more = λ (after : Course) (goes : HandlesOrBreaks policy client c.packet-item.result moment at (Ok tt) after).
     runs-take (HandlesInTurn policy client moment) c.args.packets.now c.loop-packet.packet-index c.packet-item.result _ _ _ c.loop-packet-test.true c.packet-item.is c.loop-packet.invariant.run goes in
     elim c.if-not-is_closed.branch [
       | then-not-is_closed+in_default w ↦
-          let after = stage (seen w.handle.new.scene) (g.I.IdSource.stream w.handle.new.ids) in
+          let after = course (seen w.handle.new.scene) (g.I.IdSource.stream w.handle.new.ids) in
           let visit = c.loop-packet.scene.visit in
           let turn = in-turn policy visit.client c.packet-item.result visit.moment at (Ok tt) after (sym c.is_closed.ensures ∙ w.if-not-is_closed.true) (rw w.begin.ensures at w.in_default.ensures.1) in
           let goes = subst (λ (v : Visit). HandlesOrBreaks policy v.client c.packet-item.result v.moment at (Ok tt) after) c.loop-packet.invariant.same.visit turn in
@@ -49,8 +49,8 @@ loop-packet-preserved g c =
 pub returns-in-Err-clause-err : goal.returns-in-Err-clause-err
 returns-in-Err-clause-err g c =
     let policy = g.A.App.policy c.args.app.now in
-    let at = stage (seen c.loop-packet.scene) (g.I.IdSource.stream c.loop-packet.ids) in
-    let after = stage (seen c.handle.new.scene) (g.I.IdSource.stream c.handle.new.ids) in
+    let at = course (seen c.loop-packet.scene) (g.I.IdSource.stream c.loop-packet.ids) in
+    let after = course (seen c.handle.new.scene) (g.I.IdSource.stream c.handle.new.ids) in
     let visit = c.loop-packet.scene.visit in
     let next = slice_get_read c.args.packets.now (length c.args.packets.now) c.loop-packet.packet-index c.packet-item.result refl c.loop-packet-test.true c.packet-item.is in
     let turn = in-turn policy visit.client c.packet-item.result visit.moment at (Err c.in-Err.stopped) after (sym c.is_closed.ensures ∙ c.if-not-is_closed.true) (rw c.begin.ensures at c.in-Err.ensures.1) in

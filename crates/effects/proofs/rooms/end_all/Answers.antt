@@ -26,7 +26,7 @@ returns c =
     elim c.if-tally.branch [
       | then-tally w ↦ rw w.scene-is (record {
         same = search rules;
-        ok = (answered.does, finished w.leave.new.self, rw (sym among ∙ w.if-tally.true) w.leave.ensures);
+        ok = (answered.does, finished w.disconnect.new.self, rw (sym among ∙ w.if-tally.true) w.disconnect.ensures);
         err = tt;
       })
       | else-tally w ↦ rw w.scene-is (record {

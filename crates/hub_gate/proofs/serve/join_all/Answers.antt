@@ -10,7 +10,7 @@ loop-handle-preserved g c =
     let steps : into_iter_items at.handle-iterator ≡ c.in-Some.handle ∷ into_iter_items c.next.new.self = c.in-Some.ensures.steps.0 in
     record {
       count = omega (arith, c.push_reserved.ensures.len, at.invariant.count, c.in-Some.ensures.steps.1);
-      room = omega (arith, c.push_reserved.ensures.capacity, at.invariant.room);
+      fits = omega (arith, c.push_reserved.ensures.capacity, at.invariant.fits);
       yielded = append_assoc at.yielded (c.in-Some.handle ∷ []) (into_iter_items c.next.new.self) ∙ rw (← steps) at.invariant.yielded;
       kept = rw c.push_reserved.ensures.items (zip_push (λ h x. g.P.Promise.kept_by h.promise x) at.yielded at.all.items c.in-Some.handle c.join.result at.invariant.kept c.join.ensures);
     }

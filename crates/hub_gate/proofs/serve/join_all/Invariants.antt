@@ -6,7 +6,7 @@ use Rattle.hub_gate.proofs.serve.join_all.Given as goal
 abbrev pub invariant-loop-handle : goal.invariant-loop-handle
 invariant-loop-handle g l = record {
   count : vec_len l.all + into_iter_len l.handle-iterator ≡ into_iter_len l.initial.handle-iterator;
-  room : into_iter_len l.initial.handle-iterator ≤ vec_capacity l.all;
+  fits : into_iter_len l.initial.handle-iterator ≤ vec_capacity l.all;
   yielded : l.yielded ++ into_iter_items l.handle-iterator ≡ into_iter_items l.initial.handle-iterator;
   kept : AllZip (λ h x. g.P.Promise.kept_by h.promise x) l.yielded l.all.items;
 }

@@ -1,5 +1,5 @@
 use Rattle.std.proofs.Common.{[], ◌∷◌, sym, subst}
-use Rattle.script.specs.Script.{IsUnended, WritesOn, stage_of}
+use Rattle.script.specs.Script.{IsUnended, WritesOn, plain_run}
 use Rattle.script.proofs.ScriptLemmas.{both_ok, ends_line}
 use Rattle.script.proofs.run.answer_byte.Goals as goal
 
@@ -9,8 +9,8 @@ returns-then-byte-eq10-clause-answered g c =
     let before = g.W.Write.contents c.args.writer.now in
     let after = g.W.Write.contents c.answer_line.new.writer in
     let line = c.args.line.now.items in
-    let s = stage_of c.args.run.now in
-    let t = stage_of c.answer_line.new.run in
+    let s = plain_run c.args.run.now in
+    let t = plain_run c.answer_line.new.run in
     both_ok {R = IsUnended line → WritesOn policy before after s line (c.args.byte ∷ []) c.answer_line.new.line.items t} c.answer_line.result
     (λ emptied answered unended. subst (λ left. WritesOn policy before after s line (c.args.byte ∷ []) left t) (sym emptied)
     (ends_line policy before after s t line c.args.byte c.if-byte-eq10.true unended answered))

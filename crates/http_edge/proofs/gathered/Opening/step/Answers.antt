@@ -1,42 +1,42 @@
 use Rattle.std.proofs.Common.{rules, arith, inr, ◌≡◌, ◌-◌, ◌++◌, ℕ, length, take, min}
 use Rattle.http_edge.specs.Head.{IsJudged}
 use Rattle.http_edge.specs.Reading.{IsFault, front}
-use Rattle.http_edge.specs.Line.{walk}
+use Rattle.http_edge.specs.LineState.{walk}
 use Rattle.http_edge.proofs.OpeningLemmas.{rests_judged, none_ended, unfinished, still_opening, decided, cut_front, begins_ok, fault_err}
 use Rattle.http_edge.proofs.gathered.Opening.step.Goals as goal
 use Rattle.http_edge.proofs.gathered.Opening.step.Goals.{then-is_due+in_ok-judge, else-is_due}
 
 pub judge-requires-clause-unended : goal.judge-requires-clause-unended
 judge-requires-clause-unended c =
-    let room : ℕ = 16384 - c.len-room.result in
-    let walked : c.after_all-after.result ≡ walk c.self.inside.line (take (min room (length c.args.piece.now)) c.args.piece.now) =
+    let free : ℕ = 16384 - c.len-free.result in
+    let walked : c.after_all-after.result ≡ walk c.self.inside.line (take (min free (length c.args.piece.now)) c.args.piece.now) =
     rw c.min.ensures at c.after_all-after.ensures in
     rw (c.deref.ensures.value, c.in_ok-extend_from_slice.ensures.items)
-    (none_ended c.self.inside.bytes.items c.args.piece.now c.self.inside.line _ room c.self.invariant c.if-piece-room.true walked (λ e. search (rules, e)))
+    (none_ended c.self.inside.bytes.items c.args.piece.now c.self.inside.line _ free c.self.invariant c.if-piece-free.true walked (λ e. search (rules, e)))
 
 pub invariant_of-result : goal.invariant_of-result
 invariant_of-result c =
-    let room : ℕ = 16384 - c.len-room.result in
-    let walked : c.after_all-after.result ≡ walk c.self.inside.line (take (min room (length c.args.piece.now)) c.args.piece.now) =
+    let free : ℕ = 16384 - c.len-free.result in
+    let walked : c.after_all-after.result ≡ walk c.self.inside.line (take (min free (length c.args.piece.now)) c.args.piece.now) =
     rw c.min.ensures at c.after_all-after.ensures in
     let judged : IsJudged c.self.inside.line c.args.piece.now c.after_all-after.result (c.self.inside.bytes.items ++ c.args.piece.now) = elim c.if-is_due.branch [
       | then-is_due+in_ok-judge w ↦ inr (inr (rw (w.deref.ensures.value, c.in_ok-extend_from_slice.ensures.items) at w.in_ok-judge.ensures.may))
       | else-is_due w ↦ rests_judged _ _ c.args.piece.now _ (c.is_due.ensures.rests w.if-is_due.false)
     ] in
     rw c.in_ok-extend_from_slice.ensures.items
-    (still_opening c.self.inside.bytes.items c.args.piece.now c.self.inside.line _ room c.self.invariant (search rules) c.if-piece-room.true walked
+    (still_opening c.self.inside.bytes.items c.args.piece.now c.self.inside.line _ free c.self.invariant (search rules) c.if-piece-free.true walked
     (λ e. search (rules, e)) judged)
 
-pub returns-then-piece-room : goal.returns-then-piece-room
-returns-then-piece-room c =
-    let room : ℕ = 16384 - c.len-room.result in
-    let walked : c.after_all-after.result ≡ walk c.self.inside.line (take (min room (length c.args.piece.now)) c.args.piece.now) =
+pub returns-then-piece-free : goal.returns-then-piece-free
+returns-then-piece-free c =
+    let free : ℕ = 16384 - c.len-free.result in
+    let walked : c.after_all-after.result ≡ walk c.self.inside.line (take (min free (length c.args.piece.now)) c.args.piece.now) =
     rw c.min.ensures at c.after_all-after.ensures in
     let judged : IsJudged c.self.inside.line c.args.piece.now c.after_all-after.result (c.self.inside.bytes.items ++ c.args.piece.now) = elim c.if-is_due.branch [
       | then-is_due+in_ok-judge w ↦ inr (inr (rw (w.deref.ensures.value, c.in_ok-extend_from_slice.ensures.items) at w.in_ok-judge.ensures.may))
       | else-is_due w ↦ rests_judged _ _ c.args.piece.now _ (c.is_due.ensures.rests w.if-is_due.false)
     ] in (
-      rw (← c.self.view_is) (unfinished c.self.inside.bytes.items c.args.piece.now c.self.inside.line _ room c.self.invariant (search rules) c.if-piece-room.true walked
+      rw (← c.self.view_is) (unfinished c.self.inside.bytes.items c.args.piece.now c.self.inside.line _ free c.self.invariant (search rules) c.if-piece-free.true walked
           (λ e. search (rules, e)) judged),
       search rules,
     )
@@ -50,10 +50,10 @@ filled-requires c =
 
 pub returns-in_err-head : goal.returns-in_err-head
 returns-in_err-head c =
-    let room : ℕ = 16384 - c.len-room.result in
-    let walked : c.after_all-after.result ≡ walk c.self.inside.line (take (min room (length c.args.piece.now)) c.args.piece.now) =
+    let free : ℕ = 16384 - c.len-free.result in
+    let walked : c.after_all-after.result ≡ walk c.self.inside.line (take (min free (length c.args.piece.now)) c.args.piece.now) =
     rw c.min.ensures at c.after_all-after.ensures in
-    let is_decided = decided c.eq-ended.result c.self.inside.bytes.items c.args.piece.now c.self.inside.line _ room c.self.invariant (search rules) walked
+    let is_decided = decided c.eq-ended.result c.self.inside.bytes.items c.args.piece.now c.self.inside.line _ free c.self.invariant (search rules) walked
     (λ e. search (rules, e)) (λ e. search (rules, e)) (λ off. grind (rules, arith, off, c.else-not-ended.either)) in
     let bytes = c.self.inside.bytes.items ++ c.args.piece.now in
     let len : c.len.result ≡ length c.deref-2.result.now = search rules in

@@ -20,5 +20,5 @@ returns-clause-bytes g c =
     let least = rw from at c.min-count.ensures in
     let count : length c.copy_from_slice.new.self ≡ c.min-count.result = grind (arith, length-take, c.copy_from_slice.ensures.len, c.min-count.ensures) in (
       reads_front items (drop n c.args.buf.now) given start n _ after count,
-      λ none room. reads_some items c.args.buf.now given start n (search rules) least count none room,
+      λ none free. reads_some items c.args.buf.now given start n (search rules) least count none free,
     )

@@ -8,7 +8,7 @@ returns-in-Some g c = record {
   lost = Some (c.in-Some.client, c.in-Some.now);
   between = desk c.talk-failed.new.pass (g.I.IdSource.stream c.talk-failed.new.ids);
   talk = rw c.in-Some.is at c.talk-failed.ensures;
-  told = rw c.if-failed.true c.tell_lost.ensures;
+  told = rw c.if-failed.true c.lose.ensures;
 }
 
 pub returns-else-failed : goal.returns-else-failed

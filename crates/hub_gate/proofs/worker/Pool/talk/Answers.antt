@@ -1,6 +1,6 @@
 use Rattle.std.proofs.Common.{◌≡◌, [], ◌∷◌, ◌++◌, Result, Ok, Err, is_ok, is_err, None, true, false, arith, refl, inl, inr, length-append, sym, ◌∙◌}
 use Rattle.std.proofs.lemmas.Fn.{FoldsTo-push}
-use Rattle.hub_gate.specs.Turns.{Round, Serves}
+use Rattle.hub_gate.specs.Turns.{Turn, Serves}
 use Rattle.hub_gate.proofs.Rounds.{last_client-push}
 use Rattle.hub_gate.proofs.worker.Pool.talk.Goals as goal
 
@@ -13,16 +13,16 @@ unheard (Ok a) is = absurd (cc (is))
 unheard (Err e) is = refl
 
 pub turns-init : goal.turns-init
-turns-init g c = record { rounds = []; talks = refl; count = refl; lost_is = refl }
+turns-init g c = record { served = []; talks = refl; count = refl; lost_is = refl }
 
 pub turns-preserved : goal.turns-preserved
 turns-preserved g c =
     let before = c.turns.invariant in
-    let r : Round = record { event = c.in-Some.event; now = c.in-Some.now; before = c.apply-done.result.before.value; got = c.apply-done.result.got; after = c.apply-done.result.after.value; heard = true } in
+    let r : Turn = record { event = c.in-Some.event; now = c.in-Some.now; before = c.apply-done.result.before.value; got = c.apply-done.result.got; after = c.apply-done.result.after.value; heard = true } in
     let gave = rw c.in-Some.is at c.in-Ok.ensures in
     record {
-      rounds = before.rounds ++ r ∷ [];
-      talks = FoldsTo-push (Serves g.P.Peer.gives g.P.Peer.hears (g.A.App.policy c.args.self.now.app.now)) _ before.rounds _ r _ before.talks (record {
+      served = before.served ++ r ∷ [];
+      talks = FoldsTo-push (Serves g.P.Peer.gives g.P.Peer.hears (g.A.App.policy c.args.self.now.app.now)) _ before.served _ r _ before.talks (record {
         asking = c.next.new.self;
         gave = gave;
         applied = c.apply-done.ensures;
@@ -30,15 +30,15 @@ turns-preserved g c =
         heard_is = heard c.answer.result (sym c.is_err.ensures.value ∙ c.if-is_err.false);
         told = c.answer.ensures;
       });
-      count = omega (arith, length-append before.rounds (r ∷ []), before.count);
-      lost_is = c.lost_after-lost.ensures ∙ sym (last_client-push None before.rounds r);
+      count = omega (arith, length-append before.served (r ∷ []), before.count);
+      lost_is = c.lost_after-lost.ensures ∙ sym (last_client-push None before.served r);
     }
 
 pub returns-in_default : goal.returns-in_default
 returns-in_default g c =
     let before = c.turns.invariant in
     record {
-      rounds = before.rounds;
+      served = before.served;
       last = c.turns.peer;
       talks = before.talks;
       within = omega (arith, before.count);
@@ -50,7 +50,7 @@ pub returns-in_default-given : goal.returns-in_default-given
 returns-in_default-given g c =
     let before = c.turns.invariant in
     record {
-      rounds = before.rounds;
+      served = before.served;
       last = c.turns.peer;
       talks = before.talks;
       within = omega (arith, before.count);
@@ -61,12 +61,12 @@ returns-in_default-given g c =
 pub returns-then-is_err : goal.returns-then-is_err
 returns-then-is_err g c =
     let before = c.turns.invariant in
-    let r : Round = record { event = c.in-Some.event; now = c.in-Some.now; before = c.apply-done.result.before.value; got = c.apply-done.result.got; after = c.apply-done.result.after.value; heard = false } in
+    let r : Turn = record { event = c.in-Some.event; now = c.in-Some.now; before = c.apply-done.result.before.value; got = c.apply-done.result.got; after = c.apply-done.result.after.value; heard = false } in
     let gave = rw c.in-Some.is at c.in-Ok.ensures in
     record {
-      rounds = before.rounds ++ r ∷ [];
+      served = before.served ++ r ∷ [];
       last = c.answer.new.self;
-      talks = FoldsTo-push (Serves g.P.Peer.gives g.P.Peer.hears (g.A.App.policy c.args.self.now.app.now)) _ before.rounds _ r _ before.talks (record {
+      talks = FoldsTo-push (Serves g.P.Peer.gives g.P.Peer.hears (g.A.App.policy c.args.self.now.app.now)) _ before.served _ r _ before.talks (record {
         asking = c.next.new.self;
         gave = gave;
         applied = c.apply-done.ensures;
@@ -74,16 +74,16 @@ returns-then-is_err g c =
         heard_is = unheard c.answer.result (sym c.is_err.ensures.value ∙ c.if-is_err.true);
         told = c.answer.ensures;
       });
-      within = omega (arith, length-append before.rounds (r ∷ []), before.count);
-      ends = inr (refl, inl (before.rounds, r, refl, refl));
-      lost_is = c.lost_after-lost.ensures ∙ sym (last_client-push None before.rounds r);
+      within = omega (arith, length-append before.served (r ∷ []), before.count);
+      ends = inr (refl, inl (before.served, r, refl, refl));
+      lost_is = c.lost_after-lost.ensures ∙ sym (last_client-push None before.served r);
     }
 
 pub returns : goal.returns
 returns g c =
     let before = c.turns.invariant in
     record {
-      rounds = before.rounds;
+      served = before.served;
       last = c.turns.peer;
       talks = before.talks;
       within = omega (arith, before.count);

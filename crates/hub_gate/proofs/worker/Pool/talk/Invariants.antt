@@ -1,12 +1,12 @@
 use Rattle.std.proofs.Common.{◌≡◌, List, length, None}
 use Rattle.std.specs.List.{FoldsTo}
-use Rattle.hub_gate.specs.Turns.{Round, Serves, desk, last_client}
+use Rattle.hub_gate.specs.Turns.{Turn, Serves, desk, last_client}
 use Rattle.hub_gate.proofs.worker.Pool.talk.Given as goal
 
 abbrev pub invariant-turns : goal.invariant-turns
 invariant-turns g l = record {
-  rounds : List Round;
-  talks : FoldsTo (Serves g.P.Peer.gives g.P.Peer.hears (g.A.App.policy l.self.app.now)) (l.fn.peer, desk l.fn.pass (g.I.IdSource.stream l.fn.ids)) rounds (l.peer, desk l.pass (g.I.IdSource.stream l.ids));
-  count : length rounds ≡ l.counter;
-  lost_is : l.lost ≡ last_client None rounds;
+  served : List Turn;
+  talks : FoldsTo (Serves g.P.Peer.gives g.P.Peer.hears (g.A.App.policy l.self.app.now)) (l.fn.peer, desk l.fn.pass (g.I.IdSource.stream l.fn.ids)) served (l.peer, desk l.pass (g.I.IdSource.stream l.ids));
+  count : length served ≡ l.counter;
+  lost_is : l.lost ≡ last_client None served;
 }

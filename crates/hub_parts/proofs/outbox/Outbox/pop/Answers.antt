@@ -2,7 +2,7 @@ use Rattle.std.proofs.Common.{◌≡◌, ◌<◌, ◌≤◌, ℕ, Option, Some, 
 use Rattle.std.specs.Option.{unwrap_or}
 use Rattle.std.specs.Arc.{arc_value}
 use Rattle.terms.specs.Entry.{entry_size}
-use Rattle.journal.proofs.OutboxesLemmas.{popped_fits, popped_room}
+use Rattle.journal.proofs.OutboxesLemmas.{popped_fits, popped_free}
 use Rattle.hub_parts.proofs.outbox.Outbox.pop.Goals as goal
 
 -- a size that fits is known
@@ -22,4 +22,4 @@ invariant_of-self c =
     let fits = popped_fits arc_value _ c.in-Some.entry _ _ c.self.invariant c.in-Some.ensures.value in
     let sizes = rw c.deref.ensures at c.size_of.ensures in
     let size = known c.size_of.result (entry_size (arc_value c.in-Some.entry)) sizes.some sizes.none (omega (arith, fits)) in
-    rw (c.unwrap_or.ensures, size, c.pop_front.ensures.items) (popped_room arc_value _ c.in-Some.entry _ _ c.self.invariant c.in-Some.ensures.value)
+    rw (c.unwrap_or.ensures, size, c.pop_front.ensures.items) (popped_free arc_value _ c.in-Some.entry _ _ c.self.invariant c.in-Some.ensures.value)

@@ -13,7 +13,7 @@ use Rattle.journal.specs.Totals.{is_spent}
 use Rattle.journal.specs.declared.step.What.TheVariants.{Attached}
 use Rattle.journal.proofs.CountsLemmas.{unrefused}
 use Rattle.journal.proofs.SocketsLemmas.{attached, can_attach, seated, may-attach, free-there, same-fields}
-use Rattle.hub_state.proofs.DepartLemmas.{hub-of, none-departs, plus}
+use Rattle.hub_state.proofs.EndedLemmas.{hub-of, none-ended, plus}
 use Rattle.hub_state.proofs.state.State.attach.Goals as goal
 
 pub add-requires-clause-counted : goal.add-requires-clause-counted
@@ -54,4 +54,4 @@ invariant_of-self-2 c =
     (plus (attached c.self.inside.base c.self.inside.limits c.in_ok-socket.socket c.args.now c.self.inside.records.last (get nat_cmp c.self.inside.clients) (get nat_cmp c.put_entry.new.clients) (get nat_cmp c.self.inside.live.seats) (get nat_cmp c.seat.new.live.seats)
     (sorted.contains nat_cmp c.self.inside.live.pids) (sorted.contains nat_cmp c.seat.new.live.pids) c.self.inside.live.rooms c.seat.new.live.rooms c.self.inside.saved c.self.inside.log c.self.inside.records.counts c.self.inside.records.steps.steps
     hub (rw (← c.self.view_is) at (sym c.in_ok-socket.ensures.accepted)) puts ids.0 ids.1 (ids.2 ∙ with_pairs-none (with_socket c.self.inside.live.rooms c.in_ok-socket.socket.sid) c.in_ok-socket.socket.sid) ids.3)
-    (none-departs _ _ _ _ c.self.invariant.4 refl))
+    (none-ended _ _ _ _ c.self.invariant.4 refl))

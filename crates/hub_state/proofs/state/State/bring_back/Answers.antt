@@ -7,8 +7,8 @@ use Rattle.std.proofs.lemmas.List.{length-map}
 use Rattle.room_maps.specs.Membership as room_maps
 use Rattle.journal.proofs.SocketsLemmas.{same-fields}
 use Rattle.journal.proofs.RecoverStepLemmas.{places-fit, bytes-fit}
-use Rattle.hub_state.proofs.ReturnLemmas.{comes-back, came-back}
-use Rattle.hub_state.proofs.DepartLemmas.{none-departs, plus}
+use Rattle.hub_state.proofs.RecoverLemmas.{comes-back, came-back}
+use Rattle.hub_state.proofs.EndedLemmas.{none-ended, plus}
 use Rattle.hub_state.proofs.state.State.bring_back.Goals as goal
 
 pub seat-requires-clause-alone : goal.seat-requires-clause-alone
@@ -60,4 +60,4 @@ invariant_of-self-2 c =
     (plus (came-back hub r c.recovery.inside.socket es c.args.now c.len-placed.result (get nat_cmp c.seat.new.clients) (get nat_cmp c.put_all.new.clients) (get nat_cmp c.seat.new.live.seats)
     (sorted.contains nat_cmp c.seat.new.live.pids) c.seat.new.live.rooms c.remove-session.new.self c.self.invariant b (number ∙ sym (length-map c.args.puts.items arc_value))
     c.in_ok-seat.ensures.client c.put_all.ensures seats pids rooms ids.3 c.remove-session.ensures.removed)
-    (none-departs _ _ _ _ c.self.invariant.4 refl))
+    (none-ended _ _ _ _ c.self.invariant.4 refl))

@@ -3,7 +3,7 @@ use Rattle.std.specs.Ordering.{nat_cmp}
 use Rattle.std.specs.BTreeMap.{get}
 use Rattle.journal.specs.Fields.{held_sockets}
 use Rattle.journal.proofs.CloseLemmas.{closed, can_close, can_forget}
-use Rattle.hub_state.proofs.DepartLemmas.{hub-of, plus, some-depart, held-all}
+use Rattle.hub_state.proofs.EndedLemmas.{hub-of, plus, some-ended, held-all}
 use Rattle.hub_state.proofs.state.State.close.Goals as goal
 
 pub invariant_of-self-2 : goal.invariant_of-self-2
@@ -16,7 +16,7 @@ invariant_of-self-2 c =
     rw (c.add.ensures.steps, c.add.ensures.last, c.reserve.ensures.same, c.add.ensures.counts)
     (plus (closed _ _ c.args.client c.forget_client-discards.result c.args.now _ _ _ _ _ _ _ _ _ _ _ _ _ (hub-of c.self.inside c.self.invariant) (search rules) c.forget_client-discards.ensures.discards c.forget_client-discards.ensures.clients
     gone.0 gone.1 gone.2 c.kept_facts.ensures)
-    (some-depart _ _ _ _ _ _ c.self.invariant.4 (rw (c.deref.ensures.value, listed, c.self.invariant.0.rooms_are) at c.in_ok-ended.ensures.ok) c.in_ok-append.ensures.items))
+    (some-ended _ _ _ _ _ _ c.self.invariant.4 (rw (c.deref.ensures.value, listed, c.self.invariant.0.rooms_are) at c.in_ok-ended.ensures.ok) c.in_ok-append.ensures.items))
 
 pub add-requires-clause-counted : goal.add-requires-clause-counted
 add-requires-clause-counted c =

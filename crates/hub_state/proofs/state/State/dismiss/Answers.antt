@@ -10,7 +10,7 @@ use Rattle.journal.specs.Fields.{client_at, without_place}
 use Rattle.journal.specs.Casting.{is_full_in, in_space}
 use Rattle.journal.specs.Membership.{sid_of, socket_with}
 use Rattle.journal.proofs.DismissalLemmas.{receivers-once, have-places, goers-known, dismissed, can_dismiss}
-use Rattle.hub_state.proofs.DepartLemmas.{hub-of, plus, some-depart}
+use Rattle.hub_state.proofs.EndedLemmas.{hub-of, plus, some-ended}
 use Rattle.hub_state.proofs.state.State.dismiss.Goals as goal
 
 pub put_messages-requires-clause-apart : goal.put_messages-requires-clause-apart
@@ -61,4 +61,4 @@ invariant_of-self-2 c =
     (get nat_cmp c.self.inside.clients) (get nat_cmp c.put_messages.new.clients) (get nat_cmp c.drop_all.new.clients) (get nat_cmp c.self.inside.live.seats) (get nat_cmp c.forget_all.new.self.seats)
     (sorted.contains nat_cmp c.self.inside.live.pids) (sorted.contains nat_cmp c.forget_all.new.self.pids) c.self.inside.live.rooms c.forget_all.new.self.rooms c.self.inside.saved c.self.inside.log c.self.inside.records.counts
     (hub-of c.self.inside c.self.invariant) known room c.put_messages.ensures drops gone.0 gone.1 gone.2 c.kept_facts.ensures)
-    (some-depart _ _ _ _ _ _ c.self.invariant.4 (rw (c.deref-2.ensures.value, listed, c.self.invariant.0.rooms_are) at c.in_ok-ended.ensures.ok) c.in_ok-append.ensures.items))
+    (some-ended _ _ _ _ _ _ c.self.invariant.4 (rw (c.deref-2.ensures.value, listed, c.self.invariant.0.rooms_are) at c.in_ok-ended.ensures.ok) c.in_ok-append.ensures.items))

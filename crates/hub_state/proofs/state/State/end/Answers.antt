@@ -5,8 +5,8 @@ use Rattle.std.specs.BTreeMap.{get}
 use Rattle.journal.specs.Fields.{without_place}
 use Rattle.journal.proofs.EndLemmas.{puts_ended, ended, can_end, one-known}
 use Rattle.journal.specs.declared.step.What.TheVariants.{Ended}
-use Rattle.hub_state.specs.Departing.{departed_by}
-use Rattle.hub_state.proofs.DepartLemmas.{hub-of, plus, some-depart}
+use Rattle.hub_state.specs.EndedSockets.{sockets_ended_by}
+use Rattle.hub_state.proofs.EndedLemmas.{hub-of, plus, some-ended}
 use Rattle.hub_state.proofs.state.State.end.Goals as goal
 
 pub invariant_of-self-2 : goal.invariant_of-self-2
@@ -15,11 +15,11 @@ invariant_of-self-2 c =
     let find = get nat_cmp c.self.inside.clients in
     let dropped : (q : ℕ) → get nat_cmp c.drop_from.new.clients q ≡ (if c.in_ok-socket.socket.client == q then option_map (without_place c.in_ok-socket.socket.space) (find q) else find q)
     = subst (λ p. (q : ℕ) → get nat_cmp c.drop_from.new.clients q ≡ (if c.in_ok-socket.socket.client == q then option_map (without_place p) (find q) else find q)) c.from.ensures c.drop_from.ensures in
-    let gone : c.in_ok-ended.ended.items ≡ departed_by c.self.inside.base c.self.inside.records.steps.steps (Ended c.args.sid c.args.by) =
+    let gone : c.in_ok-ended.ended.items ≡ sockets_ended_by c.self.inside.base c.self.inside.records.steps.steps (Ended c.args.sid c.args.by) =
     rw found (rw c.self.invariant.0.rooms_are at c.in_ok-ended.ensures.ok) in
     rw (c.add.ensures.steps, c.add.ensures.last, c.reserve.ensures.same, c.add.ensures.counts)
     (plus (ended _ _ c.args.sid c.args.by c.in_ok-socket.socket c.args.now _ _ _ _ _ _ _ _ _ _ _ _ _ (hub-of c.self.inside c.self.invariant) (let s = c.in_ok-may_count.ensures (Ended c.args.sid c.args.by) (puts_ended _ _ _ c.args.sid c.args.by) refl (omega arith) in search (rules, s)) found dropped c.forget.ensures.seats c.forget.ensures.pids c.forget.ensures.rooms c.kept_facts.ensures)
-    (some-depart _ _ _ _ _ _ c.self.invariant.4 gone c.in_ok-append.ensures.items))
+    (some-ended _ _ _ _ _ _ c.self.invariant.4 gone c.in_ok-append.ensures.items))
 
 pub add-requires-clause-counted : goal.add-requires-clause-counted
 add-requires-clause-counted c = can_end _ _ _ _ c.self.invariant.3 c.self.invariant.2 c.args.sid c.args.by (let s = c.in_ok-may_count.ensures (Ended c.args.sid c.args.by) (puts_ended _ _ _ c.args.sid c.args.by) refl (omega arith) in search (rules, s))

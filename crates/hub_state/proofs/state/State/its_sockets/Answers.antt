@@ -3,7 +3,7 @@ use Rattle.std.specs.Prelude.{option_copied}
 use Rattle.std.specs.Ordering.{nat_cmp}
 use Rattle.std.specs.BTreeMap.{get}
 use Rattle.journal.specs.Fields.{held_sockets}
-use Rattle.hub_state.proofs.DepartLemmas.{held-all}
+use Rattle.hub_state.proofs.EndedLemmas.{held-all}
 use Rattle.hub_state.proofs.state.State.its_sockets.Goals as goal
 
 pub returns-in_default : goal.returns-in_default

@@ -1,7 +1,7 @@
 use Rattle.std.proofs.Common.{rules, ◌≡◌, ◌≤◌, length, subst, sym, Some, []}
 use Rattle.journal.specs.Plain.{Limits}
 use Rattle.journal.proofs.FreshLemmas.{fresh}
-use Rattle.hub_state.proofs.DepartLemmas.{nobody-departed, plus}
+use Rattle.hub_state.proofs.EndedLemmas.{nobody-ended, plus}
 use Rattle.hub_state.proofs.state.State.new.Goals as goal
 
 pub invariant_of-result : goal.invariant_of-result
@@ -10,4 +10,4 @@ invariant_of-result c =
     let log : c.in_ok-log.log ≡ record { limit = c.in_ok-limits.limits.log; next = Some c.in_ok-limits.limits.first_offset; last = 0; entries = [] } = search rules in
     rw (c.empty_base-base.ensures, c.config-config.ensures, c.new-6.ensures)
     (plus (fresh c.in_ok-limits.limits c.in_ok-limits.limits.first_offset _ _ _ _ _ _ (search rules) few (search rules) (search rules) (search rules) (search rules) c.kept_facts.ensures (search rules) log)
-    (nobody-departed _ _ (search rules)))
+    (nobody-ended _ _ (search rules)))

@@ -5,7 +5,7 @@ use Rattle.journal.specs.Membership.{place_of}
 use Rattle.journal.specs.Recovery.{recovery_of}
 use Rattle.journal.specs.Refusals.{recovered_entries}
 use Rattle.journal.proofs.RecoverRefusalLemmas.{does-by}
-use Rattle.hub_state.proofs.ReturnLemmas.{is-return}
+use Rattle.hub_state.proofs.RecoverLemmas.{is-return}
 use Rattle.hub_state.proofs.state.State.recover.Goals as goal
 
 pub bring_back-back-requires-clause-accepted : goal.bring_back-back-requires-clause-accepted

@@ -2,7 +2,7 @@ use Rattle.std.proofs.Common.{rules, arith, ◌≡◌, ◌∙◌, refl, sym, tru
 use Rattle.journal.specs.declared.step.What.TheVariants.{Recovered}
 use Rattle.journal.specs.Membership.{is_open, is_space, socket_of, place_of}
 use Rattle.journal.specs.Recovery.{recovery_of}
-use Rattle.hub_state.proofs.ReturnLemmas.{has-no-place, by-count}
+use Rattle.hub_state.proofs.RecoverLemmas.{has-no-place, by-count}
 use Rattle.hub_state.proofs.state.State.returning.Goals as goal
 
 pub returns-in_default-clause-refused : goal.returns-in_default-clause-refused

@@ -6,7 +6,7 @@ use Rattle.std.specs.BTreeSet as sorted
 use Rattle.journal.specs.Plain.{PlainMessage}
 use Rattle.journal.specs.Casting.{is_full_in, with_logged}
 use Rattle.journal.proofs.CastStepLemmas.{casted}
-use Rattle.hub_state.proofs.DepartLemmas.{hub-of, none-departs, plus}
+use Rattle.hub_state.proofs.EndedLemmas.{hub-of, none-ended, plus}
 use Rattle.hub_state.proofs.state.State.send.Goals as goal
 
 pub put_messages-requires-clause-places : goal.put_messages-requires-clause-places
@@ -30,4 +30,4 @@ invariant_of-self-2 c =
     c.args.messages.items told c.args.now c.self.inside.records.last (get nat_cmp c.self.inside.clients) (get nat_cmp c.put_messages.new.clients) (get nat_cmp c.self.inside.live.seats)
     (sorted.contains nat_cmp c.self.inside.live.pids) c.self.inside.live.rooms c.self.inside.saved c.self.inside.log c.push_logged.new.log c.self.inside.records.counts
     hub room logged c.put_messages.ensures)
-    (none-departs _ _ _ _ c.self.invariant.4 refl))
+    (none-ended _ _ _ _ c.self.invariant.4 refl))

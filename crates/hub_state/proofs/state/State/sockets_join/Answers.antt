@@ -13,7 +13,7 @@ use Rattle.journal.specs.ManySockets.{joining, may_enter, RightJoining}
 use Rattle.journal.specs.Refusals.{or_spent, joining_refusal}
 use Rattle.journal.specs.Command.{IsErrorOf}
 use Rattle.journal.proofs.ManySocketsLemmas.{refused-late, joining-refused, puts_joining, all-joined, can_join_all, all-changed, both-true}
-use Rattle.hub_state.proofs.DepartLemmas.{hub-of, none-departs, plus, recorded}
+use Rattle.hub_state.proofs.EndedLemmas.{hub-of, none-ended, plus, recorded}
 use Rattle.hub_state.proofs.state.State.sockets_join.Goals as goal
 
 pub returns-in-Some-clause-does : goal.returns-in-Some-clause-does
@@ -81,7 +81,7 @@ invariant_of-self-2 c =
     let hub = hub-of c.self.inside c.self.invariant in
     recorded _ _ _ _ _ _ _ _ _ _ _ _ _ _ _ c.add.ensures.last c.add.ensures.counts (c.add.ensures.steps ∙ ap (λ steps. record { at = max c.args.now c.self.inside.records.last; what = AllJoined m } ∷ steps) c.reserve.ensures.same)
     (plus (all-joined _ _ m c.args.now _ _ _ _ _ _ _ _ _ _ hub accepted right made c.kept_facts.ensures)
-    (none-departs _ _ _ _ c.self.invariant.4 refl))
+    (none-ended _ _ _ _ c.self.invariant.4 refl))
 
 pub add-requires-clause-counted : goal.add-requires-clause-counted
 add-requires-clause-counted c =

@@ -13,7 +13,7 @@ use Rattle.journal.specs.ManySockets.{leaving, may_exit, RightLeaving}
 use Rattle.journal.specs.Refusals.{or_spent, leaving_refusal}
 use Rattle.journal.specs.Command.{IsErrorOf}
 use Rattle.journal.proofs.ManySocketsLemmas.{refused-late, leaving-refused, puts_leaving, all-left, can_leave_all, all-changed, both-true}
-use Rattle.hub_state.proofs.DepartLemmas.{hub-of, none-departs, plus, recorded}
+use Rattle.hub_state.proofs.EndedLemmas.{hub-of, none-ended, plus, recorded}
 use Rattle.hub_state.proofs.state.State.sockets_leave.Goals as goal
 
 pub returns-in-Some-clause-does : goal.returns-in-Some-clause-does
@@ -81,7 +81,7 @@ invariant_of-self-2 c =
     let hub = hub-of c.self.inside c.self.invariant in
     recorded _ _ _ _ _ _ _ _ _ _ _ _ _ _ _ c.add.ensures.last c.add.ensures.counts (c.add.ensures.steps ∙ ap (λ steps. record { at = max c.args.now c.self.inside.records.last; what = AllLeft m } ∷ steps) c.reserve.ensures.same)
     (plus (all-left _ _ m c.args.now _ _ _ _ _ _ _ _ _ _ hub accepted right made c.kept_facts-2.ensures)
-    (none-departs _ _ _ _ c.self.invariant.4 refl))
+    (none-ended _ _ _ _ c.self.invariant.4 refl))
 
 pub add-requires-clause-counted : goal.add-requires-clause-counted
 add-requires-clause-counted c =

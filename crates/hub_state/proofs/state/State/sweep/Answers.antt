@@ -1,7 +1,7 @@
 use Rattle.std.proofs.Common.{rules, sym, refl, arith}
 use Rattle.journal.proofs.SweepLemmas.{puts_swept, swept-hub, can_sweep, dropped-log, dropped-saved}
 use Rattle.journal.specs.declared.step.What.TheVariants.{Swept}
-use Rattle.hub_state.proofs.DepartLemmas.{hub-of, none-departs, plus}
+use Rattle.hub_state.proofs.EndedLemmas.{hub-of, none-ended, plus}
 use Rattle.hub_state.proofs.state.State.sweep.Goals as goal
 
 pub invariant_of-self-2 : goal.invariant_of-self-2
@@ -9,7 +9,7 @@ invariant_of-self-2 c =
     let hub = hub-of c.self.inside c.self.invariant in
     rw (c.in_ok-write.ensures.steps, c.in_ok-write.ensures.last, c.in_ok-write.ensures.counts)
     (plus (swept-hub _ _ c.args.now _ c.max-at.result _ _ _ _ _ _ _ _ _ _ hub (let s = c.in_ok-may_count.ensures Swept (puts_swept _ _ _) refl (omega arith) in search (rules, s)) (search rules) c.drop_outdated-swept.ensures.saved c.drop_outdated-swept.ensures.log)
-    (none-departs _ _ _ _ c.self.invariant.4 refl))
+    (none-ended _ _ _ _ c.self.invariant.4 refl))
 
 pub write-requires : goal.write-requires
 write-requires c = can_sweep _ _ _ _ c.self.invariant.3 c.self.invariant.2 (let s = c.in_ok-may_count.ensures Swept (puts_swept _ _ _) refl (omega arith) in search (rules, s))

@@ -1,6 +1,6 @@
 use Rattle.std.proofs.Common.{rules, refl}
 use Rattle.journal.proofs.CommandLemmas.{took, can_take}
-use Rattle.hub_state.proofs.DepartLemmas.{hub-of, none-departs, plus}
+use Rattle.hub_state.proofs.EndedLemmas.{hub-of, none-ended, plus}
 use Rattle.hub_state.proofs.state.State.take_away.Goals as goal
 
 pub invariant_of-self-2 : goal.invariant_of-self-2
@@ -9,7 +9,7 @@ invariant_of-self-2 c =
     let hub = hub-of c.self.inside c.self.invariant in
     rw (c.in_ok-write.ensures.steps, c.in_ok-write.ensures.last, c.in_ok-write.ensures.counts)
     (plus (took _ _ c.args.client c.args.most c.in_ok-number.number c.args.now _ _ _ _ _ _ _ _ _ _ hub (search rules) number c.hand_out.ensures)
-    (none-departs _ _ _ _ c.self.invariant.4 refl))
+    (none-ended _ _ _ _ c.self.invariant.4 refl))
 
 pub write-requires : goal.write-requires
 write-requires c = can_take _ _ _ _ c.self.invariant.3 c.self.invariant.2 c.args.client c.args.most c.in_ok-number.number (search rules)

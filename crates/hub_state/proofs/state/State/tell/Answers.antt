@@ -1,6 +1,6 @@
 use Rattle.std.proofs.Common.{rules, refl}
 use Rattle.journal.proofs.CommandLemmas.{told, can_tell}
-use Rattle.hub_state.proofs.DepartLemmas.{hub-of, none-departs, plus}
+use Rattle.hub_state.proofs.EndedLemmas.{hub-of, none-ended, plus}
 use Rattle.hub_state.proofs.state.State.tell.Goals as goal
 
 pub invariant_of-self-2 : goal.invariant_of-self-2
@@ -8,7 +8,7 @@ invariant_of-self-2 c =
     let hub = hub-of c.self.inside c.self.invariant in
     rw (c.in_ok-write.ensures.steps, c.in_ok-write.ensures.last, c.in_ok-write.ensures.counts, c.in_ok-entry.ensures.ok)
     (plus (told _ _ (record { client = c.args.client; entry = c.args.entry }) c.args.now _ _ _ _ _ _ _ _ _ _ hub (search rules) (rw (c.in_ok-shared.ensures, c.in_ok-entry.ensures.ok) at c.put_entry.ensures))
-    (none-departs _ _ _ _ c.self.invariant.4 refl))
+    (none-ended _ _ _ _ c.self.invariant.4 refl))
 
 pub write-requires : goal.write-requires
 write-requires c = can_tell _ _ _ _ c.self.invariant.3 c.self.invariant.2 (record { client = c.args.client; entry = c.args.entry }) (search rules)

@@ -3,8 +3,8 @@ use Rattle.std.specs.Arc.{arc_value}
 use Rattle.journal.specs.Outboxes.{answer}
 use Rattle.journal.specs.Recovery.{gets}
 use Rattle.journal.proofs.RecoverLemmas.{gets-append}
-use Rattle.hub_state.specs.Returning.{socket_again}
-use Rattle.hub_state.proofs.ReturnLemmas.{puts-back}
+use Rattle.hub_state.specs.Recovering.{socket_again}
+use Rattle.hub_state.proofs.RecoverLemmas.{puts-back}
 use Rattle.hub_state.proofs.state.State.what_returns.Goals as goal
 
 pub returns-clause-puts : goal.returns-clause-puts

@@ -12,7 +12,7 @@ pub invariant_of-self-2 : goal.invariant_of-self-2
 invariant_of-self-2 c =
     grown (is_ok c.push.result) c.self.inside.looks.items c.push.new.self.items _ _ _ _ _ _ _ _ c.self.invariant
     c.push.ensures.items
-    (rw (c.make_room.ensures.same.0, c.make_room-else-not-make_room.ensures.same.0) refl)
-    (omega (arith, c.make_room.ensures.same.1, c.make_room-else-not-make_room.ensures.same.1))
-    (omega (arith, c.make_room.ensures.room (cc (c.if-not-make_room.false)), c.saturating_add-most.ensures, c.len-count.ensures))
-    (omega (arith, c.make_room-else-not-make_room.ensures.room (cc (c.if-not-make_room-2.false)), c.saturating_add-most.ensures, c.len-count.ensures))
+    (rw (c.reserve.ensures.same.0, c.reserve-else-not-reserve.ensures.same.0) refl)
+    (omega (arith, c.reserve.ensures.same.1, c.reserve-else-not-reserve.ensures.same.1))
+    (omega (arith, c.reserve.ensures.fits (cc (c.if-not-reserve.false)), c.saturating_add-most.ensures, c.len-count.ensures))
+    (omega (arith, c.reserve-else-not-reserve.ensures.fits (cc (c.if-not-reserve-2.false)), c.saturating_add-most.ensures, c.len-count.ensures))

@@ -3,7 +3,7 @@ use Rattle.std.proofs.lemmas.List.{get_or_read}
 use Rattle.loop_rules.specs.declared.looks.LookState.TheVariants as state
 use Rattle.loop_rules.specs.Looks.{is_queued, is_to_queue}
 use Rattle.loop_rules.specs.Rotas.{look_of}
-use Rattle.loop_rules.proofs.RotaLemmas.{room, to_queue_isnt_queued}
+use Rattle.loop_rules.proofs.RotaLemmas.{fits_one, to_queue_isnt_queued}
 use Rattle.loop_rules.proofs.rota.Rota.call.Goals as goal
 
 -- src/rota.rt
@@ -15,5 +15,5 @@ push_back_reserved-requires c =
     let to : is_to_queue c.index_mut.result.now ≡ true = cc in
     let out : is_queued (look_of c.self.inside.looks.items c.args.key) ≡ false =
     rw (← at) (to_queue_isnt_queued c.index_mut.result.now to) in
-    let fits = room c.self.inside.looks.items _ _ _ _ c.args.key c.self.invariant below out in
+    let fits = fits_one c.self.inside.looks.items _ _ _ _ c.args.key c.self.invariant below out in
     omega (arith, fits.0)

@@ -1,5 +1,5 @@
 use Rattle.std.proofs.Common.{rules, ◌≡◌, false}
-use Rattle.peers.specs.Turning.{reads}
+use Rattle.peers.specs.Rounds.{reads}
 use Rattle.peers.proofs.StageLemmas.{not_reading}
 use Rattle.peers.proofs.socket_peer.SocketPeerPeer.next.Goals as goal
 use Rattle.peers.proofs.socket_peer.SocketPeerPeer.next.Goals.{in-Reads, in_default}

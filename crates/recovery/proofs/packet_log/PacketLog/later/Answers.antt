@@ -14,4 +14,4 @@ returns-clause-later c =
     ∙ ap (λ (m : ℕ). drop m front ++ drop (past - m) back) c.min-split.ensures
     ∙ sym (drop_pieces past front back)
     ∙ ap (drop past) (c.as_slices.ensures ∙ ap (λ v. v.entries) c.self.view_is)
-    ∙ sym c.in_ok-past.ensures.place.later
+    ∙ sym c.in_ok-past.ensures.index.later

@@ -11,7 +11,7 @@ loop-job-preserved g c =
     let steps : into_iter_items at.job-iterator ≡ c.in-Some.job ∷ into_iter_items c.next.new.self = c.in-Some.ensures.steps.0 in
     record {
       count = omega (arith, c.push_reserved.ensures.len, at.invariant.count, c.in-Some.ensures.steps.1);
-      room = omega (arith, c.push_reserved.ensures.capacity, at.invariant.room);
+      fits = omega (arith, c.push_reserved.ensures.capacity, at.invariant.fits);
       yielded = append_assoc at.yielded (c.in-Some.job ∷ []) (into_iter_items c.next.new.self) ∙ rw (← steps) at.invariant.yielded;
       begun = rw c.push_reserved.ensures.items (zip_push (λ j h. (h.promise.job.value ≡ j) × (h.promise.app.value ≡ c.captures.pool.now.app.now) × (h.promise.turns ≡ c.captures.pool.now.turns))
           at.yielded at.handles.items c.in-Some.job c.in-Ok.handle at.invariant.begun (search rules));

@@ -1,0 +1,48 @@
+use Rattle.std.proofs.Common.{refl, arith, ◌∙◌, ◌∷◌, [], ap, length, length-append}
+use Rattle.dispatch.specs.Holding.{holding}
+use Rattle.dispatch.proofs.HandedLemmas.{hands-start, hands-next, hands-whole}
+use Rattle.dispatch.proofs.ServerLemmas.{machine-start, machine-next, machine-whole}
+use Rattle.dispatch.proofs.event_core.Core.apply_all.Goals as goal
+
+pub loop-event-init : goal.loop-event-init
+loop-event-init g c = record {
+  run = machine-start (g.A.App.policy c.args.app.now) c.args.self.now.timing c.args.self.now.numbers c.in_ok-answers.answers.items (holding c.args.self.now.hub.history c.args.self.now.lines) (g.I.IdSource.stream c.args.ids.now) c.in_ok-answers.ensures.items;
+  handed = hands-start c.in_ok-answers.answers.items c.args.self.now.hub.history c.in_ok-answers.ensures.items;
+  said = ap length c.in_ok-answers.ensures.items;
+  timing = refl;
+  numbers = refl;
+  count = c.in_ok-answers.ensures.len;
+  fits = c.in_ok-answers.ensures.capacity;
+}
+
+pub loop-event-preserved : goal.loop-event-preserved
+loop-event-preserved g c =
+    let before = c.loop-event.invariant in
+    let said = c.apply-answer.ensures in
+    record {
+      run = machine-next (g.A.App.policy c.args.app.now) c.args.self.now.timing c.args.self.now.numbers c.args.events.now c.loop-event.event-index c.loop-event-item.result
+          c.loop-event.answers.items c.push_reserved.new.self.items c.apply-answer.result c.loop-event.self.timing c.loop-event.self.numbers
+          (holding c.args.self.now.hub.history c.args.self.now.lines) (holding c.loop-event.self.hub.history c.loop-event.self.lines) (holding c.apply-answer.new.self.hub.history c.apply-answer.new.self.lines)
+          (g.I.IdSource.stream c.args.ids.now) (g.I.IdSource.stream c.loop-event.ids) (g.I.IdSource.stream c.apply-answer.new.ids)
+          c.loop-event-test.true c.loop-event-item.is c.push_reserved.ensures.items before.timing before.numbers before.run said.does;
+      handed = hands-next c.args.events.now c.loop-event.event-index c.loop-event-item.result c.loop-event.answers.items c.push_reserved.new.self.items c.apply-answer.result
+          c.args.self.now.hub.history c.loop-event.self.hub.history c.apply-answer.new.self.hub.history
+          c.loop-event-test.true c.loop-event-item.is c.push_reserved.ensures.items before.said before.handed said.handed;
+      said = ap length c.push_reserved.ensures.items ∙ omega (arith, before.said, length-append c.loop-event.answers.items (c.apply-answer.result ∷ []));
+      timing = said.settings.0 ∙ before.timing;
+      numbers = said.settings.1 ∙ before.numbers;
+      count = omega (arith, c.push_reserved.ensures.len, c.loop-event.invariant.count);
+      fits = omega (arith, c.push_reserved.ensures.capacity, c.loop-event.invariant.fits);
+    }
+
+pub push_reserved-requires : goal.push_reserved-requires
+push_reserved-requires g c = omega (arith, c.loop-event.invariant.count, c.loop-event.invariant.fits, c.loop-event-test.true)
+
+pub returns-clause-does : goal.returns-clause-does
+returns-clause-does g c =
+    machine-whole (g.A.App.policy c.args.app.now) c.args.self.now.timing c.args.self.now.numbers c.args.events.now c.loop-event.event-index c.loop-event.answers.items
+    (holding c.args.self.now.hub.history c.args.self.now.lines) (holding c.loop-event.self.hub.history c.loop-event.self.lines) (g.I.IdSource.stream c.args.ids.now) (g.I.IdSource.stream c.loop-event.ids) c.loop-event-test.false c.loop-event.invariant.run
+
+pub returns-clause-handed : goal.returns-clause-handed
+returns-clause-handed g c =
+    hands-whole c.args.events.now c.loop-event.event-index c.loop-event.answers.items c.args.self.now.hub.history c.loop-event.self.hub.history c.loop-event-test.false c.loop-event.invariant.handed

@@ -1,0 +1,13 @@
+use Rattle.std.proofs.Common.{ap}
+use Rattle.hub_totals.specs.Pass.{PlainHub}
+use Rattle.dispatch.proofs.ServerLemmas.{kept-history, core-same}
+use Rattle.dispatch.proofs.event_core.Core.audit.Goals as goal
+
+pub invariant_of-self : goal.invariant_of-self
+invariant_of-self g c = kept-history c.self.inside.lines.entries c.self.inside.hub c.audit.new.self (ap (λ (h : PlainHub). h.history) c.audit.ensures.same.0) c.self.invariant
+
+pub returns : goal.returns
+returns g c = rw (← c.self.view_is) (record {
+  same = (core-same (record { hub = c.self.inside.hub; lines = c.self.inside.lines.entries; timing = c.self.inside.told.timing; numbers = c.self.inside.told.numbers }) c.self.inside.hub c.audit.new.self c.audit.ensures.same.0, c.audit.ensures.same.1);
+  at_least = c.audit.ensures.at_least;
+})

@@ -1,0 +1,284 @@
+//! The whole state of the server, and what each event does to it.
+
+ghost use Rattle.std.specs.Prelude.{◌≡◌, ℕ, ◌+◌, List, [], ◌∷◌, length, Some, None, is_some, IsOk, IfOk, IfErr, IfSome, OnOk, OnErr};
+ghost use Rattle.std.specs.Ordering.{nat_cmp};
+ghost use Rattle.terms.specs.Listing.{ListsRising};
+ghost use Rattle.journal.specs.Config.{config_refusal};
+ghost use Rattle.journal.specs.Membership.{is_open};
+ghost use Rattle.journal.specs.Seal.{Seals};
+ghost use Rattle.hub_totals.specs.Pass.{AtLeast, GivesPass, IsBlankOf, Settles};
+ghost use Rattle.effects.specs.Following.{Spares};
+ghost use Rattle.connection.specs.Line.{PlainLine};
+ghost use Rattle.dispatch.specs.Holding.{line_of, holding, Agree, IsClean, IsNew};
+ghost use Rattle.dispatch.specs.Takes.{IsOn};
+ghost use Rattle.events.specs.Answer.{at_once};
+ghost use Rattle.dispatch.specs.Answers.{fault_of_config};
+ghost use Rattle.dispatch.specs.Counting.{TurnsFor};
+ghost use Rattle.dispatch.specs.Handed.{Turn, turns_after, Handed};
+ghost use Rattle.dispatch.specs.Machine.{Row, Does, Machine, IsOf, listed};
+
+use crate::hear_after::hear_after;
+use crate::lines::{Handshake, Lines, transport_of};
+use crate::{frames, losing, requests, upgrade};
+use connection::{Timing, Transport};
+use effects::Call;
+use eio_wire::Numbers;
+use events::{Answered, App, CoreError, CoreFault, Event, IdSource};
+use hub_state::State;
+use hub_totals::{Hub, NotAll, Pass};
+use journal::{Config, Epoch, HubError, Totals};
+use std::alloc::{AllocError, Global};
+use std::collections::BTreeMap;
+use std::marker::Model;
+use std::sync::ledger::{Blank, Ledger};
+use terms::let_go;
+
+/// The hub, and a line for each of its open clients. In a contract it is the hub's value, the lines
+/// by their clients, and what each new client is told. Each core has a line for just the open
+/// clients, and U+001E, which separates the packets of a payload, stands in no entry of it.
+pub struct Core<C: Ledger, T: Ledger> {
+    hub: Hub<C, T>,
+    lines: Lines,
+    told: Handshake,
+}
+
+/// Written out, so that a crate above takes the drop of all that lies in it by this one call.
+impl<C: Ledger, T: Ledger> Drop for Core<C, T> {
+    fn drop(self) {
+        let_go!(self; hub, lines, told);
+    }
+}
+
+impl<C: Ledger, T: Ledger> Model for Core<C, T> {
+    ghost use Rattle.dispatch.specs.Holding.{PlainCore, Agree, IsClean};
+
+    ghost Value = { PlainCore };
+
+    ghost view = { λ c. record {
+      hub = c.hub;
+      lines = c.lines.entries;
+      timing = c.told.timing;
+      numbers = c.told.numbers;
+    } };
+
+    ghost invariant = { λ c. Agree c.hub.history c.lines.entries × IsClean c.hub.history };
+}
+
+impl<C: Ledger, T: Ledger> Core<C, T> {
+    /// A core with no clients, and its first pass. Refused as `BadConfig`, then for `Memory`.
+    pub fn new(
+        alloc: Global,
+        config: Config,
+        timing: Timing,
+        numbers: Numbers,
+        commands: Blank,
+        taken: Blank,
+    ) -> Result<(Core<C, T>, Pass<C, T>), CoreError>
+        requires commands { IsBlankOf C.name C.parts commands }
+        requires taken { IsBlankOf T.name T.parts taken }
+        ensures config { OnOk result (config_refusal config ≡ None) }
+        ensures made { IfOk result (λ made. IsNew config timing numbers made.0 made.1) }
+        ensures handed { IfOk result (λ made. (c : ℕ) → Handed c [] made.0.hub.history) }
+        ensures err { IfErr result (λ e. e ≡ at_once (fault_of_config (config_refusal config))) }
+    {
+        let lines = BTreeMap::new(alloc);
+        let told = Handshake { timing, numbers };
+        match Hub::new(alloc, config, commands, taken) {
+            Ok((hub, pass)) => Ok((Core { hub, lines, told }, pass)),
+            Err(HubError::BadConfig) => Err(CoreFault::BadConfig.at_once()),
+            Err(_) => Err(CoreFault::Memory.at_once()),
+        }
+    }
+
+    /// Does what an event does. Then the app hears of the sockets that it ended, and what the app
+    /// wants then is done, until a fault. An error of the event itself stays.
+    pub fn apply<A: App, I: IdSource>(
+        &mut self,
+        alloc: Global,
+        pass: &mut Pass<C, T>,
+        app: &A,
+        event: &Event,
+        now: u64,
+        ids: &mut I,
+    ) -> Answered
+        ensures does { Does (A.policy app.now) now
+            self.old.timing self.old.numbers event.now
+            (holding self.old.hub.history self.old.lines) (I.stream ids.old) result
+            (holding self.new.hub.history self.new.lines) (I.stream ids.new) }
+        ensures settings { (self.new.timing ≡ self.old.timing)
+            × (self.new.numbers ≡ self.old.numbers) }
+        ensures handed { (c : ℕ) (turns : List Turn) → Handed c turns self.old.hub.history
+            → Handed c ((event.now, result) ∷ turns) self.new.hub.history }
+        ensures turns { (c : ℕ) → IsOf event.now (I.stream ids.old) c
+            → TurnsFor c self.old.hub self.new.hub pass.old pass.new }
+        ensures spares { IfOk result (λ o. (c : ℕ) → IsOf event.now (I.stream ids.old) c
+            → Spares c self.old.hub.history self.new.hub.history (listed o)) }
+    {
+        let before = self.hub.state.totals();
+        let call = Call { alloc, moment: now };
+        let Core { hub, lines, told } = self;
+        let ended = hub.state.ended_sockets().len();
+        let said = do_row(call, &mut hub.state, lines, told, app, event, ids);
+        let answer = hear_after(call, &mut hub.state, app, event.client(), ended, said);
+        hub.books.catch_up(pass, &before, &hub.state);
+        answer
+    }
+
+    /// What each of these events in turn is answered with. Where there is no memory for so many
+    /// answers nothing is done.
+    pub fn apply_all<A: App, I: IdSource>(
+        &mut self,
+        alloc: Global,
+        pass: &mut Pass<C, T>,
+        app: &A,
+        events: &[(Event, u64)],
+        ids: &mut I,
+    ) -> Result<Vec<Answered>, AllocError>
+        ensures does { IfOk result (λ answers.
+            Machine (A.policy app.now) self.old.timing
+            self.old.numbers events.now answers.items
+            (holding self.old.hub.history self.old.lines) (I.stream ids.old)
+            (holding self.new.hub.history self.new.lines) (I.stream ids.new)) }
+        ensures handed { IfOk result (λ answers. (c : ℕ) (turns : List Turn)
+            → Handed c turns self.old.hub.history
+            → Handed c (turns_after turns events.now answers.items) self.new.hub.history) }
+        ensures unchanged { OnErr result
+            ((self.new ≡ self.old) × (pass.new ≡ pass.old) × (ids.new ≡ ids.old)) }
+    {
+        let mut answers = Vec::with_capacity(alloc, events.len())?;
+        for (event, now) in events {
+            let answer = self.apply(alloc, pass, app, event, *now, ids);
+            answers.push_reserved(answer);
+        }
+        Ok(answers)
+    }
+
+    /// The hub, which tells all that can be asked of it.
+    pub fn hub(&self) -> &Hub<C, T>
+        ensures { result.now ≡ self.now.hub }
+    {
+        &self.hub
+    }
+
+    /// Changes nothing. It tells what every core keeps: a line for just the open clients, and no
+    /// U+001E in any entry.
+    pub fn facts(&self)
+        ensures agree { Agree self.now.hub.history self.now.lines }
+        ensures clean { IsClean self.now.hub.history }
+    {
+        let _fields = &self.hub;
+    }
+
+    /// How a client speaks, or `None` where it isn't open.
+    pub fn transport(&self, client: u128) -> Option<Transport>
+        ensures known { let h = self.now.hub.history in
+            is_some result ≡ is_open h.base h.journal client }
+        ensures on { IfSome result (λ on.
+            (line : PlainLine) × (line_of self.now.lines client ≡ Some line) × IsOn on line) }
+    {
+        transport_of(&self.lines, client)
+    }
+
+    /// The open clients, rising.
+    pub fn clients(&self, alloc: Global) -> Result<Vec<u128>, CoreError>
+        ensures ok { let h = self.now.hub.history in
+            IfOk result (λ clients. ListsRising nat_cmp (is_open h.base h.journal) clients.items) }
+        ensures err { IfErr result (λ e. e ≡ at_once CoreFault.Memory) }
+    {
+        let clients = self.lines.keys().copied().collect(alloc);
+        clients.or(Err(CoreFault::Memory.at_once()))
+    }
+
+    /// How many clients are open: each has a line.
+    pub fn clients_len(&self) -> usize
+        ensures { result ≡ length self.now.lines }
+    {
+        self.lines.len()
+    }
+
+    /// A pass that has counted nothing, for one more thread. Refused as `Spent` alone, after 65,534
+    /// of them.
+    pub fn new_pass(&mut self) -> Result<Pass<C, T>, HubError>
+        ensures gives { GivesPass self.old.hub.rest result self.new.hub.rest }
+        ensures kept { let hub = record self.old.hub { rest = self.new.hub.rest } in
+            self.new ≡ record self.old { hub = hub } }
+    {
+        self.hub.new_pass()
+    }
+
+    /// Changes nothing. It tells that the hub's counts are at least what the pass has counted.
+    pub fn audit(&mut self, pass: &mut Pass<C, T>)
+        ensures same { (self.new ≡ self.old) × (pass.new ≡ pass.old) }
+        ensures at_least { AtLeast self.old.hub pass.old }
+    {
+        self.hub.audit(pass);
+    }
+
+    /// The hub's counts, where the pass has all of its commands and all that it handed out, and
+    /// else what the pass lacks. It lacks nothing where every other pass was absorbed. Changes
+    /// nothing.
+    pub fn settle(&mut self, pass: &mut Pass<C, T>) -> Result<Totals, NotAll>
+        ensures same { (self.new ≡ self.old) × (pass.new ≡ pass.old) }
+        ensures settles { Settles self.old.hub pass.old result }
+        ensures whole { let parts = self.old.hub.rest + pass.old.parts in
+            parts ≡ C.parts → parts ≡ T.parts → IsOk result }
+    {
+        self.hub.settle(pass)
+    }
+
+    /// Makes the present state of the hub its base, and hands out the old base with the steps since
+    /// then. It is no command and no event: the lines stay, and what clients are handed is counted
+    /// anew, from what waits. Refused for `Memory` alone.
+    pub fn seal(&mut self, alloc: Global) -> Result<Epoch, HubError>
+        ensures seals { Seals self.old.hub.history result self.new.hub.history }
+        ensures handed { OnOk result ((c : ℕ) → Handed c [] self.new.hub.history) }
+        ensures kept { let hub = record self.old.hub { history = self.new.hub.history } in
+            self.new ≡ record self.old { hub = hub } }
+    {
+        self.hub.seal(alloc)
+    }
+}
+
+/// Does what an event does to the hub's state and to the clients' lines, before the app hears of
+/// the sockets that it ended.
+fn do_row<A: App, I: IdSource>(
+    call: Call,
+    state: &mut State,
+    lines: &mut Lines,
+    handshake: &Handshake,
+    app: &A,
+    event: &Event,
+    ids: &mut I,
+) -> Answered
+    requires agree { Agree state.old lines.old.entries }
+    requires clean { IsClean state.old }
+    ensures { Row (A.policy app.now) call.moment
+        handshake.now.timing handshake.now.numbers event.now
+        (holding state.old lines.old.entries) (I.stream ids.old) result
+        (holding state.new lines.new.entries) (I.stream ids.new) }
+{
+    match event {
+        Event::Opened { socket } => {
+            let visit = call.of(ids.draw());
+            requests::open(visit, state, lines, handshake, *socket)
+        }
+        Event::Post { client, body } => {
+            requests::post(call.of(*client), state, lines, app, ids, body.as_str())
+        }
+        Event::Frame { client, frame } => {
+            frames::hear(call.of(*client), state, lines, app, ids, frame)
+        }
+        Event::PollBegin { client } => requests::begin(call.of(*client), state, lines),
+        Event::PollEnd { client } => requests::end(call.alloc, lines, *client),
+        Event::PollTake { client, most } => {
+            requests::take(call.of(*client), state, lines, *most)
+        }
+        Event::FrameTake { client, most } => { frames::take(call.of(*client), state, lines, *most) }
+        Event::Probe { client } => upgrade::probe(call.alloc, lines, *client),
+        Event::Upgraded { client } => upgrade::upgrade(call.alloc, lines, *client),
+        Event::ProbeLost { client } => upgrade::probe_lost(call.alloc, lines, *client),
+        Event::TransportLost { client } => losing::lose(call.of(*client), state, lines),
+        Event::Tick { client } => losing::tick(call.of(*client), state, lines),
+        Event::Sweep => losing::sweep(call, state),
+    }
+}

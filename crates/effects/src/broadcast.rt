@@ -1,0 +1,60 @@
+//! What an event that the app sends does (Socket.IO server documentation, "Broadcasting events").
+
+ghost use Rattle.std.specs.Prelude.{◌≡◌, true, false, not, filter, ◌==◌};
+ghost use Rattle.journal.specs.Membership.{is_space, place_of};
+ghost use Rattle.effects.specs.Effects.{is_unsendable};
+ghost use Rattle.effects.specs.Broadcasting.{work, BroadcastsOrFails};
+
+use crate::{Acted, Visit};
+use events::{Done, Emission};
+use hub_state::State;
+use journal::Cast;
+use terms::{Attachments, Text};
+
+/// The most attachments of a packet.
+const MOST_ATTACHMENTS: usize = 32;
+
+/// Whether a payload with so many attachments can't be sent.
+pub(crate) fn is_unsendable(payload: &str, attachments: &Attachments) -> bool
+    ensures { result ≡ is_unsendable payload.now attachments.now }
+{
+    !payload.as_bytes().contains(&b']') || attachments.len() > MOST_ATTACHMENTS
+}
+
+/// Keeps the clients but one.
+pub(crate) fn retain_others(ids: &mut Vec<u128>, client: u128)
+    ensures { ids.new.items ≡ filter (λ d. not (d == client)) ids.old.items }
+{
+    ids.retain(|id| *id != client);
+}
+
+/// Sends an event to the sockets of some rooms of a namespace, and counts it.
+pub(crate) fn broadcast(
+    visit: Visit,
+    state: &mut State,
+    done: &mut Done,
+    space: &Text,
+    emission: Emission,
+) -> Acted
+    requires there { is_space state.old.limits (place_of state.old.limits space.now) ≡ true }
+    requires sendable { is_unsendable emission.payload emission.attachments ≡ false }
+    ensures { BroadcastsOrFails visit.client space.now emission visit.moment
+        (work state.old done.old) result (work state.new done.new) }
+{
+    let Visit { alloc, moment, .. } = visit;
+    done.clients.reserve()?;
+    let cast = Cast {
+        space: space.clone()?,
+        rooms: emission.rooms,
+        excepted: emission.excepted,
+        logged: emission.logged,
+        payload: emission.payload,
+        attachments: emission.attachments,
+    };
+    let cast_done = state.cast(alloc, cast, moment)?;
+    let mut ids = cast_done.clients;
+    retain_others(&mut ids, visit.client);
+    done.clients.push(ids);
+    done.effects = done.effects.saturating_add(1);
+    Ok(())
+}

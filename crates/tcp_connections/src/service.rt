@@ -1,0 +1,197 @@
+//! Who serves a connection.
+
+use crate::tcp_connection::Mode;
+use crate::watch::Watch;
+use http_edge::{EdgeError, Gathered, OnStream, Replay, Request, Target, write_response};
+use loop_rules::Pause;
+use peers::{
+    PollPeer, PollRequest, Response, SocketPeer, SocketRequest, accept_socket, response_to_target,
+};
+use std::alloc::Global;
+use std::io::{ErrorKind, Read, Write};
+use std::rt::Clock;
+use std::{io, mem};
+use tcp_streams::{Rules, Stream};
+
+/// How many bytes one read asks for.
+const READ: usize = 8_192;
+
+/// How many such reads one stint makes.
+const READS: usize = 16;
+
+/// How many bytes of a file are put into a connection's buffer at a time.
+const PIECE: usize = 65_536;
+
+/// Who serves a connection.
+#[derive(Drop)]
+pub enum Service<'a, R> {
+    /// Nobody yet: its request is coming.
+    Gathering { stream: Stream, gathered: Gathered },
+    /// A request over HTTP.
+    Polling(Box<PollPeer<OnStream<Stream>, Watch<R>>>),
+    /// A WebSocket.
+    Speaking(Box<SocketPeer<Replay<Stream>, Watch<R>>>),
+    /// Nobody any more, while this rest of a file goes out, piece by piece.
+    Answered { stream: Stream, rest: &'a [u8] },
+    /// Its stream was handed on, or dropped.
+    Gone,
+}
+
+/// What the peer says that serves a connection, or this where none does.
+macro_rules! of_peer {
+    ($service:expr, $peer:ident => $said:expr, $other:expr) => {
+        match $service {
+            Service::Polling($peer) => $said,
+            Service::Speaking($peer) => $said,
+            _ => $other,
+        }
+    };
+}
+
+pub(crate) use of_peer;
+
+/// Writes the next piece of what is left of a file. A client that reads slowly has no more than one
+/// piece in memory.
+fn write_piece(stream: &mut Stream, rest: &mut &[u8]) -> io::Result<()> {
+    let (piece, left) = rest.split_at(rest.len().min(PIECE));
+    let _ = stream.write(piece)?;
+    *rest = left;
+    Ok(())
+}
+
+impl<'a, R: Clock + Drop> Service<'a, R> {
+    /// The stream, if it is still here.
+    pub fn stream(&mut self) -> Option<&mut Stream> {
+        match self {
+            Service::Gathering { stream, .. } | Service::Answered { stream, .. } => Some(stream),
+            Service::Polling(peer) => Some(peer.wire_mut().get_mut()),
+            Service::Speaking(peer) => Some(peer.stream_mut().get_mut()),
+            Service::Gone => None,
+        }
+    }
+
+    /// Whose connection it is, once that is known.
+    pub fn client(&self) -> Option<u128> {
+        of_peer!(self, peer => peer.client(), None)
+    }
+
+    /// Whether it is a WebSocket.
+    pub fn is_socket(&self) -> bool {
+        matches!(self, Service::Speaking(_))
+    }
+
+    /// Whether it is a GET that waits.
+    pub fn is_waiting(&self) -> bool {
+        matches!(self, Service::Polling(peer) if peer.is_idle())
+    }
+
+    /// The stream, which nobody has any more then. None where somebody serves it.
+    pub fn take_stream(&mut self) -> Option<Stream> {
+        match mem::replace(self, Service::Gone) {
+            Service::Gathering { stream, .. } => Some(stream),
+            _ => None,
+        }
+    }
+
+    /// Sends what is unsent, or the next piece of a file where nothing is. Answers how many bytes.
+    pub fn send(&mut self) -> io::Result<usize> {
+        if let Service::Answered { stream, rest } = self {
+            if stream.unsent() == 0 {
+                write_piece(stream, rest)?;
+            }
+        }
+        self.stream().ok_or(ErrorKind::NotConnected)?.send()
+    }
+
+    /// Reads what has come of the request, which pauses where that is not whole.
+    pub fn read(&mut self, alloc: Global) -> Result<Result<Box<Request>, Pause>, EdgeError> {
+        let Service::Gathering { stream, gathered } = self else {
+            return Ok(Err(Pause::Done));
+        };
+        let mut bytes = [0; READ];
+        for _ in 0..READS {
+            let count = match stream.read(&mut bytes) {
+                Ok(0) => return Err(EdgeError::EarlyEnd),
+                Ok(count) => count,
+                Err(error) if error.kind() == ErrorKind::WouldBlock => return Ok(Err(Pause::Done)),
+                Err(_) => return Err(EdgeError::Device),
+            };
+            if let Some(request) = gathered.feed(alloc, &bytes[..count])? {
+                return Ok(Ok(Box::new(alloc, request)?));
+            }
+        }
+        Ok(Err(Pause::More))
+    }
+
+    /// Reads and forgets what comes. None where it has ended.
+    pub fn drain(&mut self) -> Option<Pause> {
+        let stream = self.stream()?;
+        let mut bytes = [0; READ];
+        for _ in 0..READS {
+            match stream.read(&mut bytes) {
+                Ok(0) => return None,
+                Ok(_) => {}
+                Err(error) if error.kind() == ErrorKind::WouldBlock => return Some(Pause::Done),
+                Err(_) => return None,
+            }
+        }
+        Some(Pause::More)
+    }
+
+    /// Answers by this, if by anything, which pages of this origin may read. Nobody serves it then.
+    pub fn respond(
+        &mut self,
+        alloc: Global,
+        origin: &Option<String>,
+        response: Option<Response<'_>>,
+    ) {
+        if let (Some(stream), Some(response)) = (self.take_stream(), response) {
+            let mut wire = OnStream::new(stream);
+            if write_response(alloc, &mut wire, response.status, origin, response.body).is_ok() {
+                let stream = wire.into_stream();
+                *self = Service::Answered { stream, rest: &[] };
+            }
+        }
+    }
+
+    /// Answers a request, or has a peer serve it, and tells what the connection is about then. None
+    /// where no peer serves it.
+    pub fn serve(
+        &mut self,
+        alloc: Global,
+        request: Box<Request>,
+        target: Target,
+        watch: Watch<R>,
+        rules: &'a Rules,
+    ) -> Option<Mode> {
+        if let (Target::NotFound, Some(file)) = (target, rules.file_for(&request)) {
+            let mut stream = self.take_stream()?;
+            let head = file.head(alloc, &request.origin).ok()?;
+            let _ = stream.write(head.as_str().as_bytes()).ok()?;
+            let is_head = request.method.as_str() == "HEAD";
+            let mut rest = if is_head { &[] } else { file.bytes.as_slice() };
+            write_piece(&mut stream, &mut rest).ok()?;
+            *self = Service::Answered { stream, rest };
+            return None;
+        }
+        if let Some(response) = response_to_target(target) {
+            self.respond(alloc, &request.origin, Some(response));
+            return None;
+        }
+        let mut stream = self.take_stream()?;
+        // What stands after the head is not brought yet.
+        stream.unbrought = request.rest.len();
+        let request = Box::into_inner(request);
+        if let Some(wanted) = SocketRequest::of(target) {
+            let socket = accept_socket(alloc, stream, request.head, request.rest)?;
+            let peer = SocketPeer::new(alloc, socket, watch, wanted);
+            *self = Service::Speaking(Box::new(alloc, peer).ok()?);
+            return Some(Mode::Serves);
+        }
+        let wanted = PollRequest::of(target, request.body)?;
+        let (wire, most) = (OnStream::new(stream), rules.poll_entries);
+        let peer = PollPeer::new(alloc, wire, watch, wanted, most, request.origin);
+        *self = Service::Polling(Box::new(alloc, peer).ok()?);
+        Some(Mode::Serves)
+    }
+}
