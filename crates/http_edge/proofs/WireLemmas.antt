@@ -26,7 +26,7 @@ reads_front xs tail given s n o is len =
     let taken : take n (given ++ tail) ≡ given = rw (take-append-le n given tail (omega (arith, len)), take_all n given (omega (arith, len))) refl in
     rw (taken, whole) (consumes_front given (drop (s + n) xs) o)
 
--- a read with free takes a byte while one is left
+-- a read with space takes a byte while one is left
 pub reads_some : {X : Type 0} (xs buf given : List ℕ) (s n : ℕ) → s < length xs → n ≡ min (length (take (length xs - s) (drop s xs))) (length buf)
     → length given ≡ n → n ≡ 0 → 0 < length (given ++ drop n buf) → X
 reads_some xs buf given s n inside is len none free = absurd (grind (arith, length-drop, length-take, length-append, inside, is, len, none, free))

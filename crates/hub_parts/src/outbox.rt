@@ -128,7 +128,7 @@ impl Outbox {
         ensures { self.new ≡ record self.old { waiting = drop 1 self.old.waiting } }
     {
         if let Some(entry) = self.ring.pop_front() {
-            // What waits had its bytes free before.
+            // What waits has no more bytes than the outbox may hold.
             self.free += size_of(&entry).unwrap_or(0);
         }
     }

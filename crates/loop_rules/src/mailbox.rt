@@ -103,7 +103,7 @@ impl<H: Drop> Mailbox<H> {
         self.asleep
     }
 
-    /// Takes all that was handed in, instead of a mail that is empty.
+    /// Takes all that was handed in, and leaves this mail there, which is empty.
     pub fn take(&mut self, mail: &mut Mail<H>)
         ensures awake { self.new.asleep ≡ false }
         ensures taken { mail.new ≡ self.old.mail }

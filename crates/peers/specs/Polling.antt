@@ -1,4 +1,4 @@
--- The rounds of a request over HTTP: a GET that waits asks again and again.
+-- The events of a request over HTTP: a GET that waits asks again and again.
 use Rattle.std.specs.Prelude.{◌==◌, ◌-◌, ℕ, Bool, true, false, Option, None, Some, Ok, Err, cond}
 use Rattle.events.specs.declared.fault.CoreFault.{CoreFault}
 use Rattle.events.specs.declared.fault.CoreFault.TheVariants as fault
