@@ -3,4 +3,4 @@ mod FactsLemmas
 mod Growth
 mod LossLemmas
 mod PoolLemmas
-mod Rounds
+mod TurnLemmas

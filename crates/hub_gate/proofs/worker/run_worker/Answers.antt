@@ -4,7 +4,7 @@ use Rattle.std.proofs.lemmas.Fn.{FoldsTo-push}
 use Rattle.std.proofs.lemmas.List.{map-append}
 use Rattle.hub_gate.specs.Turns.{Desk, Handled, ServesAll, desk}
 use Rattle.hub_gate.proofs.Growth.{grows_self, grows_trans, serves_grow}
-use Rattle.hub_gate.proofs.Rounds.{failures-push, yields-push}
+use Rattle.hub_gate.proofs.TurnLemmas.{failures-push, yields-push}
 use Rattle.hub_gate.proofs.worker.run_worker.Goals as goal
 use Rattle.hub_gate.proofs.worker.run_worker.Goals.{then-serve_peer, else-serve_peer}
 

@@ -1,7 +1,7 @@
 use Rattle.std.proofs.Common.{◌≡◌, [], ◌∷◌, ◌++◌, Result, Ok, Err, is_ok, is_err, None, true, false, arith, refl, inl, inr, length-append, sym, ◌∙◌}
 use Rattle.std.proofs.lemmas.Fn.{FoldsTo-push}
 use Rattle.hub_gate.specs.Turns.{Turn, Serves}
-use Rattle.hub_gate.proofs.Rounds.{last_client-push}
+use Rattle.hub_gate.proofs.TurnLemmas.{last_client-push}
 use Rattle.hub_gate.proofs.worker.Pool.talk.Goals as goal
 
 heard : {A E : Type 0} (reply : Result A E) → is_err reply ≡ false → true ≡ is_ok reply
