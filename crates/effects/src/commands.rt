@@ -72,7 +72,7 @@ pub fn tell(visit: Visit, state: &mut State, entry: Entry) -> Result<bool, CoreF
     match state.tell(visit.alloc, visit.client, entry, visit.moment) {
         Ok(()) => Ok(true),
         Err(HubError::OutboxFull) => Ok(false),
-        Err(error) => Err(error.into()),
+        Err(error) => Err(fault(error)),
     }
 }
 

@@ -27,13 +27,21 @@ use terms::{Entry, Room, Sid};
 
 type Result<X = (), E = HubError> = std::result::Result<X, E>;
 
-/// The answer of the state to a command that hands out no entries, counted where it is accepted.
+/// The answer of the state to a command, counted with the entries that it handed out where it is
+/// accepted.
 macro_rules! counted {
-    ($hub:expr, $pass:expr, $command:ident($($given:expr),*)) => {{
-        let answer = $hub.state.$command($hub.alloc, $($given),*)?;
-        $hub.books.count($pass, &$hub.state, 0);
-        Ok(answer)
-    }};
+    ($hub:expr, $pass:expr, $command:ident($($given:expr),*)) => {
+        counted!($hub, $pass, $command($($given),*), answer => 0)
+    };
+    ($hub:expr, $pass:expr, $command:ident($($given:expr),*), $answer:ident => $entries:expr) => {
+        match $hub.state.$command($hub.alloc, $($given),*) {
+            Ok($answer) => {
+                $hub.books.count($pass, &$hub.state, $entries);
+                Ok($answer)
+            }
+            Err(error) => Err(error),
+        }
+    };
 }
 
 /// A hub with its books. `C` is the ledger of the commands that it accepts, `T` that of the entries
@@ -207,9 +215,7 @@ impl<C: Ledger, T: Ledger> Hub<C, T> {
         ensures does { let what = took self.old.history client most in
             DoesCounted self.old self.new pass.old pass.new now what result }
     {
-        let entries = self.state.take(self.alloc, client, most, now)?;
-        self.books.count(pass, &self.state, entries.len() as u64);
-        Ok(entries)
+        counted!(self, pass, take(client, most, now), entries => entries.len() as u64)
     }
 
     /// Takes away the first entries that wait. As `State::take_away`, counted in the pass.
@@ -224,9 +230,7 @@ impl<C: Ledger, T: Ledger> Hub<C, T> {
         ensures does { let what = took self.old.history client most in
             DoesCounted self.old self.new pass.old pass.new now what result }
     {
-        let number = self.state.take_away(self.alloc, client, most, now)?;
-        self.books.count(pass, &self.state, number as u64);
-        Ok(number)
+        counted!(self, pass, take_away(client, most, now), number => number as u64)
     }
 
     /// Broadcasts an event to sockets of a namespace. As `State::cast`, counted in the pass.

@@ -1,6 +1,5 @@
-use Rattle.std.proofs.Common.{◌≡◌, ◌∙◌, ap, Ok, Err, false, rules}
+use Rattle.std.proofs.Common.{◌≡◌, ap, Ok, Err, false, rules}
 use Rattle.journal.specs.Journal.{History}
-use Rattle.effects.specs.declared.scene.Tally.{Tally}
 use Rattle.effects.specs.Effects.{scene}
 use Rattle.effects.specs.Scene.{seen}
 use Rattle.effects.proofs.AskLemmas.{forgets, asks-full, asks-open, asks-untold}
@@ -17,11 +16,11 @@ returns-in_err-told c =
       | in-Ok+else-told w ↦ absurd (cc (w.told-is, c.in_err-told.was))
       | in-Err-1 w ↦ search rules
     ] in
-    let tells = rw answer at tell.tells in
-    let vain = rw c.saturating_add-until.ensures at (forgets old.line.now c.tell-told.new.scene.line.now c.answer-tag.new.self c.args.who.now.sid c.in-Ok.id c.args.inquiry.tag c.saturating_add-until.result c.answer-tag.result
-    c.in-Ok.ensures.id (rw (← tell.kept.0) at c.in-Ok.ensures.advances) c.answer-tag.ensures.answer c.answer-tag.ensures.advances) in
-    let asked = ap (λ (h : History). scene h c.answer-tag.new.self c.tell-told.new.scene.tally.now) tells.0 ∙ ap (λ (t : Tally). scene old.state.now c.answer-tag.new.self t) tell.kept.1 in
-    let middle = scene c.tell-told.new.scene.state.now c.answer-tag.new.self c.tell-told.new.scene.tally.now in
+    let tells = rw answer at tell in
+    let vain = rw c.saturating_add-until.ensures at (forgets old.line.now _ c.answer-tag.new.self c.args.who.now.sid c.in-Ok.id c.args.inquiry.tag c.saturating_add-until.result c.answer-tag.result
+    c.in-Ok.ensures.id c.in-Ok.ensures.advances c.answer-tag.ensures.answer c.answer-tag.ensures.advances) in
+    let asked = ap (λ (h : History). scene h c.answer-tag.new.self old.tally.now) tells.0 in
+    let middle = scene c.tell-told.new.state c.answer-tag.new.self old.tally.now in
     rw failed (record {
       same = search rules;
       ok = tt;
@@ -36,14 +35,14 @@ returns c =
       | in-Ok+else-told w ↦ search rules
       | in-Err-1 w ↦ absurd (cc (w.told-is, c.in_ok-told.was))
     ] in
-    let told = rw answer at tell.tells in
-    let vain = rw c.saturating_add-until.ensures at (forgets old.line.now c.tell-told.new.scene.line.now c.answer-tag.new.self c.args.who.now.sid c.in-Ok.id c.args.inquiry.tag c.saturating_add-until.result c.answer-tag.result
-    c.in-Ok.ensures.id (rw (← tell.kept.0) at c.in-Ok.ensures.advances) c.answer-tag.ensures.answer c.answer-tag.ensures.advances) in
-    let asked = ap (λ (h : History). scene h c.answer-tag.new.self c.tell-told.new.scene.tally.now) told.2.1 ∙ ap (λ (t : Tally). scene old.state.now c.answer-tag.new.self t) tell.kept.1 in
-    let middle = scene c.tell-told.new.scene.state.now c.answer-tag.new.self c.tell-told.new.scene.tally.now in record {
+    let told = rw answer at tell in
+    let vain = rw c.saturating_add-until.ensures at (forgets old.line.now _ c.answer-tag.new.self c.args.who.now.sid c.in-Ok.id c.args.inquiry.tag c.saturating_add-until.result c.answer-tag.result
+    c.in-Ok.ensures.id c.in-Ok.ensures.advances c.answer-tag.ensures.answer c.answer-tag.ensures.advances) in
+    let asked = ap (λ (h : History). scene h c.answer-tag.new.self old.tally.now) told.2.1 in
+    let middle = scene c.tell-told.new.state c.answer-tag.new.self old.tally.now in record {
       same = search rules;
       ok = asks-full c.args.who.now c.args.inquiry old.visit.moment c.in-Ok.id (seen old) middle (seen c.close_for.new.scene)
-          c.in-Ok.ensures.id vain asked c.close_for.result told.0 told.1 told.2.0 (rw (tell.same.visit, ← c.requires.own) at c.close_for.ensures.ok);
+          c.in-Ok.ensures.id vain asked c.close_for.result told.0 told.1 told.2.0 (rw (← c.requires.own) at c.close_for.ensures.ok);
       err = asks-open c.args.who.now c.args.inquiry old.visit.moment c.in-Ok.id (seen old) middle (seen c.close_for.new.scene)
-          c.in-Ok.ensures.id vain asked c.close_for.result told.0 told.1 told.2.0 (rw (tell.same.visit, ← c.requires.own) at c.close_for.ensures.err);
+          c.in-Ok.ensures.id vain asked c.close_for.result told.0 told.1 told.2.0 (rw (← c.requires.own) at c.close_for.ensures.err);
     }

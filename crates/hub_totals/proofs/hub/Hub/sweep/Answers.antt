@@ -1,4 +1,4 @@
 use Rattle.hub_totals.proofs.hub.Hub.sweep.Goals as goal
 
-pub returns-clause-counts : goal.returns-clause-counts
-returns-clause-counts g c = rw (← c.self.view_is) c.in_ok-answer.ensures.counts
+pub returns-in-Ok-clause-counts : goal.returns-in-Ok-clause-counts
+returns-in-Ok-clause-counts g c = rw (← c.self.view_is) c.in-Ok.ensures.counts
