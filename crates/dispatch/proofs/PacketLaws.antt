@@ -39,8 +39,13 @@ use Rattle.effects.proofs.CleanLemmas.{clean-answer-at}
 use Rattle.effects.proofs.RunsLemmas.{run-keeps}
 use Rattle.effects.proofs.StepLemmas.{itself, open-still, open-no-more, connected-then, own-then, work-on}
 use Rattle.effects.proofs.WorkLemmas.{runs-work, stopped-works}
-use Rattle.dispatch.specs.Packets.{Course, Upshot, StopsFor, IsShort, DrawsNone, StaysOpen, ClosesFor, ParksFor, refusal_entry, Refuses, DoesAll, ClientDisconnects, Decides, TakesAck, HearsEvent, Serves, ServesJoined, ConnectsAs, AsksApp, AsksToRecover, MayRecover, AsksToConnect, Works, GoesOn, with_line, TakesFrame, TakesText, ReadsBinary, TakesBinary, Handles, begun, HandlesOrBreaks, HandlesInTurn, BreaksAfter}
+use Rattle.dispatch.specs.Packets.{Course, Upshot, StopsFor, IsShort, DrawsNone, ClosesFor, ParksFor, refusal_entry, Refuses, DoesAll, ClientDisconnects, Decides, TakesAck, HearsEvent, Serves, ServesJoined, ConnectsAs, AsksApp, AsksToRecover, MayRecover, AsksToConnect, Works, GoesOn, with_line, TakesFrame, TakesText, ReadsBinary, TakesBinary, Handles, begun, HandlesOrBreaks, HandlesInTurn, BreaksAfter}
 use Rattle.dispatch.proofs.ConnectLemmas.{clean-refusal}
+
+-- after a packet the client is open unless it was closed, and after a fault in any case
+abbrev pub StaysOpen : ℕ → Upshot → Scene → Type 0
+StaysOpen c (Ok done) t = is_open t.history.base t.history.journal c ≡ is_none t.done.closed
+StaysOpen c (Err e) t = is_open t.history.base t.history.journal c ≡ true
 
 module _ (c now : ℕ) (f : History) where
   -- so far the event is one of this client's

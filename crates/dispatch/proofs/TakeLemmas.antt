@@ -1,25 +1,35 @@
 -- The packets that a take carries, and that they have a payload.
-use Rattle.std.proofs.Common.{◌≡◌, ◌≢◌, ℕ, zero, suc, ◌+◌, ◌<◌, ◌≤◌, ◌==◌, Bool, true, false, not, List, [], ◌∷◌, ◌++◌, length, map, take, refl, sym, ◌∙◌, ap, subst, rules, arith, inl, inr, All, None, Some, slice_get, append_assoc, if◌then◌else◌}
+use Rattle.std.proofs.Common.{◌≡◌, ◌≢◌, ℕ, zero, suc, ◌+◌, ◌<◌, ◌≤◌, ◌==◌, Bool, true, false, not, List, [], ◌∷◌, ◌++◌, length, map, take, refl, sym, ◌∙◌, ap, subst, rules, arith, inl, inr, All, Option, None, Some, is_some, slice_get, append_assoc, if◌then◌else◌}
+use Rattle.std.specs.Prelude.{unwrap_or}
 use Rattle.std.specs.List.{flat_map, list_any}
 use Rattle.std.proofs.lemmas.Bool.Decides.{nat_tests}
 use Rattle.std.proofs.lemmas.Grind.{flat_map-append}
 use Rattle.std.proofs.lemmas.List.Concat.{flat_map-cons}
-use Rattle.std.proofs.lemmas.List.{take_all}
+use Rattle.std.proofs.lemmas.List.{take_all, length-take}
 use Rattle.std.proofs.lemmas.List.Elements.{All-nil, All-cons, All-append}
 use Rattle.std.proofs.lemmas.Option.{slice_get_cases}
 use Rattle.eio_wire.specs.declared.packet.Packet.{Packet}
 use Rattle.eio_wire.specs.declared.packet.Packet.TheVariants.{Ping, Message, Binary}
 use Rattle.eio_wire.specs.Payload.{HasWholeData}
 use Rattle.terms.specs.declared.entry.Entry.{Entry}
+use Rattle.journal.specs.declared.error.HubError.{HubError}
+use Rattle.journal.specs.declared.error.HubError.TheVariants as hub
+use Rattle.journal.specs.declared.step.What.TheVariants.{Took}
+use Rattle.journal.specs.Command.{refusal}
+use Rattle.journal.specs.Totals.{is_spent}
 use Rattle.journal.specs.Entries.{AllPass}
-use Rattle.journal.specs.Journal.{History}
+use Rattle.journal.specs.Journal.{History, moment_at}
+use Rattle.journal.specs.Membership.{is_open}
 use Rattle.journal.specs.Outboxes.{waiting}
 use Rattle.journal.proofs.EntriesLemmas.{what-waits}
 use Rattle.journal.proofs.OutboxesLemmas.{take_next}
 use Rattle.journal.proofs.SocketsLemmas.{neither}
+use Rattle.hub_state.specs.Words.{took}
+use Rattle.events.specs.Fault.{IsFault, fault_of}
+use Rattle.effects.specs.Commands.{Makes, StopsAt}
 use Rattle.effects.specs.Following.{is_clean}
 use Rattle.dispatch.specs.Holding.{IsClean}
-use Rattle.dispatch.specs.Takes.{packets_of, handed, carried}
+use Rattle.dispatch.specs.Takes.{packets_of, handed, carried, Counts, FailsToCount}
 
 -- one entry more is carried
 pub carried-more : (ping : Bool) (w : List Entry) (i : ℕ) (e : Entry) → slice_get w i ≡ Some e → carried ping (take i w) ++ packets_of e ≡ carried ping (take (i + 1) w)
@@ -42,6 +52,46 @@ all-taken w i most none less =
       | inr past ↦ past.0
     ] in
     take_all i w past ∙ sym (take_all most w (omega arith))
+
+-- ---- what a take hands out is counted
+
+-- where some are to be taken of some that wait
+pub some-taken : {X : Type 0} (w : List X) (most : ℕ) → 0 < most → is_some (slice_get w 0) ≡ true → 0 < length (take most w)
+some-taken [] most more there = absurd (cc there)
+some-taken (x ∷ w) zero more there = absurd (omega (arith, more))
+some-taken (x ∷ w) (suc most) more there = omega arith
+
+-- and where none are
+pub none-taken : {X : Type 0} (w : List X) (most : ℕ) → is_some (slice_get w 0) ≡ false → take most w ≡ []
+none-taken [] zero none = refl
+none-taken [] (suc most) none = refl
+none-taken (x ∷ w) most none = absurd (cc none)
+
+pub counts-some : (c most now : ℕ) (h g : History) → 0 < length (handed h c most) → Makes h now (took h c most) g → Counts c most now h g
+counts-some c most now h g some made = on (handed h c most) refl some
+  where
+    on : (es : List Entry) → handed h c most ≡ es → 0 < length es → elim es as (λ (es : List Entry). Type 0) [ [] ↦ g ≡ h | e ∷ rest ↦ Makes h now (Took c most (length (e ∷ rest))) g ]
+    on [] is more = absurd (omega (arith, more))
+    on (e ∷ rest) is more =
+        subst (λ (n : ℕ). Makes h now (Took c most n) g) (sym (length-take most (waiting h.base h.limits h.journal c)) ∙ ap (λ (es : List Entry). length es) is) made
+
+pub counts-none : (c most now : ℕ) (h g : History) → handed h c most ≡ [] → g ≡ h → Counts c most now h g
+counts-none c most now h g none same = rw (none, Counts) same
+
+-- the error of a take of some entries
+pub fails-to-count : (c most now : ℕ) (h : History) (e : HubError) → is_open h.base h.journal c ≡ true → 0 < length (handed h c most)
+    → e ≡ unwrap_or (refusal h (moment_at h now) (took h c most)) hub.Memory → FailsToCount c most now h (fault_of e)
+fails-to-count c most now h e open_client some is = on (is_spent h.base h.limits h.journal (took h c most)) (rw open_client refl)
+  where
+    on : (spent : Bool) → refusal h (moment_at h now) (took h c most) ≡ (if spent then Some hub.Spent else None) → FailsToCount c most now h (fault_of e)
+    on false none = inl (ap fault_of (is ∙ ap (λ (o : Option HubError). unwrap_or o hub.Memory) none))
+    on true full =
+        let same : e ≡ hub.Spent = is ∙ ap (λ (o : Option HubError). unwrap_or o hub.Memory) full in
+        inr (
+          some,
+          subst (λ (n : ℕ). StopsAt h now (Took c most n) (fault_of e)) (sym (length-take most (waiting h.base h.limits h.journal c)))
+              (inr (e, full ∙ ap (λ (x : HubError). Some x) (sym same), subst IsFault (sym same) tt, refl)),
+        )
 
 -- ---- no packet holds a separator
 

@@ -1,14 +1,22 @@
 -- What a tick does, from what its parts do.
-use Rattle.std.proofs.Common.{◌≡◌, ℕ, Bool, true, false, List, [], ◌∷◌, inl, inr, Some, Ok}
+use Rattle.std.proofs.Common.{◌≡◌, ℕ, Bool, true, false, List, [], ◌∷◌, inl, inr, sym, ap, Option, None, Some, Ok}
+use Rattle.std.specs.Prelude.{unwrap_or}
 use Rattle.connection.specs.declared.timing.Due.{Due}
 use Rattle.connection.specs.History.{Ticked}
 use Rattle.connection.specs.Line.{PlainLine, Advances}
+use Rattle.journal.specs.declared.error.HubError.{HubError}
+use Rattle.journal.specs.declared.error.HubError.TheVariants as hub
 use Rattle.journal.specs.Journal.{History}
 use Rattle.events.specs.Answer.{Answer}
 use Rattle.dispatch.specs.Answers.{ForClient, AdvancesLine}
 use Rattle.dispatch.specs.Holding.{Holding, line_of, holding, KeepsOthers}
 use Rattle.dispatch.specs.Parking.{Parks, ParksOrCloses}
 use Rattle.dispatch.specs.Upkeep.{IsDue, TicksOn, Ticks}
+
+-- an error that says so is the refusal for want of space
+pub saved-full : (refused : Option HubError) → hub.SavedFull ≡ unwrap_or refused hub.Memory → refused ≡ Some hub.SavedFull
+saved-full None is = absurd (cc is)
+saved-full (Some e) is = ap Some (sym is)
 
 -- the sessions were saved or the client was closed
 pub parked-or-closed : (saved : Bool) (h g : History) (now c : ℕ) → Parks h now c (Ok saved) g → ParksOrCloses h now c g

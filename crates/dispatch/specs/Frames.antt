@@ -23,12 +23,9 @@ use Rattle.dispatch.specs.Takes.{IsOn, IsPingDue, handed, carried, Take, Counts,
 abbrev pub longest_frame : ℕ
 longest_frame = 1000000
 
-abbrev pub size_of : WsFrame → ℕ
-size_of (frame.Text text) = length text
-size_of (frame.Bytes bytes) = length bytes
-
 abbrev pub is_too_long : WsFrame → Bool
-is_too_long frame = nat_lt longest_frame (size_of frame)
+is_too_long (frame.Text text) = nat_lt longest_frame (length text)
+is_too_long (frame.Bytes bytes) = nat_lt longest_frame (length bytes)
 
 -- a text is one packet's, and bytes are a binary message
 abbrev pub IsFrameOf : Packet → WsFrame → Type 0

@@ -3,7 +3,6 @@
 use Rattle.std.specs.Prelude.{◌≡◌, ℕ, List, Option, None, Some, Result, Ok, Err}
 use Rattle.journal.specs.Journal.{History}
 use Rattle.hub_state.specs.EndedSockets.{PlainEnded}
-use Rattle.events.specs.declared.fault.CoreError.{CoreError}
 use Rattle.events.specs.declared.fault.CoreFault.{CoreFault}
 use Rattle.events.specs.declared.outcome.Outcome.{Outcome}
 use Rattle.events.specs.declared.outcome.Outcome.TheVariants.{Done, Lost, Ticked}
@@ -27,10 +26,6 @@ with_done (Lost saved before) done = Lost saved done
 with_done (Ticked ping before) done = Ticked ping done
 with_done o done = o
 
--- what was done where the event ended with an error
-abbrev pub done_until : CoreError → PlainDone
-done_until e = record nothing_done { packets = e.packets; effects = e.effects }
-
 -- the answer tells what was done at the end, after all that the app wanted or until a fault; an error of the event stays
 abbrev pub answer_after : Answer → Result (Unit {0}) CoreFault → PlainDone → Answer
 answer_after (Ok o) (Ok x) done = Ok (with_done o done)
@@ -40,7 +35,7 @@ answer_after (Err e) r done = Err (record e { effects = done.effects })
 -- what was done before the app hears
 abbrev pub done_before : Answer → Option PlainDone
 done_before (Ok o) = done_of o
-done_before (Err e) = Some (done_until e)
+done_before (Err e) = Some (record nothing_done { packets = e.packets; effects = e.effects })
 
 module _ (policy : Policy) (c now : ℕ) (ended : List PlainEnded) (h : History) (said answer : Answer) (g : History) where
   -- the app hears of the sockets that an event of the client ended

@@ -1,6 +1,6 @@
 -- What the packets of a client do (Engine.IO protocol 4, "Packet types"; Socket.IO protocol 5, "Exchange protocol";
 -- Socket.IO server documentation, "Connection state recovery").
-use Rattle.std.specs.Prelude.{◌≡◌, ◌≢◌, ◌⊎◌, ◌<◌, ◌^◌, ℕ, ◌+◌, true, false, List, [], ◌∷◌, length, is_some, is_none, Option, None, Some, Result, Ok, Err, codes, slice_get, take}
+use Rattle.std.specs.Prelude.{◌≡◌, ◌≢◌, ◌⊎◌, ◌<◌, ◌^◌, ℕ, ◌+◌, true, false, List, [], ◌∷◌, length, is_some, Option, None, Some, Result, Ok, Err, codes, slice_get, take}
 use Rattle.eio_wire.specs.Payload.{IsWhole}
 use Rattle.eio_wire.specs.declared.packet.Packet.{Packet}
 use Rattle.eio_wire.specs.declared.packet.Packet.TheVariants as eio
@@ -25,7 +25,7 @@ use Rattle.journal.specs.declared.error.HubError.TheVariants as hub
 use Rattle.journal.specs.declared.step.What.{What}
 use Rattle.journal.specs.declared.ending.Side.TheVariants as side
 use Rattle.journal.specs.declared.step.What.TheVariants as what
-use Rattle.journal.specs.Membership.{place_of, is_space, is_open, socket_of}
+use Rattle.journal.specs.Membership.{place_of, is_space, socket_of}
 use Rattle.events.specs.declared.app.Arrived.{Arrived}
 use Rattle.events.specs.declared.app.Arrived.TheVariants as arrived
 use Rattle.events.specs.declared.app.Effect.{Effect}
@@ -60,13 +60,9 @@ abbrev pub Draws : (ℕ → Course → Result (Unit {0}) Stopped → Course → 
     → values.Scene → (ℕ → ℕ) → Result (Unit {0}) Stopped → values.Scene → (ℕ → ℕ) → Type 0
 Draws does old ids result new left = IsSameEvent old new × does old.visit.moment (course (seen old) ids) result (course (seen new) left)
 
--- nothing of the packet was done yet that ends its work
-abbrev pub IsFresh : Scene → Type 0
-IsFresh s = (s.done.closed ≡ None) × (s.ended ≡ false)
-
--- the client is open, and its packet is fresh
+-- the client is open, and nothing of its packet was done yet that ends its work
 abbrev pub IsReady : values.Scene → Type 0
-IsReady scene = IsOpenFor scene.visit.client (seen scene) × IsFresh (seen scene)
+IsReady scene = IsOpenFor scene.visit.client (seen scene) × ((seen scene).done.closed ≡ None) × ((seen scene).ended ≡ false)
 
 -- the client has no socket in this namespace, which is the hub's
 abbrev pub IsFreeIn : (space : List ℕ) → ℕ → Scene → Type 0
@@ -89,11 +85,6 @@ IsShort s (Err e) t = StopsFor Memory s e t
 -- it is done so, and no id is drawn
 abbrev pub DrawsNone : (Scene → Upshot → Scene → Type 0) → Course → Upshot → Course → Type 0
 DrawsNone Does s result t = Does s.scene result t.scene × (t.ids ≡ s.ids)
-
--- after a packet the client is open unless it was closed, and after a fault in any case
-abbrev pub StaysOpen : ℕ → Upshot → Scene → Type 0
-StaysOpen c (Ok done) t = is_open t.history.base t.history.journal c ≡ is_none t.done.closed
-StaysOpen c (Err e) t = is_open t.history.base t.history.journal c ≡ true
 
 -- ---- closing and telling
 

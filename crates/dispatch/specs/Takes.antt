@@ -1,9 +1,9 @@
 -- What a take carries to a client (Engine.IO protocol 4, "HTTP long-polling" and "Heartbeat").
-use Rattle.std.specs.Prelude.{◌≡◌, ◌≢◌, ◌⊎◌, ℕ, Bool, true, false, List, [], ◌∷◌, ◌++◌, map, length, take, All, ◌<◌, Result, Ok, Err, if◌then◌else◌}
+use Rattle.std.specs.Prelude.{◌≡◌, ◌≢◌, ◌⊎◌, ℕ, Bool, true, false, List, [], ◌∷◌, ◌++◌, map, length, take, ◌<◌, Result, Ok, Err, if◌then◌else◌}
 use Rattle.std.specs.List.{flat_map}
 use Rattle.eio_wire.specs.declared.packet.Packet.{Packet}
 use Rattle.eio_wire.specs.declared.packet.Packet.TheVariants.{Ping, Message, Binary, Noop}
-use Rattle.eio_wire.specs.Payload.{Payload, HasWholeData}
+use Rattle.eio_wire.specs.Payload.{Payload}
 use Rattle.connection.specs.declared.transport.Transport.{Transport}
 use Rattle.connection.specs.declared.transport.Transport.TheVariants.{Probing, Socket}
 use Rattle.connection.specs.Upgrade.{transport}
@@ -82,17 +82,14 @@ TellsNoop (Ok (outcome.Payload text)) h g old new = Payload (Noop [] ∷ []) tex
 TellsNoop (Ok _) h g old new = ⊥
 TellsNoop (Err e) h g old new = TakesNone Memory e h g old new
 
--- what a payload does to the line: a ping that was due is carried, and the GET is answered
+-- what a take does to the line: a ping that was due is carried
 abbrev pub ping_calls : (ping : Bool) → List Call
 ping_calls ping = if ping then PingCarried ∷ [] else []
 
-abbrev pub calls_of : (ping : Bool) → List Call
-calls_of ping = GetEnded ∷ ping_calls ping
-
--- the payload is written, and then the entries are taken
+-- the payload is written, then the entries are taken, and the GET is answered
 abbrev pub Carries : (c most : ℕ) → ℕ → (ping : Bool) → Take → (h g : History) → (old new : PlainLine) → Type 0
 Carries c most now ping (Ok (outcome.Payload text)) h g old new =
-    Payload (carried ping (handed h c most)) text × Counts c most now h g × Advances old (calls_of ping) new
+    Payload (carried ping (handed h c most)) text × Counts c most now h g × Advances old (GetEnded ∷ ping_calls ping) new
 Carries c most now ping (Ok _) h g old new = ⊥
 Carries c most now ping (Err e) h g old new = (fault : CoreFault) × FailsToCount c most now h fault × TakesNone fault e h g old new
 
@@ -117,7 +114,3 @@ abbrev pub TakesFor : (c most : ℕ) → ℕ → Take → (h g : History) → (o
 TakesFor c most now answer h g old new =
     (on : Transport) × (getting : Bool) × (ping : Bool) × IsOn on old × IsGetting getting old × IsPingDue ping old
     × TakesOn on getting ping c most now answer h g old new
-
--- U+001E stands in no packet
-abbrev pub AllWhole : List Packet → Type 0
-AllWhole packets = All HasWholeData packets

@@ -71,10 +71,9 @@ fn named_in(alloc: Global, payload: &str) -> Result<Option<(Pid, u64)>, CoreFaul
         Err(SioError::Memory) => return Err(CoreFault::Memory),
         Ok(None) | Err(_) => return Ok(None),
     };
-    let Some(pid) = read_id(resume.pid.as_str()) else {
-        return Ok(None);
-    };
-    let Some(offset) = read_offset(resume.offset.as_str()) else {
+    let pid = read_id(resume.pid.as_str());
+    let offset = read_offset(resume.offset.as_str());
+    let (Some(pid), Some(offset)) = (pid, offset) else {
         return Ok(None);
     };
     Ok(Some((Pid::new(pid), offset)))

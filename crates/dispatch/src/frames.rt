@@ -122,9 +122,9 @@ fn frame_take(visit: Visit, state: &mut State, line: &mut Line, most: usize) -> 
     ensures { SendsFor visit.client most visit.moment result state.old state.new line.old line.new }
 {
     let ping = line.is_ping_due();
-    if line.transport() != Transport::Socket {
+    let Transport::Socket = line.transport() else {
         return Err(CoreFault::WrongTransport);
-    }
+    };
     let frames = frames_for(visit, state, ping, most)?;
     if frames.is_empty() {
         return Ok(Outcome::Nothing);

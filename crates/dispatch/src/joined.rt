@@ -22,12 +22,14 @@ struct Said {
 }
 
 /// Asks the app about what arrived, and does what it wants.
-fn decide<A: App>(scene: &mut Scene, app: &A, who: &Who, arrived: &Arrived) -> Worked
+fn decide<A: App>(scene: &mut Scene, app: &A, who: &Who, arrived: Arrived) -> Worked
     requires { IsActing who.now scene.old }
-    ensures { Plays (Decides (A.policy app.now) who.now arrived.now) scene.old result scene.new }
+    ensures { Plays (Decides (A.policy app.now) who.now arrived) scene.old result scene.new }
 {
-    let wanted = app.decides(scene.visit.alloc, who, arrived);
-    act_all(scene, who, wanted.or(Err(CoreFault::Memory))?, 0)
+    match app.decides(scene.visit.alloc, who, &arrived) {
+        Ok(wanted) => act_all(scene, who, wanted, 0),
+        Err(_) => Err(CoreFault::Memory.into()),
+    }
 }
 
 /// Ends the socket that its client disconnects.
@@ -59,7 +61,7 @@ fn take_answer<A: App>(scene: &mut Scene, app: &A, who: &Who, said: Said) -> Wor
         payload: said.payload,
         attachments: said.attachments,
     });
-    decide(scene, app, who, &arrived)
+    decide(scene, app, who, arrived)
 }
 
 /// Hears an event of a socket. One with an id asks to be acknowledged.
@@ -74,7 +76,7 @@ fn hear<A: App>(scene: &mut Scene, app: &A, who: &Who, said: Said) -> Worked
         attachments: said.attachments,
         asked: said.id.is_some(),
     });
-    decide(scene, app, who, &arrived)
+    decide(scene, app, who, arrived)
 }
 
 /// What a packet of a connected socket does.

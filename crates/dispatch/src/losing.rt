@@ -67,7 +67,9 @@ pub(crate) fn lose(visit: Visit, state: &mut State, lines: &mut Lines) -> Answer
     ensures { ForVisit visit (λ now c _. Loses now c)
         state.old lines.old.entries result state.new lines.new.entries }
 {
-    lines.get(&visit.client).ok_or(CoreFault::UnknownClient)?;
+    let Some(_) = lines.get(&visit.client) else {
+        return Err(CoreFault::UnknownClient.at_once());
+    };
     let saved = park_or_close(visit, state)?;
     forget(lines, visit.client);
     let done = Done::nothing(visit.alloc);

@@ -35,7 +35,9 @@ pub(crate) fn open(
     if let Some(_) = lines.get(&client) {
         return Err(CoreFault::IdTaken.at_once());
     }
-    let text = open_text(alloc, client, !socket, &handshake.numbers).or(Err(CoreFault::Memory))?;
+    let Ok(text) = open_text(alloc, client, !socket, &handshake.numbers) else {
+        return Err(CoreFault::Memory.at_once());
+    };
     let line = Line::open(alloc, visit.moment, handshake.timing, socket);
     let Ok(_) = lines.insert(client, line) else {
         return Err(CoreFault::Memory.at_once());
@@ -133,7 +135,7 @@ pub(crate) fn begin(visit: Visit, state: &mut State, lines: &mut Lines) -> Answe
     let Some(line) = lines.get_mut(&visit.client) else {
         return Err(CoreFault::UnknownClient.at_once());
     };
-    if line.transport() == Transport::Socket {
+    if let Transport::Socket = line.transport() {
         return Err(CoreFault::WrongTransport.at_once());
     }
     if line.is_getting() {
@@ -147,7 +149,9 @@ pub(crate) fn begin(visit: Visit, state: &mut State, lines: &mut Lines) -> Answe
 pub(crate) fn end(alloc: Global, lines: &mut Lines, client: u128) -> Answered
     ensures { OnLine client Ends lines.old.entries result lines.new.entries }
 {
-    let line = lines.get_mut(&client).ok_or(CoreFault::UnknownClient)?;
+    let Some(line) = lines.get_mut(&client) else {
+        return Err(CoreFault::UnknownClient.at_once());
+    };
     line.end_get();
     Ok(Outcome::Done(Done::nothing(alloc)))
 }

@@ -1,12 +1,12 @@
 //! What a GET of a client carries away (Engine.IO protocol 4, "HTTP long-polling" and "Heartbeat").
 
-ghost use Rattle.std.specs.Prelude.{◌≡◌, ◌<◌, ◌++◌, true, length, IfOk, IfErr, OnOk};
-ghost use Rattle.eio_wire.specs.Payload.{Payload};
+ghost use Rattle.std.specs.Prelude.{◌≡◌, ◌<◌, ◌++◌, true, length, All, IfOk, IfErr, OnOk};
+ghost use Rattle.eio_wire.specs.Payload.{Payload, HasWholeData};
 ghost use Rattle.journal.specs.Journal.{History};
 ghost use Rattle.journal.specs.Membership.{is_open};
 ghost use Rattle.connection.specs.Line.{Advances};
 ghost use Rattle.dispatch.specs.Holding.{IsClean};
-ghost use Rattle.dispatch.specs.Takes.{packets_of, handed, carried, Counts, FailsToCount, TellsNoop, ping_calls, TakesWaiting, TakesFor, AllWhole};
+ghost use Rattle.dispatch.specs.Takes.{packets_of, handed, carried, Counts, FailsToCount, TellsNoop, ping_calls, TakesWaiting, TakesFor};
 
 use connection::{Line, Transport};
 use effects::{Acted, Visit};
@@ -58,7 +58,7 @@ fn packets_for(
 /// The payload of these packets, of which there are some.
 fn payload_of(alloc: Global, packets: &[Packet]) -> Result<Text, CoreFault>
     requires some { 0 < length packets.now }
-    requires whole { AllWhole packets.now }
+    requires whole { All HasWholeData packets.now }
     ensures ok { IfOk result (λ text. Payload packets.now text) }
     ensures err { IfErr result (λ f. f ≡ CoreFault.Memory) }
 {

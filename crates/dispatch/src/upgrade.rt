@@ -16,8 +16,12 @@ use terms::Text;
 pub(crate) fn probe(alloc: Global, lines: &mut Lines, client: u128) -> Answered
     ensures { OnLine client Probes lines.old.entries result lines.new.entries }
 {
-    let line = lines.get_mut(&client).ok_or(CoreFault::UnknownClient)?;
-    let text = Text::copy_of(alloc, "3probe").or(Err(CoreFault::Memory))?;
+    let Some(line) = lines.get_mut(&client) else {
+        return Err(CoreFault::UnknownClient.at_once());
+    };
+    let Ok(text) = Text::copy_of(alloc, "3probe") else {
+        return Err(CoreFault::Memory.at_once());
+    };
     answer(Outcome::Probed(text), line.probe())
 }
 
@@ -26,19 +30,22 @@ fn answer(outcome: Outcome, said: Result<(), ClockError>) -> Answered
     ensures ok { OnOk said (result ≡ Ok outcome) }
     ensures err { IfErr said (λ e. result ≡ Err (at_once (fault_of_clock e))) }
 {
-    match said {
-        Ok(()) => Ok(outcome),
-        Err(ClockError::NotProbing) => Err(CoreFault::NotProbing.at_once()),
-        Err(ClockError::AlreadyProbing) => Err(CoreFault::AlreadyProbing.at_once()),
-        Err(ClockError::AlreadyUpgraded) => Err(CoreFault::AlreadyUpgraded.at_once()),
-    }
+    let fault = match said {
+        Ok(()) => return Ok(outcome),
+        Err(ClockError::NotProbing) => CoreFault::NotProbing,
+        Err(ClockError::AlreadyProbing) => CoreFault::AlreadyProbing,
+        Err(ClockError::AlreadyUpgraded) => CoreFault::AlreadyUpgraded,
+    };
+    Err(fault.at_once())
 }
 
 /// The probe succeeded, and the client speaks over the WebSocket from now on.
 pub(crate) fn upgrade(alloc: Global, lines: &mut Lines, client: u128) -> Answered
     ensures { OnLine client Upgrades lines.old.entries result lines.new.entries }
 {
-    let line = lines.get_mut(&client).ok_or(CoreFault::UnknownClient)?;
+    let Some(line) = lines.get_mut(&client) else {
+        return Err(CoreFault::UnknownClient.at_once());
+    };
     answer(Outcome::Done(Done::nothing(alloc)), line.upgrade())
 }
 
@@ -46,6 +53,8 @@ pub(crate) fn upgrade(alloc: Global, lines: &mut Lines, client: u128) -> Answere
 pub(crate) fn probe_lost(alloc: Global, lines: &mut Lines, client: u128) -> Answered
     ensures { OnLine client LosesProbe lines.old.entries result lines.new.entries }
 {
-    let line = lines.get_mut(&client).ok_or(CoreFault::UnknownClient)?;
+    let Some(line) = lines.get_mut(&client) else {
+        return Err(CoreFault::UnknownClient.at_once());
+    };
     answer(Outcome::Done(Done::nothing(alloc)), line.probe_lost())
 }

@@ -15,7 +15,7 @@ act_all-requires-clause-acting g c =
     let old = c.args.scene.now in
     let who : Who = record { client = old.visit.client; space = c.args.header.space; sid = c.new-sid.result } in (
       refl,
-      stands-seated who old.visit.moment (scene c.attach.new.state c.connect.new.self c.count.new.self) (ap (λ (t : Tally). t.done.closed) c.count.ensures ∙ c.requires.ready.1.0)
+      stands-seated who old.visit.moment (scene c.attach.new.state c.connect.new.self c.count.new.self) (ap (λ (t : Tally). t.done.closed) c.count.ensures ∙ c.requires.ready.1)
           (seated-new who c.new-pid.result old.visit.moment old.state.now c.attach.new.state (rw c.if-not-branch.false at c.in_ok-attach-in-Ok-Accept.ensures) c.requires.ready.0 c.requires.free.0),
     )
 

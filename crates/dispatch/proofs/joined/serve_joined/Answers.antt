@@ -13,7 +13,7 @@ pub serve-requires-clause-acting : goal.serve-requires-clause-acting
 serve-requires-clause-acting g c =
     let who : Who = record { client = c.args.scene.now.visit.client; space = c.args.packet.header.space; sid = c.in-Some.sid } in (
       refl,
-      stands-seated who c.args.scene.now.visit.moment (seen c.args.scene.now) c.requires.1.0
+      stands-seated who c.args.scene.now.visit.moment (seen c.args.scene.now) c.requires.1
           (seated-at c.args.scene.now.state.now who c.facts.ensures.sound.in_spaces c.requires.0 (rw c.as_str.ensures at c.in-Some.ensures)),
     )
 

@@ -24,7 +24,7 @@ handle-requires g c =
     (course start (g.I.IdSource.stream c.args.ids.now)) (course (seen c.loop-packet.scene) (g.I.IdSource.stream c.loop-packet.ids)) c.loop-packet.invariant.run
     (record { stays = c.requires.open_client ∙ sym (ap (λ (o : Option Cause). is_none o) c.requires.fresh); has = works-none c.args.scene.now.visit.client c.args.scene.now.state.now start.done.clients })).stays)
     (sym c.is_closed.ensures ∙ c.if-not-is_closed.true) in
-    rw c.begin.ensures (open_still.0, (open_still.1, refl))
+    rw c.begin.ensures (open_still.0, open_still.1, refl)
 
 pub loop-packet-preserved : goal.loop-packet-preserved
 loop-packet-preserved g c =
