@@ -70,14 +70,10 @@ module _ (policy : Policy) where
         Applied policy (event.TransportLost client) now a.before d a.got a.after e) old attempts new
     pub tries : AreTries (map (λ a. a.got) attempts)
 
-  -- where there is no such client, nothing was done
-  abbrev pub Tells : Option (ℕ × ℕ) → Desk → Desk → Type 0
-  Tells None old new = new ≡ old
-  Tells (Some lost) old new = TellsLost lost.0 lost.1 old new
-
-  -- where no peer failed, nothing was done either
+  -- where no peer failed, or there is no such client, nothing was done
   abbrev pub TellsWhere : (failed : Bool) → Option (ℕ × ℕ) → Desk → Desk → Type 0
-  TellsWhere true lost old new = Tells lost old new
+  TellsWhere true (Some lost) old new = TellsLost lost.0 lost.1 old new
+  TellsWhere true None old new = new ≡ old
   TellsWhere false lost old new = new ≡ old
 
 -- ---- one peer

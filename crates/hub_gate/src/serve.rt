@@ -5,6 +5,7 @@ ghost use Rattle.std.specs.List.{AllZip};
 ghost use Rattle.std.specs.Vec.Iter.{into_iter_items};
 ghost use Rattle.hub_gate.specs.Serving.{AreCounted, AreDealt, AreServed, IsFromStarting, IsLackingFor, IsRefused, WorksAs};
 
+use crate::locked::Locked;
 use crate::peer::{Queue, Turnstile};
 use crate::worker::{Pool, WorkerCounts, run_worker};
 use dispatch::Core;
@@ -135,7 +136,7 @@ pub fn serve_peers<
         return Err(ServeError::Memory);
     };
     let counts = Vec::with_capacity(pool.alloc, workers).or(Err(ServeError::Memory))?;
-    let jobs = make_jobs(pool, queues, ids)?;
+    let jobs = make_jobs(pool.rt, pool.alloc, pool.locked, queues, ids)?;
     let finished = run_all(pool, jobs)?;
     let workers = gather(pass, finished, counts);
     settle(pool, pass, workers)
@@ -161,8 +162,10 @@ fn deal<P: Drop>(alloc: Global, peers: Vec<P>, workers: usize) -> Result<Vec<Vec
 }
 
 /// A pass, a queue and a source of ids for each worker.
-fn make_jobs<R: Wait, C: Ledger, T: Ledger, A, G, P: Drop, I: Drop>(
-    pool: &Pool<R, C, T, A, G>,
+fn make_jobs<R: Wait, C: Ledger, T: Ledger, P: Drop, I: Drop>(
+    rt: &R,
+    alloc: Global,
+    locked: &Locked<C, T>,
     queues: Vec<Vec<P>>,
     ids: Vec<I>,
 ) -> Result<Vec<Job<C, T, P, I>>, ServeError>
@@ -173,23 +176,22 @@ fn make_jobs<R: Wait, C: Ledger, T: Ledger, A, G, P: Drop, I: Drop>(
     ensures ids { IfOk result (λ v. map (λ j. j.ids) v.items ≡ ids.items) }
     ensures error { IfErr result IsFromStarting }
 {
-    let mut jobs = Vec::new(pool.alloc);
+    let Ok(mut jobs) = Vec::with_capacity(alloc, queues.len()) else {
+        return Err(ServeError::Memory);
+    };
     let mut ids = ids.into_iter();
     for queue in queues {
         let Some(source) = ids.next() else {
             unreachable!()
         };
-        let Ok(pass) = pool.locked.new_pass(pool.rt) else {
+        let Ok(pass) = locked.new_pass(rt) else {
             return Err(ServeError::Spent);
         };
-        let job = Job {
+        jobs.push_reserved(Job {
             pass,
             queue: Queue::new(queue),
             ids: source,
-        };
-        let Ok(()) = jobs.push(job) else {
-            return Err(ServeError::Memory);
-        };
+        });
     }
     Ok(jobs)
 }

@@ -10,11 +10,12 @@ loop-queue-preserved g c =
     let queue : into_iter_items at.queue-iterator ≡ c.in-Some.queue ∷ into_iter_items c.next.new.self = c.in-Some.ensures.steps.0 in
     let source : into_iter_items at.ids ≡ c.in-Some-next.source ∷ into_iter_items c.next-in-loop-queue.new.self = c.in-Some-next.ensures.cases.0 in
     record {
-      count = omega (arith, c.in-Ok-push.ensures.len, at.invariant.count, c.in-Some.ensures.steps.1);
+      count = omega (arith, c.push_reserved.ensures.len, at.invariant.count, c.in-Some.ensures.steps.1);
+      fits = omega (arith, c.push_reserved.ensures.capacity, at.invariant.fits);
       left = omega (arith, at.invariant.left, c.in-Some.ensures.steps.1, c.in-Some-next.ensures.cases.1);
-      queues = rw c.in-Ok-push.ensures.items (moved_on (λ j. into_iter_items j.queue.peers) at.jobs.items _ c.in-Some.queue.items (map (λ q. q.items) (into_iter_items c.next.new.self)) _
+      queues = rw c.push_reserved.ensures.items (moved_on (λ j. into_iter_items j.queue.peers) at.jobs.items _ c.in-Some.queue.items (map (λ q. q.items) (into_iter_items c.next.new.self)) _
           c.new.ensures (rw queue at at.invariant.queues));
-      ids = rw c.in-Ok-push.ensures.items (moved_on (λ j. j.ids) at.jobs.items _ c.in-Some-next.source (into_iter_items c.next-in-loop-queue.new.self) _
+      ids = rw c.push_reserved.ensures.items (moved_on (λ j. j.ids) at.jobs.items _ c.in-Some-next.source (into_iter_items c.next-in-loop-queue.new.self) _
           refl (rw source at at.invariant.ids));
     }
 
@@ -23,3 +24,12 @@ returns-clause-queues g c =
     let at = c.loop-queue in
     let none = nothing_left (into_iter_items at.queue-iterator) at.queue-iterator.rest.len at.queue-iterator.rest.ok.0 c.in-None.ensures.steps.0 in
     sym (append-nil (map (λ j. into_iter_items j.queue.peers) at.jobs.items)) ∙ (rw none at at.invariant.queues) ∙ ap (λ qs. map (λ q. q.items) qs) c.into_iter-queue-iterator.ensures.into_iter_gives.0
+
+pub returns-clause-ids : goal.returns-clause-ids
+returns-clause-ids g c =
+    let at = c.loop-queue in
+    let none = nothing_left (into_iter_items at.ids) at.ids.rest.len at.ids.rest.ok.0 (omega (arith, at.invariant.left, c.in-None.ensures.steps.0)) in
+    sym (append-nil (map (λ j. j.ids) at.jobs.items)) ∙ (rw none at at.invariant.ids) ∙ c.into_iter-ids.ensures.rest
+
+pub returns-clause-len : goal.returns-clause-len
+returns-clause-len g c = omega (arith, c.loop-queue.invariant.count, c.in-None.ensures.steps.0, c.into_iter-queue-iterator.ensures.into_iter_gives.1)
