@@ -4,6 +4,7 @@ use crate::tcp_connection::Mode;
 use crate::watch::Watch;
 use http_edge::{EdgeError, Gathered, OnStream, Replay, Request, Target, write_response};
 use loop_rules::Pause;
+use page::File;
 use peers::{
     PollPeer, PollRequest, Response, SocketPeer, SocketRequest, accept_socket, response_to_target,
 };
@@ -165,33 +166,48 @@ impl<'a, R: Clock + Drop> Service<'a, R> {
         rules: &'a Rules,
     ) -> Option<Mode> {
         if let (Target::NotFound, Some(file)) = (target, rules.file_for(&request)) {
-            let mut stream = self.take_stream()?;
-            let head = file.head(alloc, &request.origin).ok()?;
-            let _ = stream.write(head.as_str().as_bytes()).ok()?;
-            let is_head = request.method.as_str() == "HEAD";
-            let mut rest = if is_head { &[] } else { file.bytes.as_slice() };
-            write_piece(&mut stream, &mut rest).ok()?;
-            *self = Service::Answered { stream, rest };
-            return None;
+            return self.send_file(alloc, &request, file);
         }
         if let Some(response) = response_to_target(target) {
             self.respond(alloc, &request.origin, Some(response));
             return None;
         }
+        let (stream, request) = (self.take_stream()?, Box::into_inner(request));
+        *self = Self::with_peer(alloc, stream, request, target, watch, rules.poll_entries)?;
+        Some(Mode::Serves)
+    }
+
+    /// Answers by a file. No peer serves it then.
+    fn send_file(&mut self, alloc: Global, request: &Request, file: &'a File) -> Option<Mode> {
         let mut stream = self.take_stream()?;
+        let head = file.head(alloc, &request.origin).ok()?;
+        let _ = stream.write(head.as_str().as_bytes()).ok()?;
+        let is_head = request.method.as_str() == "HEAD";
+        let mut rest = if is_head { &[] } else { file.bytes.as_slice() };
+        write_piece(&mut stream, &mut rest).ok()?;
+        *self = Service::Answered { stream, rest };
+        None
+    }
+
+    /// The peer that serves a request, if one serves its target.
+    fn with_peer(
+        alloc: Global,
+        mut stream: Stream,
+        request: Request,
+        target: Target,
+        watch: Watch<R>,
+        most: usize,
+    ) -> Option<Self> {
         // What stands after the head is not brought yet.
         stream.unbrought = request.rest.len();
-        let request = Box::into_inner(request);
         if let Some(wanted) = SocketRequest::of(target) {
             let socket = accept_socket(alloc, stream, request.head, request.rest)?;
             let peer = SocketPeer::new(alloc, socket, watch, wanted);
-            *self = Service::Speaking(Box::new(alloc, peer).ok()?);
-            return Some(Mode::Serves);
+            return Some(Service::Speaking(Box::new(alloc, peer).ok()?));
         }
         let wanted = PollRequest::of(target, request.body)?;
-        let (wire, most) = (OnStream::new(stream), rules.poll_entries);
+        let wire = OnStream::new(stream);
         let peer = PollPeer::new(alloc, wire, watch, wanted, most, request.origin);
-        *self = Service::Polling(Box::new(alloc, peer).ok()?);
-        Some(Mode::Serves)
+        Some(Service::Polling(Box::new(alloc, peer).ok()?))
     }
 }
