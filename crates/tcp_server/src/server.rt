@@ -7,7 +7,7 @@ ghost use Rattle.tcp_streams.specs.declared.fault.ServerFault.TheVariants.{BadSe
 
 use crate::keeper::Keeper;
 use dispatch::Core;
-use events::{App, CoreFault};
+use events::{App, CoreFault, Peer};
 use hub_gate::{Locked, Open, Pool, Report, ServeError, serve_peers};
 use hub_totals::Pass;
 use journal::Config;
@@ -145,22 +145,44 @@ fn run_in<
     ensures taken { IfOk result (λ r.
         r.totals.taken ≡ sum_by (λ w. w.taken) r.workers.items) }
 {
-    let (locked, mut pass, looks) = lock_core::<C, T>(
-        base.alloc, hub, base.rules, commands, taken,
-    )?;
+    let (locked, pass, looks) = lock_core::<C, T>(base.alloc, hub, base.rules, commands, taken)?;
     let keeper = Keeper::new(base, &*locked, looks)?;
     let workers = workers_for(base, ears, keeper)?;
-    let ids = sources(base.rt, base.alloc, workers.len())?;
+    serve_all(base, app, &*locked, pass, acceptor, workers)
+}
+
+/// Accepts, and serves by these workers, until all have ended.
+fn serve_all<
+    C: Ledger + Send + Sync,
+    T: Ledger + Send + Sync,
+    R: Threads + Wait + Clock + RandomSource + Copy + Drop + Sync + Send + 'static,
+    L: Log + Sync,
+    A: App + Sync,
+    P: Peer + Send + Drop,
+>(
+    base: &Base<'_, R, L>,
+    app: &A,
+    locked: &Locked<C, T>,
+    mut pass: Pass<C, T>,
+    acceptor: Box<Acceptor>,
+    workers: Vec<P>,
+) -> Result<Report, ServerFault>
+    ensures commands { IfOk result (λ r.
+        r.totals.commands ≡ pass.commands + sum_by (λ w. w.commands) r.workers.items) }
+    ensures taken { IfOk result (λ r.
+        r.totals.taken ≡ pass.taken + sum_by (λ w. w.taken) r.workers.items) }
+{
+    let number = workers.len();
+    let ids = sources(base.rt, base.alloc, number)?;
     let accepting = start_accepting(base, acceptor)?;
     let pool = Pool {
         rt: base.rt,
         alloc: base.alloc,
-        locked: &*locked,
+        locked,
         app,
         gate: &Open,
         turns: u64::MAX,
     };
-    let number = workers.len();
     let served = serve_peers(&pool, &mut pass, workers, number, ids);
     base.shared.stop_accepting(base.rt);
     accepting.join(base.rt);
