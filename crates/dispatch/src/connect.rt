@@ -4,11 +4,11 @@
 ghost use Rattle.std.specs.Prelude.{◌≡◌, ℕ, List, Option, IfOk, IfErr};
 ghost use Rattle.effects.specs.Effects.{IsOpenFor};
 ghost use Rattle.effects.specs.Scene.{seen, Plays};
-ghost use Rattle.dispatch.specs.Packets.{Draws, IsReady, IsFreeIn, Refuses, AsksApp, Names, AsksToConnect};
+ghost use Rattle.dispatch.specs.Packets.{Draws, IsReady, IsFreeIn, Refuses, Connects, AsksApp, Names, MayRecover, AsksToConnect};
 
 use crate::packets::close_for;
 use effects::{Scene, act_all, commands};
-use events::{App, Cause, CoreFault, IdSource, Verdict, Who, Worked};
+use events::{App, Cause, CoreFault, Effect, IdSource, Verdict, Who, Worked};
 use recovery::Pid;
 use sio_wire::{Header, SioError, read_offset, refused_text, resume_of};
 use std::alloc::Global;
@@ -44,21 +44,30 @@ fn ask_app<A: App, I: IdSource>(scene: &mut Scene, app: &A, ids: &mut I, header:
 {
     let Header { space, payload, .. } = header;
     match app.connects(scene.visit.alloc, space.as_str(), payload.as_str()) {
-        Ok(Verdict::Accept(wanted)) => {
-            let sid = Sid::new(ids.draw());
-            let pid = Pid::new(ids.draw());
-            let client = scene.visit.client;
-            let who = Who { client, space, sid };
-            if !commands::attach(scene.visit, scene.state, &who, pid)? {
-                return close_for(scene, Cause::OutboxFull);
-            }
-            scene.line.connect(sid);
-            scene.tally.count();
-            act_all(scene, &who, wanted, 1)
-        }
+        Ok(Verdict::Accept(wanted)) => { accept(scene, ids, space, wanted) }
         Ok(Verdict::Refuse(message)) => { refuse(scene, space.as_str(), message.as_str()) }
         Err(_) => Err(CoreFault::Memory.into()),
     }
+}
+
+/// The client has a new socket, and what the app wants is done. Where its outbox has no space for
+/// the answer, it is closed.
+fn accept<I: IdSource>(scene: &mut Scene, ids: &mut I, space: Text, wanted: Vec<Effect>) -> Worked
+    requires ready { IsReady scene.old }
+    requires free { IsFreeIn space scene.old.visit.client (seen scene.old) }
+    ensures { Draws (Connects scene.old.visit.client space wanted.items)
+        scene.old (I.stream ids.old) result scene.new (I.stream ids.new) }
+{
+    let sid = Sid::new(ids.draw());
+    let pid = Pid::new(ids.draw());
+    let client = scene.visit.client;
+    let who = Who { client, space, sid };
+    if !commands::attach(scene.visit, scene.state, &who, pid)? {
+        return close_for(scene, Cause::OutboxFull);
+    }
+    scene.line.connect(sid);
+    scene.tally.count();
+    act_all(scene, &who, wanted, 1)
 }
 
 /// The session and the offset that the payload of a CONNECT names.
@@ -80,7 +89,7 @@ fn named_in(alloc: Global, payload: &str) -> Result<Option<(Pid, u64)>, CoreFaul
 }
 
 /// What a CONNECT does. A namespace that the client hasn't joined it joins with the session that it
-/// names, or where it names none or that one can't come back, as the app says.
+/// names, or as the app says.
 pub(crate) fn connect<A: App, I: IdSource>(
     scene: &mut Scene,
     app: &A,
@@ -99,9 +108,27 @@ pub(crate) fn connect<A: App, I: IdSource>(
     if let Some(_) = scene.state.socket_of(scene.visit.client, space) {
         return close_for(scene, Cause::AlreadyConnected);
     }
+    recover_or_ask(scene, app, ids, header)
+}
+
+/// The session that the payload names comes back. Where it names none, or that one can't come back,
+/// the app is asked.
+fn recover_or_ask<A: App, I: IdSource>(
+    scene: &mut Scene,
+    app: &A,
+    ids: &mut I,
+    header: Header,
+) -> Worked
+    requires ready { IsReady scene.old }
+    requires free { IsFreeIn header.space scene.old.visit.client (seen scene.old) }
+    ensures { let client = scene.old.visit.client in Draws
+        (MayRecover (A.policy app.now) client header.space header.payload)
+        scene.old (I.stream ids.old) result scene.new (I.stream ids.new) }
+{
     let Some(named) = named_in(scene.visit.alloc, header.payload.as_str())? else {
         return ask_app(scene, app, ids, header);
     };
+    let space = header.space.as_str();
     let Some(sid) = commands::recover(scene.visit, scene.state, space, named.0, named.1)? else {
         return ask_app(scene, app, ids, header);
     };
