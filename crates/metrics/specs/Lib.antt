@@ -1,2 +1,3 @@
 pub mod Reason
 pub mod Metrics
+pub mod Counting

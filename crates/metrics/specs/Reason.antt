@@ -1,5 +1,5 @@
 -- Why a server refuses something, and how that is called.
-use Rattle.std.specs.Prelude.{ℕ, List, Option, Some, None, codes}
+use Rattle.std.specs.Prelude.{ℕ, List, [], ◌∷◌, Option, Some, None, codes}
 use Rattle.http_edge.specs.declared.error.EdgeError.{EdgeError}
 use Rattle.http_edge.specs.declared.error.EdgeError.TheVariants as edge
 use Rattle.http_edge.specs.declared.routes.Refusal.TheVariants as why
@@ -50,3 +50,19 @@ of_core fault.IdTaken = Spent
 of_core fault.Spent = Spent
 of_core fault.BadEffect = BadEffect
 of_core fault.BadConfig = BadEffect
+
+-- all of them, and the number of each
+abbrev pub reasons : List Reason
+reasons = NoPlace ∷ Unreadable ∷ NotFound ∷ NotAllowed ∷ UnknownClient ∷ OutOfTurn ∷ TooManyClients ∷ OutOfMemory ∷ BadEffect ∷ Spent ∷ []
+
+abbrev pub number_of : Reason → ℕ
+number_of NoPlace = 0
+number_of Unreadable = 1
+number_of NotFound = 2
+number_of NotAllowed = 3
+number_of UnknownClient = 4
+number_of OutOfTurn = 5
+number_of TooManyClients = 6
+number_of OutOfMemory = 7
+number_of BadEffect = 8
+number_of Spent = 9

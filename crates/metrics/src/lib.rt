@@ -1,8 +1,9 @@
 //! What a server tells to who watches it: its counts, in the text format of Prometheus.
 #![tactic(auto)]
 
+mod counting;
 mod metrics;
 mod reason;
 
 pub use metrics::{CoreCounts, LoopCounts, Metrics, Refusals, Sizes};
-pub use reason::{REASONS, Reason};
+pub use reason::Reason;

@@ -32,7 +32,7 @@ pub enum Reason {
 }
 
 /// All of them.
-pub static REASONS: [Reason; 10] = [
+pub(crate) static REASONS: [Reason; 10] = [
     Reason::NoPlace,
     Reason::Unreadable,
     Reason::NotFound,

@@ -15,7 +15,8 @@ impl<R: Wait + Clock + Copy + Drop, L: Log> EventLoop<'_, R, L> {
     /// Answers where no request was read.
     pub(crate) fn refuse(&mut self, key: usize, fault: EdgeError) {
         if let Some(reason) = Reason::of_edge(fault) {
-            self.base.shared.note_refused(self.base.rt, reason);
+            let base = self.base;
+            base.shared.counts.lock(base.rt).note_refused(reason);
         }
         self.respond(key, &None, response_to_fault(fault));
     }
@@ -44,10 +45,10 @@ impl<R: Wait + Clock + Copy + Drop, L: Log> EventLoop<'_, R, L> {
                 self.respond(key, &request.origin, Some(Response { status, body }));
             }
             Ok(target) => {
-                base.shared.note_request(base.rt, self.number);
+                base.shared.counts.lock(base.rt).note_request(self.number);
                 let has_none = |_: &Reason| base.rules.file_for(&request).is_none();
                 if let Some(reason) = Reason::of_target(target).filter(has_none) {
-                    base.shared.note_refused(base.rt, reason);
+                    base.shared.counts.lock(base.rt).note_refused(reason);
                 }
                 self.assign(key, request, target);
             }
@@ -117,8 +118,8 @@ impl<R: Wait + Clock + Copy + Drop, L: Log> EventLoop<'_, R, L> {
             None => Decision::GoesOn,
         };
         if let Err(error) = got {
-            base.shared
-                .note_refused(base.rt, Reason::of_core(error.fault));
+            let reason = Reason::of_core(error.fault);
+            base.shared.counts.lock(base.rt).note_refused(reason);
         }
         self.note(key, got, now);
         if has_brought_all && matches!(got, Ok(Outcome::Done(_))) {

@@ -194,7 +194,8 @@ impl<'a, R: Wait + Clock + Copy + Drop, L: Log> EventLoop<'a, R, L> {
             let Ok(stream) = self.ears.streams.try_recv(base.rt) else {
                 break;
             };
-            base.shared.note_connection(base.rt, self.number);
+            let counts = &base.shared.counts;
+            counts.lock(base.rt).note_connection(self.number);
             let stream = Buffered::new(base.alloc, stream);
             let _ = self.add(Box::new(base.alloc, stream).ok());
         }

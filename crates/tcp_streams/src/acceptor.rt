@@ -165,7 +165,7 @@ impl Acceptor {
         // Without it a small answer may wait for the acknowledgement of the one before.
         let _ = stream.set_nodelay(true);
         if !shared.note_accepted(rt, self.most) {
-            shared.note_refused(rt, Reason::NoPlace);
+            shared.counts.lock(rt).note_refused(Reason::NoPlace);
             return self.turn_away(stream);
         }
         let index = dealt_to(self.given, self.together, shared.inboxes.len());

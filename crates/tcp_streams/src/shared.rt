@@ -2,9 +2,9 @@
 
 use crate::fault::ServerFault;
 use crate::inbox::Inbox;
-use metrics::{CoreCounts, LoopCounts, Metrics, REASONS, Reason, Refusals};
+use metrics::Metrics;
 use mio::Waker;
-use std::alloc::{AllocError, Global};
+use std::alloc::Global;
 use std::collections::HashMap;
 use std::rt::Clock;
 use std::sync::{Arc, Condvar, CondvarTimeouts, Mutex, Wait};
@@ -77,26 +77,6 @@ impl Arrivals {
     }
 }
 
-/// Nothing was counted yet.
-fn no_counts(alloc: Global, loops: usize) -> Result<Metrics, AllocError> {
-    let mut counts = Metrics {
-        core: CoreCounts::default(),
-        loops: Vec::new(alloc),
-        refused: Vec::new(alloc),
-    };
-    for number in 0..loops {
-        counts.loops.push(LoopCounts {
-            number: number as u64,
-            connections: 0,
-            requests: 0,
-        })?;
-    }
-    for reason in REASONS {
-        counts.refused.push(Refusals { reason, count: 0 })?;
-    }
-    Ok(counts)
-}
-
 impl Shared {
     /// Nothing is open yet, and each loop is at work. Somebody hears of clients, or not.
     pub fn new(
@@ -106,7 +86,7 @@ impl Shared {
         hears_clients: bool,
     ) -> Result<Arc<Shared>, ServerFault> {
         let shared = Shared {
-            counts: Mutex::new(no_counts(alloc, inboxes.len())?),
+            counts: Mutex::new(Metrics::new(alloc, inboxes.len())?),
             inboxes,
             acceptor,
             lives: hears_clients.then(|| Mutex::new(HashMap::new(alloc))),
@@ -163,29 +143,6 @@ impl Shared {
     pub fn wake_everyone(&self, rt: &impl Wait) {
         for inbox in self.inboxes.iter() {
             inbox.put(rt, |mailbox| mailbox.wake_everyone());
-        }
-    }
-
-    /// A loop was given a connection.
-    pub fn note_connection(&self, rt: &impl Wait, number: usize) {
-        if let Some(it) = self.counts.lock(rt).loops.get_mut(number) {
-            it.connections = it.connections.saturating_add(1);
-        }
-    }
-
-    /// A request came whole to a loop.
-    pub fn note_request(&self, rt: &impl Wait, number: usize) {
-        if let Some(it) = self.counts.lock(rt).loops.get_mut(number) {
-            it.requests = it.requests.saturating_add(1);
-        }
-    }
-
-    /// Something was refused.
-    pub fn note_refused(&self, rt: &impl Wait, reason: Reason) {
-        for it in self.counts.lock(rt).refused.iter_mut() {
-            if it.reason == reason {
-                it.count = it.count.saturating_add(1);
-            }
         }
     }
 }
