@@ -1,10 +1,11 @@
 //! What a program is asked to do.
 
-use crate::files::{FileFault, read_folder, read_token};
 use crate::options::{Options, read_settings, server};
+use crate::token::{TokenError, read_token};
 use clap::error::ErrorKind;
 use clap::{ArgMatches, Command, Error};
 use journal::Config;
+use page::{FolderError, read_folder};
 use settings::Settings;
 use std::alloc::{AllocError, Global};
 use std::rt::{Env, Files};
@@ -137,14 +138,14 @@ fn read_files<R: Files + AllocGlobal + Clone + Drop>(
     if let Some(folder) = matches.get_str("page") {
         match read_folder(rt, folder) {
             Ok(page) => options.settings.page = page,
-            Err(FileFault::Memory(refused)) => return Err(refused),
+            Err(FolderError::Memory(refused)) => return Err(refused),
             Err(fault) => return Ok(Some(format!(in alloc; "--page {folder}: {fault}")?)),
         }
     }
     if let Some(file) = matches.get_str("token-file") {
         match read_token(rt, file) {
             Ok(token) => options.token = Some(token),
-            Err(FileFault::Memory(refused)) => return Err(refused),
+            Err(TokenError::Memory(refused)) => return Err(refused),
             Err(fault) => return Ok(Some(format!(in alloc; "--token-file {file}: {fault}")?)),
         }
     }

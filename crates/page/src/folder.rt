@@ -1,7 +1,7 @@
-//! What the options name: the folder whose files are served beside the socket's path, and the file
-//! with the token that clients need.
+//! Reading the files of a folder.
 
-use page::{File, MOST_BYTES, MOST_FILES, Page, PageError};
+use crate::file::File;
+use crate::pages::{MOST_BYTES, MOST_FILES, Page, PageError};
 use std::alloc::{AllocError, Global};
 use std::io::{ErrorKind, Read};
 use std::path::Path;
@@ -10,9 +10,9 @@ use std::{fs, io};
 use terms::{Bytes, Text};
 use thiserror::Error;
 
-/// Why a folder can't be served, or a file gives no token.
+/// Why a folder can't be served.
 #[derive(Debug, Drop, Error)]
-pub enum FileFault {
+pub enum FolderError {
     /// An allocation was refused.
     #[error("out of memory")]
     Memory(#[from(alloc)] AllocError),
@@ -25,32 +25,28 @@ pub enum FileFault {
     TooMany,
     #[error("its files have more than {MOST_BYTES} bytes together")]
     TooLarge,
-    /// The file with the token.
-    #[error("it can't be read")]
-    NoFile,
-    #[error("it is not UTF-8")]
-    NotUtf8,
-    #[error("there is no token in it")]
-    NoToken,
 }
 
-impl From<PageError> for FileFault {
-    fn from(error: PageError) -> FileFault {
+impl From<PageError> for FolderError {
+    fn from(error: PageError) -> FolderError {
         match error {
-            PageError::TooMany => FileFault::TooMany,
-            PageError::TooLarge => FileFault::TooLarge,
-            PageError::Memory => FileFault::Memory(AllocError),
+            PageError::TooMany => FolderError::TooMany,
+            PageError::TooLarge => FolderError::TooLarge,
+            PageError::Memory => FolderError::Memory(AllocError),
         }
     }
 }
 
 /// What a failed call on this path of a folder comes to.
-fn fault_at(alloc: Global, path: &str, error: &io::Error) -> FileFault {
+fn fault_at(alloc: Global, path: &str, error: &io::Error) -> FolderError {
     match error.kind() {
-        ErrorKind::OutOfMemory => FileFault::Memory(AllocError),
+        ErrorKind::OutOfMemory => FolderError::Memory(AllocError),
         // The one fault of a name.
-        ErrorKind::InvalidFilename => FileFault::BadName,
-        _ => String::from_str(alloc, path).map_or_else(FileFault::Memory, FileFault::Unreadable),
+        ErrorKind::InvalidFilename => FolderError::BadName,
+        _ => String::from_str(alloc, path).map_or_else(
+            FolderError::Memory,
+            FolderError::Unreadable,
+        ),
     }
 }
 
@@ -58,7 +54,7 @@ fn fault_at(alloc: Global, path: &str, error: &io::Error) -> FileFault {
 pub fn read_folder<R: Files + AllocGlobal + Clone + Drop>(
     rt: &R,
     folder: &str,
-) -> Result<Page, FileFault> {
+) -> Result<Page, FolderError> {
     let alloc = rt.alloc();
     let mut page = Page::new(alloc);
     let entries = fs::read_dir(rt, folder).map_err(|error| fault_at(alloc, folder, &error))?;
@@ -94,19 +90,4 @@ fn read_file<R: Files + AllocGlobal>(
     let mut bytes = Vec::new(rt.alloc());
     file.take(most).read_to_end(&mut bytes)?;
     Ok(Some(bytes))
-}
-
-/// The token in a file: its text, without the end of its line.
-pub fn read_token<R: Files + AllocGlobal>(rt: &R, path: &str) -> Result<Text, FileFault> {
-    let text = fs::read_to_string(rt, path).map_err(|error| match error.kind() {
-        ErrorKind::OutOfMemory => FileFault::Memory(AllocError),
-        ErrorKind::InvalidData => FileFault::NotUtf8,
-        _ => FileFault::NoFile,
-    })?;
-    let line = text.as_str().strip_suffix('\n').unwrap_or(text.as_str());
-    let token = line.strip_suffix('\r').unwrap_or(line);
-    if token.is_empty() {
-        return Err(FileFault::NoToken);
-    }
-    Ok(Text::copy_of(rt.alloc(), token)?)
 }
