@@ -1,7 +1,6 @@
 -- One peer more is dealt.
-use Rattle.std.proofs.Common.{◌≡◌, ◌≢◌, ℕ, zero, suc, ◌+◌, ◌%◌, ◌<◌, ◌==◌, List, [], ◌∷◌, ◌++◌, length, map, Bool, true, false, Some, append_assoc, arith, refl, sym, ◌∙◌, ap, subst}
+use Rattle.std.proofs.Common.{◌≡◌, ◌≢◌, ℕ, zero, suc, ◌+◌, ◌%◌, ◌<◌, ◌==◌, List, [], ◌∷◌, ◌++◌, length, map, Bool, true, false, Some, append_assoc, eqb-true, false-eqb, arith, refl, sym, ◌∙◌, ap, subst}
 use Rattle.std.proofs.Math.ListN.{set}
-use Rattle.std.proofs.lemmas.Bool.Decides.{nat_tests}
 use Rattle.std.proofs.lemmas.List.{length-set, get_or-set_same, get_or-set_other, append-nil, map-append}
 use Rattle.std.proofs.lemmas.Option.{slice_get_within, get_or_from_slice_get, slice_get-get_or}
 use Rattle.std.specs.List.{enumerate_from, slice_get}
@@ -27,14 +26,14 @@ due_more_by : {P : Type 0} (workers number : ℕ) (p : P) (rest all : List P) (q
     → AreDue workers number (p ∷ rest) all queues → slice_get (set queues k (old ++ p ∷ [])) w ≡ Some queue
     → queue ++ of_worker workers w (enumerate_from (number + 1) rest) ≡ of_worker workers w (enumerate_from 0 all)
 due_more_by {P} workers number p rest all queues k old w queue true is at within had due found =
-    let here : w ≡ k = grind (arith, nat_tests) in
+    let here : w ≡ k = sym (at ∙ eqb-true (number % workers) w is) in
     let same : queue ≡ old ++ p ∷ [] = get-set_same queues k (old ++ p ∷ []) queue within (subst (λ v. slice_get (set queues k (old ++ p ∷ [])) v ≡ Some queue) here found) in
     let was = due w old (subst (λ v. slice_get queues v ≡ Some old) (sym here) had) in
     ap (λ q. q ++ of_worker workers w (enumerate_from (number + 1) rest)) same
     ∙ append_assoc old (p ∷ []) (of_worker workers w (enumerate_from (number + 1) rest))
     ∙ (rw is at was)
 due_more_by {P} workers number p rest all queues k old w queue false is at within had due found =
-    let other : w ≢ k = grind (arith, nat_tests) in
+    let other : w ≢ k = (λ (e : w ≡ k). false-eqb (number % workers) w (sym is) (sym at ∙ sym e)) in
     let was = due w queue (get-set_other queues k w (old ++ p ∷ []) queue other found) in
     rw is at was
 

@@ -50,18 +50,17 @@ moved_on {A} {X} f xs x y rest all same is =
 -- ---- what each worker did
 
 -- worker w had the job at its index, and its counts are those there
-pub served : {J F P I : Type 0} (peers_of : J → List P) (ids_of : J → I) (counts_of : F → WorkerCounts) (Works : List P → I → WorkerCounts → Type 0)
-    (jobs : List J) (finished : List F) (queues : List (List P)) (ids : List I) (workers : List WorkerCounts) (n : ℕ) (peers : List P)
-    → map peers_of jobs ≡ queues → map ids_of jobs ≡ ids → workers ≡ map counts_of finished
-    → AllZip (λ j f. Works (peers_of j) (ids_of j) (counts_of f)) jobs finished → AreDealt n peers queues
+pub served : {J P I : Type 0} (peers_of : J → List P) (ids_of : J → I) (Works : List P → I → WorkerCounts → Type 0)
+    (jobs : List J) (queues : List (List P)) (ids : List I) (workers : List WorkerCounts) (n : ℕ) (peers : List P)
+    → map peers_of jobs ≡ queues → map ids_of jobs ≡ ids
+    → AllZip (λ j counts. Works (peers_of j) (ids_of j) counts) jobs workers → AreDealt n peers queues
     → (w : ℕ) (own : I) (counts : WorkerCounts) → slice_get ids w ≡ Some own → slice_get workers w ≡ Some counts → Works (dealt n peers w) own counts
-served {J} {F} {P} {I} peers_of ids_of counts_of Works jobs finished queues ids workers n peers queues_are ids_are counts_are all deals w own counts at there =
+served {J} {P} {I} peers_of ids_of Works jobs queues ids workers n peers queues_are ids_are all deals w own counts at there =
     let j = from_map ids_of jobs w own (ap (λ (xs : List I). slice_get xs w) ids_are ∙ at) in
-    let f = from_map counts_of finished w counts (ap (λ (xs : List WorkerCounts). slice_get xs w) (sym counts_are) ∙ there) in
-    let works = zip_at (λ (x : J) (y : F). Works (peers_of x) (ids_of x) (counts_of y)) jobs finished w j.0 f.0 all j.1 f.1 in
+    let works = zip_at (λ (x : J) (y : WorkerCounts). Works (peers_of x) (ids_of x) y) jobs workers w j.0 counts all j.1 there in
     let found : slice_get queues w ≡ Some (peers_of j.0) = ap (λ (xs : List (List P)). slice_get xs w) (sym queues_are) ∙ slice_get-map peers_of jobs w ∙ ap (option_map peers_of) j.1 in
     let queue : peers_of j.0 ≡ dealt n peers w = deals w (peers_of j.0) found in
-    subst (λ (q : List P). Works q own counts) queue (subst (λ (i : I). Works (peers_of j.0) i counts) j.2 (subst (λ (c : WorkerCounts). Works (peers_of j.0) (ids_of j.0) c) f.2 works))
+    subst (λ (q : List P). Works q own counts) queue (subst (λ (i : I). Works (peers_of j.0) i counts) j.2 works)
 
 -- what holds of the workers holds of those that a report lists
 pub reported : {S E W : Type 0} (r : Result S E) (w : W) (workers_of : S → W) (Q : W → Type 0) → IfOk r (λ s. workers_of s ≡ w) → Q w → IfOk r (λ s. Q (workers_of s))

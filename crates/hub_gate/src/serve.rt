@@ -137,8 +137,8 @@ pub fn serve_peers<
     };
     let counts = Vec::with_capacity(pool.alloc, workers).or(Err(ServeError::Memory))?;
     let jobs = make_jobs(pool.rt, pool.alloc, pool.locked, queues, ids)?;
-    let finished = run_all(pool, jobs)?;
-    let workers = gather(pass, finished, counts);
+    let handles = run_all(pool, jobs)?;
+    let workers = gather(pool.rt, pass, handles, counts);
     settle(pool, pass, workers)
 }
 
@@ -196,7 +196,7 @@ fn make_jobs<R: Wait, C: Ledger, T: Ledger, P: Drop, I: Drop>(
     Ok(jobs)
 }
 
-/// Runs each job in a thread of its own, and joins all.
+/// Runs each job in a thread of its own. All of these have ended when it returns.
 fn run_all<
     R: Threads + Wait + Sync,
     C: Ledger + Send,
@@ -205,27 +205,28 @@ fn run_all<
     P: Peer + Send + Drop,
     G: Turnstile + Sync,
     I: IdSource + Send + Drop,
->(pool: &Pool<R, C, T, A, G>, jobs: Vec<Job<C, T, P, I>>) -> Result<Vec<Finished<C, T>>, ServeError>
-    ensures work { IfOk result (λ v. AllZip (λ job f. WorksAs P.gives P.hears
-        (A.policy pool.now.app.now) pool.now.turns
-        (into_iter_items job.queue.peers) (I.stream job.ids) f.counts) jobs.items v.items) }
+>(
+    pool: &Pool<R, C, T, A, G>,
+    jobs: Vec<Job<C, T, P, I>>,
+) -> Result<Vec<PromisedHandle<Finished<C, T>, Started<C, T, A, P, I>>>, ServeError>
+    ensures begun { IfOk result (λ v. AllZip (λ job h. (h.promise.job.value ≡ job)
+        × (h.promise.app.value ≡ pool.now.app.now) × (h.promise.turns ≡ pool.now.turns))
+        jobs.items v.items) }
     ensures len { IfOk result (λ v. vec_len v ≡ vec_len jobs) }
     ensures error { IfErr result IsFromStarting }
 {
     thread::scope(
         thread::scope_env(),
         pool.rt,
-        |scope| -> Result<Vec<Finished<C, T>>, ServeError>
-            ensures work { IfOk result (λ v. AllZip (λ job f. WorksAs P.gives P.hears
-                (A.policy pool.entry.now.app.now)
-                pool.entry.now.turns (into_iter_items job.queue.peers) (I.stream job.ids)
-                f.counts) jobs.items v.items) }
+        |scope| -> Result<Vec<PromisedHandle<Finished<C, T>, Started<C, T, A, P, I>>>, ServeError>
+            ensures begun { IfOk result (λ v. AllZip (λ job h. (h.promise.job.value ≡ job)
+                × (h.promise.app.value ≡ pool.entry.now.app.now)
+                × (h.promise.turns ≡ pool.entry.now.turns)) jobs.items v.items) }
             ensures len { IfOk result (λ v. vec_len v ≡ vec_len jobs) }
             ensures error { IfErr result IsFromStarting }
         {
             let most = jobs.len();
             let mut handles = Vec::with_capacity(pool.alloc, most).or(Err(ServeError::Memory))?;
-            let all = Vec::with_capacity(pool.alloc, most).or(Err(ServeError::Memory))?;
             let mut worker = 0usize;
             for job in jobs {
                 let begun = Started {
@@ -239,26 +240,9 @@ fn run_all<
                 handles.push_reserved(handle);
                 worker = worker.saturating_add(1);
             }
-            Ok(join_all(pool.rt, handles, all))
+            Ok(handles)
         },
     )
-}
-
-/// Joins these threads in turn, and lists what they hand back in the list that is reserved for that.
-fn join_all<R: Threads, X: Drop, P: Promise<X>>(
-    rt: &R,
-    handles: Vec<PromisedHandle<X, P>>,
-    mut all: Vec<X>,
-) -> Vec<X>
-    requires none { (vec_len all ≡ 0) × (all.items ≡ []) }
-    requires fits { vec_len handles ≤ vec_capacity all }
-    ensures len { vec_len result ≡ vec_len handles }
-    ensures kept { AllZip (λ h x. P.kept_by h.promise x) handles.items result.items }
-{
-    for handle in handles {
-        all.push_reserved(handle.join(rt));
-    }
-    all
 }
 
 /// One job, to its end.
@@ -279,21 +263,25 @@ fn work<R: Wait, C: Ledger, T: Ledger, A: App, P: Peer + Drop, G: Turnstile, I: 
     Finished { pass, counts }
 }
 
-/// Absorbs the passes of all workers, and lists their counts in the list that is reserved for that.
-fn gather<C: Ledger, T: Ledger>(
+/// Joins these threads in turn, absorbs the passes of their workers, and lists their counts in the list
+/// that is reserved for that.
+fn gather<R: Threads, C: Ledger, T: Ledger, B: Promise<Finished<C, T>>>(
+    rt: &R,
     pass: &mut Pass<C, T>,
-    finished: Vec<Finished<C, T>>,
+    handles: Vec<PromisedHandle<Finished<C, T>, B>>,
     mut all: Vec<WorkerCounts>,
 ) -> Vec<WorkerCounts>
     requires none { (vec_len all ≡ 0) × (all.items ≡ []) }
-    requires fits { vec_len finished ≤ vec_capacity all }
-    ensures len { vec_len result ≡ vec_len finished }
-    ensures counts { result.items ≡ map (λ f. f.counts) finished.items }
+    requires fits { vec_len handles ≤ vec_capacity all }
+    ensures len { vec_len result ≡ vec_len handles }
+    ensures kept { AllZip (λ h counts. (f : _) × B.kept_by h.promise f × (f.counts ≡ counts))
+        handles.items result.items }
     ensures commands { pass.new.commands ≡ pass.old.commands + sum_by (λ w. w.commands) result.items }
     ensures taken { pass.new.taken ≡ pass.old.taken + sum_by (λ w. w.taken) result.items }
 {
-    for one in finished {
-        let Finished { pass: own, counts } = one;
+    for handle in handles {
+        let finished = handle.join(rt);
+        let Finished { pass: own, counts } = finished;
         pass.absorb(own);
         all.push_reserved(counts);
     }

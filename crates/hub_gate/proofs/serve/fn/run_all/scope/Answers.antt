@@ -1,8 +1,7 @@
 use Rattle.std.proofs.Common.{◌≡◌, ◌∷◌, [], arith, rules, sym, ◌∙◌, append_assoc, append-nil}
 use Rattle.std.specs.Vec.Iter.{into_iter_items}
-use Rattle.hub_gate.specs.Serving.{WorksAs}
 use Rattle.hub_gate.proofs.Dealing.{nothing_left}
-use Rattle.hub_gate.proofs.PoolLemmas.{zip_join, zip_push}
+use Rattle.hub_gate.proofs.PoolLemmas.{zip_push}
 use Rattle.hub_gate.proofs.serve.fn.run_all.scope.Goals as goal
 
 pub loop-job-preserved : goal.loop-job-preserved
@@ -23,13 +22,7 @@ returns g c =
     let no_job = nothing_left (into_iter_items at.job-iterator) at.job-iterator.rest.len at.job-iterator.rest.ok.0 c.in-None.ensures.steps.0 in
     let jobs = sym (append-nil at.yielded) ∙ (rw no_job at at.invariant.yielded) ∙ c.into_iter-job-iterator.ensures.into_iter_gives.0 in
     record {
-      work = zip_join (λ j h. (h.promise.job.value ≡ j) × (h.promise.app.value ≡ c.captures.pool.now.app.now) × (h.promise.turns ≡ c.captures.pool.now.turns))
-          (λ h f. WorksAs g.P.Peer.gives g.P.Peer.hears (g.A.App.policy h.promise.app.value) h.promise.turns
-          (into_iter_items h.promise.job.value.queue.peers) (g.I.IdSource.stream h.promise.job.value.ids) f.counts)
-          (λ j f. WorksAs g.P.Peer.gives g.P.Peer.hears (g.A.App.policy c.captures.pool.now.app.now) c.captures.pool.now.turns
-          (into_iter_items j.queue.peers) (g.I.IdSource.stream j.ids) f.counts)
-          (λ j h f one two. rw (one.0, one.1, one.2) at two)
-          c.captures.jobs.items at.handles.items c.join_all.result.items (rw jobs at at.invariant.begun) c.join_all.ensures.kept;
-      len = omega (arith, c.join_all.ensures.len, at.invariant.count, c.in-None.ensures.steps.0, c.into_iter-job-iterator.ensures.into_iter_gives.1);
+      begun = rw jobs at at.invariant.begun;
+      len = omega (arith, at.invariant.count, c.in-None.ensures.steps.0, c.into_iter-job-iterator.ensures.into_iter_gives.1);
       error = tt;
     }
