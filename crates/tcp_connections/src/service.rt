@@ -1,6 +1,6 @@
 //! Who serves a connection.
 
-use crate::tcp_connection::Mode;
+use crate::tcp_connection::{Mode, Next};
 use crate::watch::Watch;
 use http_edge::{EdgeError, Gathered, OnStream, Replay, Request, Target, write_response};
 use loop_rules::Pause;
@@ -105,23 +105,25 @@ impl<'a, R: Clock + Drop> Service<'a, R> {
     }
 
     /// Reads what has come of the request, which pauses where that is not whole.
-    pub fn read(&mut self, alloc: Global) -> Result<Result<Box<Request>, Pause>, EdgeError> {
+    pub fn read(&mut self, alloc: Global) -> Result<Next, EdgeError> {
         let Service::Gathering { stream, gathered } = self else {
-            return Ok(Err(Pause::Done));
+            return Ok(Next::Pauses(Pause::Done));
         };
         let mut bytes = [0; READ];
         for _ in 0..READS {
             let count = match stream.read(&mut bytes) {
                 Ok(0) => return Err(EdgeError::EarlyEnd),
                 Ok(count) => count,
-                Err(error) if error.kind() == ErrorKind::WouldBlock => return Ok(Err(Pause::Done)),
+                Err(error) if error.kind() == ErrorKind::WouldBlock => {
+                    return Ok(Next::Pauses(Pause::Done));
+                }
                 Err(_) => return Err(EdgeError::Device),
             };
             if let Some(request) = gathered.feed(alloc, &bytes[..count])? {
-                return Ok(Ok(Box::new(alloc, request)?));
+                return Ok(Next::Asks(Box::new(alloc, request)?));
             }
         }
-        Ok(Err(Pause::More))
+        Ok(Next::Pauses(Pause::More))
     }
 
     /// Reads and forgets what comes. None where it has ended.

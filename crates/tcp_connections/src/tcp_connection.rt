@@ -2,7 +2,7 @@
 
 use crate::service::{Service, of_peer};
 use events::{Answered, Event, Frames, Loss, Outcome, Peer, Retry, WsFrame};
-use http_edge::Gathered;
+use http_edge::{EdgeError, Gathered, Request};
 use loop_rules::{Found, Overdue, Pause, Period, find_overdue, left_after_message};
 use peers::{FRAMES_PER_TAKE, PROBE, UPGRADE};
 use std::alloc::Global;
@@ -60,12 +60,18 @@ impl<R: Drop> Drop for Connection<'_, R> {
 /// What a connection does next.
 #[derive(Drop)]
 pub enum Next {
+    /// Its request has come.
+    Asks(Box<Request>),
+    /// No request can be read.
+    Refuses(EdgeError),
     /// It brings an event, at this moment.
     Brings(Event, u64),
     /// It asks what is due, a moment after that was asked.
     AsksAgain,
     Pauses(Pause),
     Fails,
+    /// It is over.
+    Ends,
 }
 
 /// What follows once a connection's bytes were sent.
@@ -117,8 +123,20 @@ impl<'a, R: Clock + Drop> Connection<'a, R> {
         find_overdue(period, now.saturating_sub(self.since), stalled)
     }
 
-    /// What it does next. It ends where it has no event any more.
-    pub fn next(&mut self, now: u64) -> Next {
+    /// What it does next.
+    pub fn next(&mut self, alloc: Global, now: u64) -> Next {
+        match self.mode {
+            Mode::Gathers => self.service.read(alloc).unwrap_or_else(Next::Refuses),
+            Mode::Serves => self.serve(now),
+            Mode::Loses(loss) => Next::Brings(loss.event(), now),
+            Mode::Closes => Next::Pauses(Pause::Done),
+            // What still comes is forgotten.
+            Mode::Lingers => self.service.drain().map_or(Next::Ends, Next::Pauses),
+        }
+    }
+
+    /// What it does next while it is served. It closes where its peer has no event any more.
+    fn serve(&mut self, now: u64) -> Next {
         if self.is_full() {
             return Next::Pauses(Pause::Full);
         }

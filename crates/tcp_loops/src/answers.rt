@@ -25,9 +25,8 @@ impl<R: Wait + Clock + Copy + Drop, L: Log> EventLoop<'_, R, L> {
     fn respond(&mut self, key: usize, origin: &Option<String>, response: Option<Response<'_>>) {
         let now = self.watch.now();
         if let Some(connection) = self.connections.get_mut(key) {
-            connection
-                .service
-                .respond(self.base.alloc, origin, response);
+            let service = &mut connection.service;
+            service.respond(self.base.alloc, origin, response);
             connection.turn_to(Mode::Closes, now);
         }
     }
@@ -64,10 +63,7 @@ impl<R: Wait + Clock + Copy + Drop, L: Log> EventLoop<'_, R, L> {
             return self.serve(key, request, target);
         }
         let taken = self.connections.take(key);
-        if let Some(mut stream) = taken.and_then(|mut connection| connection
-            .service
-            .take_stream())
-        {
+        if let Some(mut stream) = taken.and_then(|mut taken| taken.service.take_stream()) {
             // The loop hears no more of it.
             let _ = self.ears.poll.registry().deregister(&mut stream.inner);
             let handed = Handed {

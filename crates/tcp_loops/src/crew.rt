@@ -57,11 +57,11 @@ pub fn workers_for<'a, R: Wait + Clock + Copy + Drop, L: Log, K: Drop>(
     ears: Vec<Ears>,
     keeper: K,
 ) -> Result<Vec<Worker<'a, R, L, K>>, AllocError> {
-    let serves = |(number, own)| -> Result<_, AllocError> {
-        Ok(Worker::Serves(EventLoop::new(base, number, own)?))
-    };
-    let loops = ears.into_iter().enumerate().map(serves);
-    let mut workers: Vec<Worker<'a, R, L, K>> = loops.try_collect(base.alloc)?;
+    let mut workers = Vec::new(base.alloc);
+    for own in ears {
+        let number = workers.len();
+        workers.push(Worker::Serves(EventLoop::new(base, number, own)?))?;
+    }
     workers.push(Worker::Keeps(keeper))?;
     Ok(workers)
 }

@@ -10,7 +10,7 @@ use std::mem;
 use std::rt::Clock;
 use std::sync::Wait;
 use std::time::Duration;
-use tcp_connections::{Connection, Connections, Delays, Mode, Next, Sent, Watch};
+use tcp_connections::{Connection, Connections, Delays, Next, Sent, Watch};
 use tcp_streams::{Buffered, Ears, Handed, Inbox, Log, Stream};
 
 /// How many reports of streams one wait takes.
@@ -123,12 +123,8 @@ impl<'a, R: Wait + Clock + Copy + Drop, L: Log> EventLoop<'a, R, L> {
         }
         self.stints_left = STINTS;
         let timeout = Duration::from_millis(self.time_to_sleep());
-        if self
-            .ears
-            .poll
-            .poll(&mut self.events, Some(timeout))
-            .is_err()
-        {
+        let waited = self.ears.poll.poll(&mut self.events, Some(timeout));
+        if waited.is_err() {
             return false;
         }
         for event in self.events.iter() {
@@ -224,50 +220,34 @@ impl<'a, R: Wait + Clock + Copy + Drop, L: Log> EventLoop<'a, R, L> {
 
     /// The next event of a connection, if it has one. The stint of one that is gone is over.
     fn step(&mut self, key: usize) -> Option<(Event, u64)> {
-        let now = self.watch.now();
-        let Some(connection) = self.connections.get_mut(key) else {
-            self.pause(key, Pause::Done);
-            return None;
+        let (alloc, now) = (self.base.alloc, self.watch.now());
+        let next = match self.connections.get_mut(key) {
+            Some(connection) => connection.next(alloc, now),
+            None => Next::Pauses(Pause::Done),
         };
-        match connection.mode {
-            Mode::Gathers => match connection.service.read(self.base.alloc) {
-                Ok(Ok(request)) => self.direct(key, request),
-                Ok(Err(pause)) => self.pause(key, pause),
-                Err(fault) => self.refuse(key, fault),
-            },
-            Mode::Serves => match connection.next(now) {
-                Next::Brings(event, moment) => {
-                    self.comes_over = matches!(event, Event::Upgraded { .. });
-                    return Some((event, moment));
-                }
-                // Nothing can be due that wasn't, so the core need not be asked.
-                Next::AsksAgain => {
-                    let done = Done::nothing(self.base.alloc);
-                    self.hear(&Ok(Outcome::Ticked { ping: false, done }));
-                }
-                Next::Pauses(pause) => self.rest(key, pause),
-                Next::Fails => {}
-            },
-            Mode::Loses(loss) => return Some((loss.event(), now)),
-            Mode::Closes => self.rest(key, Pause::Done),
-            // What still comes is forgotten.
-            Mode::Lingers => match connection.service.drain() {
-                Some(pause) => self.pause(key, pause),
-                None => self.close(key),
-            },
+        match next {
+            Next::Asks(request) => self.direct(key, request),
+            Next::Refuses(fault) => self.refuse(key, fault),
+            Next::Brings(event, moment) => {
+                self.comes_over = matches!(event, Event::Upgraded { .. });
+                return Some((event, moment));
+            }
+            // Nothing can be due that wasn't, so the core need not be asked.
+            Next::AsksAgain => {
+                let done = Done::nothing(alloc);
+                self.hear(&Ok(Outcome::Ticked { ping: false, done }));
+            }
+            Next::Pauses(pause) => self.rest(key, pause),
+            Next::Fails => {}
+            Next::Ends => self.close(key),
         }
         None
     }
 
-    /// The stint of a connection is over.
-    pub(crate) fn pause(&mut self, key: usize, pause: Pause) {
-        self.current = None;
-        self.connections.roster.rota.pause(key, pause);
-    }
-
     /// The stint of a connection is over, and what it has to send goes out.
     pub(crate) fn rest(&mut self, key: usize, pause: Pause) {
-        self.pause(key, pause);
+        self.current = None;
+        self.connections.roster.rota.pause(key, pause);
         self.send_soon(key);
     }
 
