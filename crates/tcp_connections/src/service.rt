@@ -104,7 +104,7 @@ impl<'a, R: Clock + Drop> Service<'a, R> {
         self.stream().ok_or(ErrorKind::NotConnected)?.send()
     }
 
-    /// Reads what has come of the request, which pauses where that is not whole.
+    /// Reads what has come of the request. Until that is whole, the connection pauses.
     pub fn read(&mut self, alloc: Global) -> Result<Next, EdgeError> {
         let Service::Gathering { stream, gathered } = self else {
             return Ok(Next::Pauses(Pause::Done));
@@ -120,7 +120,7 @@ impl<'a, R: Clock + Drop> Service<'a, R> {
                 Err(_) => return Err(EdgeError::Device),
             };
             if let Some(request) = gathered.feed(alloc, &bytes[..count])? {
-                return Ok(Next::Asks(Box::new(alloc, request)?));
+                return Ok(Next::Requests(Box::new(alloc, request)?));
             }
         }
         Ok(Next::Pauses(Pause::More))

@@ -61,7 +61,7 @@ impl<R: Drop> Drop for Connection<'_, R> {
 #[derive(Drop)]
 pub enum Next {
     /// Its request has come.
-    Asks(Box<Request>),
+    Requests(Box<Request>),
     /// No request can be read.
     Refuses(EdgeError),
     /// It brings an event, at this moment.

@@ -226,7 +226,7 @@ impl<'a, R: Wait + Clock + Copy + Drop, L: Log> EventLoop<'a, R, L> {
             None => Next::Pauses(Pause::Done),
         };
         match next {
-            Next::Asks(request) => self.direct(key, request),
+            Next::Requests(request) => self.direct(key, request),
             Next::Refuses(fault) => self.refuse(key, fault),
             Next::Brings(event, moment) => {
                 self.comes_over = matches!(event, Event::Upgraded { .. });
