@@ -1,4 +1,4 @@
-//! Ids that are in use, workers on threads over a core's lock, and scripts over devices that fail.
+//! Ids that are in use, lists of events, workers on threads over a core's lock, and scripts over devices that fail.
 //! `trials` plays most scripts.
 
 mod acts;
@@ -8,6 +8,7 @@ mod drawn;
 mod expected;
 mod gates;
 mod hall;
+mod lists;
 mod long_lines;
 mod losses;
 mod pools;

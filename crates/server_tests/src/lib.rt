@@ -11,3 +11,5 @@ mod edge;
 mod loops;
 #[cfg(test)]
 mod parts;
+#[cfg(test)]
+mod vague;

@@ -4,5 +4,4 @@
 mod scenes;
 mod server;
 mod site;
-mod vague;
 mod wire;

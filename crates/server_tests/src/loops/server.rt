@@ -2,7 +2,7 @@
 
 use crate::loops::scenes::{closing, polling, speaking};
 use crate::loops::site::Site;
-use crate::loops::vague::Vague;
+use crate::vague::Vague;
 use events::App;
 use hub_gate::Report;
 use journal::Totals;

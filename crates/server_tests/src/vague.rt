@@ -5,7 +5,8 @@ use journal::Ending;
 use std::alloc::{AllocError, Global};
 use terms::Room;
 
-/// It lets everybody in. Where a socket has ended it wants it disconnected.
+/// It lets everybody in. A socket of which something came it wants disconnected twice, and one that has
+/// ended once more.
 #[derive(Clone, Copy)]
 pub struct Vague;
 
@@ -21,7 +22,10 @@ impl App for Vague {
     }
 
     fn decides(&self, alloc: Global, _who: &Who, _arrived: &Arrived) -> Wanted {
-        Ok(Vec::new(alloc))
+        let mut effects = Vec::new(alloc);
+        effects.push(Effect::Disconnect)?;
+        effects.push(Effect::Disconnect)?;
+        Ok(effects)
     }
 
     fn ended(&self, alloc: Global, _who: &Who, _rooms: &[Room], _ending: Ending) -> Wanted {
