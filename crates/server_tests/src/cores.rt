@@ -1,5 +1,5 @@
-//! Ids that are in use, lists of events, workers on threads over a core's lock, and scripts over devices that fail.
-//! `trials` plays most scripts.
+//! Ids that are in use, lists of events, workers on threads over a core's lock, and scripts over
+//! devices that fail. `trials` plays most scripts.
 
 mod acts;
 mod books;

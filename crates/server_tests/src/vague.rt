@@ -5,8 +5,8 @@ use journal::Ending;
 use std::alloc::{AllocError, Global};
 use terms::Room;
 
-/// It lets everybody in. A socket of which something came it wants disconnected twice, and one that has
-/// ended once more.
+/// It lets everybody in. A socket of which something came it wants disconnected twice, and one that
+/// has ended once more.
 #[derive(Clone, Copy)]
 pub struct Vague;
 

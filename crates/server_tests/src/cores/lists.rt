@@ -7,7 +7,7 @@ use std::alloc::{AllocError, Global};
 use std::sync::ledger::Ledger;
 use usual_core::{OnCore, UsualCore, UsualSettings, on_new_core};
 
-/// What happens, and where that fails why, after how many packets, and how many effects of the next.
+/// What happens, and where that fails why, after how many packets and effects of the next.
 static ROWS: [(Act, Option<(CoreFault, usize, usize)>); 5] = [
     (Opens, None),
     (Posts(1, "40"), None),
@@ -19,8 +19,8 @@ static ROWS: [(Act, Option<(CoreFault, usize, usize)>); 5] = [
     (Takes(1), None),
 ];
 
-/// How many changes of the hub's state are accepted then: the client opens, its socket connects, is told
-/// goodbye and ends, and the client takes.
+/// How many changes of the hub's state are accepted then: the client opens, its socket connects, is
+/// told goodbye and ends, and the client takes.
 const COMMANDS: u64 = 5;
 
 fn parts_of(error: &CoreError) -> (CoreFault, usize, usize) {
