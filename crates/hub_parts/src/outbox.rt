@@ -34,25 +34,12 @@ impl Model for Outbox {
     ghost invariant = { λ o. o.free + total_size (map arc_value o.ring.items) ≡ o.bytes };
 }
 
-/// How many bytes an entry has, or `None` past the greatest usize.
-#[tactic(auto, using(std::proofs::lemmas::List::Sums::sum_by_more_le))]
-pub(crate) fn size_of(entry: &Entry) -> Option<usize>
-    ensures some { IfSome result (λ size. size ≡ entry_size entry.now) }
-    ensures none { IfNone result (usize.MAX < entry_size entry.now) }
-{
-    let mut size = entry.text.as_str().len();
-    for attachment in entry.attachments.as_slice() {
-        size = size.checked_add(attachment.as_slice().len())?;
-    }
-    Some(size)
-}
-
 /// How many bytes are free after an entry, or `None` where it has more than these.
 pub fn free_after(free: usize, entry: &Entry) -> Option<usize>
     ensures some { IfSome result (λ left. left + entry_size entry.now ≡ free) }
     ensures none { IfNone result (free < entry_size entry.now) }
 {
-    free.checked_sub(size_of(entry)?)
+    free.checked_sub(entry.size()?)
 }
 
 impl Outbox {
@@ -129,7 +116,7 @@ impl Outbox {
     {
         if let Some(entry) = self.ring.pop_front() {
             // What waits has no more bytes than the outbox may hold.
-            self.free += size_of(&entry).unwrap_or(0);
+            self.free += entry.size().unwrap_or(0);
         }
     }
 

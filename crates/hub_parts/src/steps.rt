@@ -6,7 +6,6 @@ ghost use Rattle.journal.specs.Totals as totals;
 ghost use Rattle.journal.specs.declared.error.HubError.TheVariants.{Memory};
 ghost use Rattle.hub_parts.specs.Steps.{PlainSteps};
 
-use crate::outbox::size_of;
 use journal::{HubError, Step, What};
 use std::alloc::Global;
 use std::marker::Model;
@@ -43,7 +42,7 @@ fn held_by(what: &What) -> u64
         What::Told(message) => &message.entry,
         _ => return 0,
     };
-    size_of(entry).unwrap_or(usize::MAX) as u64
+    entry.size().unwrap_or(usize::MAX) as u64
 }
 
 impl Steps {

@@ -1,6 +1,7 @@
 //! Attachments, and packets that wait to be sent.
 
-ghost use Rattle.std.specs.Prelude.{◌≡◌, ℕ, List, [], ◌∷◌, ◌++◌, length, IsTrue, ◌↔◌, OnOk, OnErr};
+ghost use Rattle.std.specs.Prelude.{◌≡◌, ◌<◌, ℕ, List, [], ◌∷◌, ◌++◌, length, IsTrue, ◌↔◌, OnOk, OnErr, IfSome, IfNone};
+ghost use Rattle.terms.specs.Entry.{entry_size};
 
 use crate::bytes::Bytes;
 use crate::text::Text;
@@ -15,6 +16,8 @@ pub struct Attachments {
 }
 
 impl Model for Attachments {
+    ghost use Rattle.std.specs.Prelude.{ℕ, List};
+
     ghost Value = { List (List ℕ) };
 
     ghost view = { λ a. a.list.items };
@@ -74,6 +77,21 @@ impl Clone for Attachments {
 pub struct Entry {
     pub text: Text,
     pub attachments: Attachments,
+}
+
+impl Entry {
+    /// How many bytes it holds, or `None` past the greatest usize.
+    #[tactic(auto, using(std::proofs::lemmas::List::Sums::sum_by_more_le))]
+    pub fn size(&self) -> Option<usize>
+        ensures some { IfSome result (λ size. size ≡ entry_size self.now) }
+        ensures none { IfNone result (usize.MAX < entry_size self.now) }
+    {
+        let mut size = self.text.as_str().len();
+        for attachment in self.attachments.as_slice() {
+            size = size.checked_add(attachment.as_slice().len())?;
+        }
+        Some(size)
+    }
 }
 
 impl Clone for Entry {

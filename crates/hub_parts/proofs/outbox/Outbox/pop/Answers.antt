@@ -13,13 +13,13 @@ known None size some none fits = absurd (omega (arith, none, fits))
 pub overflow_add-self : goal.overflow_add-self
 overflow_add-self c =
     let fits = popped_fits arc_value _ c.in-Some.entry _ _ c.self.invariant c.in-Some.ensures.value in
-    let sizes = rw c.deref.ensures at c.size_of.ensures in
-    let size = known c.size_of.result (entry_size (arc_value c.in-Some.entry)) sizes.some sizes.none (omega (arith, fits)) in
+    let sizes = rw c.deref.ensures at c.size.ensures in
+    let size = known c.size.result (entry_size (arc_value c.in-Some.entry)) sizes.some sizes.none (omega (arith, fits)) in
     omega (arith, fits, c.unwrap_or.ensures ∙ size)
 
 pub invariant_of-self : goal.invariant_of-self
 invariant_of-self c =
     let fits = popped_fits arc_value _ c.in-Some.entry _ _ c.self.invariant c.in-Some.ensures.value in
-    let sizes = rw c.deref.ensures at c.size_of.ensures in
-    let size = known c.size_of.result (entry_size (arc_value c.in-Some.entry)) sizes.some sizes.none (omega (arith, fits)) in
+    let sizes = rw c.deref.ensures at c.size.ensures in
+    let size = known c.size.result (entry_size (arc_value c.in-Some.entry)) sizes.some sizes.none (omega (arith, fits)) in
     rw (c.unwrap_or.ensures, size, c.pop_front.ensures.items) (popped_free arc_value _ c.in-Some.entry _ _ c.self.invariant c.in-Some.ensures.value)

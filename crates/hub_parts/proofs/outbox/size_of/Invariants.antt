@@ -1,6 +1,0 @@
-use Rattle.std.proofs.Common.{◌≡◌, ◌+◌, length, take}
-use Rattle.std.specs.List.{sum_by}
-use Rattle.hub_parts.proofs.outbox.size_of.Given as goal
-
-abbrev pub invariant-loop-attachment : goal.invariant-loop-attachment
-invariant-loop-attachment l = l.size ≡ length l.entry.text + sum_by (λ attachment. length attachment) (take l.attachment-index l.attachment-items)
