@@ -10,8 +10,8 @@ use Rattle.std.proofs.lemmas.List.{map-append, reverse-append}
 use Rattle.std.proofs.lemmas.List.Folds.{list_any-append}
 use Rattle.recovery.specs.Expiry.{is_outdated}
 use Rattle.recovery.specs.PacketLog as packets
-use Rattle.recovery.specs.PacketLog.{PlainLogged, LogCall, number_of, stands, later_than, IsRun, is_fresh, pushed, latest, survives, kept, Rises, RisesTo}
-use Rattle.recovery.proofs.PacketLogLemmas.{run_dropped, rises_later, swept_front}
+use Rattle.recovery.specs.PacketLog.{PlainLogged, LogCall, number_of, stands, later_than, IsRun, is_fresh, pushed, latest, kept, Rises}
+use Rattle.recovery.proofs.PacketLogLemmas.{kept_rises, run_dropped, run_newest, swept_front}
 use Rattle.journal.specs.declared.step.Step.{Step}
 use Rattle.journal.specs.declared.step.What.{What}
 use Rattle.journal.specs.declared.step.What.TheVariants.{Opened, Attached, Recovered, Joined, Left, AllJoined, AllLeft, Cast, Told, Took, Parked, Ended, AllEnded, Closed, Swept}
@@ -31,28 +31,6 @@ below a b h = grind (arith, nat_tests)
 
 pub not-below : (a b : ℕ) → b ≤ a → nat_lt a b ≡ false
 not-below a b h = grind (arith, nat_tests)
-
--- ---- the moments of a log rise
-
-rises-more : (last : ℕ) (es : List PlainLogged) (e : PlainLogged) → RisesTo last es → last ≤ e.at → RisesTo e.at (es ++ e ∷ [])
-unfolding RisesTo
-rises-more last [] e h late = omega arith
-rises-more last (x ∷ []) e h late = (omega (arith, h), omega arith)
-rises-more last (x ∷ y ∷ es) e h late = (h.0, rises-more last (y ∷ es) e h.1 late)
-
-kept-rises : (limit : ℕ) (later calls : List LogCall) → Rises calls → RisesTo (latest calls) (kept limit later calls)
-unfolding Rises RisesTo latest kept
-kept-rises limit later [] rises = tt
-kept-rises limit later (packets.Pushed e ∷ calls) rises = on (survives limit later e) (kept-rises limit (packets.Pushed e ∷ later) calls rises.1)
-  where
-    on : (b : Bool) → RisesTo (latest calls) (kept limit (packets.Pushed e ∷ later) calls) → RisesTo (max (latest calls) e.at) (kept limit (packets.Pushed e ∷ later) calls ++ (if b then e ∷ [] else []))
-    on true h =
-        let last : e.at ≡ max (latest calls) e.at = omega (arith, rises.0) in
-        subst (λ n. RisesTo n (kept limit (packets.Pushed e ∷ later) calls ++ e ∷ [])) last (rises-more (latest calls) (kept limit (packets.Pushed e ∷ later) calls) e h rises.0)
-    on false h =
-        subst (RisesTo (max (latest calls) e.at)) (sym (append-nil (kept limit (packets.Pushed e ∷ later) calls)))
-        (rises_later (latest calls) (max (latest calls) e.at) (kept limit (packets.Pushed e ∷ later) calls) h (omega arith))
-kept-rises limit later (packets.Swept keep now ∷ calls) rises = rises_later (latest calls) (max (latest calls) now) (kept limit (packets.Swept keep now ∷ later) calls) (kept-rises limit (packets.Swept keep now ∷ later) calls rises.1) (omega arith)
 
 -- ---- runs
 
@@ -154,7 +132,7 @@ module _ (base : PlainBase) (limits : Limits) where
       record {
         rises = subst Rises (sym calls) was.rises;
         late = subst (λ c. latest c ≤ step.at) (sym calls) was_late;
-        run = subst (λ n. IsRun n (log base limits (step ∷ before))) (sym number) (subst (λ c. IsRun (next_number base before) (kept limits.log [] c)) (sym calls) was.run);
+        run = subst (λ n. IsRun n (log base limits (step ∷ before))) (sym number) (subst (λ c. IsRun (next_number base before) (kept limits.log limits.log_bytes c)) (sym calls) was.run);
         casts_run = subst (λ n. IsRun n (casts (step ∷ before))) (sym number) (subst (IsRun (next_number base before)) (sym same) was.casts_run);
         number = ap (λ l. number_of base.next + length l) same ∙ was.number ∙ sym number;
         pushed_are = ap pushed calls ∙ was.pushed_are ∙ ap (λ l. base.log ++ l) (sym same);
@@ -175,8 +153,8 @@ module _ (base : PlainBase) (limits : Limits) where
         rises = subst Rises (sym calls) (was_late, was.rises);
         late = subst (λ c. latest c ≤ at) (sym calls) (let both : max (latest (log_calls base limits before)) at ≤ at = omega (arith, was_late) in both);
         run = subst (λ n. IsRun n (log base limits (step ∷ before))) (sym number)
-            (subst (IsRun (next_number base before + 1)) (sym (log-one base limits before b at o e was.rises))
-            (run_dropped (next_number base before + 1) (length (log base limits before ++ more ∷ []) - limits.log) (log base limits before ++ more ∷ [])
+            (subst (IsRun (next_number base before + 1)) (sym (log-one base limits before b at o e))
+            (run_newest (next_number base before + 1) limits.log limits.log_bytes (log base limits before ++ more ∷ [])
             (run-more (next_number base before) (log base limits before) more was.run is)));
         casts_run = subst (λ n. IsRun n (casts (step ∷ before))) (sym number) (subst (IsRun (next_number base before + 1)) (sym same) (run-more (next_number base before) (casts before) more was.casts_run is));
         number = (let l : length (casts (step ∷ before)) ≡ length (casts before) + 1 = ap length same ∙ length-append (casts before) (more ∷ []) in let n = was.number in omega (arith, l, n, number));
@@ -186,7 +164,7 @@ module _ (base : PlainBase) (limits : Limits) where
   run-swept : (at : ℕ) (before : List Step) → IsOrderly before → IsRun (next_number base before) (filter (is_fresh limits.keep at) (log base limits before))
   unfolding log
   run-swept at before was =
-      subst (IsRun (next_number base before)) (swept_front limits.keep at (latest (log_calls base limits before)) (log base limits before) (kept-rises limits.log [] (log_calls base limits before) was.rises))
+      subst (IsRun (next_number base before)) (swept_front limits.keep at (latest (log_calls base limits before)) (log base limits before) (kept_rises limits.log limits.log_bytes (log_calls base limits before) was.rises))
       (run_dropped (next_number base before) (length (take_while (λ (e : PlainLogged). is_outdated limits.keep at e.at) (log base limits before))) (log base limits before) was.run)
 
   is-swept : (at : ℕ) (before : List Step) → moment base before ≤ at → IsOrderly before → IsOrderly (record { at = at; what = Swept } ∷ before)
@@ -200,7 +178,7 @@ module _ (base : PlainBase) (limits : Limits) where
       record {
         rises = (was_late, was.rises);
         late = omega (arith, was_late);
-        run = subst (λ n. IsRun n (log base limits (step ∷ before))) (sym number) (subst (IsRun (next_number base before)) (sym (log-swept base limits at before)) (run-swept at before was));
+        run = subst (λ n. IsRun n (log base limits (step ∷ before))) (sym number) (subst (IsRun (next_number base before)) (sym (log-swept base limits at before was.rises)) (run-swept at before was));
         casts_run = subst (λ n. IsRun n (casts (step ∷ before))) (sym number) (subst (IsRun (next_number base before)) (sym same) was.casts_run);
         number = ap (λ l. number_of base.next + length l) same ∙ was.number ∙ sym number;
         pushed_are = was.pushed_are ∙ ap (λ l. base.log ++ l) (sym same);

@@ -171,8 +171,8 @@ module _ (base : PlainBase) (limits : Limits) (journal : List Step) (is : IsOrde
   ends-alike : ((zs : List PlainLogged) × (casts journal ≡ zs ++ log base limits journal)) ⊎ ((zs : List PlainLogged) × (log base limits journal ≡ zs ++ casts journal))
   unfolding log
   ends-alike =
-      let split = kept_suffix limits.log [] (log_calls base limits journal) is.rises in
-      either-end base.log (casts journal) split.0 (kept limits.log [] (log_calls base limits journal)) (sym is.pushed_are ∙ split.1)
+      let split = kept_suffix limits.log limits.log_bytes (log_calls base limits journal) is.rises in
+      either-end base.log (casts journal) split.0 (kept limits.log limits.log_bytes (log_calls base limits journal)) (sym is.pushed_are ∙ split.1)
 
   -- past an offset that stands in the log, it has of the journal's broadcasts all
   pub own-missed : (o : ℕ) (q : PlainLogged → Bool) → stands o (log base limits journal) ≡ true

@@ -16,7 +16,7 @@ use Rattle.continuity.specs.Worked.{limits, new_hub, first_break, named_4, named
 use Rattle.continuity.proofs.KeptLemmas.{members}
 
 pub heard-once : heard new_hub limits first_break 6 ≡ 1 ∷ 2 ∷ 3 ∷ []
-unfolding heard all_given up_to sockets sockets_of without_sockets rooms log log_calls packets.kept packets.pushes own_room hex_digits
+unfolding heard all_given up_to sockets sockets_of without_sockets rooms log log_calls packets.unswept packets.newest packets.logged_bytes own_room hex_digits
 heard-once = simp (is_in-without_socket, is_socket-without_socket, contains-insert pair_cmp_total, contains-insert nat_cmp_total) refl
 
 pub due-once : due_casts new_hub limits first_break 6 ≡ 1 ∷ 2 ∷ 3 ∷ []
@@ -24,7 +24,7 @@ unfolding due_casts kept socket_with sockets sockets_of without_sockets rooms se
 due-once = simp (members, contains-insert pair_cmp_total) refl
 
 pub heard-twice : heard new_hub limits (named_4 first_break) 6 ≡ 1 ∷ 2 ∷ 3 ∷ 4 ∷ 5 ∷ []
-unfolding heard all_given up_to sockets sockets_of without_sockets rooms log log_calls packets.kept packets.pushes own_room hex_digits
+unfolding heard all_given up_to sockets sockets_of without_sockets rooms log log_calls packets.unswept packets.newest packets.logged_bytes own_room hex_digits
 heard-twice = simp (is_in-without_socket, is_socket-without_socket, contains-insert pair_cmp_total, contains-insert nat_cmp_total, contains-union pair_cmp_total) refl
 
 pub due-twice : due_casts new_hub limits (named_4 first_break) 6 ≡ 1 ∷ 2 ∷ 3 ∷ 4 ∷ 5 ∷ []
@@ -32,7 +32,7 @@ unfolding due_casts kept socket_with sockets sockets_of without_sockets rooms se
 due-twice = simp (members, is_in-without_socket, contains-insert pair_cmp_total, contains-union pair_cmp_total) refl
 
 pub heard-again : heard new_hub limits (named_3 first_break) 6 ≡ 1 ∷ 2 ∷ 3 ∷ 4 ∷ 5 ∷ []
-unfolding heard all_given up_to sockets sockets_of without_sockets rooms log log_calls packets.kept packets.pushes own_room hex_digits
+unfolding heard all_given up_to sockets sockets_of without_sockets rooms log log_calls packets.unswept packets.newest packets.logged_bytes own_room hex_digits
 heard-again = simp (is_in-without_socket, is_socket-without_socket, contains-insert pair_cmp_total, contains-insert nat_cmp_total, contains-union pair_cmp_total) refl
 
 pub due-again : due_casts new_hub limits (named_3 first_break) 6 ≡ 1 ∷ 2 ∷ 3 ∷ 4 ∷ 5 ∷ []
@@ -40,7 +40,7 @@ unfolding due_casts kept socket_with sockets sockets_of without_sockets rooms se
 due-again = simp (members, is_in-without_socket, contains-insert pair_cmp_total, contains-union pair_cmp_total) refl
 
 pub heard-sealed : heard sealed limits (named_4 []) 6 ≡ 4 ∷ 5 ∷ []
-unfolding heard all_given up_to sockets sockets_of without_sockets rooms log log_calls packets.kept packets.pushes own_room hex_digits
+unfolding heard all_given up_to sockets sockets_of without_sockets rooms log log_calls packets.unswept packets.newest packets.logged_bytes own_room hex_digits
 heard-sealed = simp (is_in-without_socket, is_socket-without_socket, contains-insert pair_cmp_total, contains-insert nat_cmp_total) refl
 
 pub due-sealed : due_casts sealed limits (named_4 []) 6 ≡ 4 ∷ 5 ∷ []
@@ -48,7 +48,7 @@ unfolding due_casts kept socket_with sockets sockets_of without_sockets rooms se
 due-sealed = simp (members, contains-from_list pair_cmp_total) refl
 
 pub heard-sealed-again : heard sealed limits (named_3 []) 6 ≡ 4 ∷ 5 ∷ []
-unfolding heard all_given log log_calls packets.kept packets.pushes
+unfolding heard all_given log log_calls packets.unswept packets.newest packets.logged_bytes
 heard-sealed-again = refl
 
 pub due-sealed-again : due_casts sealed limits (named_3 []) 6 ≡ 4 ∷ 5 ∷ []

@@ -15,11 +15,11 @@ use Rattle.continuity.specs.Truly.{has_begun, is_true_name, until_lost, KeepsSin
 use Rattle.continuity.specs.Worked.{limits, new_hub, first_loss, first_break, second_loss, named_4}
 
 names-1 : is_true_name new_hub limits first_loss 6 1 ≡ true
-unfolding heard has_begun all_given up_to sockets sockets_of without_sockets rooms log log_calls packets.kept packets.pushes own_room hex_digits
+unfolding heard has_begun all_given up_to sockets sockets_of without_sockets rooms log log_calls packets.unswept packets.newest packets.logged_bytes own_room hex_digits
 names-1 = simp (is_in-without_socket, is_socket-without_socket, contains-insert pair_cmp_total, contains-insert nat_cmp_total) refl
 
 names-4 : is_true_name new_hub limits (second_loss first_break) 6 4 ≡ true
-unfolding heard has_begun all_given up_to sockets sockets_of without_sockets rooms log log_calls packets.kept packets.pushes own_room hex_digits
+unfolding heard has_begun all_given up_to sockets sockets_of without_sockets rooms log log_calls packets.unswept packets.newest packets.logged_bytes own_room hex_digits
 names-4 = simp (is_in-without_socket, is_socket-without_socket, contains-insert pair_cmp_total, contains-insert nat_cmp_total, contains-union pair_cmp_total) refl
 
 keeps-1 : KeepsItsRooms new_hub limits first_loss 6 1

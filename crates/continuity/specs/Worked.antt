@@ -19,6 +19,7 @@ limits =
       capacity = 64;
       bytes = 65536;
       log = 16;
+      log_bytes = 65536;
       saved = 8;
       keep = 1000;
       first_offset = 1;

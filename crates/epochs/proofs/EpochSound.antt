@@ -138,7 +138,7 @@ module _ (base : PlainBase) (limits : Limits) (before : List Step) (legal : IsLe
   table = record { limit = limits.saved; sessions = sessions base limits before }
 
   abbrev packets : LogContents
-  packets = record { limit = limits.log; next = next base before; last = 0; entries = log base limits before }
+  packets = record { limit = limits.log; bytes = limits.log_bytes; next = next base before; last = 0; entries = log base limits before }
 
   abbrev counts : Counts
   counts = record { commands = totals.commands base before; placed = totals.placed base limits before; dropped = totals.dropped base before; taken = handed_out base before; discarded = totals.discarded base limits before }

@@ -10,7 +10,7 @@ use Rattle.room_maps.specs.Membership.{RoomSets}
 use Rattle.room_maps.specs.Addressed as broadcast
 use Rattle.recovery.specs.PacketLog.{LogContents, LogCall, PlainLogged, Pushed, with_entry, offset_at, next_after, newest, kept, IsRun, Rises, latest}
 use Rattle.recovery.specs.SavedTable.{PlainSaved, TableContents}
-use Rattle.recovery.proofs.PacketLogLemmas.{kept-pushed, kept_none, run_dropped}
+use Rattle.recovery.proofs.PacketLogLemmas.{kept-pushed, run_newest}
 use Rattle.room_maps.specs.Membership.{are_too_many}
 use Rattle.journal.specs.declared.socket.Socket.{Socket}
 use Rattle.journal.specs.declared.step.Step.{Step}
@@ -181,16 +181,6 @@ module _ (base : PlainBase) (limits : Limits) (before : List Step) (b : PlainBro
 
 -- ---- the log
 
--- a push onto a log that may hold nothing too
-pushed-any : (limit : ℕ) (h : List LogCall) (e : PlainLogged) → Rises h → kept limit [] (Pushed e ∷ h) ≡ newest limit (kept limit [] h ++ e ∷ [])
-pushed-any zero h e rises =
-    kept_none 0 (Pushed e ∷ h) [] (omega arith)
-    ∙ sym (nothing (kept 0 [] h ++ e ∷ []))
-  where
-    nothing : {A : Type 0} (xs : List A) → drop (length xs - 0) xs ≡ []
-    nothing xs = drop_all (length xs - 0) xs (omega arith)
-pushed-any (suc n) h e rises = kept-pushed (suc n) h e (omega arith) rises
-
 run-more : (n : ℕ) (es : List PlainLogged) (e : PlainLogged) → IsRun n es → e.offset ≡ n → IsRun (suc n) (es ++ e ∷ [])
 unfolding IsRun
 run-more n [] e h same = (omega (arith, same), tt)
@@ -222,33 +212,34 @@ module _ (base : PlainBase) (limits : Limits) (before : List Step) (b : PlainBro
   unfolding next_number total
   number-one o e = ap (λ x. next_number base before + option_map_or (λ offset. 1) x 0) e
 
-  pub log-one : (o : ℕ) → b.offset ≡ Some o → Rises (log_calls base limits before) → log base limits (step ∷ before) ≡ newest limits.log (log base limits before ++ logged at b o ∷ [])
+  pub log-one : (o : ℕ) → b.offset ≡ Some o → log base limits (step ∷ before) ≡ newest limits.log limits.log_bytes (log base limits before ++ logged at b o ∷ [])
   unfolding log
-  log-one o e rises = ap (kept limits.log []) (calls-one o e) ∙ pushed-any limits.log (log_calls base limits before) (logged at b o) rises
+  log-one o e = ap (kept limits.log limits.log_bytes) (calls-one o e) ∙ kept-pushed limits.log limits.log_bytes (log_calls base limits before) (logged at b o)
 
   sessions-same : sessions base limits (step ∷ before) ≡ sessions base limits before
   unfolding sessions
   sessions-same = refl
 
   module _ (sound : IsSound base limits before) (late : moment base before ≤ at) (given : IfSome b.offset (λ offset. next base before ≡ Some offset)) where
-    packets-cast : (packets : LogContents) → packets ≡ record { limit = limits.log; next = next base before; last = packets.last; entries = log base limits before }
+    packets-cast : (packets : LogContents) → packets ≡ record { limit = limits.log; bytes = limits.log_bytes; next = next base before; last = packets.last; entries = log base limits before }
         → (packets' : LogContents) → packets' ≡ with_logged packets (option_map (logged at b) b.offset)
-        → packets' ≡ record { limit = limits.log; next = next base (step ∷ before); last = packets'.last; entries = log base limits (step ∷ before) }
+        → packets' ≡ record { limit = limits.log; bytes = limits.log_bytes; next = next base (step ∷ before); last = packets'.last; entries = log base limits (step ∷ before) }
     packets-cast packets was packets' is = on b.offset refl given
       where
-        on : (o : Option ℕ) → b.offset ≡ o → IfSome o (λ offset. next base before ≡ Some offset) → packets' ≡ record { limit = limits.log; next = next base (step ∷ before); last = packets'.last; entries = log base limits (step ∷ before) }
+        on : (o : Option ℕ) → b.offset ≡ o → IfSome o (λ offset. next base before ≡ Some offset) → packets' ≡ record { limit = limits.log; bytes = limits.log_bytes; next = next base (step ∷ before); last = packets'.last; entries = log base limits (step ∷ before) }
         on None e given =
             let same : packets' ≡ packets = is ∙ ap (λ x. with_logged packets (option_map (logged at b) x)) e in
-            subst (λ (p : LogContents). p ≡ record { limit = limits.log; next = next base (step ∷ before); last = p.last; entries = log base limits (step ∷ before) }) (sym same)
+            subst (λ (p : LogContents). p ≡ record { limit = limits.log; bytes = limits.log_bytes; next = next base (step ∷ before); last = p.last; entries = log base limits (step ∷ before) }) (sym same)
             (packets-quiet base limits step before packets (leaves e) was)
         on (Some o) e given =
             let now : packets' ≡ with_entry packets (logged at b o) = is ∙ ap (λ x. with_logged packets (option_map (logged at b) x)) e in
             let limit : packets.limit ≡ limits.log = ap (λ (p : LogContents). p.limit) was in
+            let bytes : packets.bytes ≡ limits.log_bytes = ap (λ (p : LogContents). p.bytes) was in
             let entries : packets.entries ≡ log base limits before = ap (λ (p : LogContents). p.entries) was in
             let number : next_after o ≡ next base (step ∷ before) = ap (λ n. offset_at (n + 1)) (sym (number-of (next_number base before) o given)) ∙ ap offset_at (sym (number-one o e)) in
-            let kept_is : newest packets.limit (packets.entries ++ logged at b o ∷ []) ≡ log base limits (step ∷ before) = (λ i. newest (limit i) (entries i ++ logged at b o ∷ [])) ∙ sym (log-one o e sound.log_rises) in
-            subst (λ (p : LogContents). p ≡ record { limit = limits.log; next = next base (step ∷ before); last = p.last; entries = log base limits (step ∷ before) }) (sym now)
-            (λ i. record { limit = limit i; next = number i; last = at; entries = kept_is i })
+            let kept_is : newest packets.limit packets.bytes (packets.entries ++ logged at b o ∷ []) ≡ log base limits (step ∷ before) = (λ i. newest (limit i) (bytes i) (entries i ++ logged at b o ∷ [])) ∙ sym (log-one o e) in
+            subst (λ (p : LogContents). p ≡ record { limit = limits.log; bytes = limits.log_bytes; next = next base (step ∷ before); last = p.last; entries = log base limits (step ∷ before) }) (sym now)
+            (λ i. record { limit = limit i; bytes = bytes i; next = number i; last = at; entries = kept_is i })
 
     last-cast : (packets packets' : LogContents) → packets.last ≤ at → packets' ≡ with_logged packets (option_map (logged at b) b.offset) → packets'.last ≤ at
     last-cast packets packets' within is = subst (λ (p : LogContents). p.last ≤ at) (sym is) (on b.offset)
@@ -266,8 +257,8 @@ module _ (base : PlainBase) (limits : Limits) (before : List Step) (b : PlainBro
         record {
           sessions_differ = subst (EachTwo DifferInIds) (sym sessions-same) sound.sessions_differ;
           few_rooms = subst (AllByRecursion (λ (s : PlainSaved). are_too_many s.sid s.rooms ≡ false)) (sym sessions-same) sound.few_rooms;
-          offsets_rise = subst (IsRun (next_number base (step ∷ before))) (sym (log-one o e sound.log_rises))
-              (run_dropped (next_number base (step ∷ before)) _ (log base limits before ++ logged at b o ∷ [])
+          offsets_rise = subst (IsRun (next_number base (step ∷ before))) (sym (log-one o e))
+              (run_newest (next_number base (step ∷ before)) limits.log limits.log_bytes (log base limits before ++ logged at b o ∷ [])
               (subst (λ n. IsRun n (log base limits before ++ logged at b o ∷ [])) number
               (run-more (next_number base before) (log base limits before) (logged at b o) sound.offsets_rise (sym (number-of (next_number base before) o given)))));
           log_rises = subst Rises calls (was_late, sound.log_rises);

@@ -125,7 +125,7 @@ module _ (base : PlainBase) (limits : Limits) (step : Step) (before : List Step)
       → ((p : ℕ) → is_pid' p ≡ (if list_any (has_id pid_of p) gone then false else is_pid p))
       → sets' ≡ without_sockets sets gone
       → table' ≡ record { limit = limits.saved; sessions = sessions base limits (step ∷ before) }
-      → packets ≡ record { limit = limits.log; next = next base (step ∷ before); last = packets.last; entries = log base limits (step ∷ before) }
+      → packets ≡ record { limit = limits.log; bytes = limits.log_bytes; next = next base (step ∷ before); last = packets.last; entries = log base limits (step ∷ before) }
       → newest ≤ step.at
       → Fields base limits find' seat' is_pid' sets' table' packets step.at (step ∷ before)
   lost-fields find find' seat seat' is_pid is_pid' sets sets' table table' packets newest was legal apart clients gone those seats pids left saved logged late =

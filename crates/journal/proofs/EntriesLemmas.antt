@@ -1,11 +1,12 @@
 -- What is so of all entries that a base has and that steps bring in is so of all that wait.
 use Rattle.std.proofs.Common.{zero, suc, ◌≡◌, ℕ, ◌==◌, Bool, true, false, List, [], ◌∷◌, ◌++◌, drop, filter, map, reverse, sym, subst, if◌then◌else◌, Option, None, Some}
 use Rattle.std.proofs.lemmas.List.{reverse-append}
-use Rattle.std.specs.List.{find, AllByRecursion}
+use Rattle.std.specs.List.{list_any, find, AllByRecursion}
 use Rattle.std.specs.Option.{option_map, option_map_or}
 use Rattle.terms.specs.declared.entry.Entry.{Entry}
 use Rattle.recovery.specs.PacketLog as packets
-use Rattle.recovery.specs.PacketLog.{PlainLogged, LogCall, survives, kept}
+use Rattle.recovery.specs.PacketLog.{PlainLogged, LogCall, drops, unswept, kept}
+use Rattle.recovery.proofs.LatestLemmas.{newest_drop}
 use Rattle.journal.specs.declared.socket.Socket.{Socket}
 use Rattle.journal.specs.declared.step.Step.{Step}
 use Rattle.journal.specs.declared.step.What.{What}
@@ -50,16 +51,21 @@ module _ (good : Entry → Bool) (base : PlainBase) (limits : Limits) where
   IsGoodCall (packets.Pushed e) = Passes e.entry
   IsGoodCall (packets.Swept keep now) = Unit {0}
 
-  all-kept : (limit : ℕ) (later calls : List LogCall) → AllByRecursion IsGoodCall calls → AllByRecursion IsGoodLogged (kept limit later calls)
-  unfolding kept IsGoodCall
-  all-kept limit later [] h = tt
-  all-kept limit later (packets.Pushed e ∷ calls) h =
-      all-append IsGoodLogged (kept limit (packets.Pushed e ∷ later) calls) (if survives limit later e then e ∷ [] else []) (all-kept limit (packets.Pushed e ∷ later) calls h.1) (on (survives limit later e))
+  all-unswept : (later calls : List LogCall) → AllByRecursion IsGoodCall calls → AllByRecursion IsGoodLogged (unswept later calls)
+  unfolding unswept IsGoodCall
+  all-unswept later [] h = tt
+  all-unswept later (packets.Pushed e ∷ calls) h =
+      all-append IsGoodLogged (unswept (packets.Pushed e ∷ later) calls) (if list_any (drops e.at) later then [] else e ∷ []) (all-unswept (packets.Pushed e ∷ later) calls h.1) (on (list_any (drops e.at) later))
     where
-      on : (b : Bool) → AllByRecursion IsGoodLogged (if b then e ∷ [] else [])
-      on true = (h.0, tt)
-      on false = tt
-  all-kept limit later (packets.Swept keep now ∷ calls) h = all-kept limit (packets.Swept keep now ∷ later) calls h.1
+      on : (b : Bool) → AllByRecursion IsGoodLogged (if b then [] else e ∷ [])
+      on true = tt
+      on false = (h.0, tt)
+  all-unswept later (packets.Swept keep now ∷ calls) h = all-unswept (packets.Swept keep now ∷ later) calls h.1
+
+  all-kept : (limit bytes : ℕ) (calls : List LogCall) → AllByRecursion IsGoodCall calls → AllByRecursion IsGoodLogged (kept limit bytes calls)
+  all-kept limit bytes calls h =
+      let end = newest_drop limit bytes (unswept [] calls) in
+      subst (AllByRecursion IsGoodLogged) (sym end.1) (all-drop IsGoodLogged end.0 (unswept [] calls) (all-unswept [] calls h))
 
   all-pushed : (es : List PlainLogged) → AllByRecursion IsGoodLogged es → AllByRecursion IsGoodCall (map packets.Pushed es)
   unfolding IsGoodCall
@@ -87,7 +93,7 @@ module _ (good : Entry → Bool) (base : PlainBase) (limits : Limits) where
 
   good-log : (journal : List Step) → BringsOnly good base limits journal → AllByRecursion IsGoodLogged (log base limits journal)
   unfolding log
-  good-log journal brings = all-kept limits.log [] (log_calls base limits journal) (good-calls journal brings)
+  good-log journal brings = all-kept limits.log limits.log_bytes (log_calls base limits journal) (good-calls journal brings)
 
   all-for : (c : ℕ) (pairs : List (ℕ × Entry)) → AllByRecursion IsGoodPair pairs → AllPass good (entries_for c pairs)
   all-for c pairs h = all-map Passes (λ (p : ℕ × Entry). p.1) (filter (λ (p : ℕ × Entry). p.0 == c) pairs) (all-filter IsGoodPair (λ (p : ℕ × Entry). p.0 == c) pairs h)

@@ -64,7 +64,7 @@ module _ (base : PlainBase) (limits : Limits) (before : List Step) where
   -- the step doesn't touch the log
   pub log-uncalled : (step : Step) → log_call limits step.at step.what ≡ None → log base limits (step ∷ before) ≡ log base limits before
   unfolding log log_calls
-  log-uncalled step none = ap (λ call. kept limits.log [] (with_call call (log_calls base limits before))) none
+  log-uncalled step none = ap (λ call. kept limits.log limits.log_bytes (with_call call (log_calls base limits before))) none
 
   -- a client that the step ends is open
   abbrev pub EndsOpen : What → Type 0
@@ -184,10 +184,10 @@ module _ (limits : Limits) (base base' : PlainBase) (before before' : List Step)
           let none : log_call limits at (Cast b) ≡ None = ap (option_map (λ offset. Pushed (logged at b offset))) e in
           log-uncalled base' limits before' (record { at = at; what = Cast b }) none ∙ same.same_log ∙ sym (log-uncalled base limits before (record { at = at; what = Cast b }) none)
       on (Some o) e =
-          log-one base' limits before' b at o e sound'.log_rises
-          ∙ ap (λ l. newest limits.log (l ++ logged at b o ∷ [])) same.same_log
-          ∙ sym (log-one base limits before b at o e sound.log_rises)
-  log-after at Swept = log-swept base' limits at before' ∙ ap (filter (is_fresh limits.keep at)) same.same_log ∙ sym (log-swept base limits at before)
+          log-one base' limits before' b at o e
+          ∙ ap (λ l. newest limits.log limits.log_bytes (l ++ logged at b o ∷ [])) same.same_log
+          ∙ sym (log-one base limits before b at o e)
+  log-after at Swept = log-swept base' limits at before' sound'.log_rises ∙ ap (filter (is_fresh limits.keep at)) same.same_log ∙ sym (log-swept base limits at before sound.log_rises)
   log-after at what = log-uncalled base' limits before' (record { at = at; what = what }) refl ∙ same.same_log ∙ sym (log-uncalled base limits before (record { at = at; what = what }) refl)
 
   pub next-after : (at : ℕ) (what : What) → IsRight base' limits before' (record { at = at; what = what }) what → next base' (record { at = at; what = what } ∷ before') ≡ next base (record { at = at; what = what } ∷ before)

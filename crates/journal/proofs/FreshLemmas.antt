@@ -4,7 +4,7 @@ use Rattle.std.proofs.lemmas.Bool.Decides.{nat_tests}
 use Rattle.std.specs.List.{IsDistinct}
 use Rattle.room_maps.specs.Membership.{RoomSets, no_sockets, AreConsistent}
 use Rattle.room_maps.proofs.MembershipLaws.{is_socket-no_sockets}
-use Rattle.recovery.specs.PacketLog.{LogContents, kept, IsRun, Rises, latest}
+use Rattle.recovery.specs.PacketLog.{LogContents, newest, unswept, IsRun, Rises, latest}
 use Rattle.recovery.specs.SavedTable.{TableContents}
 use Rattle.journal.specs.declared.socket.Socket.{Socket}
 use Rattle.journal.specs.Plain.{Limits, PlainClient}
@@ -24,7 +24,7 @@ module _ (limits : Limits) (first : ℕ) where
   fresh_conserved = refl
 
   fresh_sound : length limits.spaces ≤ 65536 → AreConsistent no_sockets → IsSound (empty_base first) limits []
-  unfolding open_clients sockets socket_with rooms sessions log log_calls moment kept latest IsRun Rises IsDistinct EachTwo
+  unfolding open_clients sockets socket_with rooms sessions log log_calls moment unswept newest latest IsRun Rises IsDistinct EachTwo
   fresh_sound few agree = record {
     few_spaces = few;
     clients_once = tt;
@@ -60,23 +60,23 @@ module _ (limits : Limits) (first : ℕ) where
 
   fresh_fields : (find : ℕ → Option PlainClient) (seat : ℕ → Option Socket) (is_pid : ℕ → Bool) (sets : RoomSets) (table : TableContents) (packets : LogContents) → first < 2 ^ 64
       → ((c : ℕ) → find c ≡ None) → ((s : ℕ) → seat s ≡ None) → ((p : ℕ) → is_pid p ≡ false) → sets ≡ no_sockets
-      → table ≡ record { limit = limits.saved; sessions = [] } → packets ≡ record { limit = limits.log; next = Some first; last = 0; entries = [] }
+      → table ≡ record { limit = limits.saved; sessions = [] } → packets ≡ record { limit = limits.log; bytes = limits.log_bytes; next = Some first; last = 0; entries = [] }
       → Fields (empty_base first) limits find seat is_pid sets table packets 0 []
-  unfolding sockets socket_with rooms sessions log log_calls kept moment
+  unfolding sockets socket_with rooms sessions log log_calls unswept newest moment
   fresh_fields find seat is_pid sets table packets small no_client no_seat no_pid no_room no_session no_packet = record {
     clients = λ c. no_client c ∙ sym (fresh_client c);
     seats = no_seat;
     pids = no_pid;
     rooms_are = no_room;
     saved_is = no_session;
-    log_is = rw no_packet (ap (λ n. record { limit = limits.log; next = n; last = 0; entries = [] }) (first_offset_at small));
+    log_is = rw no_packet (ap (λ n. record { limit = limits.log; bytes = limits.log_bytes; next = n; last = 0; entries = [] }) (first_offset_at small));
     log_last = rw no_packet (omega arith);
     last = refl;
   }
 
   pub fresh : (find : ℕ → Option PlainClient) (seat : ℕ → Option Socket) (is_pid : ℕ → Bool) (sets : RoomSets) (table : TableContents) (packets : LogContents) → first < 2 ^ 64 → length limits.spaces ≤ 65536
       → ((c : ℕ) → find c ≡ None) → ((s : ℕ) → seat s ≡ None) → ((p : ℕ) → is_pid p ≡ false) → sets ≡ no_sockets → AreConsistent sets
-      → table ≡ record { limit = limits.saved; sessions = [] } → packets ≡ record { limit = limits.log; next = Some first; last = 0; entries = [] }
+      → table ≡ record { limit = limits.saved; sessions = [] } → packets ≡ record { limit = limits.log; bytes = limits.log_bytes; next = Some first; last = 0; entries = [] }
       → IsHub (empty_base first) limits find seat is_pid sets table packets 0 (record { commands = 0; placed = 0; dropped = 0; taken = 0; discarded = 0 }) []
   fresh find seat is_pid sets table packets small few no_client no_seat no_pid no_room agree no_session no_packet =
       let sound = fresh_sound few (subst AreConsistent no_room agree) in

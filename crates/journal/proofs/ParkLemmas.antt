@@ -383,9 +383,9 @@ module _ (base : PlainBase) (limits : Limits) (at c : ℕ) (before : List Step) 
   table-parked sets table table' gone was same those put =
       put ∙ (λ i. with_lost (same i) at (those i) (was i)) ∙ ap (λ ss. record { limit = limits.saved; sessions = ss }) (sym sessions-parked)
 
-  packets-parked : (packets : LogContents) → packets ≡ record { limit = limits.log; next = next base before; last = packets.last; entries = log base limits before }
-      → packets ≡ record { limit = limits.log; next = next base (park at c ∷ before); last = packets.last; entries = log base limits (park at c ∷ before) }
-  packets-parked packets was = was ∙ sym (λ i. record { limit = limits.log; next = next-quiet base limits (park at c) before refl i; last = packets.last; entries = log-parked i })
+  packets-parked : (packets : LogContents) → packets ≡ record { limit = limits.log; bytes = limits.log_bytes; next = next base before; last = packets.last; entries = log base limits before }
+      → packets ≡ record { limit = limits.log; bytes = limits.log_bytes; next = next base (park at c ∷ before); last = packets.last; entries = log base limits (park at c ∷ before) }
+  packets-parked packets was = was ∙ sym (λ i. record { limit = limits.log; bytes = limits.log_bytes; next = next-quiet base limits (park at c) before refl i; last = packets.last; entries = log-parked i })
 
 module _ (base : PlainBase) (limits : Limits) where
   pub puts_parked : (before : List Step) (c : ℕ) → placed_by base limits before (Parked c) ≡ 0

@@ -121,7 +121,7 @@ module _ (base : PlainBase) (limits : Limits) (r : PlainRecovery) (at : ℕ) (be
     pids = λ p. pids p ∙ ap (λ b. (r.socket.pid == p) || b) (was.pids p) ∙ sym (some-or (r.socket.pid == p) r.socket (socket_with pid_of base before p)) ∙ sym (ap is_some (with-recovered pid_of p may.new_pid));
     rooms_are = rooms-step base limits step before sets sets' was.rooms_are change;
     saved_is = out ∙ ap (λ t. removed t r.socket.pid) was.saved_is ∙ (λ i. record { limit = limits.saved; sessions = sessions-same i });
-    log_is = was.log_is ∙ (λ i. record { limit = limits.log; next = next-same i; last = packets.last; entries = log-same i });
+    log_is = was.log_is ∙ (λ i. record { limit = limits.log; bytes = limits.log_bytes; next = next-same i; last = packets.last; entries = log-same i });
     log_last = omega (arith, was.log_last, is);
     last = refl;
   }

@@ -13,13 +13,14 @@ use Rattle.std.specs.FinSet.{nat_cmp-IsAntisymmetric, contains-from_list, same_s
 use Rattle.std.proofs.lemmas.Bool.{eqb-true}
 use Rattle.std.proofs.lemmas.Bool.Decides.{nat_tests}
 use Rattle.std.proofs.lemmas.Cmp.{nat_eq_equiv}
-use Rattle.std.proofs.lemmas.List.{length-reverse, reverse-reverse}
+use Rattle.std.proofs.lemmas.List.{reverse-reverse}
 use Rattle.std.proofs.lemmas.Map.Keys.{IsDistinct-from_sorted}
 use Rattle.std.proofs.lemmas.Map.Made.{is_some-lookup}
 use Rattle.terms.specs.Listing.{ListsRising}
 use Rattle.room_maps.specs.Membership.{RoomSets, is_socket, AreConsistent, are_too_many}
 use Rattle.room_maps.proofs.OrderLemmas.{pair_cmp_total, pair_cmp-IsAntisymmetric}
-use Rattle.recovery.specs.PacketLog.{LogContents, Pushed, IsRun, Rises, latest, kept, pushes, number_of, offset_at}
+use Rattle.recovery.specs.PacketLog.{LogContents, Pushed, IsRun, Rises, latest, fits, unswept, kept, number_of, offset_at}
+use Rattle.recovery.proofs.LatestLemmas.{newest_fits}
 use Rattle.recovery.specs.SavedTable.{TableContents, PlainSaved}
 use Rattle.journal.specs.declared.socket.Socket.{Socket}
 use Rattle.journal.specs.declared.step.Step.{Step}
@@ -41,7 +42,7 @@ use Rattle.journal.proofs.SessionsLemmas.{is_some-find}
 use Rattle.journal.proofs.EndLemmas.{DifferBy, sids-differ, pids-differ}
 use Rattle.journal.proofs.CastLemmas.{any-map}
 use Rattle.journal.proofs.CommandLemmas.{IsHub, some_if}
-use Rattle.journal.proofs.SealListsLemmas.{all-to, of_client, by_clients, AreOf, all-by_clients, any-by_clients, same-of_client, apart-by_clients, same-found, reverse-map, kept-pushes, kept-few, kept-rises, pushes_of}
+use Rattle.journal.proofs.SealListsLemmas.{all-to, of_client, by_clients, AreOf, all-by_clients, any-by_clients, same-of_client, apart-by_clients, same-found, reverse-map, kept-pushes, kept-rises, pushes_of}
 
 -- ---- the copies of the clients
 
@@ -258,28 +259,24 @@ module _ (base : PlainBase) (limits : Limits) (journal : List Step) (after : Pla
   calls-are : log_calls after limits [] ≡ pushes_of (log base limits journal)
   calls-are = calls-at limits after ∙ ap (λ es. reverse (map Pushed es)) leads.log_is ∙ reverse-map Pushed (log base limits journal)
 
-  log-few : length (log base limits journal) ≤ limits.log
-  unfolding log pushes
-  log-few = let few = kept-few limits.log (log_calls base limits journal) [] in omega (arith, few)
-
-  log-by-calls : (b : PlainBase) (steps : List Step) → log b limits steps ≡ kept limits.log [] (log_calls b limits steps)
+  log-by-calls : (b : PlainBase) (steps : List Step) → log b limits steps ≡ kept limits.log limits.log_bytes (log_calls b limits steps)
   unfolding log
   log-by-calls b steps = refl
 
-  log-fits : pushes [] + length (reverse (log base limits journal)) ≤ limits.log
-  unfolding pushes
-  log-fits = let n = length-reverse (log base limits journal) in omega (arith, n, log-few)
+  log-fits : fits limits.log limits.log_bytes (reverse (reverse (log base limits journal))) ≡ true
+  unfolding log
+  log-fits = rw (reverse-reverse (log base limits journal)) (newest_fits limits.log limits.log_bytes (unswept [] (log_calls base limits journal)))
 
   log-same : log after limits [] ≡ log base limits journal
   log-same =
       log-by-calls after []
-      ∙ ap (kept limits.log []) calls-are
-      ∙ kept-pushes limits.log (reverse (log base limits journal)) [] (λ at. refl) log-fits
+      ∙ ap (kept limits.log limits.log_bytes) calls-are
+      ∙ kept-pushes limits.log limits.log_bytes (reverse (log base limits journal)) log-fits
       ∙ reverse-reverse (log base limits journal)
 
   risen : Rises (pushes_of (log base limits journal)) × (latest (pushes_of (log base limits journal)) ≤ latest (log_calls base limits journal))
   unfolding log
-  risen = kept-rises limits.log (log_calls base limits journal) [] was.log_rises
+  risen = kept-rises limits.log limits.log_bytes (log_calls base limits journal) was.log_rises
 
   moment-same : moment after [] ≡ moment base journal
   moment-same = moment-at limits after ∙ leads.at_is
@@ -332,7 +329,7 @@ module _ (base : PlainBase) (limits : Limits) (journal : List Step) (after : Pla
     pids = λ p. old.pids p ∙ sym (ap is_some (by-pid p));
     rooms_are = old.rooms_are ∙ sym rooms-same;
     saved_is = old.saved_is ∙ ap (λ l. record { limit = limits.saved; sessions = l }) (sym sessions-same);
-    log_is = old.log_is ∙ (λ i. record { limit = limits.log; next = sym next-same i; last = packets.last; entries = sym log-same i });
+    log_is = old.log_is ∙ (λ i. record { limit = limits.log; bytes = limits.log_bytes; next = sym next-same i; last = packets.last; entries = sym log-same i });
     log_last = old.log_last;
     last = old.last ∙ sym moment-same;
   }

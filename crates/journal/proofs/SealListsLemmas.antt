@@ -6,7 +6,8 @@ use Rattle.std.proofs.lemmas.Bool.{eqb-true, eq-eqb}
 use Rattle.std.proofs.lemmas.Bool.Decides.{nat_tests}
 use Rattle.std.proofs.lemmas.List.{map-append, reverse-append}
 use Rattle.std.proofs.lemmas.List.Elements.{filter-append}
-use Rattle.recovery.specs.PacketLog.{PlainLogged, LogCall, Pushed, Swept, pushes, latest, drops, kept, Rises}
+use Rattle.recovery.specs.PacketLog.{PlainLogged, LogCall, Pushed, Swept, latest, drops, fits, newest, unswept, kept, Rises}
+use Rattle.recovery.proofs.LatestLemmas.{newest_whole}
 use Rattle.journal.specs.declared.socket.Socket.{Socket}
 use Rattle.journal.specs.Membership.{has_id}
 use Rattle.journal.specs.Legal.{EachTwo, AreApart}
@@ -190,35 +191,52 @@ reverse-map f (x ∷ xs) =
     ∙ sym (map-append f (reverse xs) (x ∷ []))
     ∙ sym (ap (map f) (reverse-append (x ∷ []) xs))
 
-pub kept-pushes : (limit : ℕ) (es : List PlainLogged) (later : List LogCall) → ((at : ℕ) → list_any (drops at) later ≡ false) → pushes later + length es ≤ limit → kept limit later (map Pushed es) ≡ reverse es
-unfolding kept pushes
-kept-pushes limit [] later none few = refl
-kept-pushes limit (e ∷ es) later none few =
-    let here : nat_lt (pushes later) limit ≡ true = grind (arith, nat_tests, few) in
-    rw (here, none e.at) (ap (λ z. z ++ e ∷ []) (kept-pushes limit es (Pushed e ∷ later) none (omega arith)) ∙ sym (reverse-append (e ∷ []) es))
+unswept-pushes : (es : List PlainLogged) (later : List LogCall) → ((at : ℕ) → list_any (drops at) later ≡ false) → unswept later (map Pushed es) ≡ reverse es
+unfolding unswept
+unswept-pushes [] later none = refl
+unswept-pushes (e ∷ es) later none =
+    rw (none e.at) (ap (λ z. z ++ e ∷ []) (unswept-pushes es (Pushed e ∷ later) none) ∙ sym (reverse-append (e ∷ []) es))
 
-pub kept-few : (limit : ℕ) (calls later : List LogCall) → length (kept limit later calls) ≤ limit - pushes later
-unfolding kept pushes
-kept-few limit [] later = omega arith
-kept-few limit (Pushed e ∷ calls) later = on (kept-few limit calls (Pushed e ∷ later)) (nat_lt (pushes later) limit) refl (not (list_any (drops e.at) later))
-  where
-    on : length (kept limit (Pushed e ∷ later) calls) ≤ limit - pushes (Pushed e ∷ later) → (b : Bool) → nat_lt (pushes later) limit ≡ b → (d : Bool) → length (kept limit (Pushed e ∷ later) calls ++ (if b && d then e ∷ [] else [])) ≤ limit - pushes later
-    on rest true is true = let some : pushes later < limit = grind (arith, nat_tests, is) in let n = length-append (kept limit (Pushed e ∷ later) calls) (e ∷ []) in omega (arith, rest, some, n)
-    on rest true is false = rw (append-nil (kept limit (Pushed e ∷ later) calls)) (omega (arith, rest))
-    on rest false is d = rw (append-nil (kept limit (Pushed e ∷ later) calls)) (omega (arith, rest))
-kept-few limit (Swept keep now ∷ calls) later = kept-few limit calls (Swept keep now ∷ later)
+-- pushes alone leave what they push, where it fits
+pub kept-pushes : (limit bytes : ℕ) (es : List PlainLogged) → fits limit bytes (reverse es) ≡ true → kept limit bytes (map Pushed es) ≡ reverse es
+kept-pushes limit bytes es all = ap (newest limit bytes) (unswept-pushes es [] (λ at. refl)) ∙ newest_whole limit bytes (reverse es) all
 
 abbrev pub pushes_of : List PlainLogged → List LogCall
 pushes_of es = map Pushed (reverse es)
 
--- what is kept has risen too
-pub kept-rises : (limit : ℕ) (calls later : List LogCall) → Rises calls → Rises (pushes_of (kept limit later calls)) × (latest (pushes_of (kept limit later calls)) ≤ latest calls)
-unfolding kept Rises latest
-kept-rises limit [] later rises = (tt, omega arith)
-kept-rises limit (Pushed e ∷ calls) later rises = on (nat_lt (pushes later) limit && not (list_any (drops e.at) later)) (kept-rises limit calls (Pushed e ∷ later) rises.1)
+-- a history without its first call has risen too
+without-first : (h : List LogCall) (call : LogCall) → Rises (h ++ call ∷ []) → Rises h × (latest h ≤ latest (h ++ call ∷ []))
+unfolding Rises latest
+without-first [] call rises = (tt, omega arith)
+without-first (Pushed e ∷ h) call rises = let was = without-first h call rises.1 in ((omega (arith, was.1, rises.0), was.0), omega (arith, was.1))
+without-first (Swept keep now ∷ h) call rises = let was = without-first h call rises.1 in ((omega (arith, was.1, rises.0), was.0), omega (arith, was.1))
+
+pushes-more : (e : PlainLogged) (es : List PlainLogged) → pushes_of (e ∷ es) ≡ pushes_of es ++ Pushed e ∷ []
+pushes-more e es = ap (map Pushed) (reverse-append (e ∷ []) es) ∙ map-append Pushed (reverse es) (e ∷ [])
+
+newest-rises : (limit bytes last : ℕ) (es : List PlainLogged) → Rises (pushes_of es) × (latest (pushes_of es) ≤ last) → Rises (pushes_of (newest limit bytes es)) × (latest (pushes_of (newest limit bytes es)) ≤ last)
+unfolding newest
+newest-rises limit bytes last [] was = was
+newest-rises limit bytes last (e ∷ es) was =
+    let less = without-first (pushes_of es) (Pushed e) (subst Rises (pushes-more e es) was.0) in
+    on (fits limit bytes (e ∷ es)) (newest-rises limit bytes last es (less.0, omega (arith, less.1, was.1, ap latest (pushes-more e es))))
   where
-    on : (b : Bool) → Rises (pushes_of (kept limit (Pushed e ∷ later) calls)) × (latest (pushes_of (kept limit (Pushed e ∷ later) calls)) ≤ latest calls)
-        → Rises (pushes_of (kept limit (Pushed e ∷ later) calls ++ (if b then e ∷ [] else []))) × (latest (pushes_of (kept limit (Pushed e ∷ later) calls ++ (if b then e ∷ [] else []))) ≤ max (latest calls) e.at)
-    on true was = rw (reverse-append (kept limit (Pushed e ∷ later) calls) (e ∷ [])) ((omega (arith, was.1, rises.0), was.0), omega (arith, was.1))
-    on false was = rw (append-nil (kept limit (Pushed e ∷ later) calls)) (was.0, omega (arith, was.1))
-kept-rises limit (Swept keep now ∷ calls) later rises = let was = kept-rises limit calls (Swept keep now ∷ later) rises.1 in (was.0, omega (arith, was.1))
+    on : (b : Bool) → Rises (pushes_of (newest limit bytes es)) × (latest (pushes_of (newest limit bytes es)) ≤ last)
+        → Rises (pushes_of (if b then e ∷ es else newest limit bytes es)) × (latest (pushes_of (if b then e ∷ es else newest limit bytes es)) ≤ last)
+    on true rest = was
+    on false rest = rest
+
+unswept-rises : (calls later : List LogCall) → Rises calls → Rises (pushes_of (unswept later calls)) × (latest (pushes_of (unswept later calls)) ≤ latest calls)
+unfolding unswept Rises latest
+unswept-rises [] later rises = (tt, omega arith)
+unswept-rises (Pushed e ∷ calls) later rises = on (list_any (drops e.at) later) (unswept-rises calls (Pushed e ∷ later) rises.1)
+  where
+    on : (b : Bool) → Rises (pushes_of (unswept (Pushed e ∷ later) calls)) × (latest (pushes_of (unswept (Pushed e ∷ later) calls)) ≤ latest calls)
+        → Rises (pushes_of (unswept (Pushed e ∷ later) calls ++ (if b then [] else e ∷ []))) × (latest (pushes_of (unswept (Pushed e ∷ later) calls ++ (if b then [] else e ∷ []))) ≤ max (latest calls) e.at)
+    on false was = rw (reverse-append (unswept (Pushed e ∷ later) calls) (e ∷ [])) ((omega (arith, was.1, rises.0), was.0), omega (arith, was.1))
+    on true was = rw (append-nil (unswept (Pushed e ∷ later) calls)) (was.0, omega (arith, was.1))
+unswept-rises (Swept keep now ∷ calls) later rises = let was = unswept-rises calls (Swept keep now ∷ later) rises.1 in (was.0, omega (arith, was.1))
+
+-- what is kept has risen too
+pub kept-rises : (limit bytes : ℕ) (calls : List LogCall) → Rises calls → Rises (pushes_of (kept limit bytes calls)) × (latest (pushes_of (kept limit bytes calls)) ≤ latest calls)
+kept-rises limit bytes calls rises = newest-rises limit bytes (latest calls) (unswept [] calls) (unswept-rises calls [] rises)

@@ -40,7 +40,7 @@ module _ (base : PlainBase) (limits : Limits) (step : Step) (before : List Step)
 
   pub log-quiet : LeavesBacklog base limits step before → log base limits (step ∷ before) ≡ log base limits before
   unfolding log
-  log-quiet leaves = ap (kept limits.log []) (calls-quiet leaves)
+  log-quiet leaves = ap (kept limits.log limits.log_bytes) (calls-quiet leaves)
 
   pub number-quiet : offsets_used step.what ≡ 0 → next_number base (step ∷ before) ≡ next_number base before
   unfolding next_number total
@@ -57,8 +57,8 @@ module _ (base : PlainBase) (limits : Limits) (step : Step) (before : List Step)
   table-quiet table leaves was = rw (sessions-quiet leaves) was
 
   pub packets-quiet : (packets : LogContents) → LeavesBacklog base limits step before
-      → packets ≡ record { limit = limits.log; next = next base before; last = packets.last; entries = log base limits before }
-      → packets ≡ record { limit = limits.log; next = next base (step ∷ before); last = packets.last; entries = log base limits (step ∷ before) }
+      → packets ≡ record { limit = limits.log; bytes = limits.log_bytes; next = next base before; last = packets.last; entries = log base limits before }
+      → packets ≡ record { limit = limits.log; bytes = limits.log_bytes; next = next base (step ∷ before); last = packets.last; entries = log base limits (step ∷ before) }
   packets-quiet packets leaves was = rw (number-quiet leaves.unused, log-quiet leaves) was
 
   -- ---- what a sound hub has

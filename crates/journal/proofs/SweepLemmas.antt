@@ -4,10 +4,10 @@ use Rattle.std.specs.Prelude.{is_some}
 use Rattle.std.specs.List.{take_while, IsDistinct, AllByRecursion}
 use Rattle.room_maps.specs.Membership.{RoomSets, AreConsistent, is_socket, are_too_many}
 use Rattle.recovery.specs.Expiry.{is_outdated}
-use Rattle.recovery.specs.PacketLog.{PlainLogged, LogContents, LogCall, IsRun, Rises, RisesTo, latest, kept, survives, is_fresh, swept}
+use Rattle.recovery.specs.PacketLog.{PlainLogged, LogContents, IsRun, Rises, latest, is_fresh, swept}
 use Rattle.recovery.specs.PacketLog as packets
 use Rattle.recovery.specs.SavedTable.{PlainSaved, TableContents, is_alive, table_swept}
-use Rattle.recovery.proofs.PacketLogLemmas.{kept-swept, rises_later, run_dropped, swept_front}
+use Rattle.recovery.proofs.PacketLogLemmas.{kept-swept, kept_rises, run_dropped, swept_front}
 use Rattle.journal.specs.declared.socket.Socket.{Socket}
 use Rattle.journal.specs.declared.step.Step.{Step}
 use Rattle.journal.specs.declared.step.What.TheVariants.{Swept}
@@ -32,38 +32,15 @@ use Rattle.journal.proofs.CountsLemmas.{counted, can, unspent}
 use Rattle.journal.proofs.CommandLemmas.{IsHub}
 use Rattle.journal.proofs.EndLemmas.{all-filter, each-filter}
 
--- ---- the moments of a log rise
-
-rises-more : (last : ℕ) (es : List PlainLogged) (e : PlainLogged) → RisesTo last es → last ≤ e.at → RisesTo e.at (es ++ e ∷ [])
-unfolding RisesTo
-rises-more last [] e h late = omega arith
-rises-more last (x ∷ []) e h late = (omega (arith, h), omega arith)
-rises-more last (x ∷ y ∷ es) e h late = (h.0, rises-more last (y ∷ es) e h.1 late)
-
--- what calls leave in a log was logged in the order of its moments, none after the last of them
-kept-rises : (limit : ℕ) (later calls : List LogCall) → Rises calls → RisesTo (latest calls) (kept limit later calls)
-unfolding Rises RisesTo latest kept
-kept-rises limit later [] rises = tt
-kept-rises limit later (packets.Pushed e ∷ calls) rises = on (survives limit later e) (kept-rises limit (packets.Pushed e ∷ later) calls rises.1)
-  where
-    on : (b : Bool) → RisesTo (latest calls) (kept limit (packets.Pushed e ∷ later) calls) → RisesTo (max (latest calls) e.at) (kept limit (packets.Pushed e ∷ later) calls ++ (if b then e ∷ [] else []))
-    on true h =
-        let last : e.at ≡ max (latest calls) e.at = omega (arith, rises.0) in
-        subst (λ n. RisesTo n (kept limit (packets.Pushed e ∷ later) calls ++ e ∷ [])) last (rises-more (latest calls) (kept limit (packets.Pushed e ∷ later) calls) e h rises.0)
-    on false h =
-        subst (RisesTo (max (latest calls) e.at)) (sym (append-nil (kept limit (packets.Pushed e ∷ later) calls)))
-        (rises_later (latest calls) (max (latest calls) e.at) (kept limit (packets.Pushed e ∷ later) calls) h (omega arith))
-kept-rises limit later (packets.Swept keep now ∷ calls) rises = rises_later (latest calls) (max (latest calls) now) (kept limit (packets.Swept keep now ∷ later) calls) (kept-rises limit (packets.Swept keep now ∷ later) calls rises.1) (omega arith)
-
 -- ---- a hub is swept
 
 abbrev pub sweep : ℕ → Step
 sweep at = record { at = at; what = Swept }
 
 module _ (base : PlainBase) (limits : Limits) (at : ℕ) (before : List Step) where
-  pub log-swept : log base limits (sweep at ∷ before) ≡ filter (is_fresh limits.keep at) (log base limits before)
+  pub log-swept : Rises (log_calls base limits before) → log base limits (sweep at ∷ before) ≡ filter (is_fresh limits.keep at) (log base limits before)
   unfolding log log_calls
-  log-swept = kept-swept limits.log limits.keep at (log_calls base limits before)
+  log-swept rises = kept-swept limits.log limits.log_bytes limits.keep at (log_calls base limits before) rises
 
   pub sessions-swept : sessions base limits (sweep at ∷ before) ≡ filter (is_alive limits.keep at) (sessions base limits before)
   unfolding sessions
@@ -75,11 +52,11 @@ module _ (base : PlainBase) (limits : Limits) (at : ℕ) (before : List Step) wh
       rw (is_open-quiet base (sweep at) before refl (λ c. refl) c, sockets_of-quiet base (sweep at) before refl (λ k. refl) c, waiting-quiet base limits (sweep at) before legal c refl refl refl) refl
 
   pub swept-fields : (find : ℕ → Option PlainClient) (seat : ℕ → Option Socket) (is_pid : ℕ → Bool) (sets : RoomSets) (table table' : TableContents) (packets packets' : LogContents) (newest : ℕ)
-      → Fields base limits find seat is_pid sets table packets newest before → IsLegal base limits before → newest ≤ at
+      → Fields base limits find seat is_pid sets table packets newest before → IsLegal base limits before → Rises (log_calls base limits before) → newest ≤ at
       → table' ≡ table_swept table limits.keep at → packets' ≡ swept packets limits.keep (max packets.last at)
       → Fields base limits find seat is_pid sets table' packets' at (sweep at ∷ before)
   unfolding moment
-  swept-fields find seat is_pid sets table table' packets packets' newest was legal late saved logged =
+  swept-fields find seat is_pid sets table table' packets packets' newest was legal rises late saved logged =
       let now : max packets.last at ≡ at = omega (arith, was.log_last, late) in
       let log_now : packets' ≡ swept packets limits.keep at = logged ∙ ap (swept packets limits.keep) now in
       let last : packets'.last ≡ at = ap (λ (l : LogContents). l.last) log_now in
@@ -91,7 +68,7 @@ module _ (base : PlainBase) (limits : Limits) (at : ℕ) (before : List Step) wh
         saved_is = saved ∙ ap (λ t. table_swept t limits.keep at) was.saved_is ∙ ap (λ ss. record { limit = limits.saved; sessions = ss }) (sym sessions-swept);
         log_is = log_now
             ∙ ap (λ (l : LogContents). swept l limits.keep at) was.log_is
-            ∙ sym (λ i. record { limit = limits.log; next = next-quiet base limits (sweep at) before refl i; last = last i; entries = log-swept i });
+            ∙ sym (λ i. record { limit = limits.log; bytes = limits.log_bytes; next = next-quiet base limits (sweep at) before refl i; last = last i; entries = log-swept rises i });
         log_last = omega (arith, last);
         last = refl;
       }
@@ -100,7 +77,7 @@ module _ (base : PlainBase) (limits : Limits) (at : ℕ) (before : List Step) wh
   run-swept : IsSound base limits before → IsRun (next_number base before) (filter (is_fresh limits.keep at) (log base limits before))
   unfolding log
   run-swept was =
-      subst (IsRun (next_number base before)) (swept_front limits.keep at (latest (log_calls base limits before)) (log base limits before) (kept-rises limits.log [] (log_calls base limits before) was.log_rises))
+      subst (IsRun (next_number base before)) (swept_front limits.keep at (latest (log_calls base limits before)) (log base limits before) (kept_rises limits.log limits.log_bytes (log_calls base limits before) was.log_rises))
       (run_dropped (next_number base before) (length (take_while (λ (e : PlainLogged). is_outdated limits.keep at e.at) (log base limits before))) (log base limits before) was.offsets_rise)
 
   rooms-same : rooms base (sweep at ∷ before) ≡ rooms base before
@@ -127,7 +104,7 @@ module _ (base : PlainBase) (limits : Limits) (at : ℕ) (before : List Step) wh
         sessions_differ = subst (EachTwo DifferInIds) (sym sessions-swept) (each-filter DifferInIds (is_alive limits.keep at) (sessions base limits before) was.sessions_differ);
         few_rooms = subst (AllByRecursion (λ (s : PlainSaved). are_too_many s.sid s.rooms ≡ false)) (sym sessions-swept)
             (all-filter (λ (s : PlainSaved). are_too_many s.sid s.rooms ≡ false) (is_alive limits.keep at) (sessions base limits before) was.few_rooms);
-        offsets_rise = subst (λ n. IsRun n (log base limits (sweep at ∷ before))) (sym (number-quiet base limits (sweep at) before refl)) (subst (IsRun (next_number base before)) (sym log-swept) (run-swept was));
+        offsets_rise = subst (λ n. IsRun n (log base limits (sweep at ∷ before))) (sym (number-quiet base limits (sweep at) before refl)) (subst (IsRun (next_number base before)) (sym (log-swept was.log_rises)) (run-swept was));
         log_rises = (omega (arith, was.log_late, late), was.log_rises);
         log_late = omega (arith, was.log_late, late);
         conserved = conserved-step base limits (sweep at) before was.conserved (omega (arith, flows));
@@ -146,7 +123,7 @@ module _ (base : PlainBase) (limits : Limits) where
   swept-hub now newest at find seat is_pid sets table table' packets packets' counts before was accepted is saved logged =
       let late : moment base before ≤ max now newest = rw (← was.0.last) (omega arith) in
       let fine : IsAllowed base limits before (sweep (max now newest)) Swept = (sym accepted, tt) in (
-        swept-fields base limits (max now newest) before find seat is_pid sets table table' packets packets' newest was.0 was.1 (omega arith)
+        swept-fields base limits (max now newest) before find seat is_pid sets table table' packets packets' newest was.0 was.1 was.2.log_rises (omega arith)
             (saved ∙ ap (table_swept table limits.keep) is) (logged ∙ ap (λ t. swept packets limits.keep (max packets.last t)) is),
         legal-step base limits (sweep (max now newest)) before fine late was.1,
         swept-sound base limits (max now newest) before was.1 fine was.2 late,
@@ -157,13 +134,13 @@ module _ (base : PlainBase) (limits : Limits) where
   can_sweep before counts was sound accepted = can base limits before counts was sound.conserved Swept 0 0 0 0 (puts_swept before) refl refl refl (unspent None (is_spent base limits before Swept) accepted)
 
   -- how many entries and sessions are dropped
-  pub dropped-log : (now newest at dropped : ℕ) (packets packets' : LogContents) (before : List Step) → packets ≡ record { limit = limits.log; next = next base before; last = packets.last; entries = log base limits before }
+  pub dropped-log : (now newest at dropped : ℕ) (packets packets' : LogContents) (before : List Step) → Rises (log_calls base limits before) → packets ≡ record { limit = limits.log; bytes = limits.log_bytes; next = next base before; last = packets.last; entries = log base limits before }
       → packets.last ≤ newest → at ≡ max now newest → packets' ≡ swept packets limits.keep (max packets.last at) → length packets'.entries + dropped ≡ length packets.entries
       → length (log base limits (sweep (max now newest) ∷ before)) + dropped ≡ length (log base limits before)
-  dropped-log now newest at dropped packets packets' before was late is logged count =
+  dropped-log now newest at dropped packets packets' before rises was late is logged count =
       let time : max packets.last at ≡ max now newest = omega (arith, late, is) in
       let after : packets'.entries ≡ log base limits (sweep (max now newest) ∷ before)
-      = ap (λ (l : LogContents). l.entries) logged ∙ (λ i. filter (is_fresh limits.keep (time i)) ((was i).entries)) ∙ sym (log-swept base limits (max now newest) before) in
+      = ap (λ (l : LogContents). l.entries) logged ∙ (λ i. filter (is_fresh limits.keep (time i)) ((was i).entries)) ∙ sym (log-swept base limits (max now newest) before rises) in
       let entries : packets.entries ≡ log base limits before = ap (λ (l : LogContents). l.entries) was in
       ap (λ es. length es + dropped) (sym after) ∙ count ∙ ap length entries
 

@@ -20,7 +20,8 @@ has_repeat (name ∷ names) = list_any (bytes_eq name) names || has_repeat names
 abbrev pub is_bad_config : Limits → Bool
 is_bad_config limits =
     limits.clients == 0
-    || limits.capacity == 0 || limits.bytes == 0 || limits.log == 0 || limits.first_offset == 0
+    || limits.capacity == 0 || limits.bytes == 0 || limits.log == 0 || limits.log_bytes == 0
+    || limits.first_offset == 0
     || nat_lt 65536 limits.capacity
     || length limits.spaces == 0 || nat_lt 65536 (length limits.spaces)
     || has_repeat limits.spaces || list_any (λ name. not (is_namespace name)) limits.spaces

@@ -78,6 +78,7 @@ pub record Fields (base : PlainBase) (limits : Limits)
   pub log_is : packets
       ≡ record {
         limit = limits.log;
+        bytes = limits.log_bytes;
         next = next base journal;
         last = packets.last;
         entries = log base limits journal;

@@ -38,9 +38,9 @@ log_calls base limits [] = reverse (map packets.Pushed base.log)
 log_calls base limits (step ∷ before) =
     with_call (log_call limits step.at step.what) (log_calls base limits before)
 
--- the log: the newest broadcasts that no later sweep dropped
+-- the log: of the broadcasts that no later sweep dropped the newest, as many as have space
 unfoldable pub log : PlainBase → Limits → List Step → List PlainLogged
-log base limits journal = kept limits.log [] (log_calls base limits journal)
+log base limits journal = kept limits.log limits.log_bytes (log_calls base limits journal)
 
 -- how many offsets a step uses
 abbrev pub offsets_used : What → ℕ

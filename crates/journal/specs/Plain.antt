@@ -15,6 +15,7 @@ pub record Limits : Type 0 where
   pub capacity : ℕ
   pub bytes : ℕ
   pub log : ℕ
+  pub log_bytes : ℕ
   pub saved : ℕ
   pub keep : ℕ
   pub first_offset : ℕ

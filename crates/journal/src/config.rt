@@ -19,6 +19,8 @@ pub struct Config {
     pub bytes: usize,
     /// How many broadcasts the log holds, at least 1.
     pub log: usize,
+    /// How many bytes they may have together, at least 1.
+    pub log_bytes: usize,
     /// How many sessions may be saved.
     pub saved: usize,
     /// How long a logged broadcast or a saved session is kept, in milliseconds.
@@ -38,6 +40,7 @@ impl Model for Config {
       capacity = c.capacity;
       bytes = c.bytes;
       log = c.log;
+      log_bytes = c.log_bytes;
       saved = c.saved;
       keep = c.keep;
       first_offset = c.first_offset;
@@ -57,6 +60,7 @@ impl Config {
             || self.capacity == 0
             || self.bytes == 0
             || self.log == 0
+            || self.log_bytes == 0
             || self.first_offset == 0
             || self.capacity > 65_536
             || self.spaces.len() == 0

@@ -1,3 +1,4 @@
+pub mod LatestLemmas
 pub mod PacketLogLemmas
 pub mod MissedLemmas
 pub mod SavedTableLemmas

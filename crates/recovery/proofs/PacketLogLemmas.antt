@@ -9,7 +9,8 @@ use Rattle.std.proofs.lemmas.Bool.{cases_lt}
 use Rattle.std.proofs.lemmas.Bool.Decides.{nat_tests}
 use Rattle.std.proofs.lemmas.List.Elements.{filter-append}
 use Rattle.recovery.specs.Expiry.{is_outdated}
-use Rattle.recovery.specs.PacketLog.{PlainLogged, LogContents, LogCall, Pushed, Swept, pushed, pushes, latest, drops, survives, kept, Rises, IsNumbered, IsRun, IsLogOf, IsLog, RisesTo, is_fresh, newest, next_after, offset_at, number_of, with_entry, swept, stands, later_than, IsIndex, HasNone}
+use Rattle.recovery.specs.PacketLog.{PlainLogged, LogContents, LogCall, Pushed, Swept, logged_bytes, fits, pushed, pushes, latest, drops, unswept, kept, Rises, IsNumbered, IsRun, IsLogOf, IsLog, RisesTo, is_fresh, newest, next_after, offset_at, number_of, with_entry, swept, stands, later_than, IsIndex, HasNone}
+use Rattle.recovery.proofs.LatestLemmas.{bytes_more, bytes_dropped, bytes_filtered, length_filtered, fewer_fit, none_fit, newest_drop, newest_end, newest_fits, newest_whole, newest_less, newest_again}
 
 -- ---- tests of numbers and of truth values
 
@@ -18,12 +19,6 @@ not_below a b h = grind (arith, nat_tests)
 
 below : (a b : ℕ) → a < b → nat_lt a b ≡ true
 below a b h = grind (arith, nat_tests)
-
-reached : (a b : ℕ) → a ≤ b → nat_le a b ≡ true
-reached a b h = grind (arith, nat_tests)
-
-unreached : (a b : ℕ) → b < a → nat_le a b ≡ false
-unreached a b h = grind (arith, nat_tests)
 
 or_right : (b c : Bool) → c ≡ true → (b || c) ≡ true
 or_right true c e = refl
@@ -38,38 +33,35 @@ either : (p q r s : Bool) → (p ≡ true → r ≡ true) → (q ≡ true → s 
 either true q r s f g h = ap (λ x. x || s) (f refl)
 either false q r s f g h = or_right r s (g h)
 
-and_false : (x : Bool) → (x && false) ≡ false
-and_false true = refl
-and_false false = refl
-
 -- ---- a sweep
 
-one_left : (e : PlainLogged) (f : PlainLogged → Bool) (p x y : Bool) → f e ≡ not x → (if p && not (x || y) then e ∷ [] else []) ≡ filter f (if p && not y then e ∷ [] else [])
-one_left e f false x y is = refl
-one_left e f true true true is = refl
-one_left e f true false true is = refl
-one_left e f true true false is = ap (λ b. if b then e ∷ [] else []) (sym is)
-one_left e f true false false is = ap (λ b. if b then e ∷ [] else []) (sym is)
+one_left : (e : PlainLogged) (f : PlainLogged → Bool) (x y : Bool) → f e ≡ not x → (if x || y then [] else e ∷ []) ≡ filter f (if y then [] else e ∷ [])
+one_left e f true true is = refl
+one_left e f false true is = refl
+one_left e f true false is = ap (λ b. if b then e ∷ [] else []) (sym is)
+one_left e f false false is = ap (λ b. if b then e ∷ [] else []) (sym is)
 
-pub kept_swept : (limit keep now : ℕ) (h l n : List LogCall) → pushes n ≡ pushes l → ((at : ℕ) → list_any (drops at) n ≡ (is_outdated keep now at || list_any (drops at) l)) → kept limit n h ≡ filter (is_fresh keep now) (kept limit l h)
-unfolding kept pushes
-kept_swept limit keep now [] l n count any = refl
-kept_swept limit keep now (Pushed e ∷ h) l n count any =
-    (λ i. kept_swept limit keep now h (Pushed e ∷ l) (Pushed e ∷ n) (ap suc count) any i ++ (if nat_lt (count i) limit && not (any e.at i) then e ∷ [] else []))
-    ∙ ap (λ t. filter (is_fresh keep now) (kept limit (Pushed e ∷ l) h) ++ t) (one_left e (is_fresh keep now) (nat_lt (pushes l) limit) (is_outdated keep now e.at) (list_any (drops e.at) l) refl)
-    ∙ sym (filter-append (is_fresh keep now) (kept limit (Pushed e ∷ l) h) (if survives limit l e then e ∷ [] else []))
-kept_swept limit keep now (Swept k m ∷ h) l n count any =
-    kept_swept limit keep now h (Swept k m ∷ l) (Swept k m ∷ n) count
+unswept_swept : (keep now : ℕ) (h l n : List LogCall) → ((at : ℕ) → list_any (drops at) n ≡ (is_outdated keep now at || list_any (drops at) l)) → unswept n h ≡ filter (is_fresh keep now) (unswept l h)
+unfolding unswept
+unswept_swept keep now [] l n any = refl
+unswept_swept keep now (Pushed e ∷ h) l n any =
+    (λ i. unswept_swept keep now h (Pushed e ∷ l) (Pushed e ∷ n) any i ++ (if any e.at i then [] else e ∷ []))
+    ∙ ap (λ t. filter (is_fresh keep now) (unswept (Pushed e ∷ l) h) ++ t) (one_left e (is_fresh keep now) (is_outdated keep now e.at) (list_any (drops e.at) l) refl)
+    ∙ sym (filter-append (is_fresh keep now) (unswept (Pushed e ∷ l) h) (if list_any (drops e.at) l then [] else e ∷ []))
+unswept_swept keep now (Swept k m ∷ h) l n any =
+    unswept_swept keep now h (Swept k m ∷ l) (Swept k m ∷ n)
     (λ at. ap (λ b. is_outdated k m at || b) (any at) ∙ or_swap (is_outdated k m at) (is_outdated keep now at) (list_any (drops at) l))
 
--- ---- nothing survives
+-- what later calls drop is all that counts of them
+unswept_same : (h l n : List LogCall) → ((at : ℕ) → list_any (drops at) n ≡ list_any (drops at) l) → unswept n h ≡ unswept l h
+unfolding unswept
+unswept_same [] l n any = refl
+unswept_same (Pushed e ∷ h) l n any =
+    (λ i. unswept_same h (Pushed e ∷ l) (Pushed e ∷ n) any i ++ (if any e.at i then [] else e ∷ []))
+unswept_same (Swept keep now ∷ h) l n any =
+    unswept_same h (Swept keep now ∷ l) (Swept keep now ∷ n) (λ at. ap (λ b. is_outdated keep now at || b) (any at))
 
-pub kept_none : (limit : ℕ) (h l : List LogCall) → limit ≤ pushes l → kept limit l h ≡ []
-unfolding kept pushes
-kept_none limit [] l full = refl
-kept_none limit (Pushed e ∷ h) l full =
-    (λ i. kept_none limit h (Pushed e ∷ l) (omega arith) i ++ (if not_below (pushes l) limit full i && not (list_any (drops e.at) l) then e ∷ [] else []))
-kept_none limit (Swept keep now ∷ h) l full = kept_none limit h (Swept keep now ∷ l) full
+-- ---- nothing survives
 
 still : (keep now a b : ℕ) → b ≤ a → is_outdated keep now a ≡ true → is_outdated keep now b ≡ true
 still keep now a b h e = grind (arith, nat_tests)
@@ -79,135 +71,14 @@ dropped_older [] a b h e = e
 dropped_older (Pushed x ∷ l) a b h e = dropped_older l a b h e
 dropped_older (Swept keep now ∷ l) a b h e = either (is_outdated keep now a) (list_any (drops a) l) (is_outdated keep now b) (list_any (drops b) l) (still keep now a b h) (dropped_older l a b h) e
 
-pub kept_outdated : (limit : ℕ) (h l : List LogCall) (a : ℕ) → list_any (drops a) l ≡ true → latest h ≤ a → kept limit l h ≡ []
-unfolding kept latest
-kept_outdated limit [] l a e le = refl
-kept_outdated limit (Pushed x ∷ h) l a e le =
-    (λ i. kept_outdated limit h (Pushed x ∷ l) a e (omega arith) i ++ (if gone (nat_lt (pushes l) limit) (list_any (drops x.at) l) (dropped_older l a x.at (omega arith) e) i then x ∷ [] else []))
-  where
-    gone : (b c : Bool) → c ≡ true → (b && not c) ≡ false
-    gone true c e = ap not e
-    gone false c e = refl
-kept_outdated limit (Swept keep now ∷ h) l a e le = kept_outdated limit h (Swept keep now ∷ l) a (or_right (is_outdated keep now a) (list_any (drops a) l) e) (omega arith)
+unswept_outdated : (h l : List LogCall) (a : ℕ) → list_any (drops a) l ≡ true → latest h ≤ a → unswept l h ≡ []
+unfolding unswept latest
+unswept_outdated [] l a e le = refl
+unswept_outdated (Pushed x ∷ h) l a e le =
+    (λ i. unswept_outdated h (Pushed x ∷ l) a e (omega arith) i ++ (if dropped_older l a x.at (omega arith) e i then [] else x ∷ []))
+unswept_outdated (Swept keep now ∷ h) l a e le = unswept_outdated h (Swept keep now ∷ l) a (or_right (is_outdated keep now a) (list_any (drops a) l) e) (omega arith)
 
--- ---- a push
-
-abbrev rest : List PlainLogged → List PlainLogged
-rest [] = []
-rest (x ∷ xs) = xs
-
-abbrev rest_if : Bool → List PlainLogged → List PlainLogged
-rest_if b xs = if b then rest xs else xs
-
-rest_if_none : (b : Bool) → rest_if b [] ≡ []
-rest_if_none true = refl
-rest_if_none false = refl
-
-abbrev own : Bool → Bool → PlainLogged → List PlainLogged
-own b out e = if b && not out then e ∷ [] else []
-
--- the entry is outdated, and so are the older ones
-push_outdated : (limit p : ℕ) (e : PlainLogged) (c d : Bool) → rest_if (nat_le limit (suc p + length {A = PlainLogged} [])) [] ++ own c true e ≡ rest_if (nat_le limit (p + length ([] ++ own d true e))) ([] ++ own d true e)
-push_outdated limit p e c d =
-    (λ i. rest_if_none (nat_le limit (suc p + length {A = PlainLogged} [])) i ++ (if and_false c i then e ∷ [] else []))
-    ∙ sym (rest_if_none (nat_le limit (p + 0)))
-    ∙ ap (λ b. rest_if (nat_le limit (p + length ([] ++ (if b then e ∷ [] else [])))) ([] ++ (if b then e ∷ [] else []))) (sym (and_false d))
-
--- no space for the older ones
-push_full : (limit p : ℕ) (e : PlainLogged) (d : Bool) → limit ≤ suc p → [] ≡ rest_if (nat_le limit (p + length ([] ++ own d false e))) ([] ++ own d false e)
-push_full limit p e true h = ap (λ b. rest_if b (e ∷ [])) (sym (reached limit (p + 1) (omega arith)))
-push_full limit p e false h = sym (rest_if_none (nat_le limit (p + 0)))
-
-push_fits : (limit p : ℕ) (e : PlainLogged) (ks : List PlainLogged) → suc p < limit → rest_if (nat_le limit (suc p + length ks)) ks ++ e ∷ [] ≡ rest_if (nat_le limit (p + length (ks ++ e ∷ []))) (ks ++ e ∷ [])
-push_fits limit p e [] h =
-    ap (λ b. rest_if b [] ++ e ∷ []) (unreached limit (suc p + 0) (omega arith))
-    ∙ ap (λ b. rest_if b (e ∷ [])) (sym (unreached limit (p + 1) (omega arith)))
-push_fits limit p e (x ∷ xs) h =
-    same (nat_le limit (suc p + length (x ∷ xs)))
-    ∙ ap (λ n. rest_if (nat_le limit n) (x ∷ (xs ++ e ∷ []))) (omega (arith, length-append xs (e ∷ [])))
-  where
-    same : (b : Bool) → rest_if b (x ∷ xs) ++ e ∷ [] ≡ rest_if b (x ∷ (xs ++ e ∷ []))
-    same true = refl
-    same false = refl
-
-push_step : (limit p : ℕ) (e : PlainLogged) (out : Bool) (ks : List PlainLogged) → (out ≡ true → ks ≡ []) → (limit ≤ suc p → ks ≡ [])
-    → rest_if (nat_le limit (suc p + length ks)) ks ++ own (nat_lt (suc p) limit) out e ≡ rest_if (nat_le limit (p + length (ks ++ own (nat_lt p limit) out e))) (ks ++ own (nat_lt p limit) out e)
-push_step limit p e true ks old full =
-    ap (λ ks. rest_if (nat_le limit (suc p + length ks)) ks ++ own (nat_lt (suc p) limit) true e) (old refl)
-    ∙ push_outdated limit p e (nat_lt (suc p) limit) (nat_lt p limit)
-    ∙ ap (λ ks. rest_if (nat_le limit (p + length (ks ++ own (nat_lt p limit) true e))) (ks ++ own (nat_lt p limit) true e)) (sym (old refl))
-push_step limit p e false ks old full =
-    ⊎_elim
-    (λ fits.
-    ap (λ b. rest_if (nat_le limit (suc p + length ks)) ks ++ own b false e) (below (suc p) limit fits)
-    ∙ push_fits limit p e ks fits
-    ∙ ap (λ b. rest_if (nat_le limit (p + length (ks ++ own b false e))) (ks ++ own b false e)) (sym (below p limit (omega arith))))
-    (λ none.
-    ap (λ ks. rest_if (nat_le limit (suc p + length ks)) ks ++ own (nat_lt (suc p) limit) false e) (full none)
-    ∙ (λ i. rest_if_none (nat_le limit (suc p + length {A = PlainLogged} [])) i ++ own (not_below (suc p) limit none i) false e)
-    ∙ push_full limit p e (nat_lt p limit) none
-    ∙ ap (λ ks. rest_if (nat_le limit (p + length (ks ++ own (nat_lt p limit) false e))) (ks ++ own (nat_lt p limit) false e)) (sym (full none)))
-    (cases_lt (suc p) limit)
-
-pub kept_pushed : (limit : ℕ) (h l n : List LogCall) → pushes n ≡ suc (pushes l) → ((at : ℕ) → list_any (drops at) n ≡ list_any (drops at) l) → Rises h
-    → kept limit n h ≡ rest_if (nat_le limit (pushes l + length (kept limit l h))) (kept limit l h)
-unfolding kept pushes Rises
-kept_pushed limit [] l n count any rises = sym (rest_if_none (nat_le limit (pushes l + 0)))
-kept_pushed limit (Pushed e ∷ h) l n count any rises =
-    (λ i. kept_pushed limit h (Pushed e ∷ l) (Pushed e ∷ n) (ap suc count) any rises.1 i ++ own (nat_lt (count i) limit) (any e.at i) e)
-    ∙ push_step limit (pushes l) e (list_any (drops e.at) l) (kept limit (Pushed e ∷ l) h)
-    (λ out. kept_outdated limit h (Pushed e ∷ l) e.at out rises.0)
-    (λ full. kept_none limit h (Pushed e ∷ l) full)
-kept_pushed limit (Swept keep now ∷ h) l n count any rises =
-    kept_pushed limit h (Swept keep now ∷ l) (Swept keep now ∷ n) count (λ at. ap (λ b. is_outdated keep now at || b) (any at)) rises.1
-
--- ---- how many are left
-
-fits : (p q : Bool) (n limit : ℕ) → nat_lt n limit ≡ p → (p && q) ≡ true → n < limit
-fits true q n limit same is = grind (arith, nat_tests, same)
-fits false q n limit same is = absurd (cc)
-
-one_short : (b : Bool) (limit : ℕ) (l : List LogCall) (e : PlainLogged) (ks : List PlainLogged) → survives limit l e ≡ b → length ks + suc (pushes l) ≤ max limit (suc (pushes l)) → length (ks ++ (if b then e ∷ [] else [])) + pushes l ≤ max limit (pushes l)
-one_short true limit l e ks is short =
-    let fewer : pushes l < limit = fits (nat_lt (pushes l) limit) (not (list_any (drops e.at) l)) (pushes l) limit refl is in
-    omega (arith, fewer, short, length-append ks (e ∷ []))
-one_short false limit l e ks is short = omega (arith, short, length-append ks [])
-
-kept_short : (limit : ℕ) (l h : List LogCall) → length (kept limit l h) + pushes l ≤ max limit (pushes l)
-unfolding kept pushes
-kept_short limit l [] = omega arith
-kept_short limit l (Pushed e ∷ h) = one_short (survives limit l e) limit l e (kept limit (Pushed e ∷ l) h) refl (kept_short limit (Pushed e ∷ l) h)
-kept_short limit l (Swept keep now ∷ h) = kept_short limit (Swept keep now ∷ l) h
-
--- ---- the laws of the calls
-
-newest_pushed : (limit : ℕ) (es : List PlainLogged) (e : PlainLogged) → length es ≤ limit → 1 ≤ limit → newest limit (es ++ e ∷ []) ≡ rest_if (nat_le limit (0 + length es)) es ++ e ∷ []
-newest_pushed limit es e fits some =
-    ⊎_elim
-    (λ fits.
-    (let z : length (es ++ e ∷ []) - limit ≡ 0 = omega (arith, length-append es (e ∷ [])) in ap (λ n. drop n (es ++ e ∷ [])) z)
-    ∙ ap (λ b. rest_if b es ++ e ∷ []) (sym (unreached limit (0 + length es) (omega arith))))
-    (λ full.
-    (let z : length (es ++ e ∷ []) - limit ≡ 1 = omega (arith, length-append es (e ∷ [])) in ap (λ n. drop n (es ++ e ∷ [])) z)
-    ∙ one es (omega arith)
-    ∙ ap (λ b. rest_if b es ++ e ∷ []) (sym (reached limit (0 + length es) (omega arith))))
-    (cases_lt (length es) limit)
-  where
-    one : (es : List PlainLogged) → 1 ≤ length es → drop 1 (es ++ e ∷ []) ≡ rest es ++ e ∷ []
-    one [] h = absurd (omega arith)
-    one (x ∷ xs) h = refl
-
--- a history with one push more leaves the newest of what it left and the pushed one
-pub kept-pushed : (limit : ℕ) (h : List LogCall) (e : PlainLogged) → 1 ≤ limit → Rises h → kept limit [] (Pushed e ∷ h) ≡ newest limit (kept limit [] h ++ e ∷ [])
-unfolding kept pushes
-kept-pushed limit h e some rises =
-    (λ i. kept_pushed limit h [] (Pushed e ∷ []) refl (λ at. refl) rises i ++ (if below 0 limit some i && true then e ∷ [] else []))
-    ∙ sym (newest_pushed limit (kept limit [] h) e (omega (arith, kept_short limit [] h)) some)
-
--- a history with one sweep more leaves those of what it left that are not outdated
-pub kept-swept : (limit keep now : ℕ) (h : List LogCall) → kept limit [] (Swept keep now ∷ h) ≡ filter (is_fresh keep now) (kept limit [] h)
-unfolding kept pushes
-kept-swept limit keep now h = kept_swept limit keep now h [] (Swept keep now ∷ []) refl (λ at. refl)
+-- ---- one call more
 
 offset_is : (n offset : ℕ) → offset_at n ≡ Some offset → offset ≡ n
 offset_is n offset e = at (nat_lt n (2 ^ 64)) e
@@ -217,9 +88,9 @@ offset_is n offset e = at (nat_lt n (2 ^ 64)) e
     at false e = absurd (cc)
 
 -- a log that has seen nothing
-pub log_new : (limit first : ℕ) → 1 ≤ limit → first < 2 ^ 64 → IsLogOf first [] (record { limit = limit; next = Some first; last = 0; entries = [] })
-unfolding kept pushes latest Rises IsNumbered
-log_new limit first some small = record {
+pub log_new : (limit bytes first : ℕ) → first < 2 ^ 64 → IsLogOf first [] (record { limit = limit; bytes = bytes; next = Some first; last = 0; entries = [] })
+unfolding newest unswept pushes latest Rises IsNumbered
+log_new limit bytes first small = record {
   rises = tt;
   numbered = tt;
   next = ap (λ b. if b then Some first else None) (sym (below first (2 ^ 64) small)) ∙ ap offset_at (plus_none first);
@@ -230,36 +101,11 @@ log_new limit first some small = record {
     plus_none : (n : ℕ) → n ≡ n + 0
     plus_none n = omega arith
 
-pub log_pushed : (first : ℕ) (h : List LogCall) (log : LogContents) (e : PlainLogged) → IsLogOf first h log → 1 ≤ log.limit → latest h ≤ e.at → log.next ≡ Some e.offset → IsLogOf first (Pushed e ∷ h) (with_entry log e)
-unfolding pushes latest Rises IsNumbered
-log_pushed first h log e is some late next =
-    let at : e.offset ≡ first + pushes h = offset_is (first + pushes h) e.offset (sym is.next ∙ next) in
-    let up : first + pushes h + 1 ≡ first + suc (pushes h) = omega arith in
-    record {
-      rises = (late, is.rises);
-      numbered = (at, is.numbered);
-      next = ap next_after at ∙ ap offset_at up;
-      last = omega arith;
-      entries =
-          ap (λ es. newest log.limit (es ++ e ∷ [])) is.entries
-          ∙ sym (kept-pushed log.limit h e some is.rises);
-    }
-
-pub log_swept : (first : ℕ) (h : List LogCall) (log : LogContents) (keep now : ℕ) → IsLogOf first h log → latest h ≤ now → IsLogOf first (Swept keep now ∷ h) (swept log keep now)
-unfolding pushes latest Rises IsNumbered
-log_swept first h log keep now is late = record {
-  rises = (late, is.rises);
-  numbered = is.numbered;
-  next = is.next;
-  last = omega arith;
-  entries = ap (filter (is_fresh keep now)) is.entries ∙ sym (kept-swept log.limit keep now h);
-}
-
 -- ---- what every log keeps
 
-pub log_empty : (limit first : ℕ) → 1 ≤ limit → IsLog (record { limit = limit; next = Some first; last = 0; entries = [] })
+pub log_empty : (limit bytes first : ℕ) → 1 ≤ limit → IsLog (record { limit = limit; bytes = bytes; next = Some first; last = 0; entries = [] })
 unfolding IsRun RisesTo
-log_empty limit first some = record { some = some; fits = omega arith; run = tt; rises = tt }
+log_empty limit bytes first some = record { some = some; fits = none_fit limit bytes; run = tt; rises = tt }
 
 run_more : (n : ℕ) (es : List PlainLogged) (e : PlainLogged) → IsRun n es → e.offset ≡ n → IsRun (suc n) (es ++ e ∷ [])
 unfolding IsRun
@@ -276,6 +122,12 @@ rises_tail : (last : ℕ) (e : PlainLogged) (es : List PlainLogged) → RisesTo 
 unfolding RisesTo
 rises_tail last e [] h = tt
 rises_tail last e (f ∷ es) h = h.1
+
+-- the longest end of a run that fits is one
+pub run_newest : (n limit bytes : ℕ) (es : List PlainLogged) → IsRun n es → IsRun n (newest limit bytes es)
+run_newest n limit bytes es run =
+    let end = newest_drop limit bytes es in
+    subst (IsRun n) (sym end.1) (run_dropped n end.0 es run)
 
 pub rises_dropped : (last k : ℕ) (es : List PlainLogged) → RisesTo last es → RisesTo last (drop k es)
 rises_dropped last zero es h = h
@@ -304,13 +156,14 @@ number_next offset small = at (nat_lt (offset + 1) (2 ^ 64)) refl
 pub log_grown : (log : LogContents) (e : PlainLogged) → IsLog log → log.next ≡ Some e.offset → e.offset < 2 ^ 64 → log.last ≤ e.at → IsLog (with_entry log e)
 log_grown log e is next small late =
     let all : List PlainLogged = log.entries ++ e ∷ [] in
+    let end = newest_drop log.limit log.bytes all in
     record {
       some = is.some;
-      fits = omega (arith, length-drop (length all - log.limit) all);
-      run = run_dropped (number_of (next_after e.offset)) (length all - log.limit) all
+      fits = newest_fits log.limit log.bytes all;
+      run = run_newest (number_of (next_after e.offset)) log.limit log.bytes all
           (subst (λ n. IsRun n all) (number_next e.offset small)
           (run_more e.offset log.entries e (subst (λ o. IsRun (number_of o) log.entries) next is.run) refl));
-      rises = rises_dropped e.at (length all - log.limit) all (rises_more log.last log.entries e is.rises late);
+      rises = subst (RisesTo e.at) (sym end.1) (rises_dropped e.at end.0 all (rises_more log.last log.entries e is.rises late));
     }
 
 -- ---- what a sweep takes stands in front
@@ -348,36 +201,124 @@ pub swept_front : (keep now last : ℕ) (es : List PlainLogged) → RisesTo last
     → drop (length (take_while (λ (e : PlainLogged). is_outdated keep now e.at) es)) es ≡ filter (is_fresh keep now) es
 swept_front keep now last es h = ap (λ k. drop k es) (swept_count keep now es) ∙ dropped_front keep now last es h
 
-pub log_shrunk : (log : LogContents) (keep now k : ℕ) (entries : List PlainLogged) → IsLog log → entries ≡ drop k log.entries → log.last ≤ now → IsLog (record { limit = log.limit; next = log.next; last = now; entries = entries })
+pub log_shrunk : (log : LogContents) (keep now k : ℕ) (entries : List PlainLogged) → IsLog log → entries ≡ drop k log.entries → log.last ≤ now → IsLog (record { limit = log.limit; bytes = log.bytes; next = log.next; last = now; entries = entries })
 log_shrunk log keep now k entries is front late =
-    subst (λ es. IsLog (record { limit = log.limit; next = log.next; last = now; entries = es })) (sym front)
+    subst (λ es. IsLog (record { limit = log.limit; bytes = log.bytes; next = log.next; last = now; entries = es })) (sym front)
     (record {
       some = is.some;
-      fits = omega (arith, is.fits, length-drop k log.entries);
+      fits = fewer_fit log.limit log.bytes log.entries (drop k log.entries) (omega (arith, length-drop k log.entries)) (bytes_dropped k log.entries) is.fits;
       run = run_dropped (number_of log.next) k log.entries is.run;
       rises = rises_dropped now k log.entries (rises_later log.last now log.entries is.rises late);
     })
 
+-- ---- the laws of the calls
+
+unswept_rises : (l h : List LogCall) → Rises h → RisesTo (latest h) (unswept l h)
+unfolding Rises RisesTo latest unswept
+unswept_rises l [] rises = tt
+unswept_rises l (Pushed e ∷ h) rises = at (list_any (drops e.at) l) (unswept_rises (Pushed e ∷ l) h rises.1)
+  where
+    at : (b : Bool) → RisesTo (latest h) (unswept (Pushed e ∷ l) h) → RisesTo (max (latest h) e.at) (unswept (Pushed e ∷ l) h ++ (if b then [] else e ∷ []))
+    at false is =
+        let last : e.at ≡ max (latest h) e.at = omega (arith, rises.0) in
+        subst (λ n. RisesTo n (unswept (Pushed e ∷ l) h ++ e ∷ [])) last (rises_more (latest h) (unswept (Pushed e ∷ l) h) e is rises.0)
+    at true is =
+        subst (RisesTo (max (latest h) e.at)) (sym (append-nil (unswept (Pushed e ∷ l) h)))
+        (rises_later (latest h) (max (latest h) e.at) (unswept (Pushed e ∷ l) h) is (omega arith))
+unswept_rises l (Swept keep now ∷ h) rises = rises_later (latest h) (max (latest h) now) (unswept (Swept keep now ∷ l) h) (unswept_rises (Swept keep now ∷ l) h rises.1) (omega arith)
+
+-- the moments of what a log has after a history rise
+pub kept_rises : (limit bytes : ℕ) (h : List LogCall) → Rises h → RisesTo (latest h) (kept limit bytes h)
+kept_rises limit bytes h rises =
+    let end = newest_drop limit bytes (unswept [] h) in
+    subst (RisesTo (latest h)) (sym end.1) (rises_dropped (latest h) end.0 (unswept [] h) (unswept_rises [] h rises))
+
+-- a sweep takes from the front, so it leaves the longest end that fits of what it leaves of all
+newest_swept : (limit bytes keep now last : ℕ) (es : List PlainLogged) → RisesTo last es → filter (is_fresh keep now) (newest limit bytes es) ≡ newest limit bytes (filter (is_fresh keep now) es)
+unfolding newest
+newest_swept limit bytes keep now last [] rises = refl
+newest_swept limit bytes keep now last (e ∷ es) rises =
+    at (is_outdated keep now e.at) refl (fits limit bytes (e ∷ es)) refl (newest_swept limit bytes keep now last es (rises_tail last e es rises))
+  where
+    all_fresh : is_outdated keep now e.at ≡ false → e ∷ filter (is_fresh keep now) es ≡ e ∷ es
+    all_fresh fresh = ap (λ xs. e ∷ xs) (fresh_after keep now last e es rises fresh)
+
+    at : (x : Bool) → is_outdated keep now e.at ≡ x → (b : Bool) → fits limit bytes (e ∷ es) ≡ b → filter (is_fresh keep now) (newest limit bytes es) ≡ newest limit bytes (filter (is_fresh keep now) es)
+        → filter (is_fresh keep now) (if b then e ∷ es else newest limit bytes es) ≡ newest limit bytes (if not x then e ∷ filter (is_fresh keep now) es else filter (is_fresh keep now) es)
+    at true out true whole rest =
+        ap (λ t. if not t then e ∷ filter (is_fresh keep now) es else filter (is_fresh keep now) es) out
+        ∙ sym (newest_whole limit bytes (filter (is_fresh keep now) es)
+        (fewer_fit limit bytes (e ∷ es) (filter (is_fresh keep now) es) (omega (arith, length_filtered (is_fresh keep now) es)) (omega (arith, bytes_filtered (is_fresh keep now) es, bytes_more e es)) whole))
+    at true out false some rest = rest
+    at false fresh true whole rest =
+        ap (λ t. if not t then e ∷ filter (is_fresh keep now) es else filter (is_fresh keep now) es) fresh
+        ∙ all_fresh fresh
+        ∙ sym (ap (newest limit bytes) (all_fresh fresh) ∙ newest_whole limit bytes (e ∷ es) whole)
+    at false fresh false some rest =
+        rest ∙ ap (newest limit bytes) (fresh_after keep now last e es rises fresh)
+        ∙ sym (ap (newest limit bytes) (all_fresh fresh) ∙ newest_less limit bytes e es some)
+
+-- a history with one push more leaves the newest of what it left and the pushed one
+pub kept-pushed : (limit bytes : ℕ) (h : List LogCall) (e : PlainLogged) → kept limit bytes (Pushed e ∷ h) ≡ newest limit bytes (kept limit bytes h ++ e ∷ [])
+unfolding unswept
+kept-pushed limit bytes h e =
+    ap (λ es. newest limit bytes (es ++ e ∷ [])) (unswept_same h [] (Pushed e ∷ []) (λ at. refl))
+    ∙ sym (newest_again limit bytes (unswept [] h) e)
+
+-- a history with one sweep more leaves those of what it left that are not outdated
+pub kept-swept : (limit bytes keep now : ℕ) (h : List LogCall) → Rises h → kept limit bytes (Swept keep now ∷ h) ≡ filter (is_fresh keep now) (kept limit bytes h)
+unfolding unswept
+kept-swept limit bytes keep now h rises =
+    ap (newest limit bytes) (unswept_swept keep now h [] (Swept keep now ∷ []) (λ at. refl))
+    ∙ sym (newest_swept limit bytes keep now (latest h) (unswept [] h) (unswept_rises [] h rises))
+
+pub log_pushed : (first : ℕ) (h : List LogCall) (log : LogContents) (e : PlainLogged) → IsLogOf first h log → latest h ≤ e.at → log.next ≡ Some e.offset → IsLogOf first (Pushed e ∷ h) (with_entry log e)
+unfolding pushes latest Rises IsNumbered
+log_pushed first h log e is late next =
+    let at : e.offset ≡ first + pushes h = offset_is (first + pushes h) e.offset (sym is.next ∙ next) in
+    let up : first + pushes h + 1 ≡ first + suc (pushes h) = omega arith in
+    record {
+      rises = (late, is.rises);
+      numbered = (at, is.numbered);
+      next = ap next_after at ∙ ap offset_at up;
+      last = omega arith;
+      entries =
+          ap (λ es. newest log.limit log.bytes (es ++ e ∷ [])) is.entries
+          ∙ sym (kept-pushed log.limit log.bytes h e);
+    }
+
+pub log_swept : (first : ℕ) (h : List LogCall) (log : LogContents) (keep now : ℕ) → IsLogOf first h log → latest h ≤ now → IsLogOf first (Swept keep now ∷ h) (swept log keep now)
+unfolding pushes latest Rises IsNumbered
+log_swept first h log keep now is late = record {
+  rises = (late, is.rises);
+  numbered = is.numbered;
+  next = is.next;
+  last = omega arith;
+  entries = ap (filter (is_fresh keep now)) is.entries ∙ sym (kept-swept log.limit log.bytes keep now h is.rises);
+}
+
 -- ---- nothing is left out after an entry
 
--- what a history leaves are the latest of its broadcasts
-pub kept_suffix : (limit : ℕ) (l h : List LogCall) → Rises h → (before : List PlainLogged) × (pushed h ≡ before ++ kept limit l h)
-unfolding kept pushed pushes Rises
-kept_suffix limit l [] rises = ([], refl)
-kept_suffix limit l (Pushed e ∷ h) rises =
-    at (nat_lt (pushes l) limit) (list_any (drops e.at) l) refl refl (kept_suffix limit (Pushed e ∷ l) h rises.1)
-    (λ full. kept_none limit h (Pushed e ∷ l) full) (λ out. kept_outdated limit h (Pushed e ∷ l) e.at out rises.0)
+unswept_suffix : (l h : List LogCall) → Rises h → (before : List PlainLogged) × (pushed h ≡ before ++ unswept l h)
+unfolding unswept pushed Rises
+unswept_suffix l [] rises = ([], refl)
+unswept_suffix l (Pushed e ∷ h) rises =
+    at (list_any (drops e.at) l) (unswept_suffix (Pushed e ∷ l) h rises.1) refl
   where
-    none : {ks : List PlainLogged} → ks ≡ [] → (before : List PlainLogged) × (pushed h ++ e ∷ [] ≡ before ++ (ks ++ []))
-    none empty = (pushed h ++ e ∷ [], sym (append-nil (pushed h ++ e ∷ [])) ∙ ap (λ ks. (pushed h ++ e ∷ []) ++ (ks ++ [])) (sym empty))
+    at : (q : Bool) → (before : List PlainLogged) × (pushed h ≡ before ++ unswept (Pushed e ∷ l) h) → list_any (drops e.at) l ≡ q
+        → (before : List PlainLogged) × (pushed h ++ e ∷ [] ≡ before ++ (unswept (Pushed e ∷ l) h ++ (if q then [] else e ∷ [])))
+    at false split in_time = (split.0, ap (λ xs. xs ++ e ∷ []) split.1 ∙ append_assoc split.0 (unswept (Pushed e ∷ l) h) (e ∷ []))
+    at true split out =
+        let none : unswept (Pushed e ∷ l) h ≡ [] = unswept_outdated h (Pushed e ∷ l) e.at out rises.0 in
+        (pushed h ++ e ∷ [], sym (append-nil (pushed h ++ e ∷ [])) ∙ ap (λ ks. (pushed h ++ e ∷ []) ++ (ks ++ [])) (sym none))
+unswept_suffix l (Swept keep now ∷ h) rises = unswept_suffix (Swept keep now ∷ l) h rises.1
 
-    at : (p q : Bool) → nat_lt (pushes l) limit ≡ p → list_any (drops e.at) l ≡ q → (before : List PlainLogged) × (pushed h ≡ before ++ kept limit (Pushed e ∷ l) h)
-        → (limit ≤ suc (pushes l) → kept limit (Pushed e ∷ l) h ≡ []) → (list_any (drops e.at) l ≡ true → kept limit (Pushed e ∷ l) h ≡ [])
-        → (before : List PlainLogged) × (pushed h ++ e ∷ [] ≡ before ++ (kept limit (Pushed e ∷ l) h ++ (if p && not q then e ∷ [] else [])))
-    at true false less in_time split full out = (split.0, ap (λ xs. xs ++ e ∷ []) split.1 ∙ append_assoc split.0 (kept limit (Pushed e ∷ l) h) (e ∷ []))
-    at true true less gone split full out = none (out gone)
-    at false q more gone split full out = none (full (let most : limit ≤ pushes l = grind (arith, nat_tests, more) in omega (arith, most)))
-kept_suffix limit l (Swept keep now ∷ h) rises = kept_suffix limit (Swept keep now ∷ l) h rises.1
+-- what a history leaves are the latest of its broadcasts
+pub kept_suffix : (limit bytes : ℕ) (h : List LogCall) → Rises h → (before : List PlainLogged) × (pushed h ≡ before ++ kept limit bytes h)
+kept_suffix limit bytes h rises =
+    let split = unswept_suffix [] h rises in
+    let end = newest_end limit bytes (unswept [] h) in
+    (split.0 ++ end.0, split.1 ∙ ap (λ xs. split.0 ++ xs) end.1 ∙ sym (append_assoc split.0 end.0 (kept limit bytes h)))
 
 pub run_pushed : (first : ℕ) (h : List LogCall) → IsNumbered first h → IsRun (first + pushes h) (pushed h)
 unfolding IsNumbered pushed pushes IsRun
@@ -412,26 +353,26 @@ run_suffix n [] ys run = run
 run_suffix n (x ∷ xs) ys run = run_suffix n xs ys run.1
 
 -- where an offset stands in what a history leaves, every broadcast pushed after it stands there too
-pub kept_later : (first limit : ℕ) (h : List LogCall) (offset : ℕ) → Rises h → IsNumbered first h → stands offset (kept limit [] h) ≡ true
-    → later_than offset (kept limit [] h) ≡ later_than offset (pushed h)
-kept_later first limit h offset rises numbered is =
-    let split = kept_suffix limit [] h rises in
-    let run : IsRun (first + pushes h) (split.0 ++ kept limit [] h) = subst (IsRun (first + pushes h)) split.1 (run_pushed first h numbered) in
-    let high : first + pushes h ≤ offset + length (kept limit [] h) = stands_high (first + pushes h) offset (kept limit [] h) (run_suffix (first + pushes h) split.0 (kept limit [] h) run) is in
+pub kept_later : (first limit bytes : ℕ) (h : List LogCall) (offset : ℕ) → Rises h → IsNumbered first h → stands offset (kept limit bytes h) ≡ true
+    → later_than offset (kept limit bytes h) ≡ later_than offset (pushed h)
+kept_later first limit bytes h offset rises numbered is =
+    let split = kept_suffix limit bytes h rises in
+    let run : IsRun (first + pushes h) (split.0 ++ kept limit bytes h) = subst (IsRun (first + pushes h)) split.1 (run_pushed first h numbered) in
+    let high : first + pushes h ≤ offset + length (kept limit bytes h) = stands_high (first + pushes h) offset (kept limit bytes h) (run_suffix (first + pushes h) split.0 (kept limit bytes h) run) is in
     sym (ap (later_than offset) split.1
-    ∙ filter-append (λ e. nat_lt offset e.offset) split.0 (kept limit [] h)
-    ∙ ap (λ xs. xs ++ later_than offset (kept limit [] h)) (earlier (first + pushes h) offset split.0 (kept limit [] h) run high))
+    ∙ filter-append (λ e. nat_lt offset e.offset) split.0 (kept limit bytes h)
+    ∙ ap (λ xs. xs ++ later_than offset (kept limit bytes h)) (earlier (first + pushes h) offset split.0 (kept limit bytes h) run high))
 
 pub log_later : (first : ℕ) (h : List LogCall) (log : LogContents) (offset : ℕ) → IsLogOf first h log → stands offset log.entries ≡ true → later_than offset log.entries ≡ later_than offset (pushed h)
 log_later first h log offset is stand =
     ap (later_than offset) is.entries
-    ∙ kept_later first log.limit h offset is.rises is.numbered (ap (stands offset) (sym is.entries) ∙ stand)
+    ∙ kept_later first log.limit log.bytes h offset is.rises is.numbered (ap (stands offset) (sym is.entries) ∙ stand)
 
 -- what a history leaves is a run
-pub kept_run : (first limit : ℕ) (h : List LogCall) → Rises h → IsNumbered first h → IsRun (first + pushes h) (kept limit [] h)
-kept_run first limit h rises numbered =
-    let split = kept_suffix limit [] h rises in
-    run_suffix (first + pushes h) split.0 (kept limit [] h) (subst (IsRun (first + pushes h)) split.1 (run_pushed first h numbered))
+pub kept_run : (first limit bytes : ℕ) (h : List LogCall) → Rises h → IsNumbered first h → IsRun (first + pushes h) (kept limit bytes h)
+kept_run first limit bytes h rises numbered =
+    let split = kept_suffix limit bytes h rises in
+    run_suffix (first + pushes h) split.0 (kept limit bytes h) (subst (IsRun (first + pushes h)) split.1 (run_pushed first h numbered))
 
 -- ---- an offset's index in a run
 

@@ -1,4 +1,5 @@
 pub mod Expiry
 pub mod PacketLog
+pub mod Latest
 pub mod Missed
 pub mod SavedTable

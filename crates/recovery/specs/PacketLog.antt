@@ -1,7 +1,8 @@
 -- Which broadcasts a log has (Socket.IO server documentation, "Connection state recovery").
-use Rattle.std.specs.Prelude.{◌≡◌, ℕ, suc, ◌+◌, ◌-◌, ◌^◌, ◌<◌, ◌≤◌, ◌==◌, max, Bool, true, false, not, ◌&&◌, nat_lt, if◌then◌else◌, List, [], ◌∷◌, ◌++◌, length, drop, filter, Option, Some, None, unwrap_or, Result, Ok, Err}
+use Rattle.std.specs.Prelude.{◌≡◌, ℕ, suc, ◌+◌, ◌*◌, ◌^◌, ◌<◌, ◌≤◌, ◌==◌, max, Bool, true, false, not, ◌&&◌, nat_lt, nat_le, if◌then◌else◌, List, [], ◌∷◌, ◌++◌, length, drop, filter, sum_by, Option, Some, None, unwrap_or, Result, Ok, Err}
 use Rattle.std.specs.List.{list_any, find, slice_get}
 use Rattle.terms.specs.declared.entry.Entry.{Entry}
+use Rattle.terms.specs.Entry.{entry_size}
 use Rattle.recovery.specs.Expiry.{is_outdated}
 use Rattle.recovery.specs.declared.error.RecoveryError.{RecoveryError}
 use Rattle.recovery.specs.declared.error.RecoveryError.TheVariants.{Spent}
@@ -15,18 +16,34 @@ pub record PlainLogged : Type 0 where
   pub excepted : List (List ℕ)
   pub entry : Entry
 
--- a log as plain data: how many entries it may hold, the next offset, the last moment that it saw,
--- and its entries, the oldest first
+-- a log as plain data: how many entries it may hold, how many bytes these may have together, the
+-- next offset, the last moment that it saw, and its entries, the oldest first
 pub record LogContents : Type 0 where
   pub limit : ℕ
+  pub bytes : ℕ
   pub next : Option ℕ
   pub last : ℕ
   pub entries : List PlainLogged
 
 -- a log that has these
-abbrev pub contents : (limit : ℕ) → Option ℕ → (last : ℕ) → List PlainLogged → LogContents
-contents limit next last entries =
-    record { limit = limit; next = next; last = last; entries = entries }
+abbrev pub contents :
+    (limit bytes : ℕ) → Option ℕ → (last : ℕ) → List PlainLogged → LogContents
+contents limit bytes next last entries =
+    record { limit = limit; bytes = bytes; next = next; last = last; entries = entries }
+
+-- ---- bytes
+
+-- the bytes in which a list of rooms is held: 65 for each, however long its name is
+abbrev pub rooms_size : List (List ℕ) → ℕ
+rooms_size rooms = 65 * length rooms
+
+-- the bytes that a logged broadcast holds: those of what is sent, and of the rooms that it names
+abbrev pub logged_size : PlainLogged → ℕ
+logged_size e = entry_size e.entry + rooms_size e.rooms + rooms_size e.excepted
+
+-- the bytes that these hold together
+unfoldable pub logged_bytes : List PlainLogged → ℕ
+logged_bytes entries = sum_by logged_size entries
 
 -- ---- offsets
 
@@ -75,22 +92,30 @@ pub record HasNone (offset : ℕ) (entries : List PlainLogged) : Type 0 where
 
 -- ---- one call
 
--- the newest entries, at most `limit`
-abbrev pub newest : ℕ → List PlainLogged → List PlainLogged
-newest limit entries = drop (length entries - limit) entries
+-- these are at most so many, and have at most so many bytes together
+abbrev pub fits : (limit bytes : ℕ) → List PlainLogged → Bool
+fits limit bytes entries =
+    nat_le (length entries) limit && nat_le (logged_bytes entries) bytes
+
+-- the newest entries: the longest end of these that fits
+unfoldable pub newest : (limit bytes : ℕ) → List PlainLogged → List PlainLogged
+newest limit bytes [] = []
+newest limit bytes (e ∷ es) =
+    if fits limit bytes (e ∷ es) then e ∷ es else newest limit bytes es
 
 -- the entry is not outdated
 abbrev pub is_fresh : (keep now : ℕ) → PlainLogged → Bool
 is_fresh keep now e = not (is_outdated keep now e.at)
 
--- the log with one entry more
+-- the log with one entry more, which forgets the oldest that have no space beside it
 abbrev pub with_entry : LogContents → PlainLogged → LogContents
 with_entry log e =
     record {
       limit = log.limit;
+      bytes = log.bytes;
       next = next_after e.offset;
       last = e.at;
-      entries = newest log.limit (log.entries ++ e ∷ []);
+      entries = newest log.limit log.bytes (log.entries ++ e ∷ []);
     }
 
 -- the log after a sweep at this moment
@@ -98,6 +123,7 @@ abbrev pub swept : LogContents → (keep now : ℕ) → LogContents
 swept log keep now =
     record {
       limit = log.limit;
+      bytes = log.bytes;
       next = log.next;
       last = now;
       entries = filter (is_fresh keep now) log.entries;
@@ -147,16 +173,18 @@ abbrev pub drops : ℕ → LogCall → Bool
 drops at (Pushed e) = false
 drops at (Swept keep now) = is_outdated keep now at
 
--- fewer than `limit` broadcasts follow, and no later sweep drops it
-abbrev pub survives : ℕ → List LogCall → PlainLogged → Bool
-survives limit later e = nat_lt (pushes later) limit && not (list_any (drops e.at) later)
+-- the broadcasts of a history that no sweep after them drops, be it in the history or among the
+-- calls after it
+unfoldable pub unswept : (later : List LogCall) → List LogCall → List PlainLogged
+unswept later [] = []
+unswept later (Pushed e ∷ before) =
+    unswept (Pushed e ∷ later) before
+    ++ (if list_any (drops e.at) later then [] else e ∷ [])
+unswept later (Swept keep now ∷ before) = unswept (Swept keep now ∷ later) before
 
--- the broadcasts of a history that survive it and the calls after it
-unfoldable pub kept : ℕ → (later : List LogCall) → List LogCall → List PlainLogged
-kept limit later [] = []
-kept limit later (Pushed e ∷ before) =
-    kept limit (Pushed e ∷ later) before ++ (if survives limit later e then e ∷ [] else [])
-kept limit later (Swept keep now ∷ before) = kept limit (Swept keep now ∷ later) before
+-- what a log has after a history: the newest of the broadcasts that no sweep dropped
+abbrev pub kept : (limit bytes : ℕ) → List LogCall → List PlainLogged
+kept limit bytes history = newest limit bytes (unswept [] history)
 
 -- moments never fall
 unfoldable pub Rises : List LogCall → Type 0
@@ -176,7 +204,7 @@ pub record IsLogOf (first : ℕ) (history : List LogCall) (log : LogContents) : 
   pub numbered : IsNumbered first history
   pub next : log.next ≡ offset_at (first + pushes history)
   pub last : log.last ≡ latest history
-  pub entries : log.entries ≡ kept log.limit [] history
+  pub entries : log.entries ≡ kept log.limit log.bytes history
 
 -- ---- what every log keeps
 
@@ -188,6 +216,6 @@ RisesTo last (e ∷ f ∷ es) = (e.at ≤ f.at) × RisesTo last (f ∷ es)
 
 pub record IsLog (log : LogContents) : Type 0 where
   pub some : 1 ≤ log.limit
-  pub fits : length log.entries ≤ log.limit
+  pub fits : fits log.limit log.bytes log.entries ≡ true
   pub run : IsRun (number_of log.next) log.entries
   pub rises : RisesTo log.last log.entries

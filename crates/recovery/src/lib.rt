@@ -3,6 +3,7 @@
 #![tactic(auto)]
 
 mod error;
+mod latest;
 mod packet_log;
 mod saved_table;
 

@@ -4,16 +4,20 @@ ghost use Rattle.std.specs.Prelude.{◌≡◌, ℕ, ◌+◌, ◌^◌, ◌<◌, �
 ghost use Rattle.std.specs.List.{find, list_any, take_while};
 ghost use Rattle.std.specs.Arc.{arc_value};
 ghost use Rattle.recovery.specs.Expiry as expiry;
-ghost use Rattle.recovery.specs.PacketLog.{LogCall, LogContents, PlainLogged, Pushed, Swept, IsLog, IsLogOf, IsRun, IsIndex, HasNone, contents, offset_or_spent, pushed, stands, later_than, number_of, with_entry, swept, logged_as};
+ghost use Rattle.recovery.specs.PacketLog.{LogCall, LogContents, PlainLogged, Pushed, Swept, IsLog, IsLogOf, IsRun, IsIndex, HasNone, contents, offset_or_spent, pushed, stands, later_than, number_of, with_entry, swept, logged_as, logged_size};
 ghost use Rattle.recovery.specs.Missed.{missed, missed_refusal, is_for, is_one_of};
 
 use crate::error::RecoveryError;
+use crate::latest::Latest;
 use crate::saved_table::is_outdated;
 use circular_buffer::HeapCircularBuffer;
 use std::alloc::{AllocError, Global};
 use std::marker::Model;
 use std::sync::Arc;
 use terms::{Entry, Room};
+
+/// How many bytes the name of a room takes, however long it is.
+const ROOM: usize = 65;
 
 /// A broadcast that was given an offset. In a contract it is plain data, so that two are equal
 /// where their contents are.
@@ -56,6 +60,17 @@ impl Logged {
             && !meets(&self.excepted, rooms)
     }
 
+    /// How many bytes it holds: those of what is sent, and of the rooms that it names. `None` past
+    /// the greatest usize.
+    pub(crate) fn size(&self) -> Option<usize>
+        ensures some { IfSome result (λ size. size ≡ logged_size self.now) }
+        ensures none { IfNone result (usize.MAX < logged_size self.now) }
+    {
+        let rooms = ROOM.checked_mul(self.rooms.len())?;
+        let excepted = ROOM.checked_mul(self.excepted.len())?;
+        self.entry.size()?.checked_add(rooms)?.checked_add(excepted)
+    }
+
     /// A copy, which shares what is sent.
     pub(crate) fn copy(&self, alloc: Global) -> Result<Logged, AllocError>
         ensures { IfOk result (λ copy. copy ≡ self.now) }
@@ -78,8 +93,9 @@ fn meets(some: &[Room], rooms: &[Room]) -> bool
     some.iter().any(|room| rooms.contains(room))
 }
 
-/// The latest broadcasts, each with its offset. It takes its memory once, when it is made.
-/// A moment before the last that it saw counts as that one.
+/// The latest broadcasts, each with its offset: at most so many, which have at most so many bytes
+/// together. Their places are taken once, when it is made. A moment before the last that it saw
+/// counts as that one.
 #[derive(Drop)]
 pub struct PacketLog {
     /// The next offset, or none where the greatest has been used.
@@ -87,31 +103,39 @@ pub struct PacketLog {
     /// The last moment that it saw, in milliseconds.
     last: u64,
     /// The entries, the oldest first. Their offsets rise by one.
-    ring: HeapCircularBuffer<Logged>,
+    latest: Latest,
 }
 
 impl Model for PacketLog {
     ghost Value = { LogContents };
 
-    ghost view = { λ l. contents l.ring.capacity l.next l.last l.ring.items };
+    ghost view = { λ l.
+        contents l.latest.limit l.latest.bytes l.next l.last l.latest.entries };
 
-    ghost invariant = { λ l. IsLog (contents l.ring.capacity l.next l.last l.ring.items) };
+    ghost invariant = { λ l.
+        IsLog (contents l.latest.limit l.latest.bytes l.next l.last l.latest.entries) };
 }
 
 impl PacketLog {
-    /// A log of at most `limit` broadcasts, which numbers them from `first` on.
-    pub fn new(alloc: Global, limit: usize, first: u64) -> Result<PacketLog, RecoveryError>
+    /// A log of at most `limit` broadcasts, which have at most `bytes` bytes together. It numbers
+    /// them from `first` on.
+    pub fn new(
+        alloc: Global,
+        limit: usize,
+        bytes: usize,
+        first: u64,
+    ) -> Result<PacketLog, RecoveryError>
         requires limit { 1 ≤ limit }
         requires first { 1 ≤ first }
-        ensures empty { IfOk result (λ log. log ≡ contents limit (Some first) 0 []) }
+        ensures empty { IfOk result (λ log. log ≡ contents limit bytes (Some first) 0 []) }
         ensures leads { IfOk result (λ log. IsLogOf first [] log) }
         ensures memory { IfErr result (λ error. error ≡ RecoveryError.Memory) }
     {
-        let ring = HeapCircularBuffer::with_capacity(alloc, limit)?;
+        let latest = Latest::new(alloc, limit, bytes)?;
         Ok(PacketLog {
             next: Some(first),
             last: 0,
-            ring,
+            latest,
         })
     }
 
@@ -127,11 +151,12 @@ impl PacketLog {
         ensures len { result ≡ length self.now.entries }
         ensures within { result ≤ self.now.limit }
     {
-        self.ring.len()
+        self.latest.ring().len()
     }
 
-    /// Gives a broadcast the next offset and logs it. Where the log is full, the oldest goes.
-    /// Refused where the greatest offset has been used.
+    /// Gives a broadcast the next offset and logs it. The oldest that have no space beside it go;
+    /// one that has more bytes than the log may have leaves the log empty. Refused where the
+    /// greatest offset has been used.
     pub fn push(
         &mut self,
         at: u64,
@@ -155,7 +180,7 @@ impl PacketLog {
         let at = self.last.max(at);
         self.next = offset.checked_add(1);
         self.last = at;
-        self.ring.push_back(Logged {
+        self.latest.add(Logged {
             offset,
             at,
             space,
@@ -177,8 +202,8 @@ impl PacketLog {
             → IsLogOf first (Swept keep (max self.old.last now) ∷ history) self.new }
     {
         let now = self.last.max(now);
-        let outdated = count_outdated(&self.ring, keep, now);
-        self.ring.truncate_front(self.ring.len() - outdated);
+        let outdated = count_outdated(self.latest.ring(), keep, now);
+        self.latest.forget(outdated);
         self.last = now;
         outdated
     }
@@ -190,14 +215,14 @@ impl PacketLog {
         ensures small { IfSome result (λ index. index + 1 < 2 ^ 64) }
         ensures none { IfNone result (HasNone offset self.now.entries) }
     {
-        let Some(first) = self.ring.front() else {
+        let Some(first) = self.latest.ring().front() else {
             return None;
         };
         if offset < first.offset {
             return None;
         }
         let index = (offset - first.offset) as usize;
-        if index < self.ring.len() {
+        if index < self.latest.ring().len() {
             Some(index)
         } else {
             None
@@ -208,7 +233,7 @@ impl PacketLog {
     pub fn find(&self, offset: u64) -> Option<&Logged>
         ensures { option_copied result ≡ find (λ entry. entry.offset == offset) self.now.entries }
     {
-        self.ring.get(self.index_of(offset)?)
+        self.latest.ring().get(self.index_of(offset)?)
     }
 
     /// The entries past this offset, in their order and in two pieces, or `None` where the log has
@@ -219,7 +244,7 @@ impl PacketLog {
             (λ pieces. pieces.0.now ++ pieces.1.now ≡ later_than offset self.now.entries) }
     {
         let past = self.index_of(offset)? + 1;
-        let (front, back) = self.ring.as_slices();
+        let (front, back) = self.latest.ring().as_slices();
         let split = past.min(front.len());
         Some((&front[split..], &back[past - split..]))
     }
@@ -254,8 +279,8 @@ impl PacketLog {
         ensures rises { IsRun (number_of self.now.next) self.now.entries }
         ensures memory { IfErr result (λ error. error ≡ RecoveryError.Memory) }
     {
-        let mut list = Vec::with_capacity(alloc, self.ring.len())?;
-        for entry in self.ring.iter() {
+        let mut list = Vec::with_capacity(alloc, self.latest.ring().len())?;
+        for entry in self.latest.ring().iter() {
             list.push(entry.copy(alloc)?)?;
         }
         Ok(list)

@@ -13,5 +13,5 @@ returns-clause-later c =
     ∙ ap (λ (xs : List PlainLogged). xs ++ drop (past - split) back) (rest_from split front)
     ∙ ap (λ (m : ℕ). drop m front ++ drop (past - m) back) c.min-split.ensures
     ∙ sym (drop_pieces past front back)
-    ∙ ap (drop past) (c.as_slices.ensures ∙ ap (λ v. v.entries) c.self.view_is)
+    ∙ ap (drop past) (c.as_slices.ensures ∙ c.ring.ensures.items ∙ ap (λ v. v.entries) c.self.view_is)
     ∙ sym c.in_ok-past.ensures.index.later
