@@ -51,16 +51,17 @@ macro_rules! options {
 }
 
 /// The options, in the order in which help tells them.
-static OPTIONS: [OptionRow; 25] = options! {
+static OPTIONS: [OptionRow; 26] = options! {
     "port" Set Unsigned(1, 65_535), [], "The port to listen at";
     "host" Set String, ["127.0.0.1"], "The address to listen at";
     "workers" Set Unsigned(1, 1_023), [],
         "The threads that serve [default: one a processor, at most 8]";
     "connections" Set Unsigned(0, u64::MAX), ["0"], "Ends after so many connections; 0: never";
     "clients" Set Unsigned(1, MANY), ["10000"], "The most clients at a time";
-    "capacity" Set Unsigned(1, 65_536), ["64"], "The most entries that wait for a client";
+    "capacity" Set Unsigned(1, 65_536), ["4096"], "The most entries that wait for a client";
     "bytes" Set Unsigned(1, MANY), ["8388608"], "The most bytes that wait for a client";
     "log" Set Unsigned(1, MANY), ["1024"], "The most broadcasts that are logged";
+    "log-bytes" Set Unsigned(1, MANY), ["67108864"], "The most bytes of these together";
     "saved" Set Unsigned(0, MANY), ["4096"], "The most sessions that are saved";
     "keep" Set Unsigned(0, u64::MAX), ["120000"], "How long these are kept, in milliseconds";
     "together" Set Unsigned(1, u64::MAX), ["16"],
@@ -126,6 +127,7 @@ pub(crate) fn read_settings(
             capacity: matches.get_one("capacity").unwrap_or(1),
             bytes: matches.get_one("bytes").unwrap_or(1),
             log: matches.get_one("log").unwrap_or(1),
+            log_bytes: matches.get_one("log-bytes").unwrap_or(1),
             saved: matches.get_one("saved").unwrap_or(1),
             keep: matches.get_one("keep").unwrap_or(0),
             first_offset: 1,

@@ -70,14 +70,14 @@ not-bad : (b : Bool) → first_refusal ((b, BadConfig) ∷ []) ≡ None → b �
 not-bad false e = refl
 not-bad true e = absurd (cc e)
 
-last-of-ten : (a b c d e f g h i j : Bool) → (a || b || c || d || e || f || g || h || i || j) ≡ false → j ≡ false
-last-of-ten a b c d e f g h i j none = (neither (a || b || c || d || e || f || g || h || i) j none).1
+last-of-all : (a b c d e f g h i j k : Bool) → (a || b || c || d || e || f || g || h || i || j || k) ≡ false → k ≡ false
+last-of-all a b c d e f g h i j k none = (neither (a || b || c || d || e || f || g || h || i || j) k none).1
 
 allowed-names : (limits : Limits) → config_refusal limits ≡ None → AllByRecursion IsWhole limits.spaces
 allowed-names limits allowed =
     let fine = not-bad (is_bad_config limits) allowed in
     whole-names limits.spaces
-    (last-of-ten (limits.clients == 0) (limits.capacity == 0) (limits.bytes == 0) (limits.log == 0) (limits.first_offset == 0) (nat_lt 65536 limits.capacity)
+    (last-of-all (limits.clients == 0) (limits.capacity == 0) (limits.bytes == 0) (limits.log == 0) (limits.log_bytes == 0) (limits.first_offset == 0) (nat_lt 65536 limits.capacity)
     (length limits.spaces == 0) (nat_lt 65536 (length limits.spaces)) (has_repeat limits.spaces) (list_any (λ name. not (is_namespace name)) limits.spaces) fine)
 
 pub clean-fresh : (limits : Limits) (h : History) → config_refusal limits ≡ None → h ≡ fresh limits → IsClean h

@@ -34,6 +34,6 @@ kept-shown h s a b is legal casts sound mirrored = record {
 }
 
 -- an epoch is all that a core had, whose journal is long
-pub of-core : (least bytes : ℕ) (h shown k : History) (epoch : PlainEpoch) → h ≡ k → shown ≡ k → IsKept h → IsLong least bytes shown.journal → epoch ≡ record { base = k.base; journal = k.journal } → IsOfCore least bytes epoch
+pub of-core : (least bytes : ℕ) (h shown k : History) (epoch : PlainEpoch) → h ≡ k → shown ≡ k → IsKept h → IsLong least bytes shown → epoch ≡ record { base = k.base; journal = k.journal } → IsOfCore least bytes epoch
 of-core least bytes h shown k epoch same shows kept long is =
-    rw is (record { limits = k.limits; kept = subst IsKept same kept; enough = subst (λ (g : History). IsLong least bytes g.journal) shows long })
+    rw is (record { limits = k.limits; kept = subst IsKept same kept; enough = subst (IsLong least bytes) shows long })

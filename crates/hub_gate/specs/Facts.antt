@@ -13,7 +13,7 @@ use Rattle.journal.specs.Membership.{rooms}
 use Rattle.journal.specs.Broadcast.{RightCast}
 use Rattle.journal.specs.Legal.{IsLegal, IsSound}
 use Rattle.journal.specs.Seal.{PlainEpoch, SealsAs}
-use Rattle.journal.specs.Totals.{held}
+use Rattle.hub_state.specs.EndedSockets.{held}
 use Rattle.events.specs.declared.fault.CoreError.{CoreError}
 use Rattle.dispatch.specs.Holding.{PlainCore, Agree, IsClean}
 
@@ -52,19 +52,19 @@ pub record IsSoundCore (core : PlainCore) : Type 0 where
   pub lines : Agree core.hub.history core.lines
   pub clean : IsClean core.hub.history
 
--- a journal has fewer steps than that, and entries of fewer bytes in them
-abbrev pub IsShort : (least bytes : ℕ) → List Step → Type 0
-IsShort least bytes journal = (length journal < least) × (held journal < bytes)
+-- the journal has fewer steps than that, and these hold fewer bytes
+abbrev pub IsShort : (least bytes : ℕ) → History → Type 0
+IsShort least bytes h = (length h.journal < least) × (held h < bytes)
 
--- a journal has at least so many steps, or entries of at least so many bytes in them
-abbrev pub IsLong : (least bytes : ℕ) → List Step → Type 0
-IsLong least bytes journal = (least ≤ length journal) ⊎ (bytes ≤ held journal)
+-- the journal has at least so many steps, or these hold at least so many bytes
+abbrev pub IsLong : (least bytes : ℕ) → History → Type 0
+IsLong least bytes h = (least ≤ length h.journal) ⊎ (bytes ≤ held h)
 
 -- a base and a journal that a core had, which is long
 pub record IsOfCore (least bytes : ℕ) (epoch : PlainEpoch) : Type 0 where
   pub limits : Limits
   pub kept : IsKept (history epoch.base limits epoch.journal)
-  pub enough : IsLong least bytes epoch.journal
+  pub enough : IsLong least bytes (history epoch.base limits epoch.journal)
 
 -- the epoch is all that the core had, what is said of the core stays the same, and so does all of it but the history
 pub record SealsCore (before : PlainCore) (epoch : PlainEpoch) (after : PlainCore) : Type 0 where
@@ -73,7 +73,7 @@ pub record SealsCore (before : PlainCore) (epoch : PlainEpoch) (after : PlainCor
 
 -- a core whose journal is short stays as it is, and one whose journal is long is sealed, or after an error as it was
 abbrev pub Seals : (least bytes : ℕ) → PlainCore → Result (Option PlainEpoch) CoreError → PlainCore → Type 0
-Seals least bytes before (Ok None) after = IsShort least bytes before.hub.history.journal × (after ≡ before)
+Seals least bytes before (Ok None) after = IsShort least bytes before.hub.history × (after ≡ before)
 Seals least bytes before (Ok (Some epoch)) after =
-    IsLong least bytes before.hub.history.journal × SealsCore before epoch after
-Seals least bytes before (Err e) after = IsLong least bytes before.hub.history.journal × (after ≡ before)
+    IsLong least bytes before.hub.history × SealsCore before epoch after
+Seals least bytes before (Err e) after = IsLong least bytes before.hub.history × (after ≡ before)

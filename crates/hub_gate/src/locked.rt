@@ -67,8 +67,8 @@ impl<C: Ledger, T: Ledger> Locked<C, T> {
         guard
     }
 
-    /// Seals the core where its journal has at least so many steps, or entries of at least so many
-    /// bytes in them. It may wait.
+    /// Seals the core where its journal has at least so many steps, or these hold at least so many
+    /// bytes. It may wait.
     pub fn seal<R: Wait>(&self, rt: &R, alloc: Global, least: usize, bytes: u64) -> Sealing<C, T>
         ensures seals { Seals least bytes result.before.value result.got result.after.value }
         ensures sound { IsSoundCore result.before.value }

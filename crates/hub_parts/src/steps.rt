@@ -1,6 +1,6 @@
-//! The steps since the base, and how many bytes their entries hold.
+//! The steps since the base, and how many bytes they own.
 
-ghost use Rattle.std.specs.Prelude.{◌≡◌, ◌∷◌, [], ◌-◌, ◌<◌, min, reverse, vec_len, vec_capacity, IfErr, OnOk};
+ghost use Rattle.std.specs.Prelude.{◌≡◌, ◌∷◌, [], ◌+◌, ◌*◌, ◌-◌, ◌<◌, min, reverse, vec_len, vec_capacity, IfErr, OnOk};
 ghost use Rattle.terms.specs.Entry.{entry_size};
 ghost use Rattle.journal.specs.Totals as totals;
 ghost use Rattle.journal.specs.declared.error.HubError.TheVariants.{Memory};
@@ -10,14 +10,14 @@ use journal::{HubError, Step, What};
 use std::alloc::Global;
 use std::marker::Model;
 use std::mem::replace;
+use terms::Entry;
 
 /// The steps since the base. In a contract they are the steps, the newest first, and how many
 /// more can be added.
 #[derive(Drop)]
 pub struct Steps {
     steps: Vec<Step>,
-    /// How many bytes the entries of broadcasts and messages have together. It stays at the
-    /// greatest u64.
+    /// How many bytes they own together. It stays at the greatest u64.
     bytes: u64,
 }
 
@@ -33,16 +33,59 @@ impl Model for Steps {
         ≡ min (totals.held (reverse s.steps.items)) 18446744073709551615 };
 }
 
-/// How many bytes the entry of a step has, or the greatest u64.
-fn held_by(what: &What) -> u64
-    ensures { result ≡ min (totals.held_by what.now) 18446744073709551615 }
+/// How many bytes the name of a room takes, however long it is.
+const ROOM: u64 = 65;
+
+/// How many bytes an id takes.
+const ID: u64 = 16;
+
+/// How many bytes an offset takes.
+const OFFSET: u64 = 8;
+
+/// How many bytes so many items of a size take, or the greatest u64.
+fn size_of(count: usize, each: u64) -> u64
+    ensures { result ≡ min (each * count) u64.MAX }
 {
-    let entry = match what {
-        What::Cast(broadcast) => &broadcast.entry,
-        What::Told(message) => &message.entry,
-        _ => return 0,
-    };
+    each.saturating_mul(count as u64)
+}
+
+/// How many bytes an entry has, or the greatest u64.
+fn entry_size(entry: &Entry) -> u64
+    ensures { result ≡ min (entry_size entry.now) u64.MAX }
+{
     entry.size().unwrap_or(usize::MAX) as u64
+}
+
+/// How many bytes two lists of rooms and two of ids take, or the greatest u64.
+fn lists_size(rooms: usize, excepted: usize, ids: usize, others: usize) -> u64
+    ensures { result ≡ min (65 * rooms + 65 * excepted + 16 * ids + 16 * others) u64.MAX }
+{
+    let rooms = size_of(rooms, ROOM).saturating_add(size_of(excepted, ROOM));
+    let ids = size_of(ids, ID).saturating_add(size_of(others, ID));
+    rooms.saturating_add(ids)
+}
+
+/// How many bytes a step owns, or the greatest u64.
+fn held_by(what: &What) -> u64
+    ensures { result ≡ min (totals.held_by what.now) u64.MAX }
+{
+    match what {
+        What::Recovered(back) => {
+            size_of(back.rooms.len(), ROOM).saturating_add(size_of(back.missed.len(), OFFSET))
+        }
+        What::AllJoined(change) | What::AllLeft(change) => {
+            lists_size(change.rooms.len(), change.excepted.len(), change.changed.len(), 0)
+        }
+        What::Cast(cast) => {
+            let lists = lists_size(cast.rooms.len(), cast.excepted.len(), cast.dropped.len(), 0);
+            entry_size(&cast.entry).saturating_add(lists)
+        }
+        What::Told(message) => entry_size(&message.entry),
+        What::AllEnded(all) => {
+            lists_size(all.rooms.len(), all.excepted.len(), all.ended.len(), all.told.len())
+        }
+        _ => 0,
+    }
 }
 
 impl Steps {
@@ -83,8 +126,7 @@ impl Steps {
         &self.steps
     }
 
-    /// How many bytes the entries of broadcasts and messages have together, each step's counted for
-    /// itself. It stays at the greatest u64.
+    /// How many bytes the steps own together, each step for itself. It stays at the greatest u64.
     pub fn held(&self) -> u64
         ensures { result ≡ min (totals.held self.now.steps) 18446744073709551615 }
     {

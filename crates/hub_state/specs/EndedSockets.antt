@@ -1,13 +1,16 @@
 -- Which sockets ended, how, and in which rooms they were (Socket.IO server documentation, "Server API": the events
 -- `disconnecting` and `disconnect`).
-use Rattle.std.specs.Prelude.{ℕ, List, [], ◌∷◌, ◌++◌, map, Option, None, Some}
+use Rattle.std.specs.Prelude.{ℕ, ◌+◌, List, [], ◌∷◌, ◌++◌, map, sum_by, Option, None, Some}
 use Rattle.std.specs.List.{flat_map}
 use Rattle.room_maps.specs.Membership.{RoomSets}
 use Rattle.journal.specs.declared.socket.Socket.{Socket}
 use Rattle.journal.specs.declared.step.Step.{Step}
 use Rattle.journal.specs.declared.step.What.{What}
 use Rattle.journal.specs.declared.step.What.TheVariants.{Parked, Ended, AllEnded, Closed}
+use Rattle.recovery.specs.PacketLog.{rooms_size}
 use Rattle.journal.specs.Plain.{PlainBase}
+use Rattle.journal.specs.Journal.{History}
+use Rattle.journal.specs.Totals as totals
 use Rattle.journal.specs.Membership.{rooms, sockets_of, socket_with, sid_of}
 use Rattle.journal.specs.Sessions.{rooms_rising}
 use Rattle.journal.specs.Casting.{in_space}
@@ -42,3 +45,11 @@ sockets_ended_by base before _ = []
 unfoldable pub ended_sockets : PlainBase → List Step → List PlainEnded
 ended_sockets base [] = []
 ended_sockets base (step ∷ before) = ended_sockets base before ++ sockets_ended_by base before step.what
+
+-- the bytes in which a socket that ended is held: 96 for itself, and those of its rooms
+abbrev pub ended_size : PlainEnded → ℕ
+ended_size e = 96 + rooms_size e.rooms
+
+-- the bytes that the steps since the base own, and those in which the sockets are held that they ended
+abbrev pub held : History → ℕ
+held h = totals.held h.journal + sum_by ended_size (ended_sockets h.base h.journal)

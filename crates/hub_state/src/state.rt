@@ -16,6 +16,7 @@ ghost use Rattle.journal.specs.declared.step.Step.{Step};
 ghost use Rattle.journal.specs.declared.step.What.{What};
 ghost use Rattle.hub_state.specs.Changes.{OfEach, Reports};
 ghost use Rattle.hub_state.specs.Counting.{counts_after};
+ghost use Rattle.hub_state.specs.EndedSockets.{held};
 ghost use Rattle.hub_state.specs.Words.{spent_by, AllHear, opened, when_open, waits, logs, saves};
 
 mod aim;
@@ -169,9 +170,8 @@ impl State {
         if config.is_bad() {
             return Err(HubError::BadConfig);
         }
-        let log = PacketLog::new(alloc, config.log, config.first_offset).map_err(
-            |_| HubError::Memory,
-        )?;
+        let log = PacketLog::new(alloc, config.log, config.log_bytes, config.first_offset)
+            .map_err(|_| HubError::Memory)?;
         let limits = Limits::new(alloc, config)?;
         let config = limits.config();
         let base = empty_base(alloc, config);
@@ -267,12 +267,16 @@ impl State {
         self.records.steps.as_slice()
     }
 
-    /// How many bytes the entries of the journal's broadcasts and messages have together, each
-    /// step's counted for itself. It stays at the greatest u64.
+    /// How many bytes the journal's steps own, each for itself, with the sockets that they ended.
+    /// It stays at the greatest u64. It walks these sockets.
     pub fn held(&self) -> u64
-        ensures { result ≡ min (counted.held self.now.journal) u64.MAX }
+        ensures { result ≡ min (held self.now) u64.MAX }
     {
-        self.records.steps.held()
+        let mut bytes = self.records.steps.held();
+        for gone in self.ended_sockets.as_slice() {
+            bytes = bytes.saturating_add(gone.size());
+        }
+        bytes
     }
 
     /// How many broadcasts the log has.

@@ -1,12 +1,13 @@
 -- What a hub counts: sums over the steps, and over the open clients.
-use Rattle.std.specs.Prelude.{◌≡◌, ℕ, ◌+◌, Bool, ◌||◌, List, ◌++◌, codes, decimal, length, nat_lt}
+use Rattle.std.specs.Prelude.{◌≡◌, ℕ, ◌+◌, ◌*◌, Bool, ◌||◌, List, ◌++◌, codes, decimal, length, nat_lt}
 use Rattle.std.specs.List.{sum_by}
 use Rattle.journal.specs.declared.step.Step.{Step}
 use Rattle.journal.specs.declared.step.What.{What}
-use Rattle.journal.specs.declared.step.What.TheVariants.{Cast, Told, Took, Parked, Closed}
+use Rattle.journal.specs.declared.step.What.TheVariants.{Recovered, AllJoined, AllLeft, Cast, Told, Took, Parked, AllEnded, Closed}
 use Rattle.terms.specs.Entry.{entry_size}
 use Rattle.journal.specs.declared.totals.Totals.{Totals}
-use Rattle.journal.specs.Plain.{Limits, PlainBase}
+use Rattle.recovery.specs.PacketLog.{rooms_size}
+use Rattle.journal.specs.Plain.{Limits, PlainBase, PlainRoomChange}
 use Rattle.journal.specs.Journal.{total}
 use Rattle.journal.specs.Membership.{open_clients}
 use Rattle.journal.specs.Outboxes.{put, waiting}
@@ -64,13 +65,28 @@ totals base limits journal =
       waiting = waiting_in_all base limits journal;
     }
 
--- the bytes of the entry that a broadcast or a message holds
+-- the bytes in which a list of ids is held: 16 for each
+abbrev pub ids_size : List ℕ → ℕ
+ids_size ids = 16 * length ids
+
+-- the bytes in which the rooms and the sockets of a change are held
+abbrev pub change_size : PlainRoomChange → ℕ
+change_size m = rooms_size m.rooms + rooms_size m.excepted + ids_size m.changed
+
+-- the bytes that a step owns beside its own place: those of an entry that it holds, of its lists of
+-- rooms and of ids, and 8 for each offset
 abbrev pub held_by : What → ℕ
-held_by (Cast b) = entry_size b.entry
+held_by (Recovered r) = rooms_size r.rooms + 8 * length r.missed
+held_by (AllJoined m) = change_size m
+held_by (AllLeft m) = change_size m
+held_by (Cast b) =
+    entry_size b.entry + rooms_size b.rooms + rooms_size b.excepted + ids_size b.dropped
 held_by (Told m) = entry_size m.entry
+held_by (AllEnded d) =
+    rooms_size d.rooms + rooms_size d.excepted + ids_size d.ended + ids_size d.told
 held_by _ = 0
 
--- the bytes of all that broadcasts and messages of these steps hold, each step for itself
+-- the bytes that these steps own, each step for itself
 unfoldable pub held : List Step → ℕ
 held journal = total (λ _ what. held_by what) 0 journal
 

@@ -8,7 +8,7 @@ use Rattle.std.proofs.lemmas.List.{append_cancel_left}
 use Rattle.std.proofs.lemmas.Str.Pattern.{IsSplitOnceResult, split_after, split_parts}
 use Rattle.std.specs.Char.{is_ascii_alphabetic}
 use Rattle.script.specs.declared.script_line.Key.{Key}
-use Rattle.script.specs.declared.script_line.Key.TheVariants.{Capacity, Clients, Bytes, Log, Saved, Keep, FirstOffset}
+use Rattle.script.specs.declared.script_line.Key.TheVariants.{Capacity, Clients, Bytes, Log, LogBytes, Saved, Keep, FirstOffset}
 use Rattle.script.specs.declared.script_line.ScriptLine.{ScriptLine}
 use Rattle.script.specs.declared.script_line.ScriptLine.TheVariants as line
 use Rattle.script.specs.ScriptLine.{IsName, IsNumber, IsWord, IsSilent, Spells, IsNoServerLine, IsNoClientLine, IsNoOpenLine, IsNoTakeLine, SPACE, key_text}
@@ -62,6 +62,7 @@ key_is_word Capacity = no_space (codes "capacity") refl
 key_is_word Clients = no_space (codes "clients") refl
 key_is_word Bytes = no_space (codes "bytes") refl
 key_is_word Log = no_space (codes "log") refl
+key_is_word LogBytes = no_space (codes "log-bytes") refl
 key_is_word Saved = no_space (codes "saved") refl
 key_is_word Keep = no_space (codes "keep") refl
 key_is_word FirstOffset = no_space (codes "first-offset") refl

@@ -6,7 +6,7 @@ use Rattle.std.specs.Char.{is_ascii_alphabetic}
 use Rattle.std.specs.Str.{IsUtf8}
 use Rattle.std.specs.Str.Parse.{IsNumeral, digits_value}
 use Rattle.script.specs.declared.script_line.Key.{Key}
-use Rattle.script.specs.declared.script_line.Key.TheVariants.{Capacity, Clients, Bytes, Log, Saved, Keep, FirstOffset}
+use Rattle.script.specs.declared.script_line.Key.TheVariants.{Capacity, Clients, Bytes, Log, LogBytes, Saved, Keep, FirstOffset}
 use Rattle.script.specs.declared.script_line.Notice.{Notice as NoticeWord}
 use Rattle.script.specs.declared.script_line.Notice.TheVariants as notice
 use Rattle.script.specs.declared.script_line.ScriptLine.{ScriptLine}
@@ -54,6 +54,7 @@ key_text Capacity = codes "capacity"
 key_text Clients = codes "clients"
 key_text Bytes = codes "bytes"
 key_text Log = codes "log"
+key_text LogBytes = codes "log-bytes"
 key_text Saved = codes "saved"
 key_text Keep = codes "keep"
 key_text FirstOffset = codes "first-offset"

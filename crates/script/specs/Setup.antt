@@ -4,12 +4,12 @@ use Rattle.eio_wire.specs.declared.handshake.Numbers.{Numbers}
 use Rattle.journal.specs.Plain.{Limits}
 use Rattle.dispatch.specs.Holding.{PlainCore, new_core as core_with}
 use Rattle.script.specs.declared.script_line.Key.{Key}
-use Rattle.script.specs.declared.script_line.Key.TheVariants.{Capacity, Clients, Bytes, Log, Saved, Keep, FirstOffset}
+use Rattle.script.specs.declared.script_line.Key.TheVariants.{Capacity, Clients, Bytes, Log, LogBytes, Saved, Keep, FirstOffset}
 use Rattle.settings.specs.Usual as usual
 
 -- the limits where nothing is set, with the usual namespaces
 abbrev pub USUAL : Limits
-USUAL = record usual.hub { clients = 1024 }
+USUAL = record usual.hub { clients = 1024; capacity = 64 }
 
 -- the limits with one that is set
 abbrev pub with_limit : Key → ℕ → Limits → Limits
@@ -17,6 +17,7 @@ with_limit Capacity n s = record s { capacity = n }
 with_limit Clients n s = record s { clients = n }
 with_limit Bytes n s = record s { bytes = n }
 with_limit Log n s = record s { log = n }
+with_limit LogBytes n s = record s { log_bytes = n }
 with_limit Saved n s = record s { saved = n }
 with_limit Keep n s = record s { keep = n }
 with_limit FirstOffset n s = record s { first_offset = n }

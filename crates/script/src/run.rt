@@ -86,9 +86,10 @@ fn serve<C: Ledger, T: Ledger, A: App, R: Read, W: Write>(
         taken,
         of: PhantomData,
     };
-    // A server's usual limits, for fewer clients.
+    // A server's usual limits, for fewer clients and with fewer entries for each.
     let mut limits = usual_hub(alloc)?;
     limits.clients = 1024;
+    limits.capacity = 64;
     let mut run: Run<C, T> = Run::Setting(limits, ledgers);
     let mut line = Vec::new(alloc);
     let mut buffer = [0u8; READ_SIZE];

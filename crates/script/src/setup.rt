@@ -30,6 +30,7 @@ pub(crate) fn set_limit(limits: &mut Config, key: Key, number: u64)
         Key::Clients => limits.clients = number as usize,
         Key::Bytes => limits.bytes = number as usize,
         Key::Log => limits.log = number as usize,
+        Key::LogBytes => limits.log_bytes = number as usize,
         Key::Saved => limits.saved = number as usize,
         Key::Keep => limits.keep = number,
         Key::FirstOffset => limits.first_offset = number,

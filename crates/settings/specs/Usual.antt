@@ -14,9 +14,10 @@ abbrev pub hub : Limits
 hub =
     record {
       clients = 10000;
-      capacity = 64;
+      capacity = 4096;
       bytes = 8388608;
       log = 1024;
+      log_bytes = 67108864;
       saved = 4096;
       keep = 120000;
       first_offset = 1;

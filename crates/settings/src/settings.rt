@@ -43,9 +43,10 @@ pub fn usual_hub(alloc: Global) -> Result<Config, AllocError>
     spaces.push(Text::copy_of(alloc, "/admin")?)?;
     Ok(Config {
         clients: 10_000,
-        capacity: 64,
+        capacity: 4_096,
         bytes: 8_388_608,
         log: 1_024,
+        log_bytes: 67_108_864,
         saved: 4_096,
         keep: 120_000,
         first_offset: 1,

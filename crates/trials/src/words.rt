@@ -12,6 +12,9 @@ pub struct Words<'a> {
     star: u64,
 }
 
+/// The bytes that the log may have, where the word behind the namespaces is no number.
+const LOG_BYTES: usize = 67_108_864;
+
 fn number(word: &str) -> u64 {
     word.parse().unwrap_or(0)
 }
@@ -137,6 +140,7 @@ impl<'a> Words<'a> {
             capacity: self.number(2) as usize,
             bytes: self.number(3) as usize,
             log: self.number(4) as usize,
+            log_bytes: self.word(9).parse().unwrap_or(LOG_BYTES),
             saved: self.number(5) as usize,
             keep: self.number(6),
             first_offset: self.number(7),

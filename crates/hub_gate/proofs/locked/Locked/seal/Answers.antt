@@ -11,7 +11,7 @@ returns-clause-epoch g c = elim c.if-steps-least.branch [
   | else-steps-least+in-Ok w ↦
       let same : c.deref.result.now.hub.history ≡ w.deref_mut.result.now.hub.history = search rules in
       let shows : c.state-state.result.now ≡ w.deref_mut.result.now.hub.history = search rules in
-      let long : IsLong c.args.least c.args.bytes c.state-state.result.now.journal = elim w.else-steps-least.branch [
+      let long : IsLong c.args.least c.args.bytes c.state-state.result.now = elim w.else-steps-least.branch [
         | else-steps-least-via-then-steps-least+else-held-bytes v ↦ inr (omega (arith, v.if-held-bytes.false, v.held.ensures))
         | else-steps-least-via-else-steps-least v ↦ inl (omega (arith, v.if-steps-least.false, ap length c.steps.ensures, length-reverse c.state-state.result.now.journal))
       ] in

@@ -17,7 +17,7 @@ write-requires c = can_sweep _ _ _ _ c.self.invariant.3 c.self.invariant.2 (let 
 pub returns-clause-counts : goal.returns-clause-counts
 returns-clause-counts c =
     rw (← c.self.view_is, c.in_ok-write.ensures.steps) (
-      sym (dropped-log _ _ c.args.now c.self.inside.records.last c.max-at.result _ _ _ _ c.self.invariant.0.log_is c.self.invariant.0.log_last (search rules) c.drop_outdated-swept.ensures.log c.drop_outdated-swept.ensures.log_count),
+      sym (dropped-log _ _ c.args.now c.self.inside.records.last c.max-at.result _ _ _ _ c.self.invariant.2.log_rises c.self.invariant.0.log_is c.self.invariant.0.log_last (search rules) c.drop_outdated-swept.ensures.log c.drop_outdated-swept.ensures.log_count),
       sym (dropped-saved _ _ c.args.now c.self.inside.records.last c.max-at.result _ _ _ _ c.self.invariant.0.saved_is (search rules) c.drop_outdated-swept.ensures.saved c.drop_outdated-swept.ensures.saved_count),
     )
 
