@@ -156,13 +156,18 @@ fn save(
     Ok(true)
 }
 
-/// A log of at most so many broadcasts, the first with this offset.
-fn log(alloc: Global, limit: usize, first: u64) -> Result<PacketLog, RecoveryError>
+/// A log of at most so many broadcasts of so many bytes, the first with this offset.
+fn log(
+    alloc: Global,
+    limit: usize,
+    bytes: usize,
+    first: u64,
+) -> Result<PacketLog, RecoveryError>
     requires limit { 1 ≤ limit }
     requires first { 1 ≤ first }
 {
-    match PacketLog::new(alloc, limit, first) {
-        Err(_) => PacketLog::new(alloc, limit, first),
+    match PacketLog::new(alloc, limit, bytes, first) {
+        Err(_) => PacketLog::new(alloc, limit, bytes, first),
         log => log,
     }
 }
@@ -193,10 +198,29 @@ fn logs(rt: HostRuntime) -> Result<(), RecoveryError> {
         (Row::Missed(u64::MAX, &[]), YES),
         (Row::List(&[u64::MAX]), YES),
     ];
-    play(&rt, &mut log(rt.alloc(), 3, 1)?, LAST_THREE);
-    play(&rt, &mut log(rt.alloc(), 3, 1)?, MISSED);
-    play(&rt, &mut log(rt.alloc(), 1, u64::MAX)?, GREATEST_OFFSET);
-    assert!(rt; PacketLog::new(rt.alloc(), usize::MAX, 1).is_err());
+    // Each entry has six bytes.
+    static OF_TWENTY_BYTES: Rows = &[
+        (Row::Push(0, 1, 3), YES),
+        (Row::List(&[1, 2, 3]), YES),
+        (Row::Push(0, 4, 5), YES),
+        (Row::List(&[3, 4, 5]), YES),
+        (Row::Missed(2, &[]), Err(RecoveryError::OffsetGone)),
+        (Row::Sweep(9, 8, 3), YES),
+        (Row::Push(9, 6, 8), YES),
+        (Row::List(&[6, 7, 8]), YES),
+    ];
+    static OF_FIVE_BYTES: Rows = &[
+        (Row::Push(0, 1, 2), YES),
+        (Row::Len(0), YES),
+        (Row::Missed(2, &[]), Err(RecoveryError::OffsetGone)),
+        (Row::Next(Some(3)), YES),
+    ];
+    play(&rt, &mut log(rt.alloc(), 3, usize::MAX, 1)?, LAST_THREE);
+    play(&rt, &mut log(rt.alloc(), 3, usize::MAX, 1)?, MISSED);
+    play(&rt, &mut log(rt.alloc(), 1, usize::MAX, u64::MAX)?, GREATEST_OFFSET);
+    play(&rt, &mut log(rt.alloc(), 9, 20, 1)?, OF_TWENTY_BYTES);
+    play(&rt, &mut log(rt.alloc(), 9, 5, 1)?, OF_FIVE_BYTES);
+    assert!(rt; PacketLog::new(rt.alloc(), usize::MAX, 1, 1).is_err());
     Ok(())
 }
 
