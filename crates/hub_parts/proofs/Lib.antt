@@ -1,2 +1,3 @@
 pub mod SocketIndexLemmas
 pub mod SeatsLemmas
+pub mod OutboxLemmas

@@ -1,6 +1,6 @@
 //! A client's queue of entries, which is bounded by their number and by their bytes.
 
-ghost use Rattle.std.specs.Prelude.{◌≡◌, ◌+◌, ◌<◌, ◌≤◌, [], ◌∷◌, ◌++◌, length, take, drop, map, false, ◌||◌, nat_le, nat_lt, IfOk, IfSome, IfNone, option_copied, slice_get, Some, None};
+ghost use Rattle.std.specs.Prelude.{◌≡◌, ◌+◌, ◌-◌, ◌<◌, ◌≤◌, [], ◌∷◌, ◌++◌, length, take, drop, map, false, ◌||◌, nat_le, nat_lt, IfOk, OnOk, OnErr, IfSome, IfNone, option_copied, slice_get, Some, None};
 ghost use Rattle.std.specs.Arc.{arc_value};
 ghost use Rattle.terms.specs.Entry.{entry_size};
 ghost use Rattle.journal.specs.Plain.{PlainOutbox};
@@ -12,10 +12,19 @@ use std::marker::Model;
 use std::sync::Arc;
 use terms::Entry;
 
-/// What waits for a client, the oldest first. It takes its memory once, when it is made.
+/// How many places a ring has at least, once it has any, where its outbox may have so many.
+const FEWEST_PLACES: usize = 8;
+
+/// How many places the ring of an outbox may keep that has emptied.
+const KEPT_PLACES: usize = 64;
+
+/// What waits for a client, the oldest first. Its ring takes memory as entries come, and gives it
+/// back when none waits.
 #[derive(Drop)]
 pub struct Outbox {
     ring: HeapCircularBuffer<Arc<Entry>>,
+    /// How many entries may wait. The ring has no more places.
+    capacity: usize,
     /// How many bytes may wait.
     bytes: usize,
     /// How many more bytes it takes.
@@ -27,11 +36,12 @@ impl Model for Outbox {
 
     ghost view = { λ o. record {
       waiting = map arc_value o.ring.items;
-      capacity = o.ring.capacity;
+      capacity = o.capacity;
       bytes = o.bytes;
     } };
 
-    ghost invariant = { λ o. o.free + total_size (map arc_value o.ring.items) ≡ o.bytes };
+    ghost invariant = { λ o. (o.free + total_size (map arc_value o.ring.items) ≡ o.bytes)
+        × (o.ring.capacity ≤ o.capacity) };
 }
 
 /// How many bytes are free after an entry, or `None` where it has more than these.
@@ -42,16 +52,32 @@ pub fn free_after(free: usize, entry: &Entry) -> Option<usize>
     free.checked_sub(entry.size()?)
 }
 
+/// Makes sure that a ring, which may have this many places, has one for one more entry.
+fn make_place(ring: &mut HeapCircularBuffer<Arc<Entry>>, capacity: usize) -> Result<(), AllocError>
+    requires few { length ring.old.items < capacity }
+    requires within { ring.old.capacity ≤ capacity }
+    ensures same { ring.new.items ≡ ring.old.items }
+    ensures within { ring.new.capacity ≤ capacity }
+    ensures place { OnOk result (length ring.new.items < ring.new.capacity) }
+{
+    let waits = ring.len();
+    if waits < ring.capacity() {
+        return Ok(());
+    }
+    ring.resize((2 * waits).max(FEWEST_PLACES).min(capacity))
+}
+
 impl Outbox {
-    /// An empty outbox.
+    /// An empty outbox, which takes no memory yet.
     #[tactic(auto, unfolding(journal::specs::Outboxes::total_size))]
     pub fn new(alloc: Global, capacity: usize, bytes: usize) -> Result<Outbox, AllocError>
         ensures { IfOk result (λ outbox.
             outbox ≡ record { waiting = []; capacity = capacity; bytes = bytes }) }
     {
-        let ring = HeapCircularBuffer::with_capacity(alloc, capacity)?;
+        let ring = HeapCircularBuffer::with_capacity(alloc, 0)?;
         Ok(Outbox {
             ring,
+            capacity,
             bytes,
             free: bytes,
         })
@@ -83,7 +109,7 @@ impl Outbox {
         ensures { result
             ≡ has_no_space self.now.capacity self.now.bytes self.now.waiting entry.now }
     {
-        self.ring.len() >= self.ring.capacity() || free_after(self.free, entry).is_none()
+        self.ring.len() >= self.capacity || free_after(self.free, entry).is_none()
     }
 
     /// Whether there is no space for an entry of this many bytes.
@@ -91,32 +117,70 @@ impl Outbox {
         ensures { result ≡ (nat_le self.now.capacity (length self.now.waiting)
             || nat_lt self.now.bytes (total_size self.now.waiting + size)) }
     {
-        self.ring.len() >= self.ring.capacity() || self.free < size
+        self.ring.len() >= self.capacity || self.free < size
     }
 
-    /// Puts an entry at the end, where there is space for it.
-    pub fn push(&mut self, entry: Arc<Entry>)
+    /// Puts an entry at the end, where there is space for it. It takes memory where the ring is
+    /// full: for twice as many entries as wait. Where that is refused, all stays as it was.
+    pub fn push(&mut self, entry: Arc<Entry>) -> Result<(), AllocError>
         requires { let o = self.old
             in has_no_space o.capacity o.bytes o.waiting (arc_value entry) ≡ false }
-        ensures { self.new
-            ≡ record self.old { waiting = self.old.waiting ++ arc_value entry ∷ [] } }
+        ensures ok { OnOk result (self.new
+            ≡ record self.old { waiting = self.old.waiting ++ arc_value entry ∷ [] }) }
+        ensures err { OnErr result (self.new ≡ self.old) }
     {
         let Some(left) = free_after(self.free, &entry) else {
             unreachable!()
         };
+        make_place(&mut self.ring, self.capacity)?;
         self.free = left;
         let Ok(()) = self.ring.try_push_back(entry) else {
             unreachable!()
         };
+        Ok(())
+    }
+
+    /// Takes the newest entry away again. It takes no memory, and gives none back.
+    pub fn pop_newest(&mut self)
+        ensures { self.new ≡ record self.old {
+          waiting = take (length self.old.waiting - 1) self.old.waiting;
+        } }
+    {
+        if let Some(newest) = self.ring.pop_back() {
+            // What waits has no more bytes than the outbox may hold.
+            self.free += newest.size().unwrap_or(0);
+        }
+    }
+
+    /// Takes the newest entries away again, as many as are named.
+    pub fn pop_last(&mut self, count: usize)
+        ensures { self.new ≡ record self.old {
+          waiting = take (length self.old.waiting - count) self.old.waiting;
+        } }
+    {
+        for _turn in 0..count {
+            self.pop_newest();
+        }
     }
 
     /// Takes the oldest entry away.
     pub fn pop(&mut self)
         ensures { self.new ≡ record self.old { waiting = drop 1 self.old.waiting } }
     {
-        if let Some(entry) = self.ring.pop_front() {
+        if let Some(oldest) = self.ring.pop_front() {
             // What waits has no more bytes than the outbox may hold.
-            self.free += entry.size().unwrap_or(0);
+            self.free += oldest.size().unwrap_or(0);
+        }
+        self.give_back();
+    }
+
+    /// Gives the ring's memory back, where no entry waits and it has more places than an empty
+    /// outbox keeps. Where the smaller ring is refused for memory, the larger one stays.
+    fn give_back(&mut self)
+        ensures { self.new ≡ self.old }
+    {
+        if self.ring.is_empty() && self.ring.capacity() > KEPT_PLACES {
+            let _given = self.ring.resize(0);
         }
     }
 

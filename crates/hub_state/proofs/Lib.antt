@@ -5,3 +5,4 @@ pub mod WalkLemmas
 pub mod RetainLemmas
 pub mod RecoverLemmas
 pub mod SpaceLemmas
+pub mod PutsLemmas

@@ -1,6 +1,6 @@
 -- How a command changes what a state is kept in, and what its refusal says.
-use Rattle.std.specs.Prelude.{◌≡◌, ℕ, ◌+◌, ◌≤◌, ◌==◌, ◌||◌, true, false, List, Option, None, Some, Result, Ok, Err, OnOk, OnErr, IfErr, if◌then◌else◌}
-use Rattle.std.specs.List.{find, list_any, AllByRecursion}
+use Rattle.std.specs.Prelude.{◌≡◌, ℕ, ◌+◌, ◌-◌, ◌≤◌, ◌==◌, ◌||◌, true, false, List, length, take, Option, None, Some, Result, Ok, Err, OnOk, OnErr, IfErr, if◌then◌else◌}
+use Rattle.std.specs.List.{find, list_any, count_by, AllByRecursion}
 use Rattle.std.specs.Option.{option_map}
 use Rattle.std.specs.Ordering.{nat_cmp}
 use Rattle.std.specs.BTreeMap.{BTreeMap, get}
@@ -30,6 +30,16 @@ ChangesClient f client old new =
 -- the same of each client
 abbrev pub SameClients : BTreeMap ℕ PlainClient → BTreeMap ℕ PlainClient → Type 0
 SameClients old new = (q : ℕ) → get nat_cmp new q ≡ get nat_cmp old q
+
+-- a client without the newest entries that wait for it, as many as are named
+abbrev pub without_newest : ℕ → PlainClient → PlainClient
+without_newest n known =
+    record known { outbox = record known.outbox { waiting = take (length known.outbox.waiting - n) known.outbox.waiting } }
+
+-- each client without the newest entry that waits for it, as often as it is in the list
+abbrev pub WithoutNewest : List ℕ → BTreeMap ℕ PlainClient → BTreeMap ℕ PlainClient → Type 0
+WithoutNewest clients old new =
+    (q : ℕ) → get nat_cmp new q ≡ option_map (without_newest (count_by (λ c. c == q) clients)) (get nat_cmp old q)
 
 -- the same private ids
 abbrev pub SamePids : BTreeSet ℕ → BTreeSet ℕ → Type 0

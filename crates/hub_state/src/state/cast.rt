@@ -1,7 +1,7 @@
 //! Events are put into the outboxes of those whom they are for (Socket.IO server documentation,
 //! "Rooms" and "Adapter"; Socket.IO protocol 5, "Sending and receiving data").
 
-ghost use Rattle.std.specs.Prelude.{◌≡◌, ◌≤◌, ℕ, false, map, nat_eq, None, Some, IfSome, IfOk, IfErr, ◌==◌, [], length, get_or, if◌then◌else◌};
+ghost use Rattle.std.specs.Prelude.{◌≡◌, ◌≤◌, ℕ, false, map, nat_eq, None, Some, IfSome, IfOk, IfErr, OnOk, OnErr, ◌==◌, [], length, get_or, if◌then◌else◌};
 ghost use Rattle.std.specs.List.{IsDistinct, AllByRecursion, list_any};
 ghost use Rattle.std.specs.Option.{option_map, option_map_or};
 ghost use Rattle.std.specs.Ordering.{nat_cmp};
@@ -17,11 +17,11 @@ ghost use Rattle.journal.specs.Log.{logged, next};
 ghost use Rattle.journal.specs.Journal.{moment_at};
 ghost use Rattle.journal.specs.Broadcast.{event_header};
 ghost use Rattle.journal.specs.declared.step.What.{What};
-ghost use Rattle.hub_state.specs.Changes.{MakesStep};
+ghost use Rattle.hub_state.specs.Changes.{SameClients, WithoutNewest, MakesStep};
 ghost use Rattle.hub_state.specs.Sending.{done_of, IsCounted};
 ghost use Rattle.hub_state.specs.Words.{TellsNow, AllHear};
 
-use crate::state::deliver::put_entry;
+use crate::state::deliver::{put_entry, take_back};
 use crate::state::{NONE, State};
 use hub_parts::Client;
 use journal::{Broadcast, Cast, CastDone, Counts, HubError, Message, What};
@@ -32,19 +32,41 @@ use std::collections::BTreeMap;
 use std::sync::Arc;
 use terms::{Attachments, Entry, Text};
 
-/// Puts each message into its client's outbox, which has space for it. No two of them are for
-/// one client.
-pub(crate) fn put_messages(clients: &mut BTreeMap<u128, Client>, messages: Vec<Message>)
+/// Takes the newest entry of each of these clients' outboxes away again.
+fn take_all_back(clients: &mut BTreeMap<u128, Client>, receivers: &[u128])
+    ensures { WithoutNewest receivers.now clients.old clients.new }
+{
+    for client in receivers {
+        take_back(clients, *client, 1);
+    }
+}
+
+/// Puts each message into the outbox of its client, which is named at the same place of the list
+/// and has space for it. No two of them are for one client. Where memory is refused in the middle,
+/// what was put is taken back.
+pub(crate) fn put_messages(
+    clients: &mut BTreeMap<u128, Client>,
+    messages: Vec<Message>,
+    receivers: &[u128],
+) -> Result<(), AllocError>
     requires apart { IsDistinct nat_eq (map receiver_of messages.items) }
     requires places { AllByRecursion (λ m.
         is_full_in (get nat_cmp clients.old) m.entry m.client ≡ false) messages.items }
-    ensures { (q : ℕ) → let puts = entries_for q (map pair_of messages.items)
+    requires receivers { receivers.now ≡ map receiver_of messages.items }
+    ensures ok { OnOk result ((q : ℕ) → let puts = entries_for q (map pair_of messages.items)
         in get nat_cmp clients.new q
-        ≡ option_map (with_entries puts) (get nat_cmp clients.old q) }
+        ≡ option_map (with_entries puts) (get nat_cmp clients.old q)) }
+    ensures err { OnErr result (SameClients clients.old clients.new) }
 {
+    let mut put = 0;
     for message in messages {
-        put_entry(clients, message.client, message.entry);
+        if let Err(refusal) = put_entry(clients, message.client, message.entry) {
+            take_all_back(clients, &receivers[..put]);
+            return Err(refusal);
+        }
+        put += 1;
     }
+    Ok(())
 }
 
 /// The broadcast as the log has it, where it has an offset.
@@ -155,8 +177,9 @@ impl State {
             dropped: done.dropped,
             ..NONE
         };
-        self.records.write(now, What::Cast(broadcast), added)?;
-        put_messages(&mut self.clients, messages);
+        self.records.steps.reserve()?;
+        put_messages(&mut self.clients, messages, &done.clients)?;
+        self.records.add(now, What::Cast(broadcast), added);
         push_logged(&mut self.log, entry);
         Ok(done)
     }

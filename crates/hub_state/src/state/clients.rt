@@ -52,8 +52,8 @@ impl State {
     }
 
     /// Opens a client, with no sockets and an empty outbox. Refused as `IdTaken`,
-    /// `TooManyClients`, `Spent`, then for `Memory`. It takes the logarithm of the clients, and
-    /// memory for the whole outbox.
+    /// `TooManyClients`, `Spent`, then for `Memory`. It takes the logarithm of the clients. The
+    /// outbox takes its memory as entries come.
     pub fn open(&mut self, alloc: Global, client: u128, now: u64) -> Result<(), HubError>
         ensures { Does self.old self.new now (What.Opened client) result }
     {

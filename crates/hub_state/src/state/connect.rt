@@ -17,7 +17,7 @@ ghost use Rattle.journal.specs.declared.step.What.{What};
 ghost use Rattle.hub_state.specs.Changes.{ChangesClient, SameClients, SameLive, WithSocket, IsNew, IsAlone, refusal_now};
 ghost use Rattle.hub_state.specs.Words.{opened, plain_entry, socket_for, answer_at};
 
-use crate::state::deliver::{put_entry, shared_text};
+use crate::state::deliver::{put_entry, shared_text, take_back};
 use crate::state::{Live, NONE, State};
 use hub_parts::Client;
 use journal::{Counts, HubError, Socket, What};
@@ -259,8 +259,12 @@ impl State {
         let socket = self.attaching(client, space, sid, pid)?;
         let answer = self.answer(alloc, usize::from(socket.space), sid, pid)?;
         self.records.steps.reserve()?;
-        seat(alloc, &mut self.clients, &mut self.live, &socket, &[])?;
-        put_entry(&mut self.clients, socket.client, answer);
+        let (clients, live) = (&mut self.clients, &mut self.live);
+        put_entry(clients, socket.client, answer)?;
+        if let Err(AllocError) = seat(alloc, clients, live, &socket, &[]) {
+            take_back(clients, socket.client, 1);
+            return Err(HubError::Memory);
+        }
         let added = Counts { placed: 1, ..NONE };
         self.records.add(now, What::Attached(socket), added);
         Ok(())

@@ -1,6 +1,6 @@
 //! Entries are put into clients' outboxes and handed out.
 
-ghost use Rattle.std.specs.Prelude.{◌≡◌, ◌≤◌, true, false, length, min, take, string_bytes, IfOk, IfErr, IfSome, OnOk, None, Some};
+ghost use Rattle.std.specs.Prelude.{◌≡◌, ◌≤◌, true, false, length, min, take, string_bytes, IfOk, IfErr, IfSome, OnOk, OnErr, None, Some};
 ghost use Rattle.std.specs.Ordering.{nat_cmp};
 ghost use Rattle.std.specs.BTreeMap.{get};
 ghost use Rattle.std.specs.Arc.{arc_value};
@@ -8,7 +8,7 @@ ghost use Rattle.journal.specs.Outboxes.{is_full, has_no_space};
 ghost use Rattle.journal.specs.Command.{Does};
 ghost use Rattle.journal.specs.Fields.{without_first, with_entry};
 ghost use Rattle.journal.specs.declared.step.What.{What};
-ghost use Rattle.hub_state.specs.Changes.{ChangesClient, refusal_now, Reports};
+ghost use Rattle.hub_state.specs.Changes.{ChangesClient, SameClients, without_newest, refusal_now, Reports};
 ghost use Rattle.hub_state.specs.Words.{opened, waits, plain_entry, told, took};
 
 use crate::state::aim::is_full;
@@ -38,14 +38,31 @@ pub(crate) fn shared_text(alloc: Global, text: String) -> Result<Arc<Entry>, All
     Ok(Arc::new(alloc, Entry { text, attachments })?)
 }
 
-/// Puts an entry at the end of a client's outbox, which has space for it.
-pub(crate) fn put_entry(clients: &mut BTreeMap<u128, Client>, client: u128, entry: Arc<Entry>)
+/// Puts an entry at the end of a client's outbox, which has space for it. Where memory is refused,
+/// all stays as it was.
+pub(crate) fn put_entry(
+    clients: &mut BTreeMap<u128, Client>,
+    client: u128,
+    entry: Arc<Entry>,
+) -> Result<(), AllocError>
     requires { IfSome (get nat_cmp clients.old client) (λ known. let outbox = known.outbox
         in has_no_space outbox.capacity outbox.bytes outbox.waiting (arc_value entry) ≡ false) }
-    ensures { ChangesClient (with_entry (arc_value entry)) client clients.old clients.new }
+    ensures ok { OnOk result
+        (ChangesClient (with_entry (arc_value entry)) client clients.old clients.new) }
+    ensures err { OnErr result (SameClients clients.old clients.new) }
 {
     if let Some(known) = clients.get_mut(&client) {
-        known.outbox.push(entry);
+        known.outbox.push(entry)?;
+    }
+    Ok(())
+}
+
+/// Takes the newest entries of a client's outbox away again, as many as are named.
+pub(crate) fn take_back(clients: &mut BTreeMap<u128, Client>, client: u128, count: usize)
+    ensures { ChangesClient (without_newest count) client clients.old clients.new }
+{
+    if let Some(known) = clients.get_mut(&client) {
+        known.outbox.pop_last(count);
     }
 }
 
@@ -78,10 +95,11 @@ impl State {
         self.may_tell(client, &entry)?;
         let entry = Arc::new(alloc, entry)?;
         let shared = Arc::try_clone(&entry)?;
+        self.records.steps.reserve()?;
+        put_entry(&mut self.clients, client, shared)?;
         let told = Message { client, entry };
         let added = Counts { placed: 1, ..NONE };
-        self.records.write(now, What::Told(told), added)?;
-        put_entry(&mut self.clients, client, shared);
+        self.records.add(now, What::Told(told), added);
         Ok(())
     }
 

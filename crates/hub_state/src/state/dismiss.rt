@@ -111,9 +111,14 @@ impl State {
         let added = Counts { placed, ..NONE };
         let gone = sockets_in(alloc, &self.live.seats, &dismissal.ended, dismissal.space)?;
         let mut ended = as_ended(&self.live.rooms, alloc, Ending::Together, &gone)?;
+        let told = receivers(alloc, &messages)?;
         self.records.steps.reserve()?;
+        let before = self.ended_sockets.len();
         self.ended_sockets.append(&mut ended)?;
-        put_messages(&mut self.clients, messages);
+        if let Err(AllocError) = put_messages(&mut self.clients, messages, &told) {
+            self.ended_sockets.truncate(before);
+            return Err(HubError::Memory);
+        }
         drop_all(&mut self.clients, &sockets, place);
         self.live.forget_all(&sockets);
         self.live.rooms.kept_facts();

@@ -1,6 +1,6 @@
 //! Saved sessions come back (Socket.IO server documentation, "Connection state recovery").
 
-ghost use Rattle.std.specs.Prelude.{◌≡◌, ℕ, ◌+◌, ◌^◌, ◌<◌, ◌≤◌, ◌||◌, true, false, ◌++◌, length, map, IfOk, IfErr, IfSome, IfNone, None, Some, is_some, nat_lt};
+ghost use Rattle.std.specs.Prelude.{◌≡◌, ℕ, ◌+◌, ◌^◌, ◌<◌, ◌≤◌, ◌||◌, true, false, ◌++◌, length, map, IfOk, IfErr, OnOk, OnErr, IfSome, IfNone, None, Some, is_some, nat_lt};
 ghost use Rattle.std.specs.Ordering.{nat_cmp};
 ghost use Rattle.std.specs.BTreeMap.{get};
 ghost use Rattle.std.specs.Arc.{arc_value};
@@ -15,11 +15,12 @@ ghost use Rattle.journal.specs.Refusals.{have_no_space, recovered_entries};
 ghost use Rattle.journal.specs.Legal.{RightRecovery};
 ghost use Rattle.journal.specs.Command.{refusal, Does};
 ghost use Rattle.journal.specs.declared.step.What.{What};
-ghost use Rattle.hub_state.specs.Changes.{ChangesClient, MakesStep};
+ghost use Rattle.hub_state.specs.Changes.{ChangesClient, SameClients, MakesStep};
 ghost use Rattle.hub_state.specs.Recovering.{recovery_asked, session_refusal_at, recover_refusal_of, puts_again};
 ghost use Rattle.hub_state.specs.Words.{opened, waits, logs, saves, answer_at, AllHear};
 
 use crate::state::connect::seat;
+use crate::state::deliver::take_back;
 use crate::state::missed::{FoundSession, add_missed};
 use crate::state::{NONE, State};
 use hub_parts::{Client, Outbox};
@@ -30,32 +31,46 @@ use std::collections::BTreeMap;
 use std::sync::Arc;
 use terms::{Entry, Sid};
 
-/// Puts entries at the end of an outbox, which has space for all.
-fn push_all(outbox: &mut Outbox, entries: Vec<Arc<Entry>>)
+/// Puts entries at the end of an outbox, which has space for all. Where memory is refused in the
+/// middle, what was put is taken back.
+fn push_all(outbox: &mut Outbox, entries: Vec<Arc<Entry>>) -> Result<(), AllocError>
     requires places { length outbox.old.waiting + length entries.items ≤ outbox.old.capacity }
     requires bytes { let puts = map arc_value entries.items
         in total_size outbox.old.waiting + total_size puts ≤ outbox.old.bytes }
-    ensures { let puts = map arc_value entries.items
-        in outbox.new ≡ record outbox.old { waiting = outbox.old.waiting ++ puts } }
+    ensures ok { let puts = map arc_value entries.items
+        in OnOk result (outbox.new ≡ record outbox.old { waiting = outbox.old.waiting ++ puts }) }
+    ensures err { OnErr result (outbox.new ≡ outbox.old) }
 {
+    let waited = outbox.len();
     for entry in entries {
-        outbox.push(entry);
+        if let Err(refusal) = outbox.push(entry) {
+            outbox.pop_last(outbox.len() - waited);
+            return Err(refusal);
+        }
     }
+    Ok(())
 }
 
-/// Puts entries at the end of a client's outbox, which has space for all.
-fn put_all(clients: &mut BTreeMap<u128, Client>, client: u128, entries: Vec<Arc<Entry>>)
+/// Puts entries at the end of a client's outbox, which has space for all. Where memory is refused,
+/// all stays as it was.
+fn put_all(
+    clients: &mut BTreeMap<u128, Client>,
+    client: u128,
+    entries: Vec<Arc<Entry>>,
+) -> Result<(), AllocError>
     requires places { IfSome (get nat_cmp clients.old client) (λ known.
         length known.outbox.waiting + length entries.items ≤ known.outbox.capacity) }
     requires bytes { let puts = map arc_value entries.items
         in IfSome (get nat_cmp clients.old client) (λ known.
         total_size known.outbox.waiting + total_size puts ≤ known.outbox.bytes) }
-    ensures { let puts = map arc_value entries.items
-        in ChangesClient (with_entries puts) client clients.old clients.new }
+    ensures ok { let puts = map arc_value entries.items
+        in OnOk result (ChangesClient (with_entries puts) client clients.old clients.new) }
+    ensures err { OnErr result (SameClients clients.old clients.new) }
 {
     if let Some(known) = clients.get_mut(&client) {
-        push_all(&mut known.outbox, entries);
+        push_all(&mut known.outbox, entries)?;
     }
+    Ok(())
 }
 
 impl State {
@@ -232,18 +247,17 @@ impl State {
         ensures sid { IfOk result (λ sid. sid ≡ recovery.socket.sid) }
         ensures does { MakesStep self.old self.new now (What.Recovered recovery) result }
     {
-        let placed = puts.len() as u64;
+        let count = puts.len();
         let socket = recovery.socket;
         let (client, sid, pid) = (socket.client, socket.sid, socket.pid);
+        let (clients, live) = (&mut self.clients, &mut self.live);
         self.records.steps.reserve()?;
-        seat(
-            alloc,
-            &mut self.clients,
-            &mut self.live,
-            &socket,
-            &recovery.rooms,
-        )?;
-        put_all(&mut self.clients, client, puts);
+        put_all(clients, client, puts)?;
+        if let Err(AllocError) = seat(alloc, clients, live, &socket, &recovery.rooms) {
+            take_back(clients, client, count);
+            return Err(HubError::Memory);
+        }
+        let placed = count as u64;
         let _session = self.saved.remove(pid);
         let added = Counts { placed, ..NONE };
         self.records.add(now, What::Recovered(recovery), added);

@@ -25,9 +25,9 @@ invariant_of-self-2 c =
     let placed : c.len.result ≡ length c.args.messages.items = search rules in
     let dropped : c.len-2.result ≡ length c.args.broadcast.dropped = search rules in
     let hub = hub-of c.self.inside c.self.invariant in
-    rw (c.in_ok-write.ensures.steps, c.in_ok-write.ensures.last, c.in_ok-write.ensures.counts, placed, dropped)
+    rw (c.add.ensures.steps, c.add.ensures.last, c.reserve.ensures.same, c.add.ensures.counts, placed, dropped)
     (plus (casted c.self.inside.base c.self.inside.limits c.self.inside.records.steps.steps c.args.broadcast c.self.invariant.1 c.self.invariant.2 event.0 event.1 event.2 given
     c.args.messages.items told c.args.now c.self.inside.records.last (get nat_cmp c.self.inside.clients) (get nat_cmp c.put_messages.new.clients) (get nat_cmp c.self.inside.live.seats)
     (sorted.contains nat_cmp c.self.inside.live.pids) c.self.inside.live.rooms c.self.inside.saved c.self.inside.log c.push_logged.new.log c.self.inside.records.counts
-    hub room logged c.put_messages.ensures)
+    hub room logged c.in_ok-put_messages.ensures.ok)
     (none-ended _ _ _ _ c.self.invariant.4 refl))

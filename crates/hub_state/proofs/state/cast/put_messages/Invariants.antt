@@ -1,4 +1,4 @@
-use Rattle.std.proofs.Common.{◌≡◌, ℕ, ◌++◌, map}
+use Rattle.std.proofs.Common.{◌≡◌, ℕ, ◌++◌, length, map}
 use Rattle.std.specs.Ordering.{nat_cmp}
 use Rattle.std.specs.BTreeMap.{get}
 use Rattle.std.specs.Option.{option_map}
@@ -10,4 +10,5 @@ abbrev pub invariant-loop-message : goal.invariant-loop-message
 invariant-loop-message l = record {
   clients : (q : ℕ) → get nat_cmp l.clients q ≡ option_map (with_entries (entries_for q (map pair_of l.yielded))) (get nat_cmp l.initial.clients q);
   split : l.fn.messages.items ≡ l.yielded ++ l.message-iterator.rest.items;
+  number : l.put ≡ length l.yielded;
 }
