@@ -112,7 +112,7 @@ class Draw:
         """Plays a line, and says whether it was accepted."""
         hub, words = self.chat.hub, line.split(" ")
         client = hub.clients.get(int(words[1])) if words[0] == "take" else None
-        taken = client.outbox[: int(words[2])] if client else []
+        taken = hub.front(int(words[1]), int(words[2])) if client else []
         self.lines.append(answered(self.chat, line))
         self.answer = self.lines[-1].partition(" = ")[2]
         for it in self.listeners:
