@@ -3,12 +3,18 @@ from hub import Entry, Hub, Refused
 from wire import id_text
 
 LIMITS = ("clients", "capacity", "bytes", "log", "saved", "keep", "first_offset")
+# The bytes that the log may have, where the word behind the namespaces is no number.
+LOG_BYTES = 67_108_864
 # What a chat that begins with `both` plays first: two clients with a socket each, both in the room `r`.
 BOTH = ("open 1", "open 2", "attach 1 / 3 4", "attach 2 / 5 6", "join 3 r", "join 5 r", "take 1 64", "take 2 64")
 
 
+def is_number(word):
+    return word.isdigit() and word.isascii()
+
+
 def number(word):
-    return int(word) if word.isdigit() and word.isascii() else 0
+    return int(word) if is_number(word) else 0
 
 
 def some(value, form="{}"):
@@ -45,7 +51,8 @@ class Chat:
     def __init__(self, line):
         words = line.split(" ")
         limits = {name: number(word) for name, word in zip(LIMITS, words[1:])}
-        self.hub, self.now = Hub(spaces=words[8].split(","), **limits), 0
+        log_bytes = number(words[9]) if len(words) > 9 and is_number(words[9]) else LOG_BYTES
+        self.hub, self.now = Hub(spaces=words[8].split(","), log_bytes=log_bytes, **limits), 0
         self.counted, self.other, self.passes = [0, 0], None, 1
 
     def play(self, line):
@@ -180,7 +187,7 @@ class Chat:
         return f"  {some(self.hub.next)}"
 
     def play_held(self, _):
-        return f"  {self.hub.held}"
+        return f"  {self.hub.held()}"
 
     def play_space(self, word):
         return f"  {str(word(1) in self.hub.limits['spaces']).lower()}"

@@ -38,6 +38,7 @@ class Drawer:
         self.limit("capacity", (2, 3, 5, 64))
         self.limit("bytes", (120, 200, 400, 8_388_608))
         self.limit("log", (1, 3, 5, 1024))
+        self.limit("log-bytes", (100, 200, 400, 800, 67_108_864))
         self.limit("saved", (0, 1, 2, 4096))
         self.limit("keep", (0, 20_000, 80_000))
         self.limit("clients", (2, 4, 6))
@@ -178,7 +179,7 @@ class Drawer:
         hub = self.script.server.hub if self.script.server else None
         if hub and hub.saved and self.chance(0.8):
             saved = self.random.choice(list(hub.saved.values()))
-            offsets = [it.offset for it in hub.log] + [0, 1]
+            offsets = [it.offset for it in hub.log] + [0, 1, max(0, (hub.next or 0) - self.random.randrange(1, 9))]
             named = f'{{"pid":"{id_text(saved.pid + self.chance(0.1))}","offset":"{self.random.choice(offsets):016x}"}}'
             space = saved.space if self.chance(0.9) else self.random.choice(SPACES)
             return "40" + ("" if space == "/" else f"{space},") + named

@@ -4,6 +4,10 @@ from wire import MOST_ATTACHMENTS, connected_text, event_text, id_text, start, w
 GREATEST = 2**64 - 1
 MOST_ROOMS = 256
 MOST_CAPACITY = 65_536
+# How many bytes of entries a take hands out at the most, where it hands out more than one.
+MOST_TAKEN = 262_144
+# The bytes of a room's name, of an id of a socket or a client, and of an offset, where something keeps them.
+ROOM, ID, OFFSET = 65, 16, 8
 
 
 class Refused(Exception):
@@ -36,6 +40,7 @@ class Logged:
     def __init__(self, offset, at, space, rooms, excepted, entry):
         self.offset, self.at, self.space, self.entry = offset, at, space, entry
         self.rooms, self.excepted = tuple(rooms), tuple(excepted)
+        self.size = entry.size + ROOM * (len(self.rooms) + len(self.excepted))
 
     def is_for(self, space, rooms):
         meets = not self.rooms or any(room in rooms for room in self.rooms)
@@ -43,16 +48,16 @@ class Logged:
 
 
 class Hub:
-    """Limits are `clients`, `capacity`, `bytes`, `log`, `saved`, `keep`, `first_offset` and `spaces`."""
+    """Limits are `clients`, `capacity`, `bytes`, `log`, `log_bytes`, `saved`, `keep`, `first_offset` and `spaces`."""
 
     def __init__(self, **limits):
-        least = [limits[name] for name in ("clients", "capacity", "bytes", "log", "first_offset")]
+        least = [limits[name] for name in ("clients", "capacity", "bytes", "log", "log_bytes", "first_offset")]
         if 0 in least or limits["capacity"] > MOST_CAPACITY:
             raise Refused("BadConfig")
         self.limits, self.next, self.now = limits, limits["first_offset"], 0
         self.clients, self.sockets, self.rooms, self.saved, self.log = {}, {}, {}, {}, []
         self.counts = dict.fromkeys(("commands", "placed", "dropped", "taken", "discarded"), 0)
-        self.steps, self.held = [], 0
+        self.steps = []
         self.seal()
 
     # What is asked.
@@ -77,6 +82,10 @@ class Hub:
     def totals(self):
         waiting = sum(len(it.outbox) for it in self.clients.values())
         return [*self.counts.values(), waiting]
+
+    def held(self):
+        """How many bytes the steps since the base keep, and the rooms of the sockets that have ended since."""
+        return self.kept + sum(ROOM * len(rooms) for _, _, rooms, _ in self.ended)
 
     def moment(self, now):
         return max(self.now, now)
@@ -114,11 +123,12 @@ class Hub:
 
     # What is done.
 
-    def step(self, name, now, held=()):
+    def step(self, name, now, kept=0):
+        """A command is accepted, whose step keeps so many bytes."""
         self.now = self.moment(now)
         self.counts["commands"] += 1
         self.steps.append(name)
-        self.held += sum(entry.size for entry in held)
+        self.kept += kept
 
     def put(self, client, entry):
         self.clients[client].outbox.append(entry)
@@ -177,7 +187,7 @@ class Hub:
         self.seat(client, space, saved.sid, pid, saved.rooms)
         for entry in entries:
             self.put(client, entry)
-        self.step("recovered", now)
+        self.step("recovered", now, ROOM * len(saved.rooms) + OFFSET * len(missed))
         return saved.sid
 
     def join(self, sid, room, now):
@@ -219,25 +229,43 @@ class Hub:
             else:
                 dropped += 1
         self.counts["dropped"] += dropped
-        self.step("cast", now, [entry])
+        self.step("cast", now, entry.size + ID * dropped + named(rooms, excepted))
         if is_logged:
             self.next = offset + 1 if offset < GREATEST else None
-            self.log.append(Logged(offset, self.now, space, rooms, excepted, entry))
-            del self.log[: -self.limits["log"]]
+            self.log = self.longest_end([*self.log, Logged(offset, self.now, space, rooms, excepted, entry)])
         return offset, dropped, sorted(reached)
+
+    def longest_end(self, logged):
+        """The newest of these that the log may have, by their number and by their bytes together."""
+        kept, size = [], 0
+        for it in reversed(logged[-self.limits["log"] :]):
+            size += it.size
+            if size > self.limits["log_bytes"]:
+                break
+            kept.append(it)
+        return kept[::-1]
 
     def tell(self, client, entry, now):
         self.look_at_client(client)
         if not self.has_space(client, [entry]):
             raise Refused("OutboxFull")
         self.put(client, entry)
-        self.step("told", now, [entry])
+        self.step("told", now, entry.size)
+
+    def front(self, client, most):
+        """What a take hands out: the longest front of the first so many that has not too many bytes, and the first anyway."""
+        outbox, count, size = self.clients[client].outbox, 0, 0
+        for entry in outbox[:most]:
+            size += entry.size
+            if count and size > MOST_TAKEN:
+                break
+            count += 1
+        return outbox[:count]
 
     def take(self, client, most, now):
         self.look_at_client(client)
-        outbox = self.clients[client].outbox
-        taken = outbox[:most]
-        del outbox[:most]
+        taken = self.front(client, most)
+        del self.clients[client].outbox[: len(taken)]
         self.counts["taken"] += len(taken)
         self.step("took", now)
         return taken
@@ -278,7 +306,7 @@ class Hub:
             raise Refused("RoomRefused(TooManyRooms)")
         for sid in changed:
             self.rooms[sid].add(room)
-        self.step("all-joined", now)
+        self.step("all-joined", now, named(rooms, excepted) + ROOM + ID * len(changed))
         return changed
 
     def leave_all(self, space, rooms, excepted, room, now):
@@ -287,7 +315,7 @@ class Hub:
             raise Refused("RoomRefused(OwnRoom)")
         for sid in changed:
             self.rooms[sid].remove(room)
-        self.step("all-left", now)
+        self.step("all-left", now, named(rooms, excepted) + ROOM + ID * len(changed))
         return changed
 
     def end_all(self, space, rooms, excepted, now):
@@ -299,14 +327,19 @@ class Hub:
                 self.put(client, farewell)
                 told.append(client)
             self.unseat(sid, "Together")
-        self.step("all-ended", now)
+        self.step("all-ended", now, named(rooms, excepted) + ID * (len(sids) + len(told)))
         return sids, sorted(told)
 
     def seal(self):
         """Makes a copy of the present state the base. Gives how many steps led to it."""
         count = len(self.steps)
-        self.steps, self.held, self.ended, self.base = [], 0, [], Base(self)
+        self.steps, self.kept, self.ended, self.base = [], 0, [], Base(self)
         return count
+
+
+def named(rooms, excepted):
+    """The bytes of the rooms that a command names."""
+    return ROOM * (len(rooms) + len(excepted))
 
 
 class Base:

@@ -6,7 +6,7 @@ from hub import Refused
 from server import Server
 
 SPACES = ("/", "/admin")
-USUAL = dict(capacity=64, clients=1024, bytes=8_388_608, log=1024, saved=4096, keep=120_000, first_offset=1)
+USUAL = dict(capacity=64, clients=1024, bytes=8_388_608, log=1024, log_bytes=67_108_864, saved=4096, keep=120_000, first_offset=1)
 NAME = "([A-Za-z]{1,16})"
 NUMBER = "([0-9]+)"
 FORMS = {word: re.compile(form, re.S) for word, form in {
