@@ -112,7 +112,7 @@ class Draw:
         """Plays a line, and says whether it was accepted."""
         hub, words = self.chat.hub, line.split(" ")
         client = hub.clients.get(int(words[1])) if words[0] == "take" else None
-        taken = hub.front(int(words[1]), int(words[2])) if client else []
+        taken = client.outbox[: int(words[2])] if client else []
         self.lines.append(answered(self.chat, line))
         self.answer = self.lines[-1].partition(" = ")[2]
         for it in self.listeners:
@@ -165,43 +165,6 @@ class Draw:
     def rooms(self, count):
         return ",".join(["-", *(self.room() for _ in range(count))])
 
-    # Long entries.
-
-    def long(self, count):
-        """Entries of which a take hands out few, or one. Each of three clients has a socket, which may break and come back."""
-        spaces = {0: "/a", 1: "/", 2: "/"}
-        for client, space in spaces.items():
-            self.play(f"open {client}")
-            self.play(f"attach {client} {space} {client + 10} {client + 20}")
-            self.play(f"take {client} 1")
-        for turn in range(1, count + 1):
-            self.play(f"at {turn}")
-            client = self.random.randrange(3)
-            self.long_turn(client, spaces[client])
-            for it in range(3):
-                self.play(f"client {it} /")
-        for line in ("held", "totals", "settle", "seal", "base"):
-            self.play(line)
-
-    def long_turn(self, client, space):
-        lot, times = self.random.randrange(8), self.random.randrange
-        if lot < 2:
-            self.play(f"repeat {times(25, 45)} tell {client} {self.array_of(8_191, 8_192, 8_192, 8_193)}")
-        elif lot < 4:
-            self.play(f"repeat {times(1, 5)} cast {space} - - {self.array_of(8_192, 50_000, 131_052, 131_053, 262_125)}")
-        elif lot < 7:
-            self.play(f"{self.random.choice(('skip', 'count take'))} {client} {self.random.choice((2, 64, 64))}")
-        else:
-            last = max(0, (self.chat.hub.next or 0) - times(1, 4))
-            self.play(f"park {client}")
-            self.play(f"open {client}")
-            self.play(f"recover {client} {space} {client + 20} {last}")
-            self.play(f"attach {client} {space} {client + 10} {client + 20}")
-
-    def array_of(self, *sizes):
-        """An array of one of so many bytes. What is told is just that; a broadcast in `/` has 20 bytes more."""
-        return f'["{"x" * (self.random.choice(sizes) - 4)}"]'
-
     # Listeners.
 
     def breaks(self, count):
@@ -232,21 +195,17 @@ class Draw:
 
 def limits_of(seed):
     """The first line of a seed's chat. Of three hubs one has a log that no bytes bound."""
-    kind, log_bytes = kind_of(seed), seed // 3 % 3
-    return {
-        "commands": "hub 3 3 250 4 2 40 1 /,/a" + ("", " 100", " 300")[log_bytes],
-        "breaks": "hub 3 5 1000 14 3 60 1 /,/a" + ("", " 200", " 600")[log_bytes],
-        "long": "hub 3 100 1000000 9 2 40 1 /,/a" + ("", " 8500", " 300000")[log_bytes],
-    }[kind]
-
-
-def kind_of(seed):
-    return "long" if seed % 40 == 37 else "commands" if seed % 3 else "breaks"
+    log_bytes = seed // 3 % 3
+    if seed % 3:
+        return "hub 3 3 250 4 2 40 1 /,/a" + ("", " 100", " 300")[log_bytes]
+    return "hub 3 5 1000 14 3 60 1 /,/a" + ("", " 200", " 600")[log_bytes]
 
 
 def drawn_chat(seed):
     """A seed's chat: its lines with their answers."""
     draw = Draw(seed, limits_of(seed))
-    play, count = {"commands": (draw.commands, 120), "breaks": (draw.breaks, 160), "long": (draw.long, 24)}[kind_of(seed)]
-    play(count)
+    if seed % 3:
+        draw.commands(120)
+    else:
+        draw.breaks(160)
     return draw.lines

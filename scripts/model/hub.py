@@ -4,10 +4,9 @@ from wire import MOST_ATTACHMENTS, connected_text, event_text, id_text, start, w
 GREATEST = 2**64 - 1
 MOST_ROOMS = 256
 MOST_CAPACITY = 65_536
-# How many bytes of entries a take hands out at the most, where it hands out more than one.
-MOST_TAKEN = 262_144
-# The bytes of a room's name, of an id of a socket or a client, and of an offset, where something keeps them.
-ROOM, ID, OFFSET = 65, 16, 8
+# The bytes of a room's name, of an id of a socket or a client, of an offset, and of a socket that has ended, where
+# something keeps them.
+ROOM, ID, OFFSET, ENDED = 65, 16, 8, 96
 
 
 class Refused(Exception):
@@ -84,8 +83,8 @@ class Hub:
         return [*self.counts.values(), waiting]
 
     def held(self):
-        """How many bytes the steps since the base keep, and the rooms of the sockets that have ended since."""
-        return self.kept + sum(ROOM * len(rooms) for _, _, rooms, _ in self.ended)
+        """How many bytes the steps since the base keep, and the sockets that have ended since."""
+        return self.kept + sum(ENDED + ROOM * len(rooms) for _, _, rooms, _ in self.ended)
 
     def moment(self, now):
         return max(self.now, now)
@@ -252,20 +251,11 @@ class Hub:
         self.put(client, entry)
         self.step("told", now, entry.size)
 
-    def front(self, client, most):
-        """What a take hands out: the longest front of the first so many that has not too many bytes, and the first anyway."""
-        outbox, count, size = self.clients[client].outbox, 0, 0
-        for entry in outbox[:most]:
-            size += entry.size
-            if count and size > MOST_TAKEN:
-                break
-            count += 1
-        return outbox[:count]
-
     def take(self, client, most, now):
         self.look_at_client(client)
-        taken = self.front(client, most)
-        del self.clients[client].outbox[: len(taken)]
+        outbox = self.clients[client].outbox
+        taken = outbox[:most]
+        del outbox[:most]
         self.counts["taken"] += len(taken)
         self.step("took", now)
         return taken
@@ -306,7 +296,7 @@ class Hub:
             raise Refused("RoomRefused(TooManyRooms)")
         for sid in changed:
             self.rooms[sid].add(room)
-        self.step("all-joined", now, named(rooms, excepted) + ROOM + ID * len(changed))
+        self.step("all-joined", now, named(rooms, excepted) + ID * len(changed))
         return changed
 
     def leave_all(self, space, rooms, excepted, room, now):
@@ -315,7 +305,7 @@ class Hub:
             raise Refused("RoomRefused(OwnRoom)")
         for sid in changed:
             self.rooms[sid].remove(room)
-        self.step("all-left", now, named(rooms, excepted) + ROOM + ID * len(changed))
+        self.step("all-left", now, named(rooms, excepted) + ID * len(changed))
         return changed
 
     def end_all(self, space, rooms, excepted, now):
