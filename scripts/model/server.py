@@ -1,5 +1,6 @@
 """A server: each client's connection and its packets, and an app behind it."""
 import contextlib
+import itertools
 
 from hub import Entry, Hub, Refused
 from wire import (SEPARATOR, Fault, Header, event_text, named_session, open_text, read_packet, read_payload, start,
@@ -8,7 +9,14 @@ from wire import (SEPARATOR, Fault, Header, event_text, named_session, open_text
 GREATEST = 2**64 - 1
 PING_INTERVAL, PING_TIMEOUT, CONNECT_TIMEOUT = 25_000, 20_000, 45_000
 LONGEST_FRAME = 1_000_000
+MOST_TAKEN = 262_144
 WAIT = 10_000
+
+
+def fitting(entries):
+    """How many of these entries a take hands out: as many as have together no more than the bound, and one at least."""
+    sizes = itertools.accumulate(entry.size for entry in entries)
+    return max(1, sum(size <= MOST_TAKEN for size in sizes))
 
 
 class Closed(Exception):
@@ -222,7 +230,7 @@ class Server:
         packets = ["2"] * line.has_ping
         line.has_ping = False
         if outbox:
-            for entry in self.hub.take(client, most, now):
+            for entry in self.hub.take(client, fitting(outbox[:most]), now):
                 packets += ["4" + entry.text, *entry.parts]
         return packets
 

@@ -29,10 +29,10 @@ use Rattle.events.specs.declared.event.Event.TheVariants as event
 use Rattle.events.specs.declared.outcome.Outcome.TheVariants as outcome
 use Rattle.events.specs.Answer.{Answer}
 use Rattle.dispatch.specs.Answers.{Refused, ForClient}
-use Rattle.dispatch.specs.Frames.{Sends, SendsWaiting, SendsOn, SendsFor}
+use Rattle.dispatch.specs.Frames.{Sends, SendsFirst, SendsWaiting, SendsOn, SendsFor}
 use Rattle.dispatch.specs.Machine.{Opens, Takes, TakesFrames}
 use Rattle.dispatch.specs.Holding.{Holding, HasLine}
-use Rattle.dispatch.specs.Takes.{Take, handed, carried, Counts, IsShort, TellsNoop, Carries, FindsNothing, TakesWaiting, TakesOn, TakesFor}
+use Rattle.dispatch.specs.Takes.{Take, handed, carried, Counts, IsShort, TellsNoop, Carries, FindsNothing, TakesFirst, TakesWaiting, TakesOn, TakesFor}
 use Rattle.dispatch.specs.Handed.{Turn, turns_after, opens, takes, Holds, HandsOut, HandedOut, AreHanded, is_begun_in, Handed}
 use Rattle.dispatch.proofs.TurnLemmas.{Leads, leads-none, leads-on, as-before}
 
@@ -239,24 +239,30 @@ sends-hands c most now ping (Err e) h g old new sends = ([], refl, gives-none c 
 abbrev WaitsOf : (on : Transport) (ping : Bool) (c most now : ℕ) (r : Take) (h g : History) (old new : PlainLine) → List Packet → Type 0
 WaitsOf on ping c most now r h g old new packets = elim packets [ [] ↦ FindsNothing on r h g old new | packet ∷ others ↦ Carries c most now ping r h g old new ]
 
-waiting-hands : (on : Transport) (ping : Bool) (c most now : ℕ) (r : Take) (h g : History) (old new : PlainLine) → TakesWaiting on ping c most now r h g old new → Hands c r h g
-waiting-hands on ping c most now r h g old new (inl short) = short-hands c r h g old new short
-waiting-hands on ping c most now r h g old new (inr row) = by (carried ping (handed h c most)) row
+first-hands : (on : Transport) (ping : Bool) (c n now : ℕ) (r : Take) (h g : History) (old new : PlainLine) → TakesFirst on ping c n now r h g old new → Hands c r h g
+first-hands on ping c n now r h g old new (inl short) = short-hands c r h g old new short
+first-hands on ping c n now r h g old new (inr row) = by (carried ping (handed h c n)) row
   where
-    by : (packets : List Packet) → WaitsOf on ping c most now r h g old new packets → Hands c r h g
+    by : (packets : List Packet) → WaitsOf on ping c n now r h g old new packets → Hands c r h g
     by [] row = finds-hands on c r h g old new row
-    by (packet ∷ others) row = carries-hands c most now ping r h g old new row
+    by (packet ∷ others) row = carries-hands c n now ping r h g old new row
+
+waiting-hands : (on : Transport) (ping : Bool) (c most now : ℕ) (r : Take) (h g : History) (old new : PlainLine) → TakesWaiting on ping c most now r h g old new → Hands c r h g
+waiting-hands on ping c most now r h g old new (n, fitting, row) = first-hands on ping c n now r h g old new row
 
 abbrev SendsOf : (ping : Bool) (c most now : ℕ) (r : Take) (h g : History) (old new : PlainLine) → List Packet → Type 0
 SendsOf ping c most now r h g old new packets = elim packets [ [] ↦ (r ≡ Ok outcome.Nothing) × (g ≡ h) × (new ≡ old) | packet ∷ others ↦ Sends c most now ping r h g old new ]
 
-sending-hands : (ping : Bool) (c most now : ℕ) (r : Take) (h g : History) (old new : PlainLine) → SendsWaiting ping c most now r h g old new → Hands c r h g
-sending-hands ping c most now r h g old new (inl short) = short-hands c r h g old new short
-sending-hands ping c most now r h g old new (inr row) = by (carried ping (handed h c most)) row
+first-sent : (ping : Bool) (c n now : ℕ) (r : Take) (h g : History) (old new : PlainLine) → SendsFirst ping c n now r h g old new → Hands c r h g
+first-sent ping c n now r h g old new (inl short) = short-hands c r h g old new short
+first-sent ping c n now r h g old new (inr row) = by (carried ping (handed h c n)) row
   where
-    by : (packets : List Packet) → SendsOf ping c most now r h g old new packets → Hands c r h g
+    by : (packets : List Packet) → SendsOf ping c n now r h g old new packets → Hands c r h g
     by [] row = nothing-hands c r h g row.0 row.1
-    by (packet ∷ others) row = sends-hands c most now ping r h g old new row
+    by (packet ∷ others) row = sends-hands c n now ping r h g old new row
+
+sending-hands : (ping : Bool) (c most now : ℕ) (r : Take) (h g : History) (old new : PlainLine) → SendsWaiting ping c most now r h g old new → Hands c r h g
+sending-hands ping c most now r h g old new (n, fitting, row) = first-sent ping c n now r h g old new row
 
 takes-hands : (c most now : ℕ) (r : Take) (h g : History) (old new : PlainLine) → TakesFor c most now r h g old new → Hands c r h g
 takes-hands c most now r h g old new row = by row.0 row.1 row.2 row.6

@@ -1,17 +1,19 @@
 -- The packets that a take carries, and that they have a payload.
-use Rattle.std.proofs.Common.{◌≡◌, ◌≢◌, ℕ, zero, suc, ◌+◌, ◌<◌, ◌≤◌, ◌==◌, Bool, true, false, not, List, [], ◌∷◌, ◌++◌, length, map, take, refl, sym, ◌∙◌, ap, subst, rules, arith, inl, inr, All, Option, None, Some, is_some, slice_get, append_assoc, if◌then◌else◌}
+use Rattle.std.proofs.Common.{◌≡◌, ◌≢◌, ℕ, zero, suc, ◌+◌, ◌<◌, ◌≤◌, min, max, ◌==◌, Bool, true, false, not, List, [], ◌∷◌, ◌++◌, length, map, take, refl, sym, ◌∙◌, ap, subst, rules, arith, inl, inr, All, Option, None, Some, is_some, slice_get, append_assoc, if◌then◌else◌}
 use Rattle.std.specs.Prelude.{unwrap_or}
-use Rattle.std.specs.List.{flat_map, list_any}
+use Rattle.std.specs.List.{flat_map, list_any, sum_by}
 use Rattle.std.proofs.lemmas.Bool.Decides.{nat_tests}
 use Rattle.std.proofs.lemmas.Grind.{flat_map-append}
 use Rattle.std.proofs.lemmas.List.Concat.{flat_map-cons}
-use Rattle.std.proofs.lemmas.List.{take_all, length-take}
+use Rattle.std.proofs.lemmas.List.{take_all, take-take, length-take}
+use Rattle.std.proofs.lemmas.List.Sums.{sum_by_push, sum_by-take-le}
 use Rattle.std.proofs.lemmas.List.Elements.{All-nil, All-cons, All-append}
-use Rattle.std.proofs.lemmas.Option.{slice_get_cases}
+use Rattle.std.proofs.lemmas.Option.{slice_get_cases, slice_get_within}
 use Rattle.eio_wire.specs.declared.packet.Packet.{Packet}
 use Rattle.eio_wire.specs.declared.packet.Packet.TheVariants.{Ping, Message, Binary}
 use Rattle.eio_wire.specs.Payload.{HasWholeData}
 use Rattle.terms.specs.declared.entry.Entry.{Entry}
+use Rattle.terms.specs.Entry.{entry_size}
 use Rattle.journal.specs.declared.error.HubError.{HubError}
 use Rattle.journal.specs.declared.error.HubError.TheVariants as hub
 use Rattle.journal.specs.declared.step.What.TheVariants.{Took}
@@ -20,7 +22,7 @@ use Rattle.journal.specs.Totals.{is_spent}
 use Rattle.journal.specs.Entries.{AllPass}
 use Rattle.journal.specs.Journal.{History, moment_at}
 use Rattle.journal.specs.Membership.{is_open}
-use Rattle.journal.specs.Outboxes.{waiting}
+use Rattle.journal.specs.Outboxes.{total_size, waiting}
 use Rattle.journal.proofs.EntriesLemmas.{what-waits}
 use Rattle.journal.proofs.OutboxesLemmas.{take_next}
 use Rattle.journal.proofs.SocketsLemmas.{neither}
@@ -29,7 +31,7 @@ use Rattle.events.specs.Fault.{IsFault, fault_of}
 use Rattle.effects.specs.Commands.{Makes, StopsAt}
 use Rattle.effects.specs.Following.{is_clean}
 use Rattle.dispatch.specs.Holding.{IsClean}
-use Rattle.dispatch.specs.Takes.{packets_of, handed, carried, Counts, FailsToCount}
+use Rattle.dispatch.specs.Takes.{most_taken, IsFitting, packets_of, handed, carried, Counts, FailsToCount}
 
 -- one entry more is carried
 pub carried-more : (ping : Bool) (w : List Entry) (i : ℕ) (e : Entry) → slice_get w i ≡ Some e → carried ping (take i w) ++ packets_of e ≡ carried ping (take (i + 1) w)
@@ -44,14 +46,56 @@ carried-more ping w i e is =
     one : {X A : Type 0} (f : X → List A) (x : X) → flat_map f (x ∷ []) ≡ f x
     one f x = search rules
 
+-- where nothing is, the list has ended
+pub past-end : {X : Type 0} (w : List X) (i : ℕ) → slice_get w i ≡ None → length w ≤ i
+past-end w i none = elim (slice_get_cases w i).1 [
+  | inl there ↦ absurd (cc (there.2, none))
+  | inr past ↦ past.0
+]
+
 -- the entries up to one that isn't there are all that may be taken
 pub all-taken : {X : Type 0} (w : List X) (i most : ℕ) → slice_get w i ≡ None → i < most → take i w ≡ take most w
 all-taken w i most none less =
-    let past : length w ≤ i = elim (slice_get_cases w i).1 [
-      | inl there ↦ absurd (cc (there.2, none))
-      | inr past ↦ past.0
-    ] in
-    take_all i w past ∙ sym (take_all most w (omega arith))
+    let past = past-end w i none in
+    take_all i w past ∙ sym (take_all most w (omega (arith, past)))
+
+-- ---- how many fit
+
+-- no entry has no bytes
+pub size-none : (w : List Entry) → total_size (take 0 w) ≡ 0
+unfolding total_size
+size-none w = refl
+
+-- one entry more has its bytes more
+pub size-more : (w : List Entry) (i : ℕ) (e : Entry) → slice_get w i ≡ Some e → total_size (take (i + 1) w) ≡ total_size (take i w) + entry_size e
+unfolding total_size
+size-more w i e is = ap (λ (es : List Entry). sum_by entry_size es) (take_next w i e (sym is)) ∙ sum_by_push entry_size (take i w) e
+
+-- a longer front has no fewer bytes
+size-longer : (w : List Entry) (j k : ℕ) → j ≤ k → total_size (take j w) ≤ total_size (take k w)
+unfolding total_size
+size-longer w j k longer = subst (λ (es : List Entry). sum_by entry_size es ≤ sum_by entry_size (take k w)) (take-take j k w longer) (sum_by-take-le entry_size (take k w) j)
+
+-- all that may be taken fits
+pub all-fit : (most : ℕ) (w : List Entry) (n : ℕ) → n ≡ min most (length w) → total_size (take n w) ≤ most_taken → IsFitting most w n
+all-fit most w n is small = record {
+  within = omega (arith, is);
+  some = λ more. omega (arith, is, more);
+  fits = λ many. small;
+  longest = λ k past within. absurd (omega (arith, is, past, within));
+}
+
+-- the entry at an index doesn't fit
+pub front-fits : (most : ℕ) (w : List Entry) (i : ℕ) (e : Entry) → slice_get w i ≡ Some e → i < most → total_size (take i w) ≤ most_taken
+    → most_taken < total_size (take i w) + entry_size e → IsFitting most w (max i 1)
+front-fits most w i e is less small large =
+    let there = slice_get_within w i e is in
+    record {
+      within = omega (arith, there, less);
+      some = λ more. omega arith;
+      fits = λ many. let same : i ≡ max i 1 = omega (arith, many) in subst (λ (n : ℕ). total_size (take n w) ≤ most_taken) same small;
+      longest = λ k past within. let more = size-longer w (i + 1) k (omega (arith, past)) in omega (arith, more, large, size-more w i e is);
+    }
 
 -- ---- what a take hands out is counted
 

@@ -15,7 +15,7 @@ use Rattle.events.specs.declared.fault.CoreFault.TheVariants.{WrongTransport}
 use Rattle.events.specs.declared.event.WsFrame.{WsFrame}
 use Rattle.events.specs.declared.event.WsFrame.TheVariants as frame
 use Rattle.events.specs.declared.outcome.Outcome.TheVariants as outcome
-use Rattle.dispatch.specs.Takes.{IsOn, IsPingDue, handed, carried, Take, Counts, FailsToCount, TakesNone, IsShort, ping_calls}
+use Rattle.dispatch.specs.Takes.{IsOn, IsPingDue, IsTaken, handed, carried, Take, Counts, FailsToCount, TakesNone, IsShort, ping_calls}
 
 -- ---- a frame that comes
 
@@ -49,17 +49,22 @@ abbrev pub frames_of : Entry → List WsFrame
 frames_of entry = frame.Text (codes "4" ++ entry.text) ∷ map frame.Bytes entry.attachments
 
 -- the frames are written, and then the entries are taken
-abbrev pub Sends : (c most : ℕ) → ℕ → (ping : Bool) → Take → (h g : History) → (old new : PlainLine) → Type 0
-Sends c most now ping (Ok (outcome.Frames frames)) h g old new =
-    AllZip IsSentAs (carried ping (handed h c most)) frames × Counts c most now h g × Advances old (ping_calls ping) new
-Sends c most now ping (Ok _) h g old new = ⊥
-Sends c most now ping (Err e) h g old new = (fault : CoreFault) × FailsToCount c most now h fault × TakesNone fault e h g old new
+abbrev pub Sends : (c n : ℕ) → ℕ → (ping : Bool) → Take → (h g : History) → (old new : PlainLine) → Type 0
+Sends c n now ping (Ok (outcome.Frames frames)) h g old new =
+    AllZip IsSentAs (carried ping (handed h c n)) frames × Counts c n now h g × Advances old (ping_calls ping) new
+Sends c n now ping (Ok _) h g old new = ⊥
+Sends c n now ping (Err e) h g old new = (fault : CoreFault) × FailsToCount c n now h fault × TakesNone fault e h g old new
 
-abbrev pub SendsWaiting : (ping : Bool) → (c most : ℕ) → ℕ → Take → (h g : History) → (old new : PlainLine) → Type 0
-SendsWaiting ping c most now answer h g old new = IsShort answer h g old new ⊎ elim (carried ping (handed h c most)) [
+-- the first so many entries are sent
+abbrev pub SendsFirst : (ping : Bool) → (c n : ℕ) → ℕ → Take → (h g : History) → (old new : PlainLine) → Type 0
+SendsFirst ping c n now answer h g old new = IsShort answer h g old new ⊎ elim (carried ping (handed h c n)) [
   | [] ↦ (answer ≡ Ok outcome.Nothing) × (g ≡ h) × (new ≡ old)
-  | packet ∷ packets ↦ Sends c most now ping answer h g old new
+  | packet ∷ packets ↦ Sends c n now ping answer h g old new
 ]
+
+-- as many as a take hands out
+abbrev pub SendsWaiting : (ping : Bool) → (c most : ℕ) → ℕ → Take → (h g : History) → (old new : PlainLine) → Type 0
+SendsWaiting ping c most now answer h g old new = (n : ℕ) × IsTaken h c most n × SendsFirst ping c n now answer h g old new
 
 -- only a client that speaks over a WebSocket has frames to take
 abbrev pub SendsOn : Transport → (ping : Bool) → (c most : ℕ) → ℕ → Take → (h g : History) → (old new : PlainLine) → Type 0

@@ -1,5 +1,5 @@
 -- What a take carries to a client (Engine.IO protocol 4, "HTTP long-polling" and "Heartbeat").
-use Rattle.std.specs.Prelude.{◌≡◌, ◌≢◌, ◌⊎◌, ℕ, Bool, true, false, List, [], ◌∷◌, ◌++◌, map, length, take, ◌<◌, Result, Ok, Err, if◌then◌else◌}
+use Rattle.std.specs.Prelude.{◌≡◌, ◌≢◌, ◌⊎◌, ℕ, Bool, true, false, List, [], ◌∷◌, ◌++◌, map, length, take, min, ◌<◌, ◌≤◌, Result, Ok, Err, if◌then◌else◌}
 use Rattle.std.specs.List.{flat_map}
 use Rattle.eio_wire.specs.declared.packet.Packet.{Packet}
 use Rattle.eio_wire.specs.declared.packet.Packet.TheVariants.{Ping, Message, Binary, Noop}
@@ -12,7 +12,7 @@ use Rattle.connection.specs.History.{Call, GetEnded, PingCarried, clock_calls, i
 use Rattle.connection.specs.Line.{PlainLine, ForEachHistory, Advances}
 use Rattle.journal.specs.declared.step.What.TheVariants.{Took}
 use Rattle.journal.specs.Journal.{History}
-use Rattle.journal.specs.Outboxes.{waiting}
+use Rattle.journal.specs.Outboxes.{total_size, waiting}
 use Rattle.events.specs.declared.fault.CoreFault.{CoreFault}
 use Rattle.events.specs.declared.fault.CoreFault.TheVariants.{Memory, WrongTransport}
 use Rattle.effects.specs.Commands.{Makes, StopsAt}
@@ -35,15 +35,32 @@ IsGetting getting line = ForEachHistory line (λ o h. getting ≡ is_getting h)
 abbrev pub IsPingDue : Bool → PlainLine → Type 0
 IsPingDue ping line = ForEachHistory line (λ o h. ping ≡ is_ping_due h)
 
+-- ---- the entries
+
+-- a take of some entries hands out no more bytes than these, but for a single entry that has more (own)
+abbrev pub most_taken : ℕ
+most_taken = 262144
+
+-- a take of at most `most` of these entries hands out so many: the longest front that fits, and one at least where there is one
+pub record IsFitting (most : ℕ) (entries : List Entry) (n : ℕ) : Type 0 where
+  pub within : n ≤ min most (length entries)
+  pub some : 0 < min most (length entries) → 0 < n
+  pub fits : 1 < n → total_size (take n entries) ≤ most_taken
+  pub longest : (k : ℕ) → n < k → k ≤ min most (length entries) → most_taken < total_size (take k entries)
+
+-- as many of those that wait for the client as a take of at most so many hands out
+abbrev pub IsTaken : History → (c most n : ℕ) → Type 0
+IsTaken h c most n = IsFitting most (waiting h.base h.limits h.journal c) n
+
 -- ---- the packets
 
 -- an entry: its text as a message, and then its attachments
 abbrev pub packets_of : Entry → List Packet
 packets_of entry = Message entry.text ∷ map Binary entry.attachments
 
--- the entries that a take of so many hands out
-abbrev pub handed : History → (c most : ℕ) → List Entry
-handed h c most = take most (waiting h.base h.limits h.journal c)
+-- the first so many entries that wait
+abbrev pub handed : History → (c n : ℕ) → List Entry
+handed h c n = take n (waiting h.base h.limits h.journal c)
 
 -- a ping where one is due, and then the entries
 abbrev pub carried : (ping : Bool) → List Entry → List Packet
@@ -56,16 +73,16 @@ abbrev pub Take : Type 0
 Take = Result Outcome CoreFault
 
 -- the hub counts the entries that are handed out; where there are none it isn't asked
-abbrev pub Counts : (c most : ℕ) → ℕ → History → History → Type 0
-Counts c most now h g = elim (handed h c most) [
+abbrev pub Counts : (c n : ℕ) → ℕ → History → History → Type 0
+Counts c n now h g = elim (handed h c n) [
   | [] ↦ g ≡ h
-  | entry ∷ entries ↦ Makes h now (Took c most (length (entry ∷ entries))) g
+  | entry ∷ entries ↦ Makes h now (Took c n (length (entry ∷ entries))) g
 ]
 
 -- the entries aren't counted
-abbrev pub FailsToCount : (c most : ℕ) → ℕ → History → CoreFault → Type 0
-FailsToCount c most now h fault = (fault ≡ Memory)
-    ⊎ ((0 < length (handed h c most)) × StopsAt h now (Took c most (length (handed h c most))) fault)
+abbrev pub FailsToCount : (c n : ℕ) → ℕ → History → CoreFault → Type 0
+FailsToCount c n now h fault = (fault ≡ Memory)
+    ⊎ ((0 < length (handed h c n)) × StopsAt h now (Took c n (length (handed h c n))) fault)
 
 -- nothing was taken
 abbrev pub TakesNone : CoreFault → CoreFault → (h g : History) → (old new : PlainLine) → Type 0
@@ -87,22 +104,27 @@ abbrev pub ping_calls : (ping : Bool) → List Call
 ping_calls ping = if ping then PingCarried ∷ [] else []
 
 -- the payload is written, then the entries are taken, and the GET is answered
-abbrev pub Carries : (c most : ℕ) → ℕ → (ping : Bool) → Take → (h g : History) → (old new : PlainLine) → Type 0
-Carries c most now ping (Ok (outcome.Payload text)) h g old new =
-    Payload (carried ping (handed h c most)) text × Counts c most now h g × Advances old (GetEnded ∷ ping_calls ping) new
-Carries c most now ping (Ok _) h g old new = ⊥
-Carries c most now ping (Err e) h g old new = (fault : CoreFault) × FailsToCount c most now h fault × TakesNone fault e h g old new
+abbrev pub Carries : (c n : ℕ) → ℕ → (ping : Bool) → Take → (h g : History) → (old new : PlainLine) → Type 0
+Carries c n now ping (Ok (outcome.Payload text)) h g old new =
+    Payload (carried ping (handed h c n)) text × Counts c n now h g × Advances old (GetEnded ∷ ping_calls ping) new
+Carries c n now ping (Ok _) h g old new = ⊥
+Carries c n now ping (Err e) h g old new = (fault : CoreFault) × FailsToCount c n now h fault × TakesNone fault e h g old new
 
 -- where there is nothing to carry, a GET of a client that probes is told so, and another one waits on
 abbrev pub FindsNothing : Transport → Take → (h g : History) → (old new : PlainLine) → Type 0
 FindsNothing Probing answer h g old new = TellsNoop answer h g old new
 FindsNothing _ answer h g old new = (answer ≡ Ok outcome.Nothing) × (g ≡ h) × (new ≡ old)
 
-abbrev pub TakesWaiting : Transport → (ping : Bool) → (c most : ℕ) → ℕ → Take → (h g : History) → (old new : PlainLine) → Type 0
-TakesWaiting on ping c most now answer h g old new = IsShort answer h g old new ⊎ elim (carried ping (handed h c most)) [
+-- the first so many entries are taken
+abbrev pub TakesFirst : Transport → (ping : Bool) → (c n : ℕ) → ℕ → Take → (h g : History) → (old new : PlainLine) → Type 0
+TakesFirst on ping c n now answer h g old new = IsShort answer h g old new ⊎ elim (carried ping (handed h c n)) [
   | [] ↦ FindsNothing on answer h g old new
-  | packet ∷ packets ↦ Carries c most now ping answer h g old new
+  | packet ∷ packets ↦ Carries c n now ping answer h g old new
 ]
+
+-- as many as a take hands out
+abbrev pub TakesWaiting : Transport → (ping : Bool) → (c most : ℕ) → ℕ → Take → (h g : History) → (old new : PlainLine) → Type 0
+TakesWaiting on ping c most now answer h g old new = (n : ℕ) × IsTaken h c most n × TakesFirst on ping c n now answer h g old new
 
 -- a client that doesn't poll any more has no payload to take, but a GET of it that still waits is answered
 abbrev pub TakesOn : Transport → (getting ping : Bool) → (c most : ℕ) → ℕ → Take → (h g : History) → (old new : PlainLine) → Type 0

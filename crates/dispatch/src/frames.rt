@@ -4,14 +4,14 @@ ghost use Rattle.std.specs.Prelude.{◌≡◌, ◌≢◌, ◌⊎◌, ◌++◌, t
 ghost use Rattle.std.specs.List.{AllZip};
 ghost use Rattle.journal.specs.Membership.{is_open};
 ghost use Rattle.dispatch.specs.Answers.{ForClient};
-ghost use Rattle.dispatch.specs.Frames.{is_too_long, IsFrameOf, IsNoFrame, IsSentAs, frames_of, SendsFor};
+ghost use Rattle.dispatch.specs.Frames.{is_too_long, IsFrameOf, IsNoFrame, IsSentAs, frames_of, SendsFirst, SendsFor};
 ghost use Rattle.dispatch.specs.Machine.{HearsFor, TakesFrames};
 ghost use Rattle.dispatch.specs.Holding.{holding, Agree};
 ghost use Rattle.dispatch.specs.Takes.{handed, carried};
 
 use crate::lines::{Lines, transport_of};
 use crate::requests::{close_unread, work_on};
-use crate::takes::{Taken, count};
+use crate::takes::{Taken, count, fitting};
 use connection::{Line, Transport};
 use effects::Visit;
 use eio_wire::{Packet, WireError, read_packet};
@@ -115,8 +115,22 @@ fn frames_for(
     Ok(frames)
 }
 
-/// Takes the frames for a client's WebSocket, or says that there is nothing. They are written
+/// Takes the frames of the first so many entries, or says that there is nothing. They are written
 /// before the entries are taken.
+fn take_first(visit: Visit, state: &mut State, line: &mut Line, most: usize, ping: bool) -> Taken
+    requires { is_open state.old.base state.old.journal visit.client ≡ true }
+    ensures { SendsFirst ping visit.client most visit.moment result
+        state.old state.new line.old line.new }
+{
+    let frames = frames_for(visit, state, ping, most)?;
+    if frames.is_empty() {
+        return Ok(Outcome::Nothing);
+    }
+    count(visit, state, line, most, ping)?;
+    Ok(Outcome::Frames(Frames::from_vec(frames)))
+}
+
+/// Takes the frames for a client's WebSocket, or says that there is nothing.
 fn frame_take(visit: Visit, state: &mut State, line: &mut Line, most: usize) -> Taken
     requires { is_open state.old.base state.old.journal visit.client ≡ true }
     ensures { SendsFor visit.client most visit.moment result state.old state.new line.old line.new }
@@ -125,12 +139,8 @@ fn frame_take(visit: Visit, state: &mut State, line: &mut Line, most: usize) -> 
     let Transport::Socket = line.transport() else {
         return Err(CoreFault::WrongTransport);
     };
-    let frames = frames_for(visit, state, ping, most)?;
-    if frames.is_empty() {
-        return Ok(Outcome::Nothing);
-    }
-    count(visit, state, line, most, ping)?;
-    Ok(Outcome::Frames(Frames::from_vec(frames)))
+    let most = fitting(state, visit.client, most);
+    take_first(visit, state, line, most, ping)
 }
 
 /// Takes the frames for the client's WebSocket.

@@ -6,19 +6,42 @@ ghost use Rattle.journal.specs.Journal.{History};
 ghost use Rattle.journal.specs.Membership.{is_open};
 ghost use Rattle.connection.specs.Line.{Advances};
 ghost use Rattle.dispatch.specs.Holding.{IsClean};
-ghost use Rattle.dispatch.specs.Takes.{packets_of, handed, carried, Counts, FailsToCount, TellsNoop, ping_calls, TakesWaiting, TakesFor};
+ghost use Rattle.dispatch.specs.Takes.{IsTaken, packets_of, handed, carried, Counts, FailsToCount, TellsNoop, ping_calls, TakesFirst, TakesWaiting, TakesFor};
 
 use connection::{Line, Transport};
 use effects::{Acted, Visit};
 use eio_wire::{Packet, WireError, write_payload};
 use events::{CoreFault, Outcome};
+use hub_parts::free_after;
 use hub_state::State;
 use std::alloc::{AllocError, Global};
 use std::slice;
 use terms::{Entry, Text};
 
+/// A take of some entries hands out no more bytes than these, but for a single entry that has more.
+const MOST_TAKEN: usize = 262_144;
+
 /// What a take of a client brings, or the fault that ends its event.
 pub(crate) type Taken = Result<Outcome, CoreFault>;
+
+/// How many of the client's entries a take of at most so many hands out: the longest front that
+/// fits, and one at least where there is one.
+pub(crate) fn fitting(state: &State, client: u128, most: usize) -> usize
+    requires { is_open state.now.base state.now.journal client ≡ true }
+    ensures { IsTaken state.now client most result }
+{
+    let mut room = MOST_TAKEN;
+    for index in 0..most {
+        let Some(entry) = state.front(client, index) else {
+            return index;
+        };
+        let Some(left) = free_after(room, entry) else {
+            return index.max(1);
+        };
+        room = left;
+    }
+    most
+}
 
 /// Adds the packets of an entry: its text, and then its attachments.
 fn push_entry(packets: &mut Vec<Packet>, entry: &Entry) -> Result<(), AllocError>
@@ -102,9 +125,9 @@ pub(crate) fn count(
     Ok(())
 }
 
-/// Takes the payload for a GET of a client that polls, or says that there is nothing to take. It is
-/// written before the entries are taken.
-fn take_waiting(
+/// Takes the payload of the first so many entries for a GET of a client that polls, or says that
+/// there is nothing to take. It is written before the entries are taken.
+fn take_first(
     visit: Visit,
     state: &mut State,
     line: &mut Line,
@@ -114,7 +137,7 @@ fn take_waiting(
 ) -> Taken
     requires open_client { is_open state.old.base state.old.journal visit.client ≡ true }
     requires clean { IsClean state.old }
-    ensures { TakesWaiting transport ping visit.client most visit.moment result
+    ensures { TakesFirst transport ping visit.client most visit.moment result
         state.old state.new line.old line.new }
 {
     let packets = packets_for(visit, state, ping, most)?;
@@ -128,6 +151,24 @@ fn take_waiting(
     count(visit, state, line, most, ping)?;
     line.end_get();
     Ok(Outcome::Payload(text))
+}
+
+/// Takes the payload for a GET of a client that polls, or says that there is nothing to take.
+fn take_waiting(
+    visit: Visit,
+    state: &mut State,
+    line: &mut Line,
+    transport: Transport,
+    most: usize,
+    ping: bool,
+) -> Taken
+    requires open_client { is_open state.old.base state.old.journal visit.client ≡ true }
+    requires clean { IsClean state.old }
+    ensures { TakesWaiting transport ping visit.client most visit.moment result
+        state.old state.new line.old line.new }
+{
+    let most = fitting(state, visit.client, most);
+    take_first(visit, state, line, transport, most, ping)
 }
 
 /// Takes the payload for a client's GET.

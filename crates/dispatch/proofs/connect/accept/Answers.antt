@@ -1,4 +1,4 @@
-use Rattle.std.proofs.Common.{◌≡◌, ℕ, inl, refl, ap, ◌∙◌, rules}
+use Rattle.std.proofs.Common.{ℕ, inl, refl, ap, ◌∙◌, rules}
 use Rattle.events.specs.declared.app.Who.{Who}
 use Rattle.effects.specs.declared.scene.Tally.{Tally}
 use Rattle.effects.specs.Effects.{scene}

@@ -1,4 +1,4 @@
-use Rattle.std.proofs.Common.{◌≡◌, refl, sym, ◌∙◌, rules}
+use Rattle.std.proofs.Common.{refl, sym, ◌∙◌, rules}
 use Rattle.effects.specs.Scene.{seen}
 use Rattle.dispatch.specs.Packets.{course}
 use Rattle.dispatch.proofs.ConnectLemmas.{asks-nowhere, asks-free}
