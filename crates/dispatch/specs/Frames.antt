@@ -12,6 +12,7 @@ use Rattle.connection.specs.Line.{PlainLine, Advances}
 use Rattle.journal.specs.Journal.{History}
 use Rattle.events.specs.declared.fault.CoreFault.{CoreFault}
 use Rattle.events.specs.declared.fault.CoreFault.TheVariants.{WrongTransport}
+use Rattle.journal.specs.Outboxes.{waiting}
 use Rattle.events.specs.declared.event.WsFrame.{WsFrame}
 use Rattle.events.specs.declared.event.WsFrame.TheVariants as frame
 use Rattle.events.specs.declared.outcome.Outcome.TheVariants as outcome
@@ -51,7 +52,8 @@ frames_of entry = frame.Text (codes "4" ++ entry.text) ∷ map frame.Bytes entry
 -- the frames are written, and then the entries are taken
 abbrev pub Sends : (c n : ℕ) → ℕ → (ping : Bool) → Take → (h g : History) → (old new : PlainLine) → Type 0
 Sends c n now ping (Ok (outcome.Frames frames)) h g old new =
-    AllZip IsSentAs (carried ping (handed h c n)) frames × Counts c n now h g × Advances old (ping_calls ping) new
+    AllZip IsSentAs (carried ping (handed h c n)) frames.list × Counts c n now h g × Advances old (ping_calls ping) new
+    × (frames.more ≡ nat_lt n (length (waiting h.base h.limits h.journal c)))
 Sends c n now ping (Ok _) h g old new = ⊥
 Sends c n now ping (Err e) h g old new = (fault : CoreFault) × FailsToCount c n now h fault × TakesNone fault e h g old new
 

@@ -39,7 +39,7 @@ takes c _ = false
 -- the entries that an outcome holds; the payload that only tells a GET that there is nothing holds none
 abbrev pub Holds : Outcome → List Entry → Type 0
 Holds (outcome.Payload text) entries = (Payload (Noop [] ∷ []) text × (entries ≡ [])) ⊎ ((ping : Bool) × Payload (carried ping entries) text)
-Holds (outcome.Frames frames) entries = (ping : Bool) × AllZip IsSentAs (carried ping entries) frames
+Holds (outcome.Frames frames) entries = (ping : Bool) × AllZip IsSentAs (carried ping entries) frames.list
 Holds _ entries = entries ≡ []
 
 -- an event that ended with an error hands out nothing

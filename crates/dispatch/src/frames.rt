@@ -126,8 +126,9 @@ fn take_first(visit: Visit, state: &mut State, line: &mut Line, most: usize, pin
     if frames.is_empty() {
         return Ok(Outcome::Nothing);
     }
+    let more = state.front(visit.client, most).is_some();
     count(visit, state, line, most, ping)?;
-    Ok(Outcome::Frames(Frames::from_vec(frames)))
+    Ok(Outcome::Frames(Frames::new(frames, more)))
 }
 
 /// Takes the frames for a client's WebSocket, or says that there is nothing.

@@ -1,5 +1,5 @@
 -- Takes after two histories that say the same.
-use Rattle.std.proofs.Common.{◌≡◌, ◌⊎◌, ℕ, ◌<◌, min, Bool, true, false, List, [], ◌∷◌, refl, sym, ◌∙◌, ap, subst, take, length, Ok, Err, inl, inr}
+use Rattle.std.proofs.Common.{◌≡◌, ◌⊎◌, ℕ, ◌<◌, nat_lt, min, Bool, true, false, List, [], ◌∷◌, refl, sym, ◌∙◌, ap, subst, take, length, Ok, Err, inl, inr}
 use Rattle.std.specs.List.{AllZip}
 use Rattle.std.proofs.lemmas.List.{length-take}
 use Rattle.eio_wire.specs.declared.packet.Packet.{Packet}
@@ -94,9 +94,9 @@ module _ (keeps : StaysSound) (c n now : ℕ) (h k g : History) (alike : AreAlik
   -- ---- frames
 
   sends-alike : (ping : Bool) (answer : Take) → Sends c n now ping answer h k old new → SimBoth (λ a b. Sends c n now ping answer a b old new) h k g
-  sends-alike ping (Ok (outcome.Frames frames)) (sent, counts, advances) =
+  sends-alike ping (Ok (outcome.Frames frames)) (sent, counts, advances, more) =
       let (m, grown, also) = counts-alike counts in
-      (m, grown, (subst (λ (es : List Entry). AllZip IsSentAs (carried ping es) frames) (sym handed-alike) sent, also, advances))
+      (m, grown, (subst (λ (es : List Entry). AllZip IsSentAs (carried ping es) frames.list) (sym handed-alike) sent, also, advances, more ∙ ap (λ (es : List Entry). nat_lt n (length es)) (sym (alike.same.same_waiting c known))))
   sends-alike ping (Ok _) none = absurd none
   sends-alike ping (Err e) (fault, fails, (is, same, lines)) = (g, still same, (fault, fails-to-count fault fails, (is, refl, lines)))
 

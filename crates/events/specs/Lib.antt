@@ -7,3 +7,4 @@ pub mod Fault
 pub mod Loss
 pub mod Plain
 pub mod Selection
+pub mod Frames

@@ -2,7 +2,7 @@
 
 ghost use Rattle.std.specs.Prelude.{◌≡◌, ◌-◌, ◌<◌, ◌++◌, ◌∷◌, List, [], Some, map, OnOk, vec_len, vec_capacity};
 ghost use Rattle.events.specs.Plain.{PlainDone, PlainReceivers, nothing_done};
-ghost use Rattle.events.specs.declared.event.WsFrame.{WsFrame};
+ghost use Rattle.events.specs.Frames.{PlainFrames};
 
 use crate::cause::Cause;
 use crate::event::WsFrame;
@@ -51,31 +51,40 @@ pub struct Opening {
     pub text: Text,
 }
 
-/// Frames for a WebSocket, in order. In a contract they are a list.
+/// Frames for a WebSocket, in order, and whether more waits behind them. In a contract they are
+/// plain data.
 #[derive(Drop)]
 pub struct Frames {
     list: Vec<WsFrame>,
+    more: bool,
 }
 
 impl Model for Frames {
-    ghost Value = { List WsFrame };
+    ghost Value = { PlainFrames };
 
-    ghost view = { λ f. f.list.items };
+    ghost view = { λ f. record { list = f.list.items; more = f.more } };
 }
 
 impl Frames {
-    /// The frames of a `Vec`, which takes no memory.
-    pub fn from_vec(owned: Vec<WsFrame>) -> Frames
-        ensures { result ≡ owned.items }
+    /// The frames of a `Vec`, which takes no memory. More waits behind them or not.
+    pub fn new(list: Vec<WsFrame>, more: bool) -> Frames
+        ensures { result ≡ record { list = list.items; more = more } }
     {
-        Frames { list: owned }
+        Frames { list, more }
     }
 
     /// The frames themselves.
     pub fn as_slice(&self) -> &[WsFrame]
-        ensures { result.now ≡ self.now }
+        ensures { result.now ≡ self.now.list }
     {
         self.list.as_slice()
+    }
+
+    /// Whether more waits behind them.
+    pub fn has_more(&self) -> bool
+        ensures { result ≡ self.now.more }
+    {
+        self.more
     }
 }
 

@@ -81,7 +81,7 @@ after other got = other
 abbrev pub to_send : SocketStage → Answer → List WsFrame
 to_send stage.Opening (Ok (outcome.Opened o)) = frame.Text o.text ∷ []
 to_send (stage.Probing c) (Ok (outcome.Probed text)) = frame.Text text ∷ []
-to_send (stage.Taking c idle) (Ok (outcome.Frames frames)) = frames
+to_send (stage.Taking c idle) (Ok (outcome.Frames frames)) = frames.list
 to_send s got = []
 
 -- what could not be sent loses a probe, or else the peer has failed
