@@ -2,7 +2,7 @@
 #![tactic(auto, unfolding(crate::specs::History::frames, crate::specs::History::failure, crate::specs::History::IsLegal, crate::specs::History::clock_calls, crate::specs::History::book_calls, crate::specs::History::is_getting, crate::specs::History::is_ping_due))]
 
 ghost use Rattle.std.specs.Prelude.{◌≡◌, List, [], ◌∷◌, length, Some, None, Err, IfOk, IfErr, IfSome, OnOk, OnErr};
-ghost use Rattle.sio_wire.specs.Frames.{text as text_frame, binary as binary_frame, RefusesText, binary_refusal, exceeds};
+ghost use Rattle.sio_wire.specs.Frames.{text as text_frame, binary as binary_frame, RefusesText, binary_refusal, held, exceeds};
 ghost use Rattle.sio_wire.specs.declared.assembler.Progress.{Progress};
 ghost use Rattle.connection.specs.ClockHistory.{Opening};
 ghost use Rattle.connection.specs.Heartbeat.{due};
@@ -113,6 +113,14 @@ impl Line {
         ensures { result ≡ exceeds self.now.assembler limit (length bytes.now) }
     {
         self.assembler.exceeds(bytes, limit)
+    }
+
+    /// How many bytes the attachments have that came of the client's packet that isn't whole. It
+    /// stays at the greatest usize, and is 0 where none is awaited.
+    pub fn held(&self) -> usize
+        ensures { result ≡ held self.now.assembler }
+    {
+        self.assembler.held()
     }
 
     /// The client sent a pong. One that isn't awaited changes only the last moment.

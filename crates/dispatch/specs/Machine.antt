@@ -5,6 +5,7 @@ use Rattle.eio_wire.specs.declared.handshake.Numbers.{Numbers}
 use Rattle.eio_wire.specs.declared.packet.Packet.{Packet}
 use Rattle.eio_wire.specs.Handshake.{open_packet_text}
 use Rattle.eio_wire.specs.Payload.{Payload, HasFault}
+use Rattle.sio_wire.specs.Frames.{held}
 use Rattle.connection.specs.declared.timing.Timing.{Timing}
 use Rattle.connection.specs.declared.transport.Transport.TheVariants.{Socket}
 use Rattle.connection.specs.History.{GetBegan, GetEnded}
@@ -118,11 +119,12 @@ abbrev pub opening : History → PlainLine → Scene
 opening history line = record { history = history; line = line; done = nothing_done; asked = None; ended = false }
 
 module _ (policy : Policy) (now : ℕ) where
-  -- the packets of a payload in order, until one closes the client or the event ends
+  -- the packets of a payload in order, until one closes the client or the event ends; the answer tells what is held then of
+  -- a packet that isn't whole
   abbrev pub WorksOn : ℕ → List Packet → PlainLine → Holding → (ids : ℕ → ℕ) → Answer → Holding → (ids' : ℕ → ℕ) → Type 0
   WorksOn c packets line s ids (Ok (outcome.Done done)) t ids' = (m : Course)
       × Runs (HandlesInTurn policy c now) packets (course (opening s.history line) ids) m
-      × (done ≡ m.scene.done) × (t.history ≡ m.scene.history) × KeepsWhileOpen c m.scene.done m.scene.line s t × (ids' ≡ m.ids)
+      × (done ≡ record m.scene.done { unfinished = held m.scene.line.assembler }) × (t.history ≡ m.scene.history) × KeepsWhileOpen c m.scene.done m.scene.line s t × (ids' ≡ m.ids)
   WorksOn c packets line s ids (Ok _) t ids' = ⊥
   WorksOn c packets line s ids (Err e) t ids' = (m : Course)
       × BreaksAfter policy c now packets (course (opening s.history line) ids) e m

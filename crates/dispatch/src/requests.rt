@@ -94,7 +94,8 @@ pub(crate) fn post<A: App, I: IdSource>(
     }
 }
 
-/// Works on packets, and drops the line of a client that one of them closes.
+/// Works on packets, tells what is held of one that isn't whole, and drops the line of a client that
+/// one of them closes.
 pub(crate) fn work_on<A: App, I: IdSource>(
     visit: Visit,
     state: &mut State,
@@ -121,6 +122,7 @@ pub(crate) fn work_on<A: App, I: IdSource>(
         tally: &mut tally,
     };
     handle_each(&mut scene, app, ids, packets)?;
+    tally.done.unfinished = scene.line.held();
     if tally.done.closed.is_some() {
         forget(lines, visit.client);
     }

@@ -5,7 +5,8 @@ use Rattle.room_maps.specs.declared.error.RoomError.{RoomError}
 use Rattle.events.specs.declared.cause.Cause.{Cause}
 
 -- how many packets and effects were done, what was skipped first, whether an answer was ignored, why the client was
--- closed, and the clients that each broadcast put an entry for, but for the event's own
+-- closed, the clients that each broadcast put an entry for, but for the event's own, and how many bytes of attachments are
+-- held of the client's packet that isn't whole
 pub record PlainDone : Type 0 where
   pub packets : ℕ
   pub effects : ℕ
@@ -13,10 +14,11 @@ pub record PlainDone : Type 0 where
   pub ignored : Bool
   pub closed : Option Cause
   pub clients : List (List ℕ)
+  pub unfinished : ℕ
 
 -- nothing was done
 abbrev pub nothing_done : PlainDone
-nothing_done = record { packets = 0; effects = 0; skipped = None; ignored = false; closed = None; clients = [] }
+nothing_done = record { packets = 0; effects = 0; skipped = None; ignored = false; closed = None; clients = []; unfinished = 0 }
 
 -- one packet more was done
 abbrev pub one_packet_more : PlainDone → PlainDone

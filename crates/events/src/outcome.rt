@@ -104,6 +104,9 @@ pub struct Done {
     pub closed: Option<Cause>,
     /// The clients that got something, one list for each broadcast, without the event's own client.
     pub clients: Receivers,
+    /// The bytes of the attachments that came of the client's packet which isn't whole, where the
+    /// event worked on packets. It stays at the greatest usize.
+    pub unfinished: usize,
 }
 
 impl Model for Done {
@@ -116,6 +119,7 @@ impl Model for Done {
       ignored = d.ignored;
       closed = d.closed;
       clients = d.clients.lists;
+      unfinished = d.unfinished;
     } };
 }
 
@@ -131,6 +135,7 @@ impl Done {
             ignored: false,
             closed: None,
             clients: Receivers::new(alloc),
+            unfinished: 0,
         }
     }
 

@@ -1,5 +1,5 @@
 -- A client's frames, cut into packets (Socket.IO protocol 5, "Packet encoding").
-use Rattle.std.specs.Prelude.{◌≡◌, ◌≢◌, ◌⊎◌, ◌<◌, ◌+◌, ◌-◌, ◌++◌, ℕ, Bool, false, List, [], ◌∷◌, length, map, nat_lt, sum_by, Option, Some, None}
+use Rattle.std.specs.Prelude.{◌≡◌, ◌≢◌, ◌⊎◌, ◌<◌, ◌+◌, ◌-◌, ◌++◌, ℕ, Bool, false, List, [], ◌∷◌, length, map, min, nat_lt, sum_by, Option, Some, None}
 use Rattle.std.specs.Option.{option_to_list}
 use Rattle.sio_wire.specs.declared.assembler.SioPacket.{SioPacket}
 use Rattle.sio_wire.specs.declared.assembler.Progress.{Progress}
@@ -84,6 +84,11 @@ abbrev pub awaited : Progress → ℕ
 awaited Ready = 0
 awaited (Waiting packet) = packet.header.count - length packet.attachments
 awaited (Failed error) = 0
+
+-- how many bytes the attachments have that came of the packet that isn't whole, up to the greatest usize
+abbrev pub held : Progress → ℕ
+held (Waiting packet) = min (sum_by (λ attachment. length attachment) packet.attachments) 18446744073709551615
+held _ = 0
 
 -- so many bytes more, with those of the attachments that came so far, are over the limit; only
 -- where attachments are awaited

@@ -3,7 +3,7 @@
 ghost use Rattle.std.specs.Prelude.{List, [], ◌≡◌, ◌⊎◌, ◌≤◌, Some, Err, IfOk, IfErr, IfSome, OnOk, length};
 ghost use Rattle.sio_wire.specs.declared.assembler.Progress.{Progress};
 ghost use Rattle.sio_wire.specs.Header.{Sio};
-ghost use Rattle.sio_wire.specs.Frames.{Frame, text as text_frame, binary as binary_frame, Accepted, Accepts, GivesOrKeeps, IsProgress, RefusesText, text_refusal, binary_refusal, awaited, exceeds};
+ghost use Rattle.sio_wire.specs.Frames.{Frame, text as text_frame, binary as binary_frame, Accepted, Accepts, GivesOrKeeps, IsProgress, RefusesText, text_refusal, binary_refusal, awaited, held, exceeds};
 
 use crate::error::SioError;
 use crate::header::{Header, read_header};
@@ -143,6 +143,21 @@ impl Assembler {
             };
         }
         left < bytes.len()
+    }
+
+    /// How many bytes the attachments have that came of the packet that isn't whole. It stays at the
+    /// greatest usize, and is 0 where none is awaited.
+    pub fn held(&self) -> usize
+        ensures { result ≡ held self.now }
+    {
+        let Progress::Waiting(packet) = &self.progress else {
+            return 0;
+        };
+        let mut held: usize = 0;
+        for attachment in packet.attachments.as_slice() {
+            held = held.saturating_add(attachment.as_slice().len());
+        }
+        held
     }
 
     /// Gives the packet where it is whole; else it is kept, and the rest of it awaited.

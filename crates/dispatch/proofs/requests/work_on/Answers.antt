@@ -14,12 +14,12 @@ returns-in_err-handle_each g c = λ line known.
     let ids = g.I.IdSource.stream c.args.ids.now in
     let left = g.I.IdSource.stream c.handle_each.new.ids in
     let worked = c.handle_each.new.scene in
-    let state = c.state-1.given.0 in
-    let new = (c.get_mut.follows.lender c.line-1.given.0).entries in
+    let state = c.in_err-handle_each.state-1-own.given.0 in
+    let new = (c.get_mut.follows.lender c.in_err-handle_each.line-1-own.given.0).entries in
     let made : state ≡ worked.state.now = search rules in
-    let kept : c.line-1.given.0 ≡ worked.line.now = search rules in
+    let kept : c.in_err-handle_each.line-1-own.given.0 ≡ worked.line.now = search rules in
     let others : KeepsOthers client (holding c.args.state.now c.args.lines.now.entries) (holding state new) = search rules in
-    let has : line_of new client ≡ Some c.line-1.given.0 = search rules in
+    let has : line_of new client ≡ Some c.in_err-handle_each.line-1-own.given.0 = search rules in
     let same : c.in-Some.line.now ≡ line = search rules in
     let failed : c.from_residual.result ≡ Err c.in_err-handle_each.field-0.0 = search rules in
     rw failed (ends-with policy c.args.visit.moment client c.args.packets.now line (holding c.args.state.now c.args.lines.now.entries) (holding state new) ids left c.in_err-handle_each.field-0.0 (course (seen worked) left)
