@@ -4,11 +4,11 @@ ghost use Rattle.std.specs.Prelude.{◌≤◌, length};
 
 use mio::net::TcpStream;
 use std::alloc::Global;
-use std::io;
 use std::io::{ErrorKind, Read, Write};
+use std::{io, mem};
 
-/// A buffer that grew past this, in bytes, is given back once it is empty.
-const KEPT: usize = 200_000;
+/// A buffer that grew past this, in bytes, is given back once it is empty and nobody uses it.
+const KEPT: usize = 16_384;
 
 /// What a connection reads and writes.
 pub type Stream = Box<Buffered>;
@@ -25,8 +25,12 @@ pub struct Buffered {
     cut: bool,
     /// How many bytes at the most were read of which its reader has brought no message yet.
     pub unbrought: usize,
+    /// With so many of these nothing is read, as if nothing had come.
+    pub most: usize,
     output: Vec<u8>,
     sent: usize,
+    // Something was written since the last beat.
+    used: bool,
     ghost in_output: { sent ≤ length output.items },
 }
 
@@ -39,8 +43,10 @@ impl Buffered {
             ended: false,
             cut: false,
             unbrought: 0,
+            most: usize::MAX,
             output: Vec::new(alloc),
             sent: 0,
+            used: false,
         }
     }
 
@@ -63,10 +69,16 @@ impl Buffered {
 
     fn forget(&mut self) {
         self.sent = 0;
-        if self.output.capacity() > KEPT {
+        self.output.clear();
+    }
+
+    /// A beat has come: an output buffer that grew is given back where it was empty since the last one.
+    /// Until then it stays, since who sends much in one round sends much in the next.
+    pub fn give_back(&mut self) {
+        let was_used = mem::replace(&mut self.used, false);
+        if !was_used && self.output.is_empty() && self.output.capacity() > KEPT {
+            self.sent = 0;
             self.output = Vec::new(*self.output.allocator());
-        } else {
-            self.output.clear();
         }
     }
 
@@ -93,7 +105,7 @@ impl Read for Buffered {
         if self.cut {
             return Ok(0);
         }
-        if self.drained {
+        if self.drained || self.unbrought >= self.most {
             return Err(io::Error::from(ErrorKind::WouldBlock));
         }
         let read = self.inner.read(buf);
@@ -111,6 +123,7 @@ impl Read for Buffered {
 impl Write for Buffered {
     fn write(&mut self, buf: &[u8]) -> io::Result<usize> {
         if !self.cut {
+            self.used = true;
             self.output.extend_from_slice(buf)?;
         }
         Ok(buf.len())
