@@ -1,5 +1,5 @@
 -- What isn't whole, of each one by its number.
-use Rattle.std.specs.Prelude.{ℕ, Bool, false, Option, None, Some, cond, nat_eq, sum_by}
+use Rattle.std.specs.Prelude.{ℕ, Option, None, Some, cond, find, nat_eq, option_map, sum_by}
 use Rattle.std.specs.HashMap.{HashMap, values}
 use Rattle.loop_rules.specs.Deadlines.{are_given_up}
 use Rattle.loop_rules.specs.declared.unfinished.Part.{Part}
@@ -24,6 +24,6 @@ abbrev pub kept_until : ℕ → Option Part → Option Part
 kept_until now None = None
 kept_until now (Some part) = Some (record part { moved = now })
 
-abbrev pub is_stale : ℕ → Option Part → Bool
-is_stale now None = false
-is_stale now (Some part) = are_given_up part.moved now
+-- the first one whose bytes didn't change for so long that they are given up, in the map's order
+abbrev pub first_stale : {S : Type 0} → ℕ → HashMap ℕ Part S → Option ℕ
+first_stale now parts = option_map (λ e. e.0) (find (λ e. are_given_up e.1.moved now) parts.entries)

@@ -27,7 +27,7 @@ pub struct Unfinished {
 impl Unfinished {
     ghost use Rattle.std.specs.Prelude.{◌≢◌, ◌+◌, ◌≤◌, ℕ, true, None, Some};
     ghost use Rattle.std.specs.Bool.{OnTrue, OnFalse};
-    ghost use Rattle.loop_rules.specs.Parts.{noted, kept_until, is_stale};
+    ghost use Rattle.loop_rules.specs.Parts.{first_stale, kept_until, noted};
     ghost use Rattle.loop_rules.specs.Unfinished.{part_of, bytes_of};
 
     /// All is whole.
@@ -61,13 +61,14 @@ impl Unfinished {
         self.part(number).map_or(0, |part| part.bytes)
     }
 
-    /// Whether this one has some, which didn't change for so long that they are given up.
-    pub fn is_stale(&self, number: u128, now: u64) -> bool
-        ensures { result ≡ is_stale now (part_of self.now number) }
+    /// One that has some, which didn't change for so long that they are given up.
+    pub fn find_stale(&self, now: u64) -> Option<u128>
+        ensures { result ≡ first_stale now self.now.parts }
     {
-        match self.part(number) {
-            Some(part) => are_given_up(part.moved, now),
-            None => false,
+        let mut parts = self.parts.iter();
+        match parts.find(|entry| are_given_up(entry.1.moved, now)) {
+            Some((number, _)) => Some(*number),
+            None => None,
         }
     }
 

@@ -86,6 +86,19 @@ impl<'a, R: Clock + Drop> Service<'a, R> {
         matches!(self, Service::Polling(peer) if peer.is_idle())
     }
 
+    /// Whether it is read for a request or for messages, so that it may be held.
+    pub fn is_receiving(&self) -> bool {
+        matches!(self, Service::Gathering { .. } | Service::Speaking(_))
+    }
+
+    /// How many bytes came of a request or a message that isn't whole.
+    pub fn bytes_unfinished(&mut self) -> usize {
+        if !self.is_receiving() {
+            return 0;
+        }
+        self.stream().map_or(0, |stream| stream.unbrought)
+    }
+
     /// The stream, which nobody has any more then. None where somebody serves it.
     pub fn take_stream(&mut self) -> Option<Stream> {
         match mem::replace(self, Service::Gone) {
@@ -133,7 +146,7 @@ impl<'a, R: Clock + Drop> Service<'a, R> {
         for _ in 0..READS {
             match stream.read(&mut bytes) {
                 Ok(0) => return None,
-                Ok(_) => {}
+                Ok(count) => stream.unbrought = stream.unbrought.saturating_sub(count),
                 Err(error) if error.kind() == ErrorKind::WouldBlock => return Some(Pause::Done),
                 Err(_) => return None,
             }

@@ -36,6 +36,8 @@ pub enum Mode {
 pub struct Connection<'a, R> {
     /// It stands in the list of those with bytes to send.
     pub unsent: bool,
+    /// It stands in the list of those that aren't read on.
+    pub held: bool,
     pub mode: Mode,
     /// The core was told of its loss, and isn't told again.
     told: bool,
@@ -53,7 +55,7 @@ pub struct Connection<'a, R> {
 /// Written out, so that a crate above takes the drop of all that lies in it by this one call.
 impl<R: Drop> Drop for Connection<'_, R> {
     fn drop(self) {
-        let_go!(self; unsent, mode, told, since, moved, not_before, asked, service);
+        let_go!(self; unsent, held, mode, told, since, moved, not_before, asked, service);
     }
 }
 
@@ -92,6 +94,7 @@ impl<'a, R: Clock + Drop> Connection<'a, R> {
         let gathered = Gathered::new(alloc);
         let connection = Connection {
             unsent: false,
+            held: false,
             mode: Mode::Gathers,
             told: false,
             since: now,
@@ -123,8 +126,22 @@ impl<'a, R: Clock + Drop> Connection<'a, R> {
         find_overdue(period, now.saturating_sub(self.since), stalled)
     }
 
+    /// Whether it is read for a request or for messages, so that it may be held.
+    pub(crate) fn is_receiving(&self) -> bool {
+        matches!(self.mode, Mode::Gathers | Mode::Serves) && self.service.is_receiving()
+    }
+
+    /// It is read until it has so many bytes that aren't whole. One that receives no more is read to its
+    /// end.
+    pub(crate) fn read_up_to(&mut self, most: usize) {
+        let most = if self.is_receiving() { most } else { usize::MAX };
+        if let Some(stream) = self.service.stream() {
+            stream.most = most;
+        }
+    }
+
     /// What it does next.
-    pub fn next(&mut self, alloc: Global, now: u64) -> Next {
+    pub(crate) fn next(&mut self, alloc: Global, now: u64) -> Next {
         match self.mode {
             Mode::Gathers => self.service.read(alloc).unwrap_or_else(Next::Refuses),
             Mode::Serves => self.serve(now),
