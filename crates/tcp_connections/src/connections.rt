@@ -31,6 +31,13 @@ impl<R: Drop> Drop for Connections<'_, R> {
     }
 }
 
+/// Nothing is unfinished of a connection that is gone, and it goes on no more.
+fn forget(receiving: &mut Receiving, key: usize) {
+    // These need no memory.
+    let _ = receiving.messages.note(key as u128, 0, 0);
+    let _ = receiving.settle(key, 0);
+}
+
 impl<'a, R: Clock + Drop> Connections<'a, R> {
     /// None yet. So many bytes that aren't whole are the loop's share.
     pub fn new(alloc: Global, share: usize) -> Connections<'a, R> {
@@ -78,14 +85,12 @@ impl<'a, R: Clock + Drop> Connections<'a, R> {
 
     /// Takes a connection out.
     pub fn take(&mut self, key: usize) -> Option<Box<Connection<'a, R>>> {
+        forget(&mut self.receiving, key);
         let connection = self.slots.try_remove(key)?;
         self.roster.rota.dismiss(key);
         if let Some(client) = connection.service.client() {
             self.roster.takers.release(client, key);
         }
-        // Nothing of it is unfinished now, which needs no memory.
-        let _ = self.receiving.messages.note(key as u128, 0, 0);
-        let _ = self.receiving.settle(key, 0);
         Some(connection)
     }
 
@@ -94,7 +99,7 @@ impl<'a, R: Clock + Drop> Connections<'a, R> {
         let attached = self.bytes_attached(key);
         let limit = self.receiving.limit(key).saturating_sub(attached);
         let Some(connection) = self.slots.get_mut(key) else {
-            let _ = self.receiving.settle(key, 0);
+            forget(&mut self.receiving, key);
             return Next::Pauses(Pause::Done);
         };
         connection.read_up_to(limit);
@@ -140,13 +145,19 @@ impl<'a, R: Clock + Drop> Connections<'a, R> {
         let Some(key) = self.receiving.pop() else {
             return;
         };
-        if let Some(connection) = self.slots.get_mut(key) {
-            connection.held = false;
-            if let Some(client) = connection.service.client() {
-                self.receiving.attachments.keep(client, now);
-            }
-        }
+        self.release(key, now);
         self.roster.rota.call(key);
+    }
+
+    /// A connection isn't held any more. The attachments of its client, which had to wait, may come on.
+    fn release(&mut self, key: usize, now: u64) {
+        let Some(connection) = self.slots.get_mut(key) else {
+            return;
+        };
+        connection.held = false;
+        if let Some(client) = connection.service.client() {
+            self.receiving.attachments.keep(client, now);
+        }
     }
 
     /// A client whose attachments are given up, since no byte of them came for long. Where its connection
@@ -154,14 +165,25 @@ impl<'a, R: Clock + Drop> Connections<'a, R> {
     pub fn find_stale(&mut self, now: u64) -> Option<u128> {
         for _ in 0..usize::MAX {
             let client = self.receiving.attachments.find_stale(now)?;
-            let taker = self.roster.takers.of(client);
-            let connection = taker.and_then(|key| self.slots.get(key));
-            if !connection.is_some_and(|connection| connection.held) {
+            if !self.is_held(client) {
                 return Some(client);
             }
-            self.receiving.attachments.keep(client, now);
+            self.keep_attached(client, now);
         }
         None
+    }
+
+    /// Whether the connection of a client is held.
+    fn is_held(&self, client: u128) -> bool {
+        match self.roster.takers.of(client) {
+            Some(key) => self.slots.get(key).is_some_and(|connection| connection.held),
+            None => false,
+        }
+    }
+
+    /// The attachments of a client had to wait until now.
+    fn keep_attached(&mut self, client: u128, now: u64) {
+        self.receiving.attachments.keep(client, now);
     }
 
     /// What is put for this client goes to this connection from now on.
@@ -205,15 +227,19 @@ impl<'a, R: Clock + Drop> Connections<'a, R> {
         }
     }
 
+    /// A beat has come, between two events: a connection gives back its buffers where nobody uses them.
+    pub fn give_back(&mut self, key: usize, alloc: Global) {
+        if let Some(connection) = self.slots.get_mut(key) {
+            connection.give_back(alloc);
+        }
+    }
+
     /// Does what is to be done with a connection that took too long, or one that is to end. Answers
     /// whether it is to be closed at once.
     pub fn keep_deadline(&mut self, key: usize, cutting: bool, now: u64) -> bool {
         let Some(connection) = self.slots.get_mut(key) else {
             return false;
         };
-        if let Some(stream) = connection.service.stream() {
-            stream.give_back();
-        }
         let (service, takers) = (&connection.service, &self.roster.takers);
         let speaks = |client| !service.is_socket() || takers.is_taker(client, key);
         let period = match connection.mode {

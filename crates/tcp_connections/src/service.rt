@@ -14,8 +14,8 @@ use std::rt::Clock;
 use std::{io, mem};
 use tcp_streams::{Rules, Stream};
 
-/// How many bytes one read asks for.
-const READ: usize = 8_192;
+/// How many bytes one read asks for at the most; one of a WebSocket asks for fewer.
+pub(crate) const READ: usize = 8_192;
 
 /// How many such reads one stint makes.
 const READS: usize = 16;
@@ -97,6 +97,20 @@ impl<'a, R: Clock + Drop> Service<'a, R> {
             return 0;
         }
         self.stream().map_or(0, |stream| stream.unbrought)
+    }
+
+    /// Gives back the buffers of a WebSocket of which nothing is unbrought, between two of its events.
+    pub fn renew(&mut self, alloc: Global) {
+        if !self.is_socket() {
+            return;
+        }
+        if let Service::Speaking(peer) = mem::replace(self, Service::Gone) {
+            let peer = Box::into_inner(peer).renewed();
+            // Where the memory that was just given back is refused, the connection ends.
+            if let Ok(peer) = Box::new(alloc, peer) {
+                *self = Service::Speaking(peer);
+            }
+        }
     }
 
     /// The stream, which nobody has any more then. None where somebody serves it.

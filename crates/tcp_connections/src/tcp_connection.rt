@@ -1,6 +1,6 @@
 //! One connection.
 
-use crate::service::{Service, of_peer};
+use crate::service::{READ, Service, of_peer};
 use events::{Answered, Event, Frames, Loss, Outcome, Peer, Retry, WsFrame};
 use http_edge::{EdgeError, Gathered, Request};
 use loop_rules::{Found, Overdue, Pause, Period, find_overdue, left_after_message};
@@ -111,6 +111,15 @@ impl<'a, R: Clock + Drop> Connection<'a, R> {
         self.service.stream().map_or(0, |stream| stream.unsent())
     }
 
+    /// A beat has come: its buffers are given back where nobody uses them.
+    pub(crate) fn give_back(&mut self, alloc: Global) {
+        let stream = self.service.stream();
+        let gives_back = stream.is_some_and(|stream| stream.give_back());
+        if gives_back && matches!(self.mode, Mode::Serves) {
+            self.service.renew(alloc);
+        }
+    }
+
     /// Whether so much is unsent that it is not to be served.
     pub fn is_full(&mut self) -> bool {
         self.bytes_unsent() > MOST_UNSENT
@@ -189,7 +198,9 @@ impl<'a, R: Clock + Drop> Connection<'a, R> {
             _ => None,
         };
         if let (Some(stream), Some(length)) = (self.service.stream(), length) {
-            stream.unbrought = left_after_message(stream.unbrought, length);
+            // Behind a message stands no more than one read brought.
+            let left = left_after_message(stream.unbrought, length);
+            stream.unbrought = left.min(READ);
         }
         if matches!(event, Event::Tick { .. }) {
             if moment < self.asked.saturating_add(DUE) {

@@ -206,6 +206,7 @@ impl<'a, R: Wait + Clock + Copy + Drop, L: Log> EventLoop<'a, R, L> {
         self.delays.forget_old(now);
         let cutting = self.base.shared.standing(self.base.rt).cutting;
         for key in 0..self.connections.keys_below() {
+            self.connections.give_back(key, self.base.alloc);
             if self.connections.keep_deadline(key, cutting, now) {
                 self.close(key);
             }

@@ -7,9 +7,6 @@ use std::alloc::Global;
 use std::io::{ErrorKind, Read, Write};
 use std::{io, mem};
 
-/// A buffer that grew past this, in bytes, is given back once it is empty and nobody uses it.
-const KEPT: usize = 16_384;
-
 /// What a connection reads and writes.
 pub type Stream = Box<Buffered>;
 
@@ -29,8 +26,10 @@ pub struct Buffered {
     pub most: usize,
     output: Vec<u8>,
     sent: usize,
-    // Something was written since the last beat.
+    // Something was read or written since the last beat.
     used: bool,
+    // So it was since buffers were given back.
+    kept: bool,
     ghost in_output: { sent ≤ length output.items },
 }
 
@@ -47,6 +46,7 @@ impl Buffered {
             output: Vec::new(alloc),
             sent: 0,
             used: false,
+            kept: false,
         }
     }
 
@@ -72,14 +72,17 @@ impl Buffered {
         self.output.clear();
     }
 
-    /// A beat has come: an output buffer that grew is given back where it was empty since the last one.
-    /// Until then it stays, since who sends much in one round sends much in the next.
-    pub fn give_back(&mut self) {
+    /// A beat has come: where nothing was read or written since the last one, and nothing waits, the
+    /// output buffer is given back. Until then it stays, since who sends in one round sends in the next.
+    /// Answers whether the buffers of who reads and writes are to be given back too.
+    pub fn give_back(&mut self) -> bool {
         let was_used = mem::replace(&mut self.used, false);
-        if !was_used && self.output.is_empty() && self.output.capacity() > KEPT {
-            self.sent = 0;
-            self.output = Vec::new(*self.output.allocator());
+        if was_used || self.unsent() > 0 || self.unbrought > 0 {
+            return false;
         }
+        self.sent = 0;
+        self.output = Vec::new(*self.output.allocator());
+        mem::replace(&mut self.kept, false)
     }
 
     /// Sends what waits, as far as the stream takes it, and tells how many bytes that were.
@@ -102,6 +105,7 @@ impl Buffered {
 
 impl Read for Buffered {
     fn read(&mut self, buf: &mut [u8]) -> io::Result<usize> {
+        self.kept = true;
         if self.cut {
             return Ok(0);
         }
@@ -113,6 +117,7 @@ impl Read for Buffered {
             Ok(count) => {
                 self.drained = *count < buf.len() && !self.ended;
                 self.unbrought = self.unbrought.saturating_add(*count);
+                self.used = true;
             }
             Err(error) => self.drained = error.kind() == ErrorKind::WouldBlock,
         }
@@ -124,6 +129,7 @@ impl Write for Buffered {
     fn write(&mut self, buf: &[u8]) -> io::Result<usize> {
         if !self.cut {
             self.used = true;
+            self.kept = true;
             self.output.extend_from_slice(buf)?;
         }
         Ok(buf.len())
