@@ -5,7 +5,7 @@ use clap::{Arg, ArgAction, ArgMatches, Command};
 use connection::Timing;
 use journal::Config;
 use page::Page;
-use settings::{MOST_BYTES, Settings};
+use settings::{LEAST_RECEIVING, MOST_BYTES, Settings};
 use std::alloc::{AllocError, Global};
 use terms::Text;
 
@@ -51,7 +51,7 @@ macro_rules! options {
 }
 
 /// The options, in the order in which help tells them.
-static OPTIONS: [OptionRow; 26] = options! {
+static OPTIONS: [OptionRow; 27] = options! {
     "port" Set Unsigned(1, 65_535), [], "The port to listen at";
     "host" Set String, ["127.0.0.1"], "The address to listen at";
     "workers" Set Unsigned(1, 1_023), [],
@@ -76,6 +76,8 @@ static OPTIONS: [OptionRow; 26] = options! {
         "How long it may take to join a namespace, in milliseconds";
     "max-payload" Set Unsigned(1, MOST_BYTES), ["1000000"],
         "How many bytes clients are told that a payload may have";
+    "receiving" Set Unsigned(LEAST_RECEIVING, MANY), ["268435456"],
+        "The most bytes of all that is being received, together";
     "report" Set Unsigned(0, MANY), ["0"],
         "Tells the totals on standard error every so many seconds; 0: never";
     "origin" Append String, [],
@@ -139,6 +141,7 @@ pub(crate) fn read_settings(
             connect_timeout: matches.get_one("connect-timeout").unwrap_or(0),
         },
         max_payload: matches.get_one("max-payload").unwrap_or(0),
+        receiving: matches.get_one("receiving").unwrap_or(0),
         together: matches.get_one("together").unwrap_or(0),
         poll_entries: matches.get_one("poll-entries").unwrap_or(1),
         origins: origins

@@ -1,4 +1,6 @@
 mod LookLemmas
 mod NotesLemmas
+mod PartLemmas
+mod ReceivingLemmas
 mod RosterLemmas
 mod RotaLemmas

@@ -42,7 +42,7 @@ times-ready r a key k =
     let was : sum_by f (r ++ a) ≡ sum_by f r + sum_by f a = sum_by-append f r a in
     omega arith
 
-times-again : (r a : List ℕ) (key k : ℕ) → times k (r ++ (a ++ key ∷ [])) ≡ times k (r ++ a) + one_if (nat_eq key k)
+pub times-again : (r a : List ℕ) (key k : ℕ) → times k (r ++ (a ++ key ∷ [])) ≡ times k (r ++ a) + one_if (nat_eq key k)
 times-again r a key k =
     let f : ℕ → ℕ = λ x. one_if (nat_eq x k) in
     let one : sum_by f (key ∷ []) ≡ 0 + f key = refl in
@@ -172,7 +172,7 @@ one-at-least true n e = refl
 one-at-least false n e = absurd (omega (arith, e))
 
 -- how often a key stands in the queue before the first one leaves it
-times-first : (key k : ℕ) (keys : List ℕ) → times k (key ∷ keys) ≡ times k keys + one_if (nat_eq key k)
+pub times-first : (key k : ℕ) (keys : List ℕ) → times k (key ∷ keys) ≡ times k keys + one_if (nat_eq key k)
 times-first key k keys =
     let f : ℕ → ℕ = λ x. one_if (nat_eq x k) in
     let one : sum_by f (key ∷ []) ≡ 0 + f key = refl in

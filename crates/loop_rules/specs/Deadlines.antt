@@ -1,5 +1,5 @@
 -- How long a connection may take, in milliseconds.
-use Rattle.std.specs.Prelude.{ℕ, Bool, false, Option, None, Some, cond, nat_le}
+use Rattle.std.specs.Prelude.{ℕ, ◌-◌, Bool, false, Option, None, Some, cond, nat_le}
 use Rattle.loop_rules.specs.declared.deadlines.Period.{Period}
 use Rattle.loop_rules.specs.declared.deadlines.Period.TheVariants as period
 use Rattle.loop_rules.specs.declared.deadlines.Overdue.{Overdue}
@@ -18,3 +18,7 @@ overdue_at period.Knocks age stalled = cond (nat_le 10000 age) overdue.Cut overd
 overdue_at period.Served age stalled = cond (is_stuck stalled) overdue.Fail overdue.Nothing
 overdue_at period.Sends age stalled = cond (is_stuck stalled) overdue.Close overdue.Nothing
 overdue_at period.Ends age stalled = cond (nat_le 2000 age) overdue.Close overdue.Nothing
+
+-- no byte of attachments has come for 30 s
+abbrev pub are_given_up : ℕ → ℕ → Bool
+are_given_up moved now = nat_le 30000 (now - moved)

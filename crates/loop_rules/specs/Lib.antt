@@ -5,7 +5,10 @@ pub mod Looks
 pub mod Mailboxes
 pub mod Notes
 pub mod Owners
+pub mod Parts
+pub mod Receiving
 pub mod Rosters
 pub mod Rotas
 pub mod Takers
 pub mod Stints
+pub mod Unfinished

@@ -1,7 +1,7 @@
 //! How long a connection may take.
 
 ghost use Rattle.std.specs.Prelude.{◌≡◌};
-ghost use Rattle.loop_rules.specs.Deadlines.{overdue_at};
+ghost use Rattle.loop_rules.specs.Deadlines.{are_given_up, overdue_at};
 
 /// How long a request may take to come, in milliseconds.
 const REQUEST: u64 = 10_000;
@@ -14,6 +14,9 @@ const PROBE: u64 = 10_000;
 
 /// How long a connection may take nothing of what is to be sent.
 const STALL: u64 = 30_000;
+
+/// How long attachments of which no byte comes are waited for, in milliseconds.
+const ATTACHMENTS: u64 = 30_000;
 
 /// How long a connection may take to end.
 const END: u64 = 2_000;
@@ -67,4 +70,11 @@ pub fn find_overdue(period: Period, age: u64, stalled: Option<u64>) -> Overdue
         Period::Ends if age >= END => Overdue::Close,
         _ => Overdue::Nothing,
     }
+}
+
+/// Whether attachments whose bytes last moved at a moment are given up.
+pub fn are_given_up(moved: u64, now: u64) -> bool
+    ensures { result ≡ are_given_up moved now }
+{
+    now.saturating_sub(moved) >= ATTACHMENTS
 }

@@ -2,13 +2,15 @@
 
 ghost use Rattle.std.specs.Prelude.{◌≡◌, ◌⊎◌, [], OnOk, IfErr, IsOkAnd};
 ghost use Rattle.tungstenite.specs.Connection.{write_step};
-ghost use Rattle.tungstenite.specs.Socket.{Writes, content_of};
+ghost use Rattle.tungstenite.specs.Socket.{IsFresh, Writes, content_of};
+ghost use Rattle.websocket.specs.declared.protocol.config.Role.TheVariants.{Server};
 ghost use Rattle.events.specs.declared.peer.PeerFault.TheVariants.{Memory, Device};
 ghost use Rattle.peers.specs.Heard.{to_send};
 ghost use Rattle.peers.specs.Sent.{AddsFrame};
 ghost use Rattle.peers.specs.Spoken.{Sends};
 ghost use Rattle.peers.specs.Rounds.{client_of, first_stage, has_read_nothing, is_idle};
 
+use crate::accept::renewed;
 use crate::incoming::{Incoming, read_incoming};
 use crate::moments::Moments;
 use crate::socket_stage::{Phase, SocketRequest, SocketStage};
@@ -62,6 +64,27 @@ impl<S: Drop, M> SocketPeer<S, M> {
         SocketPeer {
             alloc,
             socket,
+            moments,
+            stage,
+        }
+    }
+
+    /// The same peer over the same stream, with a WebSocket by which nothing was read or sent: so the
+    /// buffers that grew are given back. What was read and not brought is lost, so none is to be there.
+    pub fn renewed(self) -> SocketPeer<S, M>
+        ensures fresh { IsFresh result.socket self.socket.stream Server }
+        ensures stage { result.stage ≡ self.stage }
+        ensures moments { result.moments ≡ self.moments }
+    {
+        let SocketPeer {
+            alloc,
+            socket,
+            moments,
+            stage,
+        } = self;
+        SocketPeer {
+            alloc,
+            socket: renewed(alloc, socket),
             moments,
             stage,
         }

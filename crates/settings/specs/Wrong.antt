@@ -11,8 +11,8 @@ use Rattle.settings.specs.declared.settings.Settings.{Settings}
 abbrev pub has_no_time : Timing → Bool
 has_no_time t = t.ping_interval == 0 || t.ping_timeout == 0 || t.connect_timeout == 0
 
--- the first setting that is wrong: with the keeper there are as many workers as an id can tell, and no more than
--- 1,000,000 bytes are taken
+-- the first setting that is wrong: with the keeper there are as many workers as an id can tell, no more than
+-- 1,000,000 bytes are taken, and what is received has at least 1 MiB
 abbrev pub wrong_setting : Settings → Option Setting
 wrong_setting s =
     first_refusal
@@ -21,5 +21,6 @@ wrong_setting s =
     ∷ (s.poll_entries == 0, setting.PollEntries)
     ∷ (has_no_time s.timing, setting.Timing)
     ∷ (s.max_payload == 0 || nat_lt 1000000 s.max_payload, setting.MaxPayload)
+    ∷ (nat_lt s.receiving 1048576, setting.Receiving)
     ∷ (is_bad_config s.hub, setting.Limits)
     ∷ [])

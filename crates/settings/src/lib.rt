@@ -3,4 +3,4 @@
 
 mod settings;
 
-pub use settings::{MOST_BYTES, NUMBERS, Setting, Settings, TIMING, usual_hub};
+pub use settings::{LEAST_RECEIVING, MOST_BYTES, NUMBERS, Setting, Settings, TIMING, usual_hub};

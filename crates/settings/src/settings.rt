@@ -19,6 +19,9 @@ const MOST_WORKERS: usize = 1_023;
 /// The most bytes of a request's body, and of a frame.
 pub const MOST_BYTES: u64 = 1_000_000;
 
+/// The fewest bytes of which all that is received may be bounded: more than one request has.
+pub const LEAST_RECEIVING: u64 = 1_048_576;
+
 /// When a client is pinged and given up: pings each 25 s, 20 s for the answer, 45 s to join a
 /// namespace.
 pub const TIMING: Timing = Timing {
@@ -67,6 +70,8 @@ pub enum Setting {
     Timing,
     /// No byte in a payload, or more than are taken.
     MaxPayload,
+    /// Too few bytes for what is being received.
+    Receiving,
     /// The hub allows no such limits or namespaces.
     Limits,
 }
@@ -79,6 +84,7 @@ impl fmt::Display for Setting {
             Setting::PollEntries => "number of entries in a payload",
             Setting::Timing => "timing",
             Setting::MaxPayload => "size of payloads",
+            Setting::Receiving => "bound of what is received",
             Setting::Limits => "limits",
         })
     }
@@ -108,6 +114,10 @@ pub struct Settings {
     /// How many bytes a payload may have, as clients are told: 1 to 1,000,000. The server takes so
     /// many of each, whatever it told.
     pub max_payload: u64,
+    /// How many bytes all that is being received may have together, at least 1,048,576: requests
+    /// and messages that aren't whole, and attachments of packets that aren't. Each loop has an equal
+    /// share of it.
+    pub receiving: usize,
     /// How many connections, one after another, one loop is given before the next one is, at least
     /// 1. Who comes at the same time is often in the same rooms, and one loop serves these without
     /// waking another.
@@ -130,7 +140,7 @@ impl Settings {
     pub fn usual(alloc: Global, port: u16, workers: usize) -> Result<Settings, AllocError>
         ensures asked { IfOk result (λ s. (s.port ≡ port) × (s.workers ≡ workers)) }
         ensures usual { IfOk result (λ s. (s.hub ≡ usual.hub) × (s.timing ≡ usual.timing)
-            × (s.max_payload ≡ 1000000)) }
+            × (s.max_payload ≡ 1000000) × (s.receiving ≡ 268435456)) }
     {
         Ok(Settings {
             host: String::from_str(alloc, "127.0.0.1")?,
@@ -140,6 +150,7 @@ impl Settings {
             hub: usual_hub(alloc)?,
             timing: TIMING,
             max_payload: MOST_BYTES,
+            receiving: 268_435_456,
             together: 16,
             poll_entries: 15,
             origins: Vec::new(alloc),
@@ -179,6 +190,8 @@ impl Settings {
             Some(Setting::Timing)
         } else if self.max_payload == 0 || self.max_payload > MOST_BYTES {
             Some(Setting::MaxPayload)
+        } else if (self.receiving as u64) < LEAST_RECEIVING {
+            Some(Setting::Receiving)
         } else if self.hub.is_bad() {
             Some(Setting::Limits)
         } else {

@@ -1,8 +1,8 @@
 //! The connections of a loop, and which of them have something to do.
 
 use crate::service::Service;
-use crate::tcp_connection::{Connection, Mode};
-use loop_rules::{Overdue, Period, Roster};
+use crate::tcp_connection::{Connection, Mode, Next};
+use loop_rules::{Overdue, Pause, Period, Receiving, Roster};
 use mio::event::Event;
 use mio::{Interest, Registry, Token};
 use slab::Slab;
@@ -17,6 +17,8 @@ pub struct Connections<'a, R> {
     slots: Slab<Box<Connection<'a, R>>>,
     /// Those that have something to do, and the clients that are listed with theirs.
     pub roster: Roster,
+    /// What of all that comes isn't whole, and who isn't read on.
+    pub receiving: Receiving,
     /// Those that may have bytes to send, in the order in which they were noted. So a client that
     /// upgrades is told that its probe was heard before its GET ends, and sends no other one.
     unsent: VecDeque<usize>,
@@ -25,16 +27,24 @@ pub struct Connections<'a, R> {
 /// Written out, so that a crate above takes the drop of all that lies in it by this one call.
 impl<R: Drop> Drop for Connections<'_, R> {
     fn drop(self) {
-        let_go!(self; slots, roster, unsent);
+        let_go!(self; slots, roster, receiving, unsent);
     }
 }
 
+/// Nothing is unfinished of a connection that is gone, and it goes on no more.
+fn forget(receiving: &mut Receiving, key: usize) {
+    // These need no memory.
+    let _ = receiving.messages.note(key as u128, 0, 0);
+    let _ = receiving.settle(key, 0);
+}
+
 impl<'a, R: Clock + Drop> Connections<'a, R> {
-    /// None yet.
-    pub fn new(alloc: Global) -> Connections<'a, R> {
+    /// None yet. So many bytes that aren't whole are the loop's share.
+    pub fn new(alloc: Global, share: usize) -> Connections<'a, R> {
         Connections {
             slots: Slab::new(alloc),
             roster: Roster::new(alloc),
+            receiving: Receiving::new(alloc, share),
             unsent: VecDeque::new(alloc),
         }
     }
@@ -75,12 +85,105 @@ impl<'a, R: Clock + Drop> Connections<'a, R> {
 
     /// Takes a connection out.
     pub fn take(&mut self, key: usize) -> Option<Box<Connection<'a, R>>> {
+        forget(&mut self.receiving, key);
         let connection = self.slots.try_remove(key)?;
         self.roster.rota.dismiss(key);
         if let Some(client) = connection.service.client() {
             self.roster.takers.release(client, key);
         }
         Some(connection)
+    }
+
+    /// What a connection does next. It is read as far as there is room for what isn't whole.
+    pub fn next(&mut self, key: usize, alloc: Global, now: u64) -> Next {
+        let attached = self.bytes_attached(key);
+        let limit = self.receiving.limit(key).saturating_sub(attached);
+        let Some(connection) = self.slots.get_mut(key) else {
+            forget(&mut self.receiving, key);
+            return Next::Pauses(Pause::Done);
+        };
+        connection.read_up_to(limit);
+        let next = connection.next(alloc, now);
+        self.settle(key, attached, now);
+        next
+    }
+
+    /// How many bytes of attachments the client has begun to send that takes over this connection.
+    fn bytes_attached(&self, key: usize) -> usize {
+        let attachments = &self.receiving.attachments;
+        if attachments.sum() == 0 {
+            return 0;
+        }
+        let connection = self.slots.get(key);
+        let client = connection.and_then(|connection| connection.service.client());
+        let taker = client.filter(|client| self.roster.takers.is_taker(*client, key));
+        taker.map_or(0, |client| attachments.bytes(client))
+    }
+
+    /// A connection has been read: what came of it is counted, and it is held where that is much.
+    fn settle(&mut self, key: usize, attached: usize, now: u64) {
+        let Some(connection) = self.slots.get_mut(key) else {
+            return;
+        };
+        let bytes = connection.service.bytes_unfinished();
+        // Where there is no memory to count it, it counts as it was before.
+        let _ = self.receiving.messages.note(key as u128, bytes, now);
+        if connection.held {
+            return;
+        }
+        let is_receiving = connection.is_receiving();
+        let own = if is_receiving { bytes.saturating_add(attached) } else { 0 };
+        match self.receiving.settle(key, own) {
+            Ok(held) => connection.held = held,
+            // Where there is no memory to list it, it is looked at again.
+            Err(_) => self.roster.rota.call(key),
+        }
+    }
+
+    /// Calls the first connection that is held, if it may be read on now.
+    pub fn call_held(&mut self, now: u64) {
+        let Some(key) = self.receiving.pop() else {
+            return;
+        };
+        self.release(key, now);
+        self.roster.rota.call(key);
+    }
+
+    /// A connection isn't held any more. The attachments of its client, which had to wait, may come on.
+    fn release(&mut self, key: usize, now: u64) {
+        let Some(connection) = self.slots.get_mut(key) else {
+            return;
+        };
+        connection.held = false;
+        if let Some(client) = connection.service.client() {
+            self.receiving.attachments.keep(client, now);
+        }
+    }
+
+    /// A client whose attachments are given up, since no byte of them came for long. Where its connection
+    /// is held, they wait for that.
+    pub fn find_stale(&mut self, now: u64) -> Option<u128> {
+        for _ in 0..usize::MAX {
+            let client = self.receiving.attachments.find_stale(now)?;
+            if !self.is_held(client) {
+                return Some(client);
+            }
+            self.keep_attached(client, now);
+        }
+        None
+    }
+
+    /// Whether the connection of a client is held.
+    fn is_held(&self, client: u128) -> bool {
+        match self.roster.takers.of(client) {
+            Some(key) => self.slots.get(key).is_some_and(|connection| connection.held),
+            None => false,
+        }
+    }
+
+    /// The attachments of a client had to wait until now.
+    fn keep_attached(&mut self, client: u128, now: u64) {
+        self.receiving.attachments.keep(client, now);
     }
 
     /// What is put for this client goes to this connection from now on.
@@ -121,6 +224,13 @@ impl<'a, R: Clock + Drop> Connections<'a, R> {
         }
         if event.is_writable() {
             self.note_unsent(key);
+        }
+    }
+
+    /// A beat has come, between two events: a connection gives back its buffers where nobody uses them.
+    pub fn give_back(&mut self, key: usize, alloc: Global) {
+        if let Some(connection) = self.slots.get_mut(key) {
+            connection.give_back(alloc);
         }
     }
 

@@ -14,8 +14,8 @@ use std::rt::Clock;
 use std::{io, mem};
 use tcp_streams::{Rules, Stream};
 
-/// How many bytes one read asks for.
-const READ: usize = 8_192;
+/// How many bytes one read asks for at the most; one of a WebSocket asks for fewer.
+pub(crate) const READ: usize = 8_192;
 
 /// How many such reads one stint makes.
 const READS: usize = 16;
@@ -86,6 +86,33 @@ impl<'a, R: Clock + Drop> Service<'a, R> {
         matches!(self, Service::Polling(peer) if peer.is_idle())
     }
 
+    /// Whether it is read for a request or for messages, so that it may be held.
+    pub fn is_receiving(&self) -> bool {
+        matches!(self, Service::Gathering { .. } | Service::Speaking(_))
+    }
+
+    /// How many bytes came of a request or a message that isn't whole.
+    pub fn bytes_unfinished(&mut self) -> usize {
+        if !self.is_receiving() {
+            return 0;
+        }
+        self.stream().map_or(0, |stream| stream.unbrought)
+    }
+
+    /// Gives back the buffers of a WebSocket of which nothing is unbrought, between two of its events.
+    pub fn renew(&mut self, alloc: Global) {
+        if !self.is_socket() {
+            return;
+        }
+        if let Service::Speaking(peer) = mem::replace(self, Service::Gone) {
+            let peer = Box::into_inner(peer).renewed();
+            // Where the memory that was just given back is refused, the connection ends.
+            if let Ok(peer) = Box::new(alloc, peer) {
+                *self = Service::Speaking(peer);
+            }
+        }
+    }
+
     /// The stream, which nobody has any more then. None where somebody serves it.
     pub fn take_stream(&mut self) -> Option<Stream> {
         match mem::replace(self, Service::Gone) {
@@ -133,7 +160,7 @@ impl<'a, R: Clock + Drop> Service<'a, R> {
         for _ in 0..READS {
             match stream.read(&mut bytes) {
                 Ok(0) => return None,
-                Ok(_) => {}
+                Ok(count) => stream.unbrought = stream.unbrought.saturating_sub(count),
                 Err(error) if error.kind() == ErrorKind::WouldBlock => return Some(Pause::Done),
                 Err(_) => return None,
             }

@@ -1,10 +1,10 @@
 //! One connection.
 
-use crate::service::{Service, of_peer};
-use events::{Answered, Event, Frames, Loss, Outcome, Peer, Retry, WsFrame};
+use crate::service::{READ, Service, of_peer};
+use events::{Answered, Event, Loss, Outcome, Peer, Retry, WsFrame};
 use http_edge::{EdgeError, Gathered, Request};
 use loop_rules::{Found, Overdue, Pause, Period, find_overdue, left_after_message};
-use peers::{FRAMES_PER_TAKE, PROBE, UPGRADE};
+use peers::{PROBE, UPGRADE};
 use std::alloc::Global;
 use std::net::Shutdown;
 use std::rt::Clock;
@@ -36,6 +36,8 @@ pub enum Mode {
 pub struct Connection<'a, R> {
     /// It stands in the list of those with bytes to send.
     pub unsent: bool,
+    /// It stands in the list of those that aren't read on.
+    pub held: bool,
     pub mode: Mode,
     /// The core was told of its loss, and isn't told again.
     told: bool,
@@ -53,7 +55,7 @@ pub struct Connection<'a, R> {
 /// Written out, so that a crate above takes the drop of all that lies in it by this one call.
 impl<R: Drop> Drop for Connection<'_, R> {
     fn drop(self) {
-        let_go!(self; unsent, mode, told, since, moved, not_before, asked, service);
+        let_go!(self; unsent, held, mode, told, since, moved, not_before, asked, service);
     }
 }
 
@@ -92,6 +94,7 @@ impl<'a, R: Clock + Drop> Connection<'a, R> {
         let gathered = Gathered::new(alloc);
         let connection = Connection {
             unsent: false,
+            held: false,
             mode: Mode::Gathers,
             told: false,
             since: now,
@@ -106,6 +109,15 @@ impl<'a, R: Clock + Drop> Connection<'a, R> {
     /// How many of its bytes wait to be sent.
     pub fn bytes_unsent(&mut self) -> usize {
         self.service.stream().map_or(0, |stream| stream.unsent())
+    }
+
+    /// A beat has come: its buffers are given back where nobody uses them.
+    pub(crate) fn give_back(&mut self, alloc: Global) {
+        let stream = self.service.stream();
+        let gives_back = stream.is_some_and(|stream| stream.give_back());
+        if gives_back && matches!(self.mode, Mode::Serves) {
+            self.service.renew(alloc);
+        }
     }
 
     /// Whether so much is unsent that it is not to be served.
@@ -123,8 +135,22 @@ impl<'a, R: Clock + Drop> Connection<'a, R> {
         find_overdue(period, now.saturating_sub(self.since), stalled)
     }
 
+    /// Whether it is read for a request or for messages, so that it may be held.
+    pub(crate) fn is_receiving(&self) -> bool {
+        matches!(self.mode, Mode::Gathers | Mode::Serves) && self.service.is_receiving()
+    }
+
+    /// It is read until it has so many bytes that aren't whole. One that receives no more is read to its
+    /// end.
+    pub(crate) fn read_up_to(&mut self, most: usize) {
+        let most = if self.is_receiving() { most } else { usize::MAX };
+        if let Some(stream) = self.service.stream() {
+            stream.most = most;
+        }
+    }
+
     /// What it does next.
-    pub fn next(&mut self, alloc: Global, now: u64) -> Next {
+    pub(crate) fn next(&mut self, alloc: Global, now: u64) -> Next {
         match self.mode {
             Mode::Gathers => self.service.read(alloc).unwrap_or_else(Next::Refuses),
             Mode::Serves => self.serve(now),
@@ -172,7 +198,9 @@ impl<'a, R: Clock + Drop> Connection<'a, R> {
             _ => None,
         };
         if let (Some(stream), Some(length)) = (self.service.stream(), length) {
-            stream.unbrought = left_after_message(stream.unbrought, length);
+            // Behind a message stands no more than one read brought.
+            let left = left_after_message(stream.unbrought, length);
+            stream.unbrought = left.min(READ);
         }
         if matches!(event, Event::Tick { .. }) {
             if moment < self.asked.saturating_add(DUE) {
@@ -199,12 +227,11 @@ impl<'a, R: Clock + Drop> Connection<'a, R> {
             self.fail(now);
             return None;
         }
-        let took_all = |frames: &Frames| frames.as_slice().len() < FRAMES_PER_TAKE;
         Some(match got {
             _ if of_peer!(&self.service, peer => peer.is_idle(), true) => Found::Idle,
             Ok(Outcome::Ticked { ping, done }) if !*ping && done.closed.is_none() => Found::Quiet,
             Ok(Outcome::Nothing) if dry => Found::Dry,
-            Ok(Outcome::Frames(frames)) if dry && took_all(frames) => Found::Dry,
+            Ok(Outcome::Frames(frames)) if dry && !frames.has_more() => Found::Dry,
             _ => Found::More,
         })
     }

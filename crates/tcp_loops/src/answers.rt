@@ -1,7 +1,7 @@
 //! What a loop does with the requests of its connections, and with the answers to their events.
 
 use crate::event_loop::EventLoop;
-use events::{Answered, Cause, CoreError, CoreFault, Outcome};
+use events::{Answered, Cause, CoreError, CoreFault, Done, Outcome};
 use http_edge::{EdgeError, Request, Status, Target, direct};
 use loop_rules::{Decision, owner_of};
 use metrics::Reason;
@@ -96,7 +96,7 @@ impl<R: Wait + Clock + Copy + Drop, L: Log> EventLoop<'_, R, L> {
     pub(crate) fn hear(&mut self, got: &Answered) {
         let (base, now) = (self.base, self.watch.now());
         let Some(key) = self.current else {
-            return;
+            return self.hear_loss(got, now);
         };
         let Some(connection) = self.connections.get_mut(key) else {
             return;
@@ -128,6 +128,36 @@ impl<R: Wait + Clock + Copy + Drop, L: Log> EventLoop<'_, R, L> {
         }
     }
 
+    /// The core was told that a client is given up. Where it refused, it is told at the next beat.
+    fn hear_loss(&mut self, got: &Answered, now: u64) {
+        let Some(client) = self.loses.take() else {
+            return;
+        };
+        match got {
+            Ok(Outcome::Lost { done, .. }) => {
+                self.wake_for(done);
+                self.note_end(client, None, now);
+            }
+            Err(error) if error.fault == CoreFault::UnknownClient => {
+                self.note_attached(client, 0, now);
+            }
+            _ => self.gives_up = false,
+        }
+    }
+
+    /// A client has so many bytes of attachments of a packet that isn't whole.
+    fn note_attached(&mut self, client: u128, bytes: usize, now: u64) {
+        // Where there is no memory to count them, they count as before.
+        let _ = self.connections.receiving.attachments.note(client, bytes, now);
+    }
+
+    /// An event put something for others.
+    fn wake_for(&mut self, done: &Done) {
+        let (lists, loops) = (done.clients.lists(), self.base.rules.loops);
+        let roster = &mut self.connections.roster;
+        roster.wake_lists(self.number, loops, lists, &mut self.notes);
+    }
+
     /// Notes whom the answer to an event of a connection concerns.
     fn note(&mut self, key: usize, got: &Answered, now: u64) {
         let service = self.connections.get_mut(key).map(|it| &it.service);
@@ -141,9 +171,10 @@ impl<R: Wait + Clock + Copy + Drop, L: Log> EventLoop<'_, R, L> {
             Outcome::Done(done) | Outcome::Lost { done, .. } | Outcome::Ticked { done, .. },
         ) = got
         {
-            let (lists, loops) = (done.clients.lists(), self.base.rules.loops);
-            let roster = &mut self.connections.roster;
-            roster.wake_lists(self.number, loops, lists, &mut self.notes);
+            self.wake_for(done);
+        }
+        if let Ok(Outcome::Done(done)) = got {
+            self.note_attached(client, done.unfinished, now);
         }
         if self.comes_over && matches!(got, Ok(Outcome::Done(_))) {
             self.connections.assign(client, key);
@@ -176,6 +207,7 @@ impl<R: Wait + Clock + Copy + Drop, L: Log> EventLoop<'_, R, L> {
     /// It may have ended the client, which the client's other connection finds out when it takes.
     fn note_error(&mut self, client: u128, key: usize, error: &CoreError, now: u64) {
         if error.fault == CoreFault::UnknownClient {
+            self.note_attached(client, 0, now);
             self.base.note_end(client, None, now);
         }
         let has_done = error.packets > 0 || error.effects > 0;
@@ -187,6 +219,7 @@ impl<R: Wait + Clock + Copy + Drop, L: Log> EventLoop<'_, R, L> {
 
     /// A client has ended, which its waiting GET is to be told.
     fn note_end(&mut self, client: u128, cause: Option<Cause>, now: u64) {
+        self.note_attached(client, 0, now);
         self.connections.roster.wake(client);
         self.base.note_end(client, cause, now);
     }

@@ -1,7 +1,7 @@
 //! A loop that serves many connections: one peer, which brings the events of all of their clients.
 
 use crate::base::Base;
-use events::{Done, Event, Outcome};
+use events::{Done, Event, Loss, Outcome};
 use loop_rules::{LookState, Mail, Notes, Pause, Stint};
 use mio::Events;
 use peers::Moments;
@@ -45,6 +45,10 @@ pub struct EventLoop<'a, R, L> {
     pub(crate) delays: Delays,
     /// The connection whose stint it is.
     pub(crate) current: Option<usize>,
+    /// The client that is given up, of which the core is told, where it is no connection's stint.
+    pub(crate) loses: Option<u128>,
+    /// Clients are to be looked for that are given up.
+    pub(crate) gives_up: bool,
     /// Whether the event that it brought has its client come over to it.
     pub(crate) comes_over: bool,
     pub(crate) stint: Stint,
@@ -64,11 +68,13 @@ impl<'a, R: Wait + Clock + Copy + Drop, L: Log> EventLoop<'a, R, L> {
             watch: base.watch,
             ears,
             events: Events::with_capacity(alloc, EVENTS)?,
-            connections: Connections::new(alloc),
+            connections: Connections::new(alloc, base.rules.receiving / base.rules.loops),
             mail: Mail::new(alloc),
             notes: Notes::new(alloc, base.rules.loops)?,
             delays: Delays::new(alloc),
             current: None,
+            loses: None,
+            gives_up: false,
             comes_over: false,
             stint: Stint::begin(),
             stints_left: 0,
@@ -85,7 +91,13 @@ impl<'a, R: Wait + Clock + Copy + Drop, L: Log> EventLoop<'a, R, L> {
             if let Some(brought) = self.current.and_then(|key| self.step(key)) {
                 return Some(brought);
             }
-            if self.current.is_none() && !self.pick() {
+            if self.current.is_some() {
+                continue;
+            }
+            if let Some(brought) = self.give_up() {
+                return Some(brought);
+            }
+            if !self.pick() {
                 break;
             }
         }
@@ -97,10 +109,25 @@ impl<'a, R: Wait + Clock + Copy + Drop, L: Log> EventLoop<'a, R, L> {
         None
     }
 
+    /// Tells of a client whose attachments don't come on that it is lost, if there is one.
+    fn give_up(&mut self) -> Option<(Event, u64)> {
+        if !self.gives_up {
+            return None;
+        }
+        let now = self.watch.now();
+        self.loses = self.connections.find_stale(now);
+        self.gives_up = self.loses.is_some();
+        Some((Loss::new(self.loses?).event(), now))
+    }
+
     /// The next connection gets its stint; where none has anything to do, the loop's round ends, and the
     /// next begins once it has waited for streams, for what others hand in, or for the next moment at
     /// which something is due. Answers whether the loop goes on.
     fn pick(&mut self) -> bool {
+        if self.connections.receiving.has_next() {
+            let now = self.watch.now();
+            self.connections.call_held(now);
+        }
         if self.stints_left > 0 {
             if let Some(key) = self.connections.roster.rota.pop() {
                 self.stints_left -= 1;
@@ -138,7 +165,8 @@ impl<'a, R: Wait + Clock + Copy + Drop, L: Log> EventLoop<'a, R, L> {
     fn time_to_sleep(&mut self) -> u64 {
         let inbox = self.base.shared.inboxes.get(self.number);
         let sleeps = |inbox: &Inbox| inbox.falls_asleep(self.base.rt);
-        if !self.connections.roster.rota.is_quiet() || !inbox.is_none_or(sleeps) {
+        let has_next = self.connections.receiving.has_next();
+        if has_next || !self.connections.roster.rota.is_quiet() || !inbox.is_none_or(sleeps) {
             return 0;
         }
         let due = self.delays.first().unwrap_or(self.beat).min(self.beat);
@@ -174,9 +202,11 @@ impl<'a, R: Wait + Clock + Copy + Drop, L: Log> EventLoop<'a, R, L> {
             return;
         }
         self.beat = now.saturating_add(BEAT);
+        self.gives_up = true;
         self.delays.forget_old(now);
         let cutting = self.base.shared.standing(self.base.rt).cutting;
         for key in 0..self.connections.keys_below() {
+            self.connections.give_back(key, self.base.alloc);
             if self.connections.keep_deadline(key, cutting, now) {
                 self.close(key);
             }
@@ -221,11 +251,7 @@ impl<'a, R: Wait + Clock + Copy + Drop, L: Log> EventLoop<'a, R, L> {
     /// The next event of a connection, if it has one. The stint of one that is gone is over.
     fn step(&mut self, key: usize) -> Option<(Event, u64)> {
         let (alloc, now) = (self.base.alloc, self.watch.now());
-        let next = match self.connections.get_mut(key) {
-            Some(connection) => connection.next(alloc, now),
-            None => Next::Pauses(Pause::Done),
-        };
-        match next {
+        match self.connections.next(key, alloc, now) {
             Next::Requests(request) => self.direct(key, request),
             Next::Refuses(fault) => self.refuse(key, fault),
             Next::Brings(event, moment) => {

@@ -4,11 +4,8 @@ ghost use Rattle.std.specs.Prelude.{◌≤◌, length};
 
 use mio::net::TcpStream;
 use std::alloc::Global;
-use std::io;
 use std::io::{ErrorKind, Read, Write};
-
-/// A buffer that grew past this, in bytes, is given back once it is empty.
-const KEPT: usize = 200_000;
+use std::{io, mem};
 
 /// What a connection reads and writes.
 pub type Stream = Box<Buffered>;
@@ -25,8 +22,14 @@ pub struct Buffered {
     cut: bool,
     /// How many bytes at the most were read of which its reader has brought no message yet.
     pub unbrought: usize,
+    /// With so many of these nothing is read, as if nothing had come.
+    pub most: usize,
     output: Vec<u8>,
     sent: usize,
+    // Something was read or written since the last beat.
+    used: bool,
+    // So it was since buffers were given back.
+    kept: bool,
     ghost in_output: { sent ≤ length output.items },
 }
 
@@ -39,8 +42,11 @@ impl Buffered {
             ended: false,
             cut: false,
             unbrought: 0,
+            most: usize::MAX,
             output: Vec::new(alloc),
             sent: 0,
+            used: false,
+            kept: false,
         }
     }
 
@@ -63,11 +69,20 @@ impl Buffered {
 
     fn forget(&mut self) {
         self.sent = 0;
-        if self.output.capacity() > KEPT {
-            self.output = Vec::new(*self.output.allocator());
-        } else {
-            self.output.clear();
+        self.output.clear();
+    }
+
+    /// A beat has come: where nothing was read or written since the last one, and nothing waits, the
+    /// output buffer is given back. Until then it stays, since who sends in one round sends in the next.
+    /// Answers whether the buffers of who reads and writes are to be given back too.
+    pub fn give_back(&mut self) -> bool {
+        let was_used = mem::replace(&mut self.used, false);
+        if was_used || self.unsent() > 0 || self.unbrought > 0 {
+            return false;
         }
+        self.sent = 0;
+        self.output = Vec::new(*self.output.allocator());
+        mem::replace(&mut self.kept, false)
     }
 
     /// Sends what waits, as far as the stream takes it, and tells how many bytes that were.
@@ -90,10 +105,11 @@ impl Buffered {
 
 impl Read for Buffered {
     fn read(&mut self, buf: &mut [u8]) -> io::Result<usize> {
+        self.kept = true;
         if self.cut {
             return Ok(0);
         }
-        if self.drained {
+        if self.drained || self.unbrought >= self.most {
             return Err(io::Error::from(ErrorKind::WouldBlock));
         }
         let read = self.inner.read(buf);
@@ -101,6 +117,7 @@ impl Read for Buffered {
             Ok(count) => {
                 self.drained = *count < buf.len() && !self.ended;
                 self.unbrought = self.unbrought.saturating_add(*count);
+                self.used = true;
             }
             Err(error) => self.drained = error.kind() == ErrorKind::WouldBlock,
         }
@@ -111,6 +128,8 @@ impl Read for Buffered {
 impl Write for Buffered {
     fn write(&mut self, buf: &[u8]) -> io::Result<usize> {
         if !self.cut {
+            self.used = true;
+            self.kept = true;
             self.output.extend_from_slice(buf)?;
         }
         Ok(buf.len())

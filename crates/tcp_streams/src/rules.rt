@@ -17,6 +17,8 @@ pub struct Rules {
     pub loops: usize,
     /// How many entries one payload over HTTP may have.
     pub poll_entries: usize,
+    /// How many bytes all that is being received may have together.
+    pub receiving: usize,
     /// The origins of the pages that are served, `*` for all. Where there are none, all are.
     pub origins: Vec<String>,
     /// The files that are served beside the socket's path.
@@ -60,6 +62,7 @@ pub fn rules_and_limits(
         timing: settings.timing,
         loops: settings.workers,
         poll_entries: settings.poll_entries,
+        receiving: settings.receiving,
         origins: settings.origins,
         page: settings.page,
         metrics: settings.metrics,
