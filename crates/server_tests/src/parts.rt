@@ -3,6 +3,7 @@
 
 mod engine_io;
 mod lines;
+mod outboxes;
 mod play;
 mod rooms;
 mod sessions;
