@@ -140,7 +140,7 @@ impl Outbox {
         Ok(())
     }
 
-    /// Takes the newest entry away again. It takes no memory, and gives none back.
+    /// Takes the newest entry away again.
     pub fn pop_newest(&mut self)
         ensures { self.new ≡ record self.old {
           waiting = take (length self.old.waiting - 1) self.old.waiting;
@@ -161,6 +161,7 @@ impl Outbox {
         for _turn in 0..count {
             self.pop_newest();
         }
+        self.give_back();
     }
 
     /// Takes the oldest entry away.
