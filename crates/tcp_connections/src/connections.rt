@@ -33,9 +33,26 @@ impl<R: Drop> Drop for Connections<'_, R> {
 
 /// Nothing is unfinished of a connection that is gone, and it goes on no more.
 fn forget(receiving: &mut Receiving, key: usize) {
-    // These need no memory.
-    let _ = receiving.messages.note(key as u128, 0, 0);
+    note_come(receiving, key, 0, 0);
+    // Who has little isn't listed, so that no memory is needed.
     let _ = receiving.settle(key, 0);
+}
+
+/// A client has so many bytes of attachments of a packet that isn't whole.
+fn note_attached(receiving: &mut Receiving, client: u128, bytes: usize, now: u64) {
+    // Where there is no memory to count them, they count as before.
+    let _ = receiving.attachments.note(client, bytes, now);
+}
+
+/// The attachments of a client had to wait until now.
+fn keep_attached(receiving: &mut Receiving, client: u128, now: u64) {
+    receiving.attachments.keep(client, now);
+}
+
+/// Of a request or a message that isn't whole so many bytes have come over a connection.
+fn note_come(receiving: &mut Receiving, key: usize, bytes: usize, now: u64) {
+    // Where there is no memory to count them, they count as before.
+    let _ = receiving.messages.note(key as u128, bytes, now);
 }
 
 impl<'a, R: Clock + Drop> Connections<'a, R> {
@@ -126,8 +143,7 @@ impl<'a, R: Clock + Drop> Connections<'a, R> {
             return;
         };
         let bytes = connection.service.bytes_unfinished();
-        // Where there is no memory to count it, it counts as it was before.
-        let _ = self.receiving.messages.note(key as u128, bytes, now);
+        note_come(&mut self.receiving, key, bytes, now);
         if connection.held {
             return;
         }
@@ -156,7 +172,7 @@ impl<'a, R: Clock + Drop> Connections<'a, R> {
         };
         connection.held = false;
         if let Some(client) = connection.service.client() {
-            self.receiving.attachments.keep(client, now);
+            keep_attached(&mut self.receiving, client, now);
         }
     }
 
@@ -168,7 +184,7 @@ impl<'a, R: Clock + Drop> Connections<'a, R> {
             if !self.is_held(client) {
                 return Some(client);
             }
-            self.keep_attached(client, now);
+            keep_attached(&mut self.receiving, client, now);
         }
         None
     }
@@ -181,9 +197,9 @@ impl<'a, R: Clock + Drop> Connections<'a, R> {
         }
     }
 
-    /// The attachments of a client had to wait until now.
-    fn keep_attached(&mut self, client: u128, now: u64) {
-        self.receiving.attachments.keep(client, now);
+    /// A client has so many bytes of attachments of a packet that isn't whole.
+    pub fn note_attached(&mut self, client: u128, bytes: usize, now: u64) {
+        note_attached(&mut self.receiving, client, bytes, now);
     }
 
     /// What is put for this client goes to this connection from now on.

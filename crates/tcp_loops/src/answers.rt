@@ -139,16 +139,10 @@ impl<R: Wait + Clock + Copy + Drop, L: Log> EventLoop<'_, R, L> {
                 self.note_end(client, None, now);
             }
             Err(error) if error.fault == CoreFault::UnknownClient => {
-                self.note_attached(client, 0, now);
+                self.connections.note_attached(client, 0, now);
             }
             _ => self.gives_up = false,
         }
-    }
-
-    /// A client has so many bytes of attachments of a packet that isn't whole.
-    fn note_attached(&mut self, client: u128, bytes: usize, now: u64) {
-        // Where there is no memory to count them, they count as before.
-        let _ = self.connections.receiving.attachments.note(client, bytes, now);
     }
 
     /// An event put something for others.
@@ -174,7 +168,7 @@ impl<R: Wait + Clock + Copy + Drop, L: Log> EventLoop<'_, R, L> {
             self.wake_for(done);
         }
         if let Ok(Outcome::Done(done)) = got {
-            self.note_attached(client, done.unfinished, now);
+            self.connections.note_attached(client, done.unfinished, now);
         }
         if self.comes_over && matches!(got, Ok(Outcome::Done(_))) {
             self.connections.assign(client, key);
@@ -207,7 +201,7 @@ impl<R: Wait + Clock + Copy + Drop, L: Log> EventLoop<'_, R, L> {
     /// It may have ended the client, which the client's other connection finds out when it takes.
     fn note_error(&mut self, client: u128, key: usize, error: &CoreError, now: u64) {
         if error.fault == CoreFault::UnknownClient {
-            self.note_attached(client, 0, now);
+            self.connections.note_attached(client, 0, now);
             self.base.note_end(client, None, now);
         }
         let has_done = error.packets > 0 || error.effects > 0;
@@ -219,7 +213,7 @@ impl<R: Wait + Clock + Copy + Drop, L: Log> EventLoop<'_, R, L> {
 
     /// A client has ended, which its waiting GET is to be told.
     fn note_end(&mut self, client: u128, cause: Option<Cause>, now: u64) {
-        self.note_attached(client, 0, now);
+        self.connections.note_attached(client, 0, now);
         self.connections.roster.wake(client);
         self.base.note_end(client, cause, now);
     }
