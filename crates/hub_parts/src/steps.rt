@@ -74,7 +74,12 @@ fn held_by(what: &What) -> u64
             size_of(back.rooms.len(), ROOM).saturating_add(size_of(back.missed.len(), OFFSET))
         }
         What::AllJoined(change) | What::AllLeft(change) => {
-            lists_size(change.rooms.len(), change.excepted.len(), change.changed.len(), 0)
+            lists_size(
+                change.rooms.len(),
+                change.excepted.len(),
+                change.changed.len(),
+                0,
+            )
         }
         What::Cast(cast) => {
             let lists = lists_size(cast.rooms.len(), cast.excepted.len(), cast.dropped.len(), 0);
@@ -82,7 +87,12 @@ fn held_by(what: &What) -> u64
         }
         What::Told(message) => entry_size(&message.entry),
         What::AllEnded(all) => {
-            lists_size(all.rooms.len(), all.excepted.len(), all.ended.len(), all.told.len())
+            lists_size(
+                all.rooms.len(),
+                all.excepted.len(),
+                all.ended.len(),
+                all.told.len(),
+            )
         }
         _ => 0,
     }

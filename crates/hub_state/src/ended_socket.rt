@@ -35,6 +35,7 @@ impl EndedSocket {
     pub(crate) fn size(&self) -> u64
         ensures { result ≡ min (ended_size self.now) u64.MAX }
     {
-        ROOM.saturating_mul(self.rooms.len() as u64).saturating_add(SOCKET)
+        ROOM.saturating_mul(self.rooms.len() as u64)
+            .saturating_add(SOCKET)
     }
 }

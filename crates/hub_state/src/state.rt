@@ -170,8 +170,9 @@ impl State {
         if config.is_bad() {
             return Err(HubError::BadConfig);
         }
-        let log = PacketLog::new(alloc, config.log, config.log_bytes, config.first_offset)
-            .map_err(|_| HubError::Memory)?;
+        let log = PacketLog::new(alloc, config.log, config.log_bytes, config.first_offset).map_err(
+            |_| HubError::Memory,
+        )?;
         let limits = Limits::new(alloc, config)?;
         let config = limits.config();
         let base = empty_base(alloc, config);

@@ -157,12 +157,7 @@ fn save(
 }
 
 /// A log of at most so many broadcasts of so many bytes, the first with this offset.
-fn log(
-    alloc: Global,
-    limit: usize,
-    bytes: usize,
-    first: u64,
-) -> Result<PacketLog, RecoveryError>
+fn log(alloc: Global, limit: usize, bytes: usize, first: u64) -> Result<PacketLog, RecoveryError>
     requires limit { 1 ≤ limit }
     requires first { 1 ≤ first }
 {
@@ -217,7 +212,11 @@ fn logs(rt: HostRuntime) -> Result<(), RecoveryError> {
     ];
     play(&rt, &mut log(rt.alloc(), 3, usize::MAX, 1)?, LAST_THREE);
     play(&rt, &mut log(rt.alloc(), 3, usize::MAX, 1)?, MISSED);
-    play(&rt, &mut log(rt.alloc(), 1, usize::MAX, u64::MAX)?, GREATEST_OFFSET);
+    play(
+        &rt,
+        &mut log(rt.alloc(), 1, usize::MAX, u64::MAX)?,
+        GREATEST_OFFSET,
+    );
     play(&rt, &mut log(rt.alloc(), 9, 20, 1)?, OF_TWENTY_BYTES);
     play(&rt, &mut log(rt.alloc(), 9, 5, 1)?, OF_FIVE_BYTES);
     assert!(rt; PacketLog::new(rt.alloc(), usize::MAX, 1, 1).is_err());
