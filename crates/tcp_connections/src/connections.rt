@@ -148,7 +148,11 @@ impl<'a, R: Clock + Drop> Connections<'a, R> {
             return;
         }
         let is_receiving = connection.is_receiving();
-        let own = if is_receiving { bytes.saturating_add(attached) } else { 0 };
+        let own = if is_receiving {
+            bytes.saturating_add(attached)
+        } else {
+            0
+        };
         match self.receiving.settle(key, own) {
             Ok(held) => connection.held = held,
             // Where there is no memory to list it, it is looked at again.
@@ -192,7 +196,10 @@ impl<'a, R: Clock + Drop> Connections<'a, R> {
     /// Whether the connection of a client is held.
     fn is_held(&self, client: u128) -> bool {
         match self.roster.takers.of(client) {
-            Some(key) => self.slots.get(key).is_some_and(|connection| connection.held),
+            Some(key) => self
+                .slots
+                .get(key)
+                .is_some_and(|connection| connection.held),
             None => false,
         }
     }

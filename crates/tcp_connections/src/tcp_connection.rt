@@ -143,7 +143,11 @@ impl<'a, R: Clock + Drop> Connection<'a, R> {
     /// It is read until it has so many bytes that aren't whole. One that receives no more is read to its
     /// end.
     pub(crate) fn read_up_to(&mut self, most: usize) {
-        let most = if self.is_receiving() { most } else { usize::MAX };
+        let most = if self.is_receiving() {
+            most
+        } else {
+            usize::MAX
+        };
         if let Some(stream) = self.service.stream() {
             stream.most = most;
         }

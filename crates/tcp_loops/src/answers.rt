@@ -173,7 +173,8 @@ impl<R: Wait + Clock + Copy + Drop, L: Log> EventLoop<'_, R, L> {
             self.wake_for(done);
         }
         if let Ok(Outcome::Done(done)) = got {
-            self.connections.note_attached(client, unfinished_of(done), now);
+            self.connections
+                .note_attached(client, unfinished_of(done), now);
         }
         if self.comes_over && matches!(got, Ok(Outcome::Done(_))) {
             self.connections.assign(client, key);

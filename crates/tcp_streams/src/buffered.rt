@@ -22,7 +22,7 @@ pub struct Buffered {
     cut: bool,
     /// How many bytes at the most were read of which its reader has brought no message yet.
     pub unbrought: usize,
-    /// With so many of these nothing is read, as if nothing had come.
+    /// With so many of these nothing is read, as if nothing had come, until the other side has ended.
     pub most: usize,
     output: Vec<u8>,
     sent: usize,
@@ -67,6 +67,11 @@ impl Buffered {
         self.output.len() - self.sent
     }
 
+    // What came before the last byte is little, and its reader is done then.
+    fn is_held(&self) -> bool {
+        self.unbrought >= self.most && !self.ended
+    }
+
     fn forget(&mut self) {
         self.sent = 0;
         self.output.clear();
@@ -109,7 +114,7 @@ impl Read for Buffered {
         if self.cut {
             return Ok(0);
         }
-        if self.drained || self.unbrought >= self.most {
+        if self.drained || self.is_held() {
             return Err(io::Error::from(ErrorKind::WouldBlock));
         }
         let read = self.inner.read(buf);
