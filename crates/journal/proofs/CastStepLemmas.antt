@@ -1,14 +1,13 @@
 -- What a broadcast makes of a hub.
-use Rattle.std.proofs.Common.{◌≡◌, ℕ, ◌+◌, ◌-◌, ◌^◌, ◌≤◌, ◌==◌, zero, suc, Bool, true, false, ◌&&◌, ◌||◌, not, List, [], ◌∷◌, ◌++◌, length, drop, filter, map, max, refl, sym, ◌∙◌, ap, subst, arith, if◌then◌else◌, Option, None, Some, nat_eq, nat_lt, append-nil, length-append}
+use Rattle.std.proofs.Common.{◌≡◌, ℕ, ◌+◌, ◌^◌, ◌≤◌, ◌==◌, suc, Bool, true, false, ◌&&◌, ◌||◌, not, List, [], ◌∷◌, ◌++◌, length, filter, map, max, refl, sym, ◌∙◌, ap, subst, arith, if◌then◌else◌, Option, None, Some, nat_eq, nat_lt, append-nil, length-append}
 use Rattle.std.specs.Prelude.{is_some, IfSome}
 use Rattle.std.specs.List.{list_any, find, flat_map, IsDistinct, AllByRecursion}
 use Rattle.std.specs.Option.{option_map, option_map_or}
 use Rattle.std.proofs.lemmas.Bool.{eqb-true}
-use Rattle.std.proofs.lemmas.List.{drop_all}
 use Rattle.terms.specs.declared.entry.Entry.{Entry}
 use Rattle.room_maps.specs.Membership.{RoomSets}
 use Rattle.room_maps.specs.Addressed as broadcast
-use Rattle.recovery.specs.PacketLog.{LogContents, LogCall, PlainLogged, Pushed, with_entry, offset_at, next_after, newest, kept, IsRun, Rises, latest}
+use Rattle.recovery.specs.PacketLog.{LogContents, PlainLogged, Pushed, with_entry, offset_at, next_after, newest, kept, IsRun, Rises, latest}
 use Rattle.recovery.specs.SavedTable.{PlainSaved, TableContents}
 use Rattle.recovery.proofs.PacketLogLemmas.{kept-pushed, run_newest}
 use Rattle.room_maps.specs.Membership.{are_too_many}

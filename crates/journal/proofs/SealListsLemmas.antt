@@ -1,5 +1,5 @@
 -- Sockets in the order of their clients, and a log as pushes alone.
-use Rattle.std.proofs.Common.{◌≡◌, ◌≢◌, ℕ, ◌+◌, ◌-◌, ◌<◌, ◌≤◌, ◌==◌, Bool, true, false, ◌&&◌, ◌||◌, not, List, [], ◌∷◌, ◌++◌, length, filter, map, reverse, max, refl, sym, ◌∙◌, ap, subst, arith, if◌then◌else◌, None, Some, nat_eq, nat_lt, append-nil, length-append}
+use Rattle.std.proofs.Common.{◌≡◌, ◌≢◌, ℕ, ◌≤◌, ◌==◌, Bool, true, false, ◌&&◌, ◌||◌, List, [], ◌∷◌, ◌++◌, filter, map, reverse, max, refl, sym, ◌∙◌, ap, subst, arith, if◌then◌else◌, None, Some, nat_eq, append-nil}
 use Rattle.std.specs.List.{list_any, find, flat_map, IsDistinct, AllByRecursion}
 use Rattle.std.specs.Set.{is_member}
 use Rattle.std.proofs.lemmas.Bool.{eqb-true, eq-eqb}

@@ -1,11 +1,10 @@
 -- What a sweep makes of a hub.
-use Rattle.std.proofs.Common.{◌≡◌, ℕ, ◌+◌, ◌≤◌, Bool, true, false, List, [], ◌∷◌, ◌++◌, length, filter, max, refl, sym, ◌∙◌, ap, subst, arith, if◌then◌else◌, Option, None, nat_eq, append-nil}
+use Rattle.std.proofs.Common.{◌≡◌, ℕ, ◌+◌, ◌≤◌, Bool, true, false, List, ◌∷◌, length, filter, max, refl, sym, ◌∙◌, ap, subst, arith, Option, None, nat_eq}
 use Rattle.std.specs.Prelude.{is_some}
 use Rattle.std.specs.List.{take_while, IsDistinct, AllByRecursion}
 use Rattle.room_maps.specs.Membership.{RoomSets, AreConsistent, is_socket, are_too_many}
 use Rattle.recovery.specs.Expiry.{is_outdated}
 use Rattle.recovery.specs.PacketLog.{PlainLogged, LogContents, IsRun, Rises, latest, is_fresh, swept}
-use Rattle.recovery.specs.PacketLog as packets
 use Rattle.recovery.specs.SavedTable.{PlainSaved, TableContents, is_alive, table_swept}
 use Rattle.recovery.proofs.PacketLogLemmas.{kept-swept, kept_rises, run_dropped, swept_front}
 use Rattle.journal.specs.declared.socket.Socket.{Socket}

@@ -1,15 +1,14 @@
 -- What one push or sweep more does to the broadcasts that a history leaves.
-use Rattle.std.proofs.Common.{◌≡◌, ℕ, zero, suc, ◌+◌, ◌-◌, ◌^◌, ◌<◌, ◌≤◌, ◌==◌, Bool, true, false, not, ◌&&◌, ◌||◌, max, List, [], ◌∷◌, ◌++◌, length, drop, filter, refl, sym, ap, subst, ◌∙◌, arith, length-append, append_assoc, append-nil, ⊎_elim, if◌then◌else◌, None, Some}
-use Rattle.std.specs.Prelude.{nat_lt, nat_le}
+use Rattle.std.proofs.Common.{◌≡◌, ℕ, zero, suc, ◌+◌, ◌-◌, ◌^◌, ◌<◌, ◌≤◌, ◌==◌, Bool, true, false, not, ◌||◌, max, List, [], ◌∷◌, ◌++◌, length, drop, filter, refl, sym, ap, subst, ◌∙◌, arith, length-append, append_assoc, append-nil, if◌then◌else◌, None, Some}
+use Rattle.std.specs.Prelude.{nat_lt}
 use Rattle.std.specs.List.{list_any, take_while, prefix_len, find, slice_get}
 use Rattle.std.proofs.lemmas.List.{length-drop}
 use Rattle.std.proofs.lemmas.List.Folds.{length-prefix_len}
 use Rattle.std.proofs.lemmas.List.Sums.{prefix_len-le-length}
-use Rattle.std.proofs.lemmas.Bool.{cases_lt}
 use Rattle.std.proofs.lemmas.Bool.Decides.{nat_tests}
 use Rattle.std.proofs.lemmas.List.Elements.{filter-append}
 use Rattle.recovery.specs.Expiry.{is_outdated}
-use Rattle.recovery.specs.PacketLog.{PlainLogged, LogContents, LogCall, Pushed, Swept, logged_bytes, fits, pushed, pushes, latest, drops, unswept, kept, Rises, IsNumbered, IsRun, IsLogOf, IsLog, RisesTo, is_fresh, newest, next_after, offset_at, number_of, with_entry, swept, stands, later_than, IsIndex, HasNone}
+use Rattle.recovery.specs.PacketLog.{PlainLogged, LogContents, LogCall, Pushed, Swept, fits, pushed, pushes, latest, drops, unswept, kept, Rises, IsNumbered, IsRun, IsLogOf, IsLog, RisesTo, is_fresh, newest, next_after, offset_at, number_of, with_entry, swept, stands, later_than, IsIndex, HasNone}
 use Rattle.recovery.proofs.LatestLemmas.{bytes_more, bytes_dropped, bytes_filtered, length_filtered, fewer_fit, none_fit, newest_drop, newest_end, newest_fits, newest_whole, newest_less, newest_again}
 
 -- ---- tests of numbers and of truth values

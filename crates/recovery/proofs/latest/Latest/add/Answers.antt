@@ -1,7 +1,7 @@
-use Rattle.std.proofs.Common.{◌≡◌, ◌∷◌, [], ◌++◌, true, ap, sym, subst, ◌∙◌}
+use Rattle.std.proofs.Common.{◌∷◌, [], ◌++◌, ap, ◌∙◌}
 use Rattle.circular_buffer.specs.Buffer.{Buffer}
 use Rattle.recovery.specs.declared.packet_log.Logged.{Logged}
-use Rattle.recovery.specs.PacketLog.{PlainLogged, fits}
+use Rattle.recovery.specs.PacketLog.{PlainLogged}
 use Rattle.recovery.specs.Latest.{Shelf, shelf}
 use Rattle.recovery.proofs.LatestLemmas.{added_beside, left_out}
 use Rattle.recovery.proofs.latest.Latest.add.Goals as goal

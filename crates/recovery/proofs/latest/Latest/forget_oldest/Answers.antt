@@ -1,4 +1,4 @@
-use Rattle.std.proofs.Common.{◌≡◌, ◌+◌, ◌≤◌, arith, sym, ap, ◌∙◌}
+use Rattle.std.proofs.Common.{arith, ap, ◌∙◌}
 use Rattle.recovery.specs.PacketLog.{logged_size, logged_bytes}
 use Rattle.recovery.proofs.LatestLemmas.{bytes_front, known_size}
 use Rattle.recovery.proofs.latest.Latest.forget_oldest.Goals as goal

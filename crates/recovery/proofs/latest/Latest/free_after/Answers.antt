@@ -1,6 +1,6 @@
-use Rattle.std.proofs.Common.{◌≡◌, ◌+◌, ◌-◌, ◌<◌, ◌≤◌, ◌⊎◌, ⊎_elim, length, [], ◌∷◌, ◌++◌, true, false, Bool, subst, arith, ◌∙◌, IfNone, sym, refl}
+use Rattle.std.proofs.Common.{◌≡◌, ◌+◌, ◌-◌, ◌<◌, ⊎_elim, [], ◌∷◌, ◌++◌, true, false, Bool, subst, arith}
 use Rattle.recovery.specs.PacketLog.{PlainLogged, fits, logged_size, logged_bytes}
-use Rattle.recovery.specs.Latest.{Shelf, shelf}
+use Rattle.recovery.specs.Latest.{Shelf}
 use Rattle.recovery.proofs.LatestLemmas.{bytes_push, has_space, lacks_place, lacks_bytes}
 use Rattle.recovery.proofs.latest.Latest.free_after.Goals as goal
 
