@@ -111,7 +111,8 @@ impl<'a, R: Clock + Drop> Connections<'a, R> {
         Some(connection)
     }
 
-    /// What a connection does next. It is read as far as there is room for what isn't whole.
+    /// What a connection does next. It is read as far as there is room for what isn't whole, and a
+    /// request of a client with much of that brings its packets where there is room for more.
     pub fn next(&mut self, key: usize, alloc: Global, now: u64) -> Next {
         let attached = self.bytes_attached(key);
         let limit = self.receiving.limit(key).saturating_sub(attached);
@@ -120,21 +121,29 @@ impl<'a, R: Clock + Drop> Connections<'a, R> {
             return Next::Pauses(Pause::Done);
         };
         connection.read_up_to(limit);
-        let next = connection.next(alloc, now);
+        let next = if connection.posts && limit == 0 {
+            Next::Pauses(Pause::Done)
+        } else {
+            connection.next(alloc, now)
+        };
         self.settle(key, attached, now);
         next
     }
 
-    /// How many bytes of attachments the client has begun to send that takes over this connection.
+    /// How many bytes of attachments the client has begun to send that takes over this connection, or
+    /// whose packets its request has.
     fn bytes_attached(&self, key: usize) -> usize {
         let attachments = &self.receiving.attachments;
         if attachments.sum() == 0 {
             return 0;
         }
-        let connection = self.slots.get(key);
-        let client = connection.and_then(|connection| connection.service.client());
-        let taker = client.filter(|client| self.roster.takers.is_taker(*client, key));
-        taker.map_or(0, |client| attachments.bytes(client))
+        let Some(connection) = self.slots.get(key) else {
+            return 0;
+        };
+        let takers = &self.roster.takers;
+        let sends = |client: &u128| connection.posts || takers.is_taker(*client, key);
+        let client = connection.service.client().filter(sends);
+        client.map_or(0, |client| attachments.bytes(client))
     }
 
     /// A connection has been read: what came of it is counted, and it is held where that is much.
@@ -267,6 +276,7 @@ impl<'a, R: Clock + Drop> Connections<'a, R> {
         let speaks = |client| !service.is_socket() || takers.is_taker(client, key);
         let period = match connection.mode {
             Mode::Gathers => Period::Request,
+            Mode::Serves if connection.posts => Period::Request,
             Mode::Loses(_) | Mode::Closes if !cutting => Period::Sends,
             Mode::Loses(_) | Mode::Closes | Mode::Lingers => Period::Ends,
             Mode::Serves if service.is_waiting() => Period::Waits,

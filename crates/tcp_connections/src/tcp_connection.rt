@@ -38,6 +38,8 @@ pub struct Connection<'a, R> {
     pub unsent: bool,
     /// It stands in the list of those that aren't read on.
     pub held: bool,
+    /// Its request has packets that it hasn't brought yet.
+    pub posts: bool,
     pub mode: Mode,
     /// The core was told of its loss, and isn't told again.
     told: bool,
@@ -55,7 +57,7 @@ pub struct Connection<'a, R> {
 /// Written out, so that a crate above takes the drop of all that lies in it by this one call.
 impl<R: Drop> Drop for Connection<'_, R> {
     fn drop(self) {
-        let_go!(self; unsent, held, mode, told, since, moved, not_before, asked, service);
+        let_go!(self; unsent, held, posts, mode, told, since, moved, not_before, asked, service);
     }
 }
 
@@ -95,6 +97,7 @@ impl<'a, R: Clock + Drop> Connection<'a, R> {
         let connection = Connection {
             unsent: false,
             held: false,
+            posts: false,
             mode: Mode::Gathers,
             told: false,
             since: now,
@@ -135,9 +138,11 @@ impl<'a, R: Clock + Drop> Connection<'a, R> {
         find_overdue(period, now.saturating_sub(self.since), stalled)
     }
 
-    /// Whether it is read for a request or for messages, so that it may be held.
+    /// Whether it is read for a request or for messages, or is to bring packets, so that it may be held.
     pub(crate) fn is_receiving(&self) -> bool {
-        matches!(self.mode, Mode::Gathers | Mode::Serves) && self.service.is_receiving()
+        let is_read = matches!(self.mode, Mode::Gathers | Mode::Serves)
+            && self.service.is_receiving();
+        is_read || self.posts
     }
 
     /// It is read until it has so many bytes that aren't whole. One that receives no more is read to its
@@ -192,6 +197,7 @@ impl<'a, R: Clock + Drop> Connection<'a, R> {
 
     /// Brings an event, unless it asks what is due, a moment after that was asked.
     fn bring(&mut self, event: Event, moment: u64) -> Next {
+        self.posts = false;
         let length = match &event {
             Event::Frame { frame, .. } => match frame {
                 WsFrame::Text(text) => Some(text.as_str().len()),
@@ -243,6 +249,7 @@ impl<'a, R: Clock + Drop> Connection<'a, R> {
     /// From now on it is about this.
     pub fn turn_to(&mut self, mode: Mode, now: u64) {
         self.mode = mode;
+        self.posts = false;
         self.since = now;
     }
 

@@ -88,6 +88,7 @@ impl<R: Wait + Clock + Copy + Drop, L: Log> EventLoop<'_, R, L> {
             let service = &mut connection.service;
             let served = service.serve(base.alloc, request, target, watch, base.rules);
             connection.turn_to(served.unwrap_or(Mode::Closes), now);
+            connection.posts = matches!(target, Target::Post(_));
             connection.not_before = self.delays.delay(target, key, now);
         }
     }
