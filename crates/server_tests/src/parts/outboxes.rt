@@ -38,7 +38,7 @@ struct Look {
     waits: [(Option<usize>, Option<usize>); 4],
 }
 
-fn look(state: &State) -> Look {
+fn seen(state: &State) -> Look {
     let mut waits = [(None, None); 4];
     for client in 0..4usize {
         let number = client as u128;
@@ -64,9 +64,9 @@ impl Part for State {
     /// A call for which memory is refused leaves all as it was; where it doesn't, the row's answer
     /// is another one.
     fn act(&mut self, alloc: Global, row: &Row) -> Result<bool, HubError> {
-        let before = look(self);
+        let before = seen(self);
         let done = does(self, alloc, row);
-        if done == Err(HubError::Memory) && look(self) != before {
+        if done == Err(HubError::Memory) && seen(self) != before {
             return Ok(false);
         }
         done
