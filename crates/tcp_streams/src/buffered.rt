@@ -7,6 +7,10 @@ use std::alloc::Global;
 use std::io::{ErrorKind, Read, Write};
 use std::{io, mem};
 
+/// An output buffer that grew past this, in bytes, is given back as soon as it is empty: the next
+/// connection that sends much takes the same memory.
+const KEPT: usize = 32_768;
+
 /// What a connection reads and writes.
 pub type Stream = Box<Buffered>;
 
@@ -74,7 +78,11 @@ impl Buffered {
 
     fn forget(&mut self) {
         self.sent = 0;
-        self.output.clear();
+        if self.output.capacity() > KEPT {
+            self.output = Vec::new(*self.output.allocator());
+        } else {
+            self.output.clear();
+        }
     }
 
     /// A beat has come: where nothing was read or written since the last one, and nothing waits, the
