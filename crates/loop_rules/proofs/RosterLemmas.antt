@@ -1,10 +1,11 @@
 -- Who was told stays told.
-use Rattle.std.proofs.Common.{◌≡◌, ℕ, ◌+◌, ◌<◌, ◌⊎◌, inl, inr, List, [], slice_index_or, sym, subst, arith}
+use Rattle.std.proofs.Common.{◌≡◌, ◌∙◌, refl, true, ℕ, ◌+◌, ◌<◌, ◌⊎◌, inl, inr, List, [], slice_index_or, sym, subst, arith}
 use Rattle.std.proofs.lemmas.Bool.{cases_eq}
 use Rattle.loop_rules.specs.declared.roster.Roster.{Roster}
 use Rattle.loop_rules.specs.declared.roster.Notes.{Notes}
 use Rattle.loop_rules.specs.Rotas.{Waiting, called_at}
-use Rattle.loop_rules.specs.Rosters.{AreTold, Keeps}
+use Rattle.loop_rules.specs.Notes.{is_noted}
+use Rattle.loop_rules.specs.Rosters.{AreTold, Keeps, Remembers}
 use Rattle.loop_rules.proofs.RotaLemmas.{called_keeps, called_long}
 
 -- a call keeps who will look
@@ -23,3 +24,25 @@ pub list_more : (own loops : ℕ) (lists : List (List ℕ)) (i : ℕ) (r : Roste
     → ((k : ℕ) → k < i → AreTold own loops (slice_index_or lists k []) r n) → AreTold own loops (slice_index_or lists i []) r n
     → (k : ℕ) → k < i + 1 → AreTold own loops (slice_index_or lists k []) r n
 list_more own loops lists i r n before here k below = list-at own loops lists i k r n before here below (cases_eq k i)
+
+-- nothing is forgotten where one more was woken
+pub woken_more : (p q r : Roster) (m n : Notes) → Remembers p q m n → r.takers ≡ q.takers → Keeps q.rota.looks r.rota.looks → Remembers p r m n
+woken_more p q r m n before same keeps = record {
+  takers = same ∙ before.takers;
+  looks = record { long = keeps.long ∙ before.looks.long; kept = λ k is. keeps.kept k (before.looks.kept k is) };
+  noted = before.noted;
+}
+
+-- nor where one more was noted
+pub noted_more : (p q : Roster) (l m n : Notes) → Remembers p q l m
+    → ((k c : ℕ) → is_noted k c m ≡ true → is_noted k c n ≡ true) → Remembers p q l n
+noted_more p q l m n before keeps = record {
+  takers = before.takers;
+  looks = before.looks;
+  noted = λ k c is. keeps k c (before.noted k c is);
+}
+
+-- nor over two parts of the way
+pub remembered_on : (p q r : Roster) (l m n : Notes) → Remembers p q l m → Remembers q r m n → Remembers p r l n
+remembered_on p q r l m n before after =
+    noted_more p r l m n (woken_more p q r l m before after.takers after.looks) after.noted

@@ -19,6 +19,10 @@ overdue_at period.Served age stalled = cond (is_stuck stalled) overdue.Fail over
 overdue_at period.Sends age stalled = cond (is_stuck stalled) overdue.Close overdue.Nothing
 overdue_at period.Ends age stalled = cond (nat_le 2000 age) overdue.Close overdue.Nothing
 
--- no byte of attachments has come for 30 s
-abbrev pub are_given_up : ℕ → ℕ → Bool
-are_given_up moved now = nat_le 30000 (now - moved)
+-- no byte of what isn't whole has come for 30 s
+abbrev pub has_stopped : ℕ → ℕ → Bool
+has_stopped moved now = nat_le 30000 (now - moved)
+
+-- who goes on beyond the share of its loop has done so for 30 s
+abbrev pub has_had_its_turn : ℕ → ℕ → Bool
+has_had_its_turn since now = nat_le 30000 (now - since)

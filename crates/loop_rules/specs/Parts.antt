@@ -1,7 +1,7 @@
 -- What isn't whole, of each one by its number.
 use Rattle.std.specs.Prelude.{ℕ, Option, None, Some, cond, find, nat_eq, option_map, sum_by}
 use Rattle.std.specs.HashMap.{HashMap, values}
-use Rattle.loop_rules.specs.Deadlines.{are_given_up}
+use Rattle.loop_rules.specs.Deadlines.{has_stopped}
 use Rattle.loop_rules.specs.declared.unfinished.Part.{Part}
 
 -- how many bytes these are
@@ -26,4 +26,4 @@ kept_until now (Some part) = Some (record part { moved = now })
 
 -- the first one whose bytes didn't change for so long that they are given up, in the map's order
 abbrev pub first_stale : {S : Type 0} → ℕ → HashMap ℕ Part S → Option ℕ
-first_stale now parts = option_map (λ e. e.0) (find (λ e. are_given_up e.1.moved now) parts.entries)
+first_stale now parts = option_map (λ e. e.0) (find (λ e. has_stopped e.1.moved now) parts.entries)

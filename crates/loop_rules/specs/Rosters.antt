@@ -31,3 +31,9 @@ IsTold own loops client r notes = IsToldBy (nat_eq (loop_of client loops) own) (
 abbrev pub AreTold : ℕ → ℕ → List ℕ → Roster → Notes → Type 0
 AreTold own loops clients r notes =
     (k : ℕ) → k < length clients → IsTold own loops (slice_index_or clients k 0) r notes
+
+-- nothing is forgotten: who takes for which client, which connections will look, and who was noted
+pub record Remembers (before after : Roster) (old new : Notes) : Type 0 where
+  pub takers : after.takers ≡ before.takers
+  pub looks : Keeps before.rota.looks after.rota.looks
+  pub noted : (n c : ℕ) → is_noted n c old ≡ true → is_noted n c new ≡ true

@@ -1,7 +1,7 @@
 //! How long a connection may take.
 
 ghost use Rattle.std.specs.Prelude.{◌≡◌};
-ghost use Rattle.loop_rules.specs.Deadlines.{are_given_up, overdue_at};
+ghost use Rattle.loop_rules.specs.Deadlines.{has_stopped, has_had_its_turn, overdue_at};
 
 /// How long a request may take to come, in milliseconds.
 const REQUEST: u64 = 10_000;
@@ -15,8 +15,11 @@ const PROBE: u64 = 10_000;
 /// How long a connection may take nothing of what is to be sent.
 const STALL: u64 = 30_000;
 
-/// How long attachments of which no byte comes are waited for, in milliseconds.
-const ATTACHMENTS: u64 = 30_000;
+/// How long a message or attachments are waited for of which no byte comes.
+const STOP: u64 = 30_000;
+
+/// For how long one goes on that receives beyond its loop's share.
+const TURN: u64 = 30_000;
 
 /// How long a connection may take to end.
 const END: u64 = 2_000;
@@ -72,9 +75,16 @@ pub fn find_overdue(period: Period, age: u64, stalled: Option<u64>) -> Overdue
     }
 }
 
-/// Whether attachments whose bytes last moved at a moment are given up.
-pub fn are_given_up(moved: u64, now: u64) -> bool
-    ensures { result ≡ are_given_up moved now }
+/// Whether what isn't whole comes on no more, where its bytes last moved at a moment.
+pub fn has_stopped(moved: u64, now: u64) -> bool
+    ensures { result ≡ has_stopped moved now }
 {
-    now.saturating_sub(moved) >= ATTACHMENTS
+    now.saturating_sub(moved) >= STOP
+}
+
+/// Whether the turn is over that began at a moment.
+pub fn has_had_its_turn(since: u64, now: u64) -> bool
+    ensures { result ≡ has_had_its_turn since now }
+{
+    now.saturating_sub(since) >= TURN
 }

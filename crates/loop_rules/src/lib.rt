@@ -11,11 +11,11 @@ mod roster;
 mod rota;
 mod unfinished;
 
-pub use deadlines::{Overdue, Period, are_given_up, find_overdue};
+pub use deadlines::{Overdue, Period, find_overdue, has_had_its_turn, has_stopped};
 pub use looks::{Decision, Found, LookState, Pause, Stint, left_after_message};
 pub use mailbox::{Mail, Mailbox};
 pub use owners::{LOOPS, dealt_to, loop_of, marked, owner_of};
-pub use receiving::Receiving;
+pub use receiving::{Receiving, Sender};
 pub use roster::{Notes, Roster, Takers};
 pub use rota::Rota;
 pub use unfinished::Unfinished;

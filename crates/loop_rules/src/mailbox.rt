@@ -67,6 +67,8 @@ impl<H: Drop> Mailbox<H> {
         ensures awake { self.new.asleep ≡ false }
         ensures given { OnTrue result (self.new.mail.handed.items ≡ self.old.mail.handed.items ++ handed ∷ []) }
         ensures refused { OnFalse result (self.new.mail.handed.items ≡ self.old.mail.handed.items) }
+        ensures others { (self.new.mail.woken ≡ self.old.mail.woken)
+            × (self.new.mail.everyone ≡ self.old.mail.everyone) }
     {
         self.asleep = false;
         self.mail.handed.push(handed).is_ok()
@@ -77,6 +79,8 @@ impl<H: Drop> Mailbox<H> {
     pub fn wake(&mut self, clients: &[u128])
         ensures awake { self.new.asleep ≡ false }
         ensures told { mails.Tells clients.now self.old.mail self.new.mail }
+        ensures handed { self.new.mail.handed ≡ self.old.mail.handed }
+        ensures everyone { self.old.mail.everyone ≡ true → self.new.mail.everyone ≡ true }
     {
         self.asleep = false;
         self.mail.everyone |= self.mail.woken.extend_from_slice(clients).is_err();
@@ -85,7 +89,7 @@ impl<H: Drop> Mailbox<H> {
     /// All connections are to be looked at.
     pub fn wake_everyone(&mut self)
         ensures awake { self.new.asleep ≡ false }
-        ensures told { self.new.mail.everyone ≡ true }
+        ensures told { self.new.mail ≡ record self.old.mail { everyone = true } }
     {
         self.asleep = false;
         self.mail.everyone = true;

@@ -2,7 +2,8 @@
 
 ghost use Rattle.std.specs.Prelude.{◌≡◌, ◌≢◌, ◌⊎◌, ◌<◌, ℕ, true, false, None, Some, IfOk, [], length, map, slice_index_or, vec_len};
 ghost use Rattle.loop_rules.specs.Notes.{is_noted};
-ghost use Rattle.loop_rules.specs.Rosters.{AreTold, IsWoken, Keeps};
+ghost use Rattle.loop_rules.specs.Rosters.{AreTold, IsWoken, Keeps, Remembers};
+ghost use Rattle.loop_rules.specs.Rotas.{nobody};
 ghost use Rattle.loop_rules.specs.Takers.{taker_of, is_taker};
 
 use crate::owners::loop_of;
@@ -22,7 +23,8 @@ pub struct Notes {
 impl Notes {
     /// Nobody is noted yet, for so many loops.
     pub fn new(alloc: Global, loops: usize) -> Result<Notes, AllocError>
-        ensures { IfOk result (λ notes. vec_len notes.lists ≡ loops) }
+        ensures loops { IfOk result (λ notes. vec_len notes.lists ≡ loops) }
+        ensures nobody { IfOk result (λ notes. notes.everyone ≡ false) }
     {
         let mut lists = Vec::new(alloc);
         for _loop in 0..loops {
@@ -71,7 +73,9 @@ impl Takers {
 
     /// What is put for this client goes to this connection from now on.
     pub fn list(&mut self, client: u128, key: usize)
-        ensures listed { (taker_of self.new client ≡ Some key) ⊎ (self.new.unlisted ≡ true) }
+        ensures listed { (taker_of self.new client ≡ Some key)
+            ⊎ ((taker_of self.new client ≡ None) × (self.new.unlisted ≡ true)) }
+        ensures unlisted { self.old.unlisted ≡ true → self.new.unlisted ≡ true }
         ensures others { (c : ℕ) → c ≢ client → taker_of self.new c ≡ taker_of self.old c }
     {
         self.unlisted |= self.keys.insert(client, key).is_err();
@@ -82,6 +86,7 @@ impl Takers {
         ensures released { is_taker (taker_of self.new client) key ≡ false }
         ensures others { (c : ℕ) → c ≢ client → taker_of self.new c ≡ taker_of self.old c }
         ensures same { self.new.unlisted ≡ self.old.unlisted }
+        ensures kept { is_taker (taker_of self.old client) key ≡ false → self.new ≡ self.old }
     {
         if self.is_taker(client, key) {
             let _ = self.keys.remove(&client);
@@ -102,6 +107,7 @@ impl Roster {
     pub fn new(alloc: Global) -> Roster
         ensures none { (c : ℕ) → taker_of result.takers c ≡ None }
         ensures all { result.takers.unlisted ≡ false }
+        ensures rota { result.rota ≡ nobody }
     {
         let (keys, unlisted) = (HashMap::new(alloc), false);
         Roster {
@@ -128,7 +134,8 @@ impl Roster {
     /// each other one is noted.
     pub fn wake_lists(&mut self, own: usize, loops: usize, lists: &[Vec<u128>], notes: &mut Notes)
         requires { 0 < loops }
-        ensures { (k : ℕ) → k < length lists.now →
+        ensures remembers { Remembers self.old self.new notes.old notes.new }
+        ensures told { (k : ℕ) → k < length lists.now →
             AreTold own loops (slice_index_or (map (λ ids. ids.items) lists.now) k []) self.new notes.new }
     {
         for list in lists {

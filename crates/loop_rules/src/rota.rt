@@ -5,6 +5,7 @@ ghost use Rattle.std.specs.VecDeque.{DequeUnchanged, deque_capacity};
 ghost use Rattle.loop_rules.specs.Looks.{is_queued};
 ghost use Rattle.loop_rules.specs.Rotas as rotas;
 ghost use Rattle.loop_rules.specs.Rotas.{IsQuiet, has_stint, look_of, will_look};
+ghost use Rattle.loop_rules.specs.Stints.{left_after};
 
 use crate::looks::{Decision, Found, LookState, Pause, Stint};
 use std::alloc::Global;
@@ -69,6 +70,7 @@ impl Rota {
     /// whether there was memory for it.
     pub fn admit(&mut self, key: usize) -> bool
         ensures known { IsTrue result → key < length self.new.looks }
+        ensures long { length self.new.looks ≤ length self.old.looks + 1 }
         ensures same { (k : ℕ) → look_of self.new.looks k ≡ look_of self.old.looks k }
         ensures ready { self.new.ready ≡ self.old.ready }
         ensures again { self.new.again ≡ self.old.again }
@@ -148,6 +150,7 @@ impl Rota {
     pub fn follow(&mut self, key: usize, stint: &mut Stint, found: Found, full: bool) -> Decision
         ensures decision { result ≡ rotas.decision_at key stint.old found full self.old }
         ensures state { self.new ≡ rotas.followed_at key found result self.old }
+        ensures left { stint.new ≡ left_after stint.old result }
     {
         let Some(mut look) = self.stint_of(key) else {
             return Decision::Rests;

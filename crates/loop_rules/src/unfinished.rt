@@ -3,7 +3,7 @@
 ghost use Rattle.std.specs.Prelude.{◌≡◌, ◌<◌, ◌^◌};
 ghost use Rattle.loop_rules.specs.Parts.{sum_of};
 
-use crate::deadlines::are_given_up;
+use crate::deadlines::has_stopped;
 use std::alloc::Global;
 use std::collections::HashMap;
 
@@ -58,6 +58,10 @@ impl Unfinished {
     pub fn bytes(&self, number: u128) -> usize
         ensures { result ≡ bytes_of self.now number }
     {
+        // Where nobody has any, nobody is looked up.
+        if self.sum == 0 {
+            return 0;
+        }
         self.part(number).map_or(0, |part| part.bytes)
     }
 
@@ -66,7 +70,7 @@ impl Unfinished {
         ensures { result ≡ first_stale now self.now.parts }
     {
         let mut parts = self.parts.iter();
-        match parts.find(|entry| are_given_up(entry.1.moved, now)) {
+        match parts.find(|entry| has_stopped(entry.1.moved, now)) {
             Some((number, _)) => Some(*number),
             None => None,
         }

@@ -2,7 +2,7 @@
 
 use crate::service::Service;
 use crate::tcp_connection::{Connection, Mode, Next};
-use loop_rules::{Overdue, Pause, Period, Receiving, Roster};
+use loop_rules::{Overdue, Pause, Period, Receiving, Roster, Sender};
 use mio::event::Event;
 use mio::{Interest, Registry, Token};
 use slab::Slab;
@@ -31,17 +31,17 @@ impl<R: Drop> Drop for Connections<'_, R> {
     }
 }
 
-/// Nothing is unfinished of a connection that is gone, and it goes on no more.
-fn forget(receiving: &mut Receiving, key: usize) {
-    note_come(receiving, key, 0, 0);
-    // Who has little isn't listed, so that no memory is needed.
-    let _ = receiving.settle(key, 0);
+/// Of a request or a message that isn't whole so many bytes have come over a connection. Answers
+/// whether that is counted: where there is no memory for it, they count as before.
+fn note_come(receiving: &mut Receiving, key: usize, bytes: usize, now: u64) -> bool {
+    receiving.messages.note(key as u128, bytes, now)
 }
 
-/// A client has so many bytes of attachments of a packet that isn't whole.
+/// A client has so many bytes of attachments of a packet that isn't whole. Where there is no memory to
+/// count them, they count as before.
 fn note_attached(receiving: &mut Receiving, client: u128, bytes: usize, now: u64) {
-    // Where there is no memory to count them, they count as before.
     let _ = receiving.attachments.note(client, bytes, now);
+    receiving.note_left(Sender::Client(client), bytes);
 }
 
 /// The attachments of a client had to wait until now.
@@ -49,10 +49,25 @@ fn keep_attached(receiving: &mut Receiving, client: u128, now: u64) {
     receiving.attachments.keep(client, now);
 }
 
-/// Of a request or a message that isn't whole so many bytes have come over a connection.
-fn note_come(receiving: &mut Receiving, key: usize, bytes: usize, now: u64) {
-    // Where there is no memory to count them, they count as before.
-    let _ = receiving.messages.note(key as u128, bytes, now);
+/// What a sender sends over a connection had to wait until now.
+fn keep(receiving: &mut Receiving, key: usize, sender: Sender, now: u64) {
+    receiving.messages.keep(key as u128, now);
+    if let Sender::Client(client) = sender {
+        keep_attached(receiving, client, now);
+    }
+}
+
+/// A connection over which no more of a message comes. It is told once in a while.
+fn find_stopped(receiving: &mut Receiving, now: u64) -> Option<usize> {
+    let number = receiving.messages.find_stale(now)?;
+    receiving.messages.keep(number, now);
+    usize::try_from(number).ok()
+}
+
+/// Nothing is unfinished of a connection that is gone, and it goes on no more.
+fn forget(receiving: &mut Receiving, key: usize) {
+    let _ = note_come(receiving, key, 0, 0);
+    receiving.note_left(Sender::Connection(key), 0);
 }
 
 impl<'a, R: Clock + Drop> Connections<'a, R> {
@@ -111,58 +126,66 @@ impl<'a, R: Clock + Drop> Connections<'a, R> {
         Some(connection)
     }
 
+    /// The request of a connection is whole.
+    pub fn note_whole(&mut self, key: usize) {
+        self.receiving.note_left(Sender::Connection(key), 0);
+    }
+
     /// What a connection does next. It is read as far as there is room for what isn't whole, and a
-    /// request of a client with much of that brings its packets where there is room for more.
+    /// request brings its packets where there is room for them.
     pub fn next(&mut self, key: usize, alloc: Global, now: u64) -> Next {
-        let attached = self.bytes_attached(key);
-        let limit = self.receiving.limit(key).saturating_sub(attached);
+        let sender = self.sender(key);
+        let attached = self.bytes_attached(sender);
+        let limit = self.receiving.limit(sender).saturating_sub(attached);
         let Some(connection) = self.slots.get_mut(key) else {
             forget(&mut self.receiving, key);
             return Next::Pauses(Pause::Done);
         };
         connection.read_up_to(limit);
-        let next = if connection.posts && limit == 0 {
+        let next = if connection.posts && connection.bytes_unfinished() >= limit {
             Next::Pauses(Pause::Done)
         } else {
             connection.next(alloc, now)
         };
-        self.settle(key, attached, now);
+        self.settle(key, sender, attached, now);
         next
     }
 
-    /// How many bytes of attachments the client has begun to send that takes over this connection, or
-    /// whose packets its request has.
-    fn bytes_attached(&self, key: usize) -> usize {
-        let attachments = &self.receiving.attachments;
-        if attachments.sum() == 0 {
-            return 0;
+    /// Who sends over a connection: its client, once it speaks over it.
+    fn sender(&self, key: usize) -> Sender {
+        let connection = self.slots.get(key);
+        let sends = connection.filter(|connection| connection.posts || connection.speaks);
+        let client = sends.and_then(|connection| connection.service.client());
+        client.map_or(Sender::Connection(key), Sender::Client)
+    }
+
+    /// How many bytes of attachments a sender has begun to send.
+    fn bytes_attached(&self, sender: Sender) -> usize {
+        match sender {
+            Sender::Client(client) => self.receiving.attachments.bytes(client),
+            Sender::Connection(_) => 0,
         }
-        let Some(connection) = self.slots.get(key) else {
-            return 0;
-        };
-        let takers = &self.roster.takers;
-        let sends = |client: &u128| connection.posts || takers.is_taker(*client, key);
-        let client = connection.service.client().filter(sends);
-        client.map_or(0, |client| attachments.bytes(client))
     }
 
     /// A connection has been read: what came of it is counted, and it is held where that is much.
-    fn settle(&mut self, key: usize, attached: usize, now: u64) {
+    fn settle(&mut self, key: usize, sender: Sender, attached: usize, now: u64) {
         let Some(connection) = self.slots.get_mut(key) else {
             return;
         };
-        let bytes = connection.service.bytes_unfinished();
-        note_come(&mut self.receiving, key, bytes, now);
-        if connection.held {
+        let bytes = connection.bytes_unfinished();
+        let counted = Receiving::counted(bytes);
+        if counted != connection.counted {
+            if note_come(&mut self.receiving, key, counted, now) {
+                connection.counted = counted;
+            }
+        }
+        if connection.held || !connection.is_receiving() {
             return;
         }
-        let is_receiving = connection.is_receiving();
-        let own = if is_receiving {
-            bytes.saturating_add(attached)
-        } else {
-            0
-        };
-        match self.receiving.settle(key, own) {
+        match self
+            .receiving
+            .settle(key, sender, bytes.saturating_add(attached))
+        {
             Ok(held) => connection.held = held,
             // Where there is no memory to list it, it is looked at again.
             Err(_) => self.roster.rota.call(key),
@@ -171,27 +194,58 @@ impl<'a, R: Clock + Drop> Connections<'a, R> {
 
     /// Calls the first connection that is held, if it may be read on now.
     pub fn call_held(&mut self, now: u64) {
-        let Some(key) = self.receiving.pop() else {
+        let Some(key) = self.receiving.next() else {
             return;
         };
-        self.release(key, now);
+        let sender = self.sender(key);
+        let _ = self.receiving.pop(sender, now);
+        match self.slots.get_mut(key) {
+            Some(connection) if connection.held => connection.held = false,
+            // It is gone, and another one may have its key.
+            _ => self.receiving.note_left(sender, 0),
+        }
+        keep(&mut self.receiving, key, sender, now);
         self.roster.rota.call(key);
     }
 
-    /// A connection isn't held any more. The attachments of its client, which had to wait, may come on.
-    fn release(&mut self, key: usize, now: u64) {
-        let Some(connection) = self.slots.get_mut(key) else {
-            return;
-        };
-        connection.held = false;
-        if let Some(client) = connection.service.client() {
-            keep_attached(&mut self.receiving, client, now);
+    /// A client that is given up: it goes on beyond the share for too long, or no byte came for long of
+    /// a message or of attachments that it has begun to send.
+    pub fn find_given_up(&mut self, now: u64) -> Option<u128> {
+        if let Some(client) = self.find_overdue(now) {
+            return Some(client);
+        }
+        if let Some(client) = self.find_stopped_message(now) {
+            return Some(client);
+        }
+        self.find_stopped_attachments(now)
+    }
+
+    /// The client whose turn to go on beyond the share is over.
+    fn find_overdue(&mut self, now: u64) -> Option<u128> {
+        let sender = self.receiving.find_overdue(now)?;
+        self.receiving.note_left(sender, 0);
+        match sender {
+            Sender::Client(client) => Some(client),
+            Sender::Connection(key) => self.slots.get(key)?.service.client(),
         }
     }
 
-    /// A client whose attachments are given up, since no byte of them came for long. Where its connection
-    /// is held, they wait for that.
-    pub fn find_stale(&mut self, now: u64) -> Option<u128> {
+    /// The client of a connection over which no more of a message comes. Where it is held, that is why.
+    fn find_stopped_message(&mut self, now: u64) -> Option<u128> {
+        for _ in 0..usize::MAX {
+            let key = find_stopped(&mut self.receiving, now)?;
+            let connection = self.slots.get(key);
+            let stopped = connection.filter(|connection| !connection.held);
+            let client = stopped.and_then(|connection| connection.service.client());
+            if client.is_some() {
+                return client;
+            }
+        }
+        None
+    }
+
+    /// A client of whose attachments no more come. Where its connection is held, that is why.
+    fn find_stopped_attachments(&mut self, now: u64) -> Option<u128> {
         for _ in 0..usize::MAX {
             let client = self.receiving.attachments.find_stale(now)?;
             if !self.is_held(client) {
@@ -204,13 +258,9 @@ impl<'a, R: Clock + Drop> Connections<'a, R> {
 
     /// Whether the connection of a client is held.
     fn is_held(&self, client: u128) -> bool {
-        match self.roster.takers.of(client) {
-            Some(key) => self
-                .slots
-                .get(key)
-                .is_some_and(|connection| connection.held),
-            None => false,
-        }
+        let key = self.roster.takers.of(client);
+        let connection = key.and_then(|key| self.slots.get(key));
+        connection.is_some_and(|connection| connection.held)
     }
 
     /// A client has so many bytes of attachments of a packet that isn't whole.
@@ -218,10 +268,21 @@ impl<'a, R: Clock + Drop> Connections<'a, R> {
         note_attached(&mut self.receiving, client, bytes, now);
     }
 
+    /// A request of a client has failed, and left what it has attached as it was.
+    pub fn note_failed(&mut self, client: u128) {
+        let sender = Sender::Client(client);
+        let bytes = self.bytes_attached(sender);
+        self.receiving.note_left(sender, bytes);
+    }
+
     /// What is put for this client goes to this connection from now on.
     pub fn assign(&mut self, client: u128, key: usize) {
         self.roster.wake(client);
         self.roster.takers.list(client, key);
+        if let Some(connection) = self.slots.get_mut(key) {
+            connection.speaks = connection.service.is_socket();
+            self.note_whole(key);
+        }
     }
 
     /// It may have bytes to send. Where there is no memory to note that, it gets a stint, at whose

@@ -91,14 +91,6 @@ impl<'a, R: Clock + Drop> Service<'a, R> {
         matches!(self, Service::Gathering { .. } | Service::Speaking(_))
     }
 
-    /// How many bytes came of a request or a message that isn't whole.
-    pub fn bytes_unfinished(&mut self) -> usize {
-        if !self.is_receiving() {
-            return 0;
-        }
-        self.stream().map_or(0, |stream| stream.unbrought)
-    }
-
     /// Gives back the buffers of a WebSocket of which nothing is unbrought, between two of its events.
     pub fn renew(&mut self, alloc: Global) {
         if !self.is_socket() {
@@ -227,13 +219,14 @@ impl<'a, R: Clock + Drop> Service<'a, R> {
         watch: Watch<R>,
         most: usize,
     ) -> Option<Self> {
-        // What stands after the head is not brought yet.
+        // What stands after the head is not brought yet, nor is a body.
         stream.unbrought = request.rest.len();
         if let Some(wanted) = SocketRequest::of(target) {
             let socket = accept_socket(alloc, stream, request.head, request.rest)?;
             let peer = SocketPeer::new(alloc, socket, watch, wanted);
             return Some(Service::Speaking(Box::new(alloc, peer).ok()?));
         }
+        stream.unbrought = request.body.len();
         let wanted = PollRequest::of(target, request.body)?;
         let wire = OnStream::new(stream);
         let peer = PollPeer::new(alloc, wire, watch, wanted, most, request.origin);

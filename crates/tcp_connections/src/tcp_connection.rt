@@ -6,6 +6,7 @@ use http_edge::{EdgeError, Gathered, Request};
 use loop_rules::{Found, Overdue, Pause, Period, find_overdue, left_after_message};
 use peers::{PROBE, UPGRADE};
 use std::alloc::Global;
+use std::mem;
 use std::net::Shutdown;
 use std::rt::Clock;
 use tcp_streams::Stream;
@@ -40,6 +41,10 @@ pub struct Connection<'a, R> {
     pub held: bool,
     /// Its request has packets that it hasn't brought yet.
     pub posts: bool,
+    /// It is a WebSocket over which its client speaks.
+    pub(crate) speaks: bool,
+    /// How many bytes of its request or message count to the loop's share of what isn't whole.
+    pub(crate) counted: usize,
     pub mode: Mode,
     /// The core was told of its loss, and isn't told again.
     told: bool,
@@ -57,7 +62,7 @@ pub struct Connection<'a, R> {
 /// Written out, so that a crate above takes the drop of all that lies in it by this one call.
 impl<R: Drop> Drop for Connection<'_, R> {
     fn drop(self) {
-        let_go!(self; unsent, held, posts, mode, told, since, moved, not_before, asked, service);
+        let_go!(self; unsent, held, posts, speaks, counted, mode, told, since, moved, not_before, asked, service);
     }
 }
 
@@ -98,6 +103,8 @@ impl<'a, R: Clock + Drop> Connection<'a, R> {
             unsent: false,
             held: false,
             posts: false,
+            speaks: false,
+            counted: 0,
             mode: Mode::Gathers,
             told: false,
             since: now,
@@ -143,6 +150,15 @@ impl<'a, R: Clock + Drop> Connection<'a, R> {
         let is_read = matches!(self.mode, Mode::Gathers | Mode::Serves)
             && self.service.is_receiving();
         is_read || self.posts
+    }
+
+    /// How many bytes came of a request or a message that isn't whole, or of packets that it hasn't
+    /// brought.
+    pub(crate) fn bytes_unfinished(&mut self) -> usize {
+        if !self.is_receiving() {
+            return 0;
+        }
+        self.service.stream().map_or(0, |stream| stream.unbrought)
     }
 
     /// It is read until it has so many bytes that aren't whole. One that receives no more is read to its
@@ -197,7 +213,11 @@ impl<'a, R: Clock + Drop> Connection<'a, R> {
 
     /// Brings an event, unless it asks what is due, a moment after that was asked.
     fn bring(&mut self, event: Event, moment: u64) -> Next {
-        self.posts = false;
+        if mem::replace(&mut self.posts, false) {
+            if let Some(stream) = self.service.stream() {
+                stream.unbrought = 0;
+            }
+        }
         let length = match &event {
             Event::Frame { frame, .. } => match frame {
                 WsFrame::Text(text) => Some(text.as_str().len()),

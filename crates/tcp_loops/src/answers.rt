@@ -90,6 +90,7 @@ impl<R: Wait + Clock + Copy + Drop, L: Log> EventLoop<'_, R, L> {
             connection.turn_to(served.unwrap_or(Mode::Closes), now);
             connection.posts = matches!(target, Target::Post(_));
             connection.not_before = self.delays.delay(target, key, now);
+            self.connections.note_whole(key);
         }
     }
 
@@ -205,6 +206,7 @@ impl<R: Wait + Clock + Copy + Drop, L: Log> EventLoop<'_, R, L> {
             self.connections.note_attached(client, 0, now);
             self.base.note_end(client, None, now);
         }
+        self.connections.note_failed(client);
         let has_done = error.packets > 0 || error.effects > 0;
         if has_done || !self.connections.roster.takers.is_taker(client, key) {
             self.connections.roster.wake(client);

@@ -109,13 +109,13 @@ impl<'a, R: Wait + Clock + Copy + Drop, L: Log> EventLoop<'a, R, L> {
         None
     }
 
-    /// Tells of a client whose attachments don't come on that it is lost, if there is one.
+    /// Tells of a client that is given up that it is lost, if there is one.
     fn give_up(&mut self) -> Option<(Event, u64)> {
         if !self.gives_up {
             return None;
         }
         let now = self.watch.now();
-        self.loses = self.connections.find_stale(now);
+        self.loses = self.connections.find_given_up(now);
         self.gives_up = self.loses.is_some();
         Some((Loss::new(self.loses?).event(), now))
     }
@@ -124,7 +124,7 @@ impl<'a, R: Wait + Clock + Copy + Drop, L: Log> EventLoop<'a, R, L> {
     /// next begins once it has waited for streams, for what others hand in, or for the next moment at
     /// which something is due. Answers whether the loop goes on.
     fn pick(&mut self) -> bool {
-        if self.connections.receiving.has_next() {
+        if self.connections.receiving.next().is_some() {
             let now = self.watch.now();
             self.connections.call_held(now);
         }
@@ -165,7 +165,7 @@ impl<'a, R: Wait + Clock + Copy + Drop, L: Log> EventLoop<'a, R, L> {
     fn time_to_sleep(&mut self) -> u64 {
         let inbox = self.base.shared.inboxes.get(self.number);
         let sleeps = |inbox: &Inbox| inbox.falls_asleep(self.base.rt);
-        let has_next = self.connections.receiving.has_next();
+        let has_next = self.connections.receiving.next().is_some();
         if has_next || !self.connections.roster.rota.is_quiet() || !inbox.is_none_or(sleeps) {
             return 0;
         }
