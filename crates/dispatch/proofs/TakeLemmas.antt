@@ -1,6 +1,5 @@
 -- The packets that a take carries, and that they have a payload.
-use Rattle.std.proofs.Common.{◌≡◌, ◌≢◌, ℕ, zero, suc, ◌+◌, ◌<◌, ◌≤◌, min, max, ◌==◌, Bool, true, false, not, List, [], ◌∷◌, ◌++◌, length, map, take, refl, sym, ◌∙◌, ap, subst, rules, arith, inl, inr, All, Option, None, Some, is_some, slice_get, append_assoc, if◌then◌else◌}
-use Rattle.std.specs.Prelude.{unwrap_or}
+use Rattle.std.proofs.Common.{◌≡◌, ◌≢◌, ℕ, zero, suc, ◌+◌, ◌<◌, ◌≤◌, min, max, ◌==◌, Bool, true, false, not, List, [], ◌∷◌, ◌++◌, length, map, take, refl, sym, ◌∙◌, ap, subst, rules, arith, inl, inr, All, None, Some, Err, slice_get, append_assoc, if◌then◌else◌}
 use Rattle.std.specs.List.{flat_map, list_any, sum_by}
 use Rattle.std.proofs.lemmas.Bool.Decides.{nat_tests}
 use Rattle.std.proofs.lemmas.Grind.{flat_map-append}
@@ -12,26 +11,24 @@ use Rattle.std.proofs.lemmas.Option.{slice_get_cases, slice_get_within}
 use Rattle.eio_wire.specs.declared.packet.Packet.{Packet}
 use Rattle.eio_wire.specs.declared.packet.Packet.TheVariants.{Ping, Message, Binary}
 use Rattle.eio_wire.specs.Payload.{HasWholeData}
+use Rattle.connection.specs.declared.transport.Transport.{Transport}
+use Rattle.connection.specs.Line.{PlainLine}
 use Rattle.terms.specs.declared.entry.Entry.{Entry}
 use Rattle.terms.specs.Entry.{entry_size}
-use Rattle.journal.specs.declared.error.HubError.{HubError}
-use Rattle.journal.specs.declared.error.HubError.TheVariants as hub
 use Rattle.journal.specs.declared.step.What.TheVariants.{Took}
-use Rattle.journal.specs.Command.{refusal}
-use Rattle.journal.specs.Totals.{is_spent}
+use Rattle.journal.specs.Plain.{PlainOutbox}
 use Rattle.journal.specs.Entries.{AllPass}
-use Rattle.journal.specs.Journal.{History, moment_at}
-use Rattle.journal.specs.Membership.{is_open}
+use Rattle.journal.specs.Journal.{History}
 use Rattle.journal.specs.Outboxes.{total_size, waiting}
 use Rattle.journal.proofs.EntriesLemmas.{what-waits}
 use Rattle.journal.proofs.OutboxesLemmas.{take_next}
 use Rattle.journal.proofs.SocketsLemmas.{neither}
-use Rattle.hub_state.specs.Words.{took}
-use Rattle.events.specs.Fault.{IsFault, fault_of}
+use Rattle.hub_state.specs.Words.{outbox_for, took}
+use Rattle.events.specs.declared.fault.CoreFault.{CoreFault}
 use Rattle.effects.specs.Commands.{Makes, StopsAt}
 use Rattle.effects.specs.Following.{is_clean}
 use Rattle.dispatch.specs.Holding.{IsClean}
-use Rattle.dispatch.specs.Takes.{most_taken, IsFitting, packets_of, handed, carried, Counts, FailsToCount}
+use Rattle.dispatch.specs.Takes.{most_taken, IsFitting, IsTaken, packets_of, handed, carried, Take, Counts, FailsToCount, Carries, FindsNothing, TakesFirst}
 
 -- one entry more is carried
 pub carried-more : (ping : Bool) (w : List Entry) (i : ℕ) (e : Entry) → slice_get w i ≡ Some e → carried ping (take i w) ++ packets_of e ≡ carried ping (take (i + 1) w)
@@ -85,6 +82,11 @@ all-fit most w n is small = record {
   longest = λ k past within. absurd (omega (arith, is, past, within));
 }
 
+-- where all that wait fit
+pub small-fit : (most : ℕ) (w : List Entry) (n : ℕ) → n ≡ min most (length w) → total_size w ≤ most_taken → IsFitting most w n
+unfolding total_size
+small-fit most w n is small = all-fit most w n is (omega (arith, sum_by-take-le entry_size w n, small))
+
 -- the entry at an index doesn't fit
 pub front-fits : (most : ℕ) (w : List Entry) (i : ℕ) (e : Entry) → slice_get w i ≡ Some e → i < most → total_size (take i w) ≤ most_taken
     → most_taken < total_size (take i w) + entry_size e → IsFitting most w (max i 1)
@@ -97,21 +99,17 @@ front-fits most w i e is less small large =
       longest = λ k past within. let more = size-longer w (i + 1) k (omega (arith, past)) in omega (arith, more, large, size-more w i e is);
     }
 
+-- as many of a client's outbox
+pub taken : (h : History) (c most n : ℕ) (outbox : PlainOutbox) → outbox ≡ outbox_for h c → IsFitting most outbox.waiting n → IsTaken h c most n
+taken h c most n outbox is fits = subst (λ (o : PlainOutbox). IsFitting most o.waiting n) is fits
+
 -- ---- what a take hands out is counted
 
--- where some are to be taken of some that wait
-pub some-taken : {X : Type 0} (w : List X) (most : ℕ) → 0 < most → is_some (slice_get w 0) ≡ true → 0 < length (take most w)
-some-taken [] most more there = absurd (cc there)
-some-taken (x ∷ w) zero more there = absurd (omega (arith, more))
-some-taken (x ∷ w) (suc most) more there = omega arith
+-- some of those that wait
+some-taken : {X : Type 0} (w : List X) (n : ℕ) → n ≤ length w → 0 < n → 0 < length (take n w)
+some-taken w n within more = omega (arith, length-take n w, within, more)
 
--- and where none are
-pub none-taken : {X : Type 0} (w : List X) (most : ℕ) → is_some (slice_get w 0) ≡ false → take most w ≡ []
-none-taken [] zero none = refl
-none-taken [] (suc most) none = refl
-none-taken (x ∷ w) most none = absurd (cc none)
-
-pub counts-some : (c most now : ℕ) (h g : History) → 0 < length (handed h c most) → Makes h now (took h c most) g → Counts c most now h g
+counts-some : (c most now : ℕ) (h g : History) → 0 < length (handed h c most) → Makes h now (took h c most) g → Counts c most now h g
 counts-some c most now h g some made = on (handed h c most) refl some
   where
     on : (es : List Entry) → handed h c most ≡ es → 0 < length es → elim es as (λ (es : List Entry). Type 0) [ [] ↦ g ≡ h | e ∷ rest ↦ Makes h now (Took c most (length (e ∷ rest))) g ]
@@ -119,23 +117,31 @@ counts-some c most now h g some made = on (handed h c most) refl some
     on (e ∷ rest) is more =
         subst (λ (n : ℕ). Makes h now (Took c most n) g) (sym (length-take most (waiting h.base h.limits h.journal c)) ∙ ap (λ (es : List Entry). length es) is) made
 
-pub counts-none : (c most now : ℕ) (h g : History) → handed h c most ≡ [] → g ≡ h → Counts c most now h g
+counts-none : (c most now : ℕ) (h g : History) → handed h c most ≡ [] → g ≡ h → Counts c most now h g
 counts-none c most now h g none same = rw (none, Counts) same
 
--- the error of a take of some entries
-pub fails-to-count : (c most now : ℕ) (h : History) (e : HubError) → is_open h.base h.journal c ≡ true → 0 < length (handed h c most)
-    → e ≡ unwrap_or (refusal h (moment_at h now) (took h c most)) hub.Memory → FailsToCount c most now h (fault_of e)
-fails-to-count c most now h e open_client some is = on (is_spent h.base h.limits h.journal (took h c most)) (rw open_client refl)
+-- so many of those that wait are taken, or none are
+pub counted : (c n now : ℕ) (h g : History) → n ≤ length (waiting h.base h.limits h.journal c) → (n ≡ 0 → g ≡ h) → (0 < n → Makes h now (took h c n) g) → Counts c n now h g
+counted c zero now h g within none some = counts-none c 0 now h g refl (none refl)
+counted c (suc n) now h g within none some =
+    let more : 0 < suc n = omega arith in
+    counts-some c (suc n) now h g (some-taken (waiting h.base h.limits h.journal c) (suc n) within more) (some more)
+
+-- the error of a take of some of those that wait
+pub fails-to-count : (c n now : ℕ) (h : History) (fault : CoreFault) → n ≤ length (waiting h.base h.limits h.journal c) → 0 < n → StopsAt h now (took h c n) fault → FailsToCount c n now h fault
+fails-to-count c n now h fault within more stops =
+    let w = waiting h.base h.limits h.journal c in
+    inr (some-taken w n within more, subst (λ (m : ℕ). StopsAt h now (Took c n m) fault) (sym (length-take n w)) stops)
+
+-- some are carried, and their take stops
+pub stops-first : (on : Transport) (ping : Bool) (c n now : ℕ) (answer : Take) (fault : CoreFault) (h g : History) (old new : PlainLine) → answer ≡ Err fault → 0 < length (carried ping (handed h c n))
+    → FailsToCount c n now h fault → g ≡ h → new ≡ old → TakesFirst on ping c n now answer h g old new
+stops-first on ping c n now answer fault h g old new is some fails same line =
+    subst (λ (r : Take). TakesFirst on ping c n now r h g old new) (sym is) (inr (by (carried ping (handed h c n)) some))
   where
-    on : (spent : Bool) → refusal h (moment_at h now) (took h c most) ≡ (if spent then Some hub.Spent else None) → FailsToCount c most now h (fault_of e)
-    on false none = inl (ap fault_of (is ∙ ap (λ (o : Option HubError). unwrap_or o hub.Memory) none))
-    on true full =
-        let same : e ≡ hub.Spent = is ∙ ap (λ (o : Option HubError). unwrap_or o hub.Memory) full in
-        inr (
-          some,
-          subst (λ (n : ℕ). StopsAt h now (Took c most n) (fault_of e)) (sym (length-take most (waiting h.base h.limits h.journal c)))
-              (inr (e, full ∙ ap (λ (x : HubError). Some x) (sym same), subst IsFault (sym same) tt, refl)),
-        )
+    by : (packets : List Packet) → 0 < length packets → elim packets as (λ (packets : List Packet). Type 0) [ [] ↦ FindsNothing on (Err fault) h g old new | packet ∷ others ↦ Carries c n now ping (Err fault) h g old new ]
+    by [] more = absurd (omega (arith, more))
+    by (packet ∷ others) more = (fault, fails, (refl, same, line))
 
 -- ---- no packet holds a separator
 

@@ -1,21 +1,22 @@
 //! What comes and what goes over a client's WebSocket (Engine.IO protocol 4, "WebSocket").
 
-ghost use Rattle.std.specs.Prelude.{◌≡◌, ◌≢◌, ◌⊎◌, ◌++◌, true, IfOk, IfErr, OnOk};
+ghost use Rattle.std.specs.Prelude.{◌≡◌, ◌≢◌, ◌⊎◌, ◌++◌, true, take, IfOk, IfErr, OnOk};
 ghost use Rattle.std.specs.List.{AllZip};
 ghost use Rattle.journal.specs.Membership.{is_open};
 ghost use Rattle.dispatch.specs.Answers.{ForClient};
-ghost use Rattle.dispatch.specs.Frames.{is_too_long, IsFrameOf, IsNoFrame, IsSentAs, frames_of, SendsFirst, SendsFor};
+ghost use Rattle.dispatch.specs.Frames.{is_too_long, IsFrameOf, IsNoFrame, IsSentAs, frames_of, SendsWaiting, SendsFor};
 ghost use Rattle.dispatch.specs.Machine.{HearsFor, TakesFrames};
 ghost use Rattle.dispatch.specs.Holding.{holding, Agree};
-ghost use Rattle.dispatch.specs.Takes.{handed, carried};
+ghost use Rattle.dispatch.specs.Takes.{carried};
 
 use crate::lines::{Lines, transport_of};
 use crate::requests::{close_unread, work_on};
-use crate::takes::{Taken, count, fitting};
+use crate::takes::{Taken, count, fitting, outbox_of};
 use connection::{Line, Transport};
 use effects::Visit;
 use eio_wire::{Packet, WireError, read_packet};
 use events::{Answered, App, Cause, CoreFault, Frames, IdSource, Outcome, WsFrame};
+use hub_parts::Outbox;
 use hub_state::State;
 use std::alloc::{AllocError, Global};
 use std::slice;
@@ -93,41 +94,42 @@ fn push_entry(alloc: Global, frames: &mut Vec<WsFrame>, entry: &Entry) -> Result
 
 /// The frames that a take of at most so many entries carries. Each text is copied once.
 fn frames_for(
-    visit: Visit,
-    state: &State,
+    alloc: Global,
+    outbox: &Outbox,
     ping: bool,
     most: usize,
 ) -> Result<Vec<WsFrame>, AllocError>
-    requires { is_open state.now.base state.now.journal visit.client ≡ true }
     ensures { IfOk result (λ frames.
-        AllZip IsSentAs (carried ping (handed state.now visit.client most)) frames.items) }
+        AllZip IsSentAs (carried ping (take most outbox.now.waiting)) frames.items) }
 {
-    let mut frames = Vec::new(visit.alloc);
+    let mut frames = Vec::new(alloc);
     if ping {
-        frames.push(WsFrame::Text(Text::copy_of(visit.alloc, "2")?))?;
+        frames.push(WsFrame::Text(Text::copy_of(alloc, "2")?))?;
     }
     for index in 0..most {
-        let Some(entry) = state.front(visit.client, index) else {
+        let Some(entry) = outbox.get(index) else {
             return Ok(frames);
         };
-        push_entry(visit.alloc, &mut frames, entry)?;
+        push_entry(alloc, &mut frames, entry)?;
     }
     Ok(frames)
 }
 
-/// Takes the frames of the first so many entries, or says that there is nothing. They are written
-/// before the entries are taken.
-fn take_first(visit: Visit, state: &mut State, line: &mut Line, most: usize, ping: bool) -> Taken
+/// Takes the frames of as many entries as a take hands out, or says that there is nothing. They
+/// are written before the entries are taken.
+fn take_waiting(visit: Visit, state: &mut State, line: &mut Line, most: usize, ping: bool) -> Taken
     requires { is_open state.old.base state.old.journal visit.client ≡ true }
-    ensures { SendsFirst ping visit.client most visit.moment result
+    ensures { SendsWaiting ping visit.client most visit.moment result
         state.old state.new line.old line.new }
 {
-    let frames = frames_for(visit, state, ping, most)?;
+    let outbox = outbox_of(state, visit.client);
+    let number = fitting(outbox, most);
+    let frames = frames_for(visit.alloc, outbox, ping, number)?;
     if frames.is_empty() {
         return Ok(Outcome::Nothing);
     }
-    let more = state.front(visit.client, most).is_some();
-    count(visit, state, line, most, ping)?;
+    let more = number < outbox.len();
+    count(visit, state, line, number, ping)?;
     Ok(Outcome::Frames(Frames::new(frames, more)))
 }
 
@@ -140,8 +142,7 @@ fn frame_take(visit: Visit, state: &mut State, line: &mut Line, most: usize) -> 
     let Transport::Socket = line.transport() else {
         return Err(CoreFault::WrongTransport);
     };
-    let most = fitting(state, visit.client, most);
-    take_first(visit, state, line, most, ping)
+    take_waiting(visit, state, line, most, ping)
 }
 
 /// Takes the frames for the client's WebSocket.

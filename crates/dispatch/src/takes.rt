@@ -1,18 +1,20 @@
 //! What a GET of a client carries away (Engine.IO protocol 4, "HTTP long-polling" and "Heartbeat").
 
-ghost use Rattle.std.specs.Prelude.{◌≡◌, ◌<◌, ◌++◌, true, length, All, IfOk, IfErr, OnOk};
+ghost use Rattle.std.specs.Prelude.{◌≡◌, ◌<◌, ◌++◌, true, length, take, All, IfOk, IfErr, OnOk};
 ghost use Rattle.eio_wire.specs.Payload.{Payload, HasWholeData};
 ghost use Rattle.journal.specs.Journal.{History};
 ghost use Rattle.journal.specs.Membership.{is_open};
+ghost use Rattle.hub_state.specs.Words.{outbox_for, took};
 ghost use Rattle.connection.specs.Line.{Advances};
+ghost use Rattle.effects.specs.Commands.{Makes, StopsAt};
 ghost use Rattle.dispatch.specs.Holding.{IsClean};
-ghost use Rattle.dispatch.specs.Takes.{IsTaken, packets_of, handed, carried, Counts, FailsToCount, TellsNoop, ping_calls, TakesFirst, TakesWaiting, TakesFor};
+ghost use Rattle.dispatch.specs.Takes.{IsFitting, packets_of, carried, TellsNoop, ping_calls, TakesWaiting, TakesFor};
 
 use connection::{Line, Transport};
 use effects::{Acted, Visit};
 use eio_wire::{Packet, WireError, write_payload};
 use events::{CoreFault, Outcome};
-use hub_parts::free_after;
+use hub_parts::{Outbox, free_after};
 use hub_state::State;
 use std::alloc::{AllocError, Global};
 use std::slice;
@@ -24,15 +26,28 @@ const MOST_TAKEN: usize = 262_144;
 /// What a take of a client brings, or the fault that ends its event.
 pub(crate) type Taken = Result<Outcome, CoreFault>;
 
-/// How many of the client's entries a take of at most so many hands out: the longest front that
-/// fits, and one at least where there is one.
-pub(crate) fn fitting(state: &State, client: u128, most: usize) -> usize
+/// The outbox of an open client.
+pub(crate) fn outbox_of(state: &State, client: u128) -> &Outbox
     requires { is_open state.now.base state.now.journal client ≡ true }
-    ensures { IsTaken state.now client most result }
+    ensures { result.now ≡ outbox_for state.now client }
 {
+    let Some(outbox) = state.outbox(client) else {
+        unreachable!()
+    };
+    outbox
+}
+
+/// How many of the entries that wait a take of at most so many hands out: the longest front that
+/// fits, and one at least where there is one. Where all of them fit, it looks at none.
+pub(crate) fn fitting(outbox: &Outbox, most: usize) -> usize
+    ensures { IsFitting most outbox.now.waiting result }
+{
+    if outbox.used() <= MOST_TAKEN {
+        return most.min(outbox.len());
+    }
     let mut room = MOST_TAKEN;
     for index in 0..most {
-        let Some(entry) = state.front(client, index) else {
+        let Some(entry) = outbox.get(index) else {
             return index;
         };
         let Some(left) = free_after(room, entry) else {
@@ -56,21 +71,20 @@ fn push_entry(packets: &mut Vec<Packet>, entry: &Entry) -> Result<(), AllocError
 
 /// The packets that a take of at most so many entries carries.
 fn packets_for(
-    visit: Visit,
-    state: &State,
+    alloc: Global,
+    outbox: &Outbox,
     ping: bool,
     most: usize,
 ) -> Result<Vec<Packet>, AllocError>
-    requires { is_open state.now.base state.now.journal visit.client ≡ true }
     ensures { IfOk result (λ packets.
-        packets.items ≡ carried ping (handed state.now visit.client most)) }
+        packets.items ≡ carried ping (take most outbox.now.waiting)) }
 {
-    let mut packets = Vec::new(visit.alloc);
+    let mut packets = Vec::new(alloc);
     if ping {
-        packets.push(Packet::Ping(Text::copy_of(visit.alloc, "")?))?;
+        packets.push(Packet::Ping(Text::copy_of(alloc, "")?))?;
     }
     for index in 0..most {
-        let Some(entry) = state.front(visit.client, index) else {
+        let Some(entry) = outbox.get(index) else {
             return Ok(packets);
         };
         push_entry(&mut packets, entry)?;
@@ -107,17 +121,20 @@ pub(crate) fn count(
     visit: Visit,
     state: &mut State,
     line: &mut Line,
-    most: usize,
+    number: usize,
     ping: bool,
 ) -> Acted
     requires { is_open state.old.base state.old.journal visit.client ≡ true }
-    ensures ok { OnOk result (Counts visit.client most visit.moment state.old state.new) }
+    ensures none { number ≡ 0 → OnOk result (state.new ≡ state.old) }
+    ensures some { 0 < number → OnOk result
+        (Makes state.old visit.moment (took state.old visit.client number) state.new) }
     ensures line { OnOk result (Advances line.old (ping_calls ping) line.new) }
-    ensures err { IfErr result (λ f. FailsToCount visit.client most visit.moment state.old f
+    ensures err { IfErr result (λ f. (0 < number)
+        × StopsAt state.old visit.moment (took state.old visit.client number) f
         × (state.new ≡ state.old) × (line.new ≡ line.old)) }
 {
-    if most > 0 && state.front(visit.client, 0).is_some() {
-        state.take_away(visit.alloc, visit.client, most, visit.moment)?;
+    if number > 0 {
+        state.take_away(visit.alloc, visit.client, number, visit.moment)?;
     }
     if ping {
         line.carry_ping();
@@ -125,35 +142,8 @@ pub(crate) fn count(
     Ok(())
 }
 
-/// Takes the payload of the first so many entries for a GET of a client that polls, or says that
-/// there is nothing to take. It is written before the entries are taken.
-fn take_first(
-    visit: Visit,
-    state: &mut State,
-    line: &mut Line,
-    transport: Transport,
-    most: usize,
-    ping: bool,
-) -> Taken
-    requires open_client { is_open state.old.base state.old.journal visit.client ≡ true }
-    requires clean { IsClean state.old }
-    ensures { TakesFirst transport ping visit.client most visit.moment result
-        state.old state.new line.old line.new }
-{
-    let packets = packets_for(visit, state, ping, most)?;
-    if packets.is_empty() {
-        return match transport {
-            Transport::Probing => noop(visit.alloc, line),
-            _ => Ok(Outcome::Nothing),
-        };
-    }
-    let text = payload_of(visit.alloc, packets.as_slice())?;
-    count(visit, state, line, most, ping)?;
-    line.end_get();
-    Ok(Outcome::Payload(text))
-}
-
-/// Takes the payload for a GET of a client that polls, or says that there is nothing to take.
+/// Takes the payload for a GET of a client that polls, or says that there is nothing to take. It is
+/// written before the entries are taken.
 fn take_waiting(
     visit: Visit,
     state: &mut State,
@@ -167,8 +157,19 @@ fn take_waiting(
     ensures { TakesWaiting transport ping visit.client most visit.moment result
         state.old state.new line.old line.new }
 {
-    let most = fitting(state, visit.client, most);
-    take_first(visit, state, line, transport, most, ping)
+    let outbox = outbox_of(state, visit.client);
+    let number = fitting(outbox, most);
+    let packets = packets_for(visit.alloc, outbox, ping, number)?;
+    if packets.is_empty() {
+        return match transport {
+            Transport::Probing => noop(visit.alloc, line),
+            _ => Ok(Outcome::Nothing),
+        };
+    }
+    let text = payload_of(visit.alloc, packets.as_slice())?;
+    count(visit, state, line, number, ping)?;
+    line.end_get();
+    Ok(Outcome::Payload(text))
 }
 
 /// Takes the payload for a client's GET.

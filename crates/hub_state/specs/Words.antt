@@ -11,7 +11,7 @@ use Rattle.journal.specs.declared.error.HubError.{HubError}
 use Rattle.journal.specs.declared.socket.Socket.{Socket}
 use Rattle.journal.specs.declared.step.What.{What}
 use Rattle.journal.specs.declared.step.What.TheVariants.{Told, Took}
-use Rattle.journal.specs.Plain.{PlainBroadcast, PlainDismissal, PlainMessage}
+use Rattle.journal.specs.Plain.{PlainBroadcast, PlainDismissal, PlainMessage, PlainOutbox}
 use Rattle.journal.specs.Journal.{History}
 use Rattle.journal.specs.Membership.{is_open, is_in_space, place_of, rooms}
 use Rattle.journal.specs.Sessions.{sessions}
@@ -33,6 +33,11 @@ when_open h c x = if is_open h.base h.journal c then Some x else None
 -- what waits for the client
 abbrev pub waits : History → (client : ℕ) → List Entry
 waits h c = waiting h.base h.limits h.journal c
+
+-- what waits for the client, and how many entries and bytes may
+abbrev pub outbox_for : History → (client : ℕ) → PlainOutbox
+outbox_for h c =
+    record { waiting = waits h c; capacity = h.limits.capacity; bytes = h.limits.bytes }
 
 -- the rooms of the sockets
 abbrev pub rooms_now : History → RoomSets

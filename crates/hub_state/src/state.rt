@@ -17,7 +17,7 @@ ghost use Rattle.journal.specs.declared.step.What.{What};
 ghost use Rattle.hub_state.specs.Changes.{OfEach, Reports};
 ghost use Rattle.hub_state.specs.Counting.{counts_after};
 ghost use Rattle.hub_state.specs.EndedSockets.{held};
-ghost use Rattle.hub_state.specs.Words.{spent_by, AllHear, opened, when_open, waits, logs, saves};
+ghost use Rattle.hub_state.specs.Words.{spent_by, AllHear, opened, when_open, waits, outbox_for, logs, saves};
 
 mod aim;
 mod cast;
@@ -35,7 +35,7 @@ mod seal;
 
 use crate::ended_socket::EndedSocket;
 use continuity::heard_is_due;
-use hub_parts::{Client, Limits, Seats, Steps};
+use hub_parts::{Client, Limits, Outbox, Seats, Steps};
 use journal::{Base, Config, Counts, HubError, Step, Totals, What};
 use recovery::{PacketLog, Pid, SavedTable};
 use room_maps::Rooms;
@@ -349,6 +349,14 @@ impl State {
         ensures { result ≡ when_open self.now client (total_size (waits self.now client)) }
     {
         Some(self.clients.get(&client)?.outbox.used())
+    }
+
+    /// The outbox of a client, or `None` where it isn't open. Who reads several of the entries that
+    /// wait looks the client up once.
+    pub fn outbox(&self, client: u128) -> Option<&Outbox>
+        ensures { option_copied result ≡ when_open self.now client (outbox_for self.now client) }
+    {
+        Some(&self.clients.get(&client)?.outbox)
     }
 
     /// An entry that waits for a client, counted from the oldest, or `None` where there is none.

@@ -149,7 +149,7 @@ impl State {
     }
 
     /// The first `most` entries that wait for a client, or all where fewer wait, are taken as by
-    /// `take`, but not handed out: who wants them has read them by `front`. Tells how many they
+    /// `take`, but not handed out: who wants them has read them by `outbox`. Tells how many they
     /// are. Refused as `UnknownClient`, `Spent`, then for `Memory`. It takes the logarithm of the
     /// clients, and copies nothing.
     pub fn take_away(

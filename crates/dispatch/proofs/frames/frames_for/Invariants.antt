@@ -1,12 +1,11 @@
 use Rattle.std.proofs.Common.{◌≤◌, take, length}
 use Rattle.std.specs.List.{AllZip}
-use Rattle.journal.specs.Outboxes.{waiting}
 use Rattle.dispatch.specs.Frames.{IsSentAs}
 use Rattle.dispatch.specs.Takes.{carried}
 use Rattle.dispatch.proofs.frames.frames_for.Given as goal
 
 abbrev pub invariant-loop-index : goal.invariant-loop-index
 invariant-loop-index l = record {
-  sent : AllZip IsSentAs (carried l.ping (take l.index (waiting l.state.base l.state.limits l.state.journal l.visit.client))) l.frames.items;
-  few : l.index ≤ length (waiting l.state.base l.state.limits l.state.journal l.visit.client);
+  sent : AllZip IsSentAs (carried l.ping (take l.index l.outbox.waiting)) l.frames.items;
+  few : l.index ≤ length l.outbox.waiting;
 }
