@@ -70,6 +70,7 @@ impl Rota {
     /// whether there was memory for it.
     pub fn admit(&mut self, key: usize) -> bool
         ensures known { IsTrue result → key < length self.new.looks }
+        ensures had { key < length self.old.looks → result ≡ true }
         ensures long { length self.new.looks ≤ length self.old.looks + 1 }
         ensures same { (k : ℕ) → look_of self.new.looks k ≡ look_of self.old.looks k }
         ensures ready { self.new.ready ≡ self.old.ready }
