@@ -1,6 +1,6 @@
 -- What an effect in its turn leaves: the client stays open unless it is closed, and its socket connected unless it ends. And
 -- how the functions come to what an effect does.
-use Rattle.std.proofs.Common.{◌≡◌, ℕ, Bool, true, false, not, ◌==◌, ◌||◌, List, [], ◌∷◌, ◌++◌, filter, refl, sym, ◌∙◌, ap, subst, is_none, Option, None, Some, Result, Ok, Err, OnOk, IfErr, OnErr, inl, inr}
+use Rattle.std.proofs.Common.{◌≡◌, ℕ, Bool, true, false, not, ◌==◌, ◌||◌, List, [], ◌∷◌, ◌++◌, filter, refl, sym, ◌∙◌, ap, subst, is_some, is_none, Option, None, Some, Result, Ok, Err, OnOk, IfErr, OnErr, inl, inr}
 use Rattle.connection.specs.Line.{PlainLine}
 use Rattle.terms.specs.declared.entry.Entry.{Entry}
 use Rattle.journal.specs.declared.socket.Socket.{Socket}
@@ -19,6 +19,7 @@ use Rattle.effects.specs.declared.scene.Tally.{Tally}
 use Rattle.events.specs.declared.cause.Cause.{Cause}
 use Rattle.events.specs.declared.cause.Cause.TheVariants.{OutboxFull}
 use Rattle.events.specs.declared.fault.CoreFault.{CoreFault}
+use Rattle.events.specs.declared.fault.CoreFault.TheVariants.{BadEffect}
 use Rattle.effects.specs.Commands.{Makes, StopsAt, DoesOr, IsSeated}
 use Rattle.effects.specs.Effects.{Scene, scene, IsReply, Replies, FailsToReply, Closes, is_bad, is_wrong, told_to, goodbye, dismissed, all_joined, all_left, ChangesRooms, SaysGoodbye, Acts, ActsInTurn, Stops, Fails, FailsAt, StandsWith}
 use Rattle.events.specs.Plain.{PlainDone, one_more, told}
@@ -80,10 +81,10 @@ module _ (who : Who) (now : ℕ) where
       let there = seated-after s.history between says seated in
       stands-ended (record s { history = between }) t (what.Ended who.sid side.Server) made refl (ap (λ (u : Scene). u.done.closed) same) fresh there.open_client
       (λ on. absurd (cc (on, ap (λ (u : Scene). u.ended) same)))
-  acts-stands s t (AllJoin m room) fresh seated acts = stands-rooms (all_joined who m room s.history) (λ l. refl) refl refl s t acts fresh seated
-  acts-stands s t (AllLeave m room) fresh seated acts = stands-rooms (all_left who m room s.history) (λ l. refl) refl refl s t acts fresh seated
+  acts-stands s t (AllJoin m room) fresh seated acts = stands-rooms (all_joined m room s.history) (λ l. refl) refl refl s t acts fresh seated
+  acts-stands s t (AllLeave m room) fresh seated acts = stands-rooms (all_left m room s.history) (λ l. refl) refl refl s t acts fresh seated
   acts-stands s t (AllEnd m) fresh seated (made, same, line) =
-      let d = dismissed who m s.history in
+      let d = dismissed m s.history in
       stands-ended s t (what.AllEnded d) made refl (ap (λ (u : Scene). u.done.closed) same) fresh seated.open_client
       (λ on. seated-among s.history t.history now d made.1 who seated (sym (ap (λ (u : Scene). u.ended) same) ∙ on))
 
@@ -94,7 +95,7 @@ module _ (who : Who) (now : ℕ) where
       on : (o : Option Cause) → s.done.closed ≡ o
           → elim o as (λ (o : Option Cause). Type 0) [ Some cause ↦ t ≡ s | None ↦ (is_bad s effect ≡ false) × Acts who now s effect t ] → StandsWith who t
       on (Some cause) found same = subst (StandsWith who) (sym same) was
-      on None found (fine, acts) = acts-stands s t effect found (was.seated found (not-ended s.ended (is_wrong s.asked effect) fine)) acts
+      on None found (fine, acts) = acts-stands s t effect found (was.seated found (not-ended s.ended (is_wrong s.history.limits s.asked effect) fine)) acts
 
   -- an effect that ends the event leaves the socket where it was
   stops-at : (w : What) (s t : Scene) (fault : CoreFault) → StandsWith who s → FailsAt w now s fault t → StandsWith who t
@@ -110,17 +111,17 @@ module _ (who : Who) (now : ℕ) where
   fails-stands s t Disconnect fault fresh on was (inr (inl fails)) = stops-at (goodbye who) s t fault was fails
   fails-stands s t Disconnect fault fresh on was (inr (inr (between, says, fails))) =
       stops-at (what.Ended who.sid side.Server) (record s { history = between }) t fault (stands-seated (record s { history = between }) fresh (seated-after s.history between says (was.seated fresh on))) fails
-  fails-stands s t (AllJoin m room) fault fresh on was fails = stops-at (all_joined who m room s.history) s t fault was fails
-  fails-stands s t (AllLeave m room) fault fresh on was fails = stops-at (all_left who m room s.history) s t fault was fails
+  fails-stands s t (AllJoin m room) fault fresh on was fails = stops-at (all_joined m room s.history) s t fault was fails
+  fails-stands s t (AllLeave m room) fault fresh on was fails = stops-at (all_left m room s.history) s t fault was fails
   fails-stands s t (AllEnd m) fault fresh on was (inl (short, same)) = subst (StandsWith who) (sym same) was
-  fails-stands s t (AllEnd m) fault fresh on was (inr fails) = stops-at (what.AllEnded (dismissed who m s.history)) s t fault was fails
+  fails-stands s t (AllEnd m) fault fresh on was (inr fails) = stops-at (what.AllEnded (dismissed m s.history)) s t fault was fails
 
   -- and its client open
   pub stopped-open : (s t : Scene) (effect : Effect) (fault : CoreFault) → StandsWith who s → Stops who now s effect fault t → is_open t.history.base t.history.journal who.client ≡ true
   stopped-open s t effect fault was (fresh, inl (bad, is, same)) =
       rw same (was.open_client ∙ ap (λ (o : Option Cause). is_none o) fresh)
   stopped-open s t effect fault was (fresh, inr (fine, fails)) =
-      let on = not-ended s.ended (is_wrong s.asked effect) fine in
+      let on = not-ended s.ended (is_wrong s.history.limits s.asked effect) fine in
       (fails-stands s t effect fault fresh on was fails).open_client ∙ ap (λ (o : Option Cause). is_none o) (same-closed effect fails ∙ fresh)
     where
       at-all : (u : Scene) → u.done.closed ≡ s.done.closed → t ≡ u → t.done.closed ≡ s.done.closed
@@ -152,6 +153,25 @@ module _ {X : Type 0} (who : Who) (now : ℕ) (s : Scene) (effect : Effect) (t :
   pub stops-in-turn : (r : Result X CoreFault) → IfErr r (λ f. Fails who now s effect f t) → IfErr r (λ f. Stops who now s effect f t)
   stops-in-turn (Ok x) fails = tt
   stops-in-turn (Err f) fails = (fresh, inr (fine, fails))
+
+-- ---- where the effect can't be done
+
+pub ended-is_bad : (s : Scene) (effect : Effect) → s.ended ≡ true → is_bad s effect ≡ true
+ended-is_bad s effect ended = rw ended refl
+
+pub wrong-is_bad : (s : Scene) (effect : Effect) → is_wrong s.history.limits s.asked effect ≡ true → is_bad s effect ≡ true
+wrong-is_bad s effect wrong = on s.ended (is_wrong s.history.limits s.asked effect) wrong
+  where
+    on : (a b : Bool) → b ≡ true → (a || b) ≡ true
+    on true b is = refl
+    on false b is = is
+
+pub bad-stops : (who : Who) (now : ℕ) (s : Scene) (effect : Effect) (closed : Bool) → closed ≡ is_some s.done.closed → closed ≡ false → is_bad s effect ≡ true → Stops who now s effect BadEffect s
+bad-stops who now s effect closed is not-closed bad = (fresh s.done.closed (sym is ∙ not-closed), inl (bad, refl, refl))
+  where
+    fresh : (o : Option Cause) → is_some o ≡ false → o ≡ None
+    fresh None none = refl
+    fresh (Some cause) none = absurd (cc none)
 
 -- ---- where the client isn't told the acknowledgement
 

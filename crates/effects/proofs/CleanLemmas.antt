@@ -1,11 +1,12 @@
 -- Which texts hold no U+001E, which separates the packets of a payload.
-use Rattle.std.proofs.Common.{◌≡◌, ◌≢◌, ℕ, zero, suc, ◌+◌, ◌<◌, ◌/◌, ◌%◌, ◌^◌, ◌==◌, Bool, true, false, not, ◌||◌, cond, List, [], ◌∷◌, ◌++◌, length, take, get_or, refl, sym, ◌∙◌, ap, arith, nat_lt, Option, None, Some}
+use Rattle.std.proofs.Common.{◌≡◌, ◌≢◌, ℕ, zero, suc, ◌+◌, ◌<◌, ◌/◌, ◌%◌, ◌^◌, ◌==◌, Bool, true, false, not, ◌||◌, cond, List, [], ◌∷◌, ◌++◌, length, take, get_or, refl, sym, ◌∙◌, ap, subst, arith, nat_lt, Option, None, Some}
 use Rattle.std.specs.Prelude.{codes, decimal, bytes_eq, position, unwrap_or, if◌then◌else◌}
 use Rattle.std.specs.Char.{digit_value}
-use Rattle.std.specs.List.{list_any, before_last}
+use Rattle.std.specs.List.{AllByRecursion, list_any, before_last}
 use Rattle.std.specs.Option.{option_map_or}
 use Rattle.std.proofs.lemmas.Bool.Decides.{nat_tests}
 use Rattle.std.proofs.lemmas.Fmt.{digits_decimal}
+use Rattle.std.proofs.lemmas.List.Elements.{All-nil}
 use Rattle.std.proofs.lemmas.List.Folds.{list_any-append, list_any_none}
 use Rattle.std.proofs.lemmas.List.Quantifiers.{position-Some}
 use Rattle.std.proofs.lemmas.Slice.Eq.{bytes_eq-Decides}
@@ -109,6 +110,15 @@ space-at limits space is = on (position (bytes_eq space) limits.spaces) refl is
     on None found within = absurd (grind (arith, nat_tests, within))
     on (Some i) found within = sym ((bytes_eq-Decides space (get_or limits.spaces i [])).0 (position-Some (bytes_eq space) limits.spaces i [] found).1)
 
+-- such a name holds no separator, where none of the hub's does
+whole-at : (names : List (List ℕ)) (i : ℕ) → AllByRecursion IsWhole names → IsWhole (get_or names i [])
+whole-at [] i all = All-nil (λ (b : ℕ). b ≢ 30)
+whole-at (name ∷ names) zero all = all.0
+whole-at (name ∷ names) (suc i) all = whole-at names i all.1
+
+pub whole-there : (limits : Limits) (space : List ℕ) → is_space limits (place_of limits space) ≡ true → AllByRecursion IsWhole limits.spaces → IsWhole space
+whole-there limits space is names = subst IsWhole (space-at limits space is) (whole-at limits.spaces (place_of limits space) names)
+
 -- ---- entries
 
 pub clean-answer : (limits : Limits) (k : Socket) → IsWhole (get_or limits.spaces k.space []) → is_clean (answer limits k) ≡ true
@@ -180,15 +190,15 @@ sent true true few e = absurd (cc e)
 sent true false true e = absurd (cc e)
 sent false short few e = absurd (cc e)
 
-pub clean-cast : (h : History) (c : PlainCast) (b : PlainBroadcast) → IsCastOf h c b → refusal_of h c ≡ None → IsWhole c.space → IsWhole c.payload → is_clean b.entry ≡ true
-clean-cast h c b asked allowed space payload =
+pub clean-cast : (h : History) (c : PlainCast) (b : PlainBroadcast) → IsCastOf h c b → refusal_of h c ≡ None → AllByRecursion IsWhole h.limits.spaces → IsWhole c.payload → is_clean b.entry ≡ true
+clean-cast h c b asked allowed names payload =
     let fine = sent (is_space h.limits (place_of h.limits c.space)) (not (list_any is_bracket c.payload)) (nat_lt 32 (length c.attachments)) allowed in
     let few : length b.entry.attachments < 2 ^ 64 = rw asked.attachments (grind (arith, nat_tests, fine.1)) in
     let named : get_or h.limits.spaces b.space [] ≡ c.space = rw asked.space (space-at h.limits c.space fine.0) in
     ap not
     (lacks-plain (event_header (get_or h.limits.spaces b.space []) c.payload (length b.entry.attachments) b.offset) b.entry.text asked.text
     (few-digits (event_header [] [] (length b.entry.attachments) None).kind (length b.entry.attachments) few)
-    (rw named (lacks c.space space))
+    (rw named (lacks c.space (whole-there h.limits c.space fine.0 names)))
     refl
     (lacks-offset c.payload b.offset (lacks c.payload payload)))
 

@@ -1,9 +1,10 @@
 -- What one more step of an event leaves as it was.
 use Rattle.std.proofs.Common.{◌≡◌, ◌≢◌, ℕ, ◌==◌, Bool, true, false, not, ◌&&◌, ◌||◌, List, [], ◌∷◌, ◌++◌, refl, sym, ◌∙◌, ap, subst, arith, map, filter, is_some, append-nil, if◌then◌else◌, Option, None, Some}
-use Rattle.std.specs.List.{list_any, find}
+use Rattle.std.specs.List.{AllByRecursion, list_any, find}
 use Rattle.std.specs.Option.{option_or}
 use Rattle.std.proofs.lemmas.Bool.Decides.{nat_tests}
 use Rattle.std.proofs.lemmas.List.Folds.{find-append, list_any-append}
+use Rattle.eio_wire.specs.Payload.{IsWhole}
 use Rattle.terms.specs.declared.entry.Entry.{Entry}
 use Rattle.journal.specs.declared.socket.Socket.{Socket}
 use Rattle.journal.specs.declared.step.Step.{Step}
@@ -39,8 +40,29 @@ gone-on f g steps base limits journal =
     ∙ ap (λ (l : Limits). history f.base l g.journal) limits
     ∙ ap (λ (j : List Step). history f.base f.limits j) journal
 
+-- the history went on by such steps, whatever they brought in
+pub record Goes (kind : History → What → Bool) (f g : History) : Type 0 where
+  pub steps : List Step
+  pub base : g.base ≡ f.base
+  pub limits : g.limits ≡ f.limits
+  pub journal : g.journal ≡ steps ++ f.journal
+  pub own : AreMade kind f steps
+
 -- what a step may be
 module _ (kind : History → What → Bool) where
+  pub goes-of : (f g : History) → Follows kind f g → Goes kind f g
+  goes-of f g follows = record { steps = follows.steps; base = follows.base; limits = follows.limits; journal = follows.journal; own = follows.own }
+
+  pub goes-on : (now : ℕ) (what : What) (f g h : History) → Goes kind f g → h ≡ with_step g now what → kind g what ≡ true → Goes kind f h
+  goes-on now what f g h before step own =
+      record {
+        steps = step_at g now what ∷ before.steps;
+        base = ap (λ (k : History). k.base) step ∙ before.base;
+        limits = ap (λ (k : History). k.limits) step ∙ before.limits;
+        journal = ap (λ (k : History). k.journal) step ∙ ap (λ (j : List Step). step_at g now what ∷ j) before.journal;
+        own = (subst (λ (k : History). kind k what ≡ true) (gone-on f g before.steps before.base before.limits before.journal) own, before.own);
+      }
+
   pub follows-on : (now : ℕ) (what : What) (f g h : History) → Follows kind f g → h ≡ with_step g now what → kind g what ≡ true → AllPass is_clean (own_entries g.limits what) → Follows kind f h
   follows-on now what f g h before step own clean =
       record {
@@ -275,7 +297,22 @@ spares-others c g k ids lists before d other unlisted = before d other (sym (lis
 
 -- ---- an event's work
 
+-- an event of this client went on so; where no name of a namespace holds U+001E, its steps bring in none
+pub record Working (c : ℕ) (f g : History) (lists : List (List ℕ)) : Type 0 where
+  pub goes : Goes (is_work c) f g
+  pub works : AllByRecursion IsWhole f.limits.spaces → WorksFor c f g lists
+
+-- the names of the namespaces stay
+pub names-still : (kind : History → What → Bool) (f g : History) → Goes kind f g → AllByRecursion IsWhole f.limits.spaces → AllByRecursion IsWhole g.limits.spaces
+names-still kind f g goes names = subst (λ (limits : Limits). AllByRecursion IsWhole limits.spaces) (sym goes.limits) names
+
 module _ (c : ℕ) (f : History) where
+  abbrev pub Names : Type 0
+  Names = AllByRecursion IsWhole f.limits.spaces
+
+  pub working-of : (g : History) (lists : List (List ℕ)) → WorksFor c f g lists → Working c f g lists
+  working-of g lists works = record { goes = goes-of (is_work c) f g works.follows; works = λ names. works }
+
   -- one step more that puts nothing for another client
   pub work-on : (now : ℕ) (what : What) (h k : History) → k ≡ with_step h now what → is_work c h what ≡ true → is_turn c h what ≡ true → is_cast what ≡ false
       → AllPass is_clean (own_entries h.limits what) → (lists : List (List ℕ)) → WorksFor c f h lists → WorksFor c f k lists
@@ -299,3 +336,19 @@ module _ (c : ℕ) (f : History) where
         follows = follows-on (is_work c) now (AllEnded e) f h k was.follows made refl (clean, tt);
         spares = spares-others c f k e.told lists (spares-dismissed c now e h k made f lists was.spares);
       }
+
+  -- the same, where the names of the namespaces aren't known
+  pub working-on : (now : ℕ) (what : What) (h k : History) → k ≡ with_step h now what → is_work c h what ≡ true → is_turn c h what ≡ true → is_cast what ≡ false
+      → (Names → AllPass is_clean (own_entries h.limits what)) → (lists : List (List ℕ)) → Working c f h lists → Working c f k lists
+  working-on now what h k made work turn isnt clean lists was =
+      record { goes = goes-on (is_work c) now what f h k was.goes made work; works = λ names. work-on now what h k made work turn isnt (clean names) lists (was.works names) }
+
+  pub working-cast : (now : ℕ) (cast : PlainCast) (done : PlainCastDone) (h k : History) (is : IsCast h k now cast done) → (Names → is_clean is.b.entry ≡ true)
+      → (lists : List (List ℕ)) → Working c f h lists → Working c f k (lists ++ filter (λ e. not (e == c)) done.clients ∷ [])
+  working-cast now cast done h k is clean lists was =
+      record { goes = goes-on (is_work c) now (Cast is.b) f h k was.goes is.step refl; works = λ names. work-cast now cast done h k is (clean names) lists (was.works names) }
+
+  pub working-dismissed : (now : ℕ) (e : PlainDismissal) (h k : History) → k ≡ with_step h now (AllEnded e) → (Names → is_clean (farewell h.limits e.space) ≡ true)
+      → (lists : List (List ℕ)) → Working c f h lists → Working c f k (lists ++ filter (λ e. not (e == c)) e.told ∷ [])
+  working-dismissed now e h k made clean lists was =
+      record { goes = goes-on (is_work c) now (AllEnded e) f h k was.goes made refl; works = λ names. work-dismissed now e h k made (clean names) lists (was.works names) }

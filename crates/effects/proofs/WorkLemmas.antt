@@ -1,12 +1,13 @@
 -- The steps of an effect are of an event of its client, and put something for those others alone that are listed.
-use Rattle.std.proofs.Common.{◌≡◌, ℕ, true, false, not, List, refl, sym, ap, subst, take, is_none, Option, None, Some, inl, inr}
+use Rattle.std.proofs.Common.{◌≡◌, ℕ, Bool, true, false, not, List, refl, sym, ap, subst, take, is_none, Option, None, Some, inl, inr}
+use Rattle.std.specs.List.{AllByRecursion}
 use Rattle.eio_wire.specs.Payload.{IsWhole}
 use Rattle.terms.specs.declared.entry.Entry.{Entry}
 use Rattle.journal.specs.declared.step.What.{What}
 use Rattle.journal.specs.declared.ending.Side.TheVariants as side
 use Rattle.journal.specs.declared.step.What.TheVariants as what
 use Rattle.journal.specs.Journal.{History}
-use Rattle.journal.specs.Membership.{is_open}
+use Rattle.journal.specs.Membership.{is_open, is_space, place_of}
 use Rattle.journal.specs.Entries.{AllPass, own_entries}
 use Rattle.journal.proofs.SocketsLemmas.{neither}
 use Rattle.events.specs.declared.app.Effect.{Effect}
@@ -21,105 +22,126 @@ use Rattle.events.specs.Emission.{PlainEmission}
 use Rattle.events.specs.Plain.{PlainDone}
 use Rattle.effects.specs.Commands.{Makes, IsSeated}
 use Rattle.effects.specs.Effects.{Scene, Closes, is_bad, is_wrong, is_unsendable, told_to, goodbye, dismissed, all_joined, all_left, ChangesRooms, SaysGoodbye, Acts, ActsInTurn, Stops, StopsAfter, Fails, StandsWith}
-use Rattle.effects.specs.Following.{is_clean, is_work, is_turn, is_cast, WorksFor}
+use Rattle.effects.specs.Following.{is_clean, is_work, is_turn, is_cast}
 use Rattle.effects.specs.Runs.{Runs}
 use Rattle.effects.specs.Broadcasting.{Work, work, Broadcasts, cast_of}
 use Rattle.effects.proofs.ActLemmas.{seated-after, stands, stopped-open}
-use Rattle.effects.proofs.CleanLemmas.{clean-cast, clean-packet, clean-disconnect, clean-farewell}
+use Rattle.effects.proofs.CleanLemmas.{whole-there, clean-cast, clean-packet, clean-disconnect, clean-farewell}
 use Rattle.effects.proofs.RunsLemmas.{all-take, run-keeps}
-use Rattle.effects.proofs.StepLemmas.{itself, work-on, work-cast, work-dismissed}
+use Rattle.effects.proofs.StepLemmas.{itself, Goes, Working, names-still, working-on, working-cast, working-dismissed}
+
+-- a namespace that isn't unknown is there
+known : (b : Bool) → not b ≡ false → b ≡ true
+known true is = refl
+known false is = absurd (cc is)
 
 -- an event that is sent
-pub work-says : (c now : ℕ) (f : History) (space : List ℕ) (e : PlainEmission) (s t : Work) → IsWhole space → IsWhole e.payload → Broadcasts c space e now s t → WorksFor c f s.history s.done.clients → WorksFor c f t.history t.done.clients
-work-says c now f space e s t whole clean (allowed, done, cast, told) was =
-    subst (λ (d : PlainDone). WorksFor c f t.history d.clients) (sym told)
-    (work-cast c f now (cast_of space e) done s.history t.history cast (clean-cast s.history (cast_of space e) cast.b cast.asked allowed whole clean) s.done.clients was)
+pub work-says : (c now : ℕ) (f : History) (e : PlainEmission) (s t : Work) → IsWhole e.payload → Broadcasts c e now s t → Working c f s.history s.done.clients → Working c f t.history t.done.clients
+work-says c now f e s t clean (allowed, done, cast, told) was =
+    subst (λ (d : PlainDone). Working c f t.history d.clients) (sym told)
+    (working-cast c f now (cast_of e) done s.history t.history cast
+    (λ names. clean-cast s.history (cast_of e) cast.b cast.asked allowed (names-still (is_work c) f s.history was.goes names) clean) s.done.clients was)
 
 module _ (who : Who) (now : ℕ) (f : History) where
   -- so far the event is one of this client's
   abbrev pub Has : Scene → Type 0
-  Has s = WorksFor who.client f s.history s.done.clients
+  Has s = Working who.client f s.history s.done.clients
+
+  -- no name of a namespace holds U+001E
+  abbrev Names : Type 0
+  Names = AllByRecursion IsWhole f.limits.spaces
+
+  -- so neither does that of the socket's
+  whole-here : (h : History) → IsSeated who h → Goes (is_work who.client) f h → Names → IsWhole who.space
+  whole-here h seated goes names = whole-there h.limits who.space seated.in_space (names-still (is_work who.client) f h goes names)
 
   work-made : (w : What) (s t : Scene) → Makes s.history now w t.history → is_work who.client s.history w ≡ true → is_turn who.client s.history w ≡ true → is_cast w ≡ false
-      → AllPass is_clean (own_entries s.history.limits w) → (u : Scene) → u.history ≡ t.history → u.done.clients ≡ s.done.clients → t ≡ u → Has s → Has t
+      → (Names → AllPass is_clean (own_entries s.history.limits w)) → (u : Scene) → u.history ≡ t.history → u.done.clients ≡ s.done.clients → t ≡ u → Has s → Has t
   work-made w s t made work turn isnt clean u there same is was =
-      subst Has (sym is) (rw (there, same) (work-on who.client f now w s.history t.history made.1 work turn isnt clean s.done.clients was))
+      subst Has (sym is) (rw (there, same) (working-on who.client f now w s.history t.history made.1 work turn isnt clean s.done.clients was))
 
   work-closed : (cause : Cause) (s t : Scene) → Closes who.client now cause s t → Has s → Has t
   work-closed cause s t (made, is) was =
-      work-made (what.Closed who.client) s t made (itself who.client) (itself who.client) refl tt (record s { history = t.history; done = record s.done { closed = Some cause } }) refl refl is was
+      work-made (what.Closed who.client) s t made (itself who.client) (itself who.client) refl (λ names. tt) (record s { history = t.history; done = record s.done { closed = Some cause } }) refl refl is was
 
-  work-told : (entry : Entry) (s t u : Scene) → is_clean entry ≡ true → Makes s.history now (told_to who.client entry) t.history → u.history ≡ t.history → u.done.clients ≡ s.done.clients → t ≡ u → Has s → Has t
-  work-told entry s t u clean made there same is was = work-made (told_to who.client entry) s t made (itself who.client) (itself who.client) refl (clean, tt) u there same is was
+  work-told : (entry : Entry) (s t u : Scene) → (Names → is_clean entry ≡ true) → Makes s.history now (told_to who.client entry) t.history → u.history ≡ t.history → u.done.clients ≡ s.done.clients → t ≡ u → Has s → Has t
+  work-told entry s t u clean made there same is was = work-made (told_to who.client entry) s t made (itself who.client) (itself who.client) refl (λ names. (clean names, tt)) u there same is was
 
   work-rooms : (w : What) (s t : Scene) → is_work who.client s.history w ≡ true → is_turn who.client s.history w ≡ true → is_cast w ≡ false
       → AllPass is_clean (own_entries s.history.limits w) → ChangesRooms w now s t → Has s → Has t
-  work-rooms w s t work turn isnt clean (inl (made, is)) was = work-made w s t made work turn isnt clean _ refl refl is was
+  work-rooms w s t work turn isnt clean (inl (made, is)) was = work-made w s t made work turn isnt (λ names. clean) _ refl refl is was
   work-rooms w s t work turn isnt clean (inr (e, refused, is)) was = subst Has (sym is) was
 
-  work-goodbye : (h g : History) (lists : List (List ℕ)) → IsWhole who.space → SaysGoodbye who now h g → WorksFor who.client f h lists → WorksFor who.client f g lists
-  work-goodbye h g lists whole (inl made) was =
-      work-on who.client f now (goodbye who) h g made.1 (itself who.client) (itself who.client) refl (ap not (clean-disconnect who.space whole), tt) lists was
-  work-goodbye h g lists whole (inr (refused, same)) was = subst (λ (k : History). WorksFor who.client f k lists) (sym same) was
+  work-goodbye : (h g : History) (lists : List (List ℕ)) → IsSeated who h → SaysGoodbye who now h g → Working who.client f h lists → Working who.client f g lists
+  work-goodbye h g lists seated (inl made) was =
+      working-on who.client f now (goodbye who) h g made.1 (itself who.client) (itself who.client) refl
+      (λ names. (ap not (clean-disconnect who.space (whole-here h seated was.goes names)), tt)) lists was
+  work-goodbye h g lists seated (inr (refused, same)) was = subst (λ (k : History). Working who.client f k lists) (sym same) was
 
-  acts-work : (s t : Scene) (effect : Effect) → IsWhole who.space → IsCleanEffect effect → is_wrong s.asked effect ≡ false → IsSeated who s.history → Acts who now s effect t → Has s → Has t
-  acts-work s t (Join room) whole clean fine seated acts was = work-rooms (what.Joined who.sid room) s t seated.own seated.own refl tt acts was
-  acts-work s t (Leave room) whole clean fine seated acts was = work-rooms (what.Left who.sid room) s t seated.own seated.own refl tt acts was
-  acts-work s t (Emit e) whole clean fine seated (says, is) was = work-says who.client now f who.space e (work s.history s.done) (work t.history t.done) whole clean says was
-  acts-work s t (Reply r) whole clean fine seated (id, asked, (entry, is, inl (made, same))) was =
-      work-told entry s t _ (clean-packet _ who.space id _ _ entry (neither (is_none s.asked) (is_unsendable r.payload r.attachments) fine).1 is whole clean) made refl refl same was
-  acts-work s t (Reply r) whole clean fine seated (id, asked, (entry, is, inr (refused, closed))) was = work-closed OutboxFull s t closed was
-  acts-work s t (EmitAsk q) whole clean fine seated (id, next, entry, is, inl (made, advances, same)) was =
-      work-told entry s t _ (clean-packet _ who.space id _ _ entry fine is whole clean) made refl refl same was
-  acts-work s t (EmitAsk q) whole clean fine seated (id, next, entry, is, inr (refused, vain, closed)) was = work-closed OutboxFull (record s { line = t.line }) t closed was
-  acts-work s t Disconnect whole clean fine seated (between, says, made, advances, same) was =
+  acts-work : (s t : Scene) (effect : Effect) → IsCleanEffect effect → is_wrong s.history.limits s.asked effect ≡ false → IsSeated who s.history → Acts who now s effect t → Has s → Has t
+  acts-work s t (Join room) clean fine seated acts was = work-rooms (what.Joined who.sid room) s t seated.own seated.own refl tt acts was
+  acts-work s t (Leave room) clean fine seated acts was = work-rooms (what.Left who.sid room) s t seated.own seated.own refl tt acts was
+  acts-work s t (Emit e) clean fine seated (says, is) was = work-says who.client now f e (work s.history s.done) (work t.history t.done) clean says was
+  acts-work s t (Reply r) clean fine seated (id, asked, (entry, is, inl (made, same))) was =
+      work-told entry s t _
+      (λ names. clean-packet _ who.space id _ _ entry (neither (is_none s.asked) (is_unsendable r.payload r.attachments) fine).1 is (whole-here s.history seated was.goes names) clean) made refl refl same was
+  acts-work s t (Reply r) clean fine seated (id, asked, (entry, is, inr (refused, closed))) was = work-closed OutboxFull s t closed was
+  acts-work s t (EmitAsk q) clean fine seated (id, next, entry, is, inl (made, advances, same)) was =
+      work-told entry s t _ (λ names. clean-packet _ who.space id _ _ entry fine is (whole-here s.history seated was.goes names) clean) made refl refl same was
+  acts-work s t (EmitAsk q) clean fine seated (id, next, entry, is, inr (refused, vain, closed)) was = work-closed OutboxFull (record s { line = t.line }) t closed was
+  acts-work s t Disconnect clean fine seated (between, says, made, advances, same) was =
       let there = seated-after who now s.history between says seated in
-      work-made (what.Ended who.sid side.Server) (record s { history = between }) t made there.own there.own refl tt _ refl refl same (work-goodbye s.history between s.done.clients whole says was)
-  acts-work s t (AllJoin m room) whole clean fine seated acts was = work-rooms (all_joined who m room s.history) s t refl refl refl tt acts was
-  acts-work s t (AllLeave m room) whole clean fine seated acts was = work-rooms (all_left who m room s.history) s t refl refl refl tt acts was
-  acts-work s t (AllEnd m) whole clean fine seated (made, same, line) was =
-      let d = dismissed who m s.history in
-      subst Has (sym same) (work-dismissed who.client f now d s.history t.history made.1 (clean-farewell s.history.limits who.space seated.in_space whole) s.done.clients was)
+      work-made (what.Ended who.sid side.Server) (record s { history = between }) t made there.own there.own refl (λ names. tt) _ refl refl same (work-goodbye s.history between s.done.clients seated says was)
+  acts-work s t (AllJoin m room) clean fine seated acts was = work-rooms (all_joined m room s.history) s t refl refl refl tt acts was
+  acts-work s t (AllLeave m room) clean fine seated acts was = work-rooms (all_left m room s.history) s t refl refl refl tt acts was
+  acts-work s t (AllEnd m) clean fine seated (made, same, line) was =
+      let limits = s.history.limits in
+      let there = known (is_space limits (place_of limits m.space)) fine in
+      let d = dismissed m s.history in
+      subst Has (sym same)
+      (working-dismissed who.client f now d s.history t.history made.1
+      (λ names. clean-farewell limits m.space there (whole-there limits m.space there (names-still (is_work who.client) f s.history was.goes names))) s.done.clients was)
 
   -- an effect in its turn
-  turn-works : (s t : Scene) (effect : Effect) → IsWhole who.space → IsCleanEffect effect → StandsWith who s → ActsInTurn who now s effect t → Has s → Has t
-  turn-works s t effect whole clean stood acts was = on s.done.closed refl acts
+  turn-works : (s t : Scene) (effect : Effect) → IsCleanEffect effect → StandsWith who s → ActsInTurn who now s effect t → Has s → Has t
+  turn-works s t effect clean stood acts was = on s.done.closed refl acts
     where
       on : (o : Option Cause) → s.done.closed ≡ o
           → elim o as (λ (o : Option Cause). Type 0) [ Some cause ↦ t ≡ s | None ↦ (is_bad s effect ≡ false) × Acts who now s effect t ] → Has t
       on (Some cause) found same = subst Has (sym same) was
-      on None found (fine, acts) = let both = neither s.ended (is_wrong s.asked effect) fine in acts-work s t effect whole clean both.1 (stood.seated found both.0) acts was
+      on None found (fine, acts) = let both = neither s.ended (is_wrong s.history.limits s.asked effect) fine in acts-work s t effect clean both.1 (stood.seated found both.0) acts was
 
   abbrev Both : Scene → Type 0
   Both s = StandsWith who s × Has s
 
   -- all effects of a packet
-  pub runs-work : (effects : List Effect) (s t : Scene) → IsWhole who.space → AllClean effects → StandsWith who s → Has s → Runs (ActsInTurn who now) effects s t → StandsWith who t × Has t
-  runs-work effects s t whole clean stood was run =
-      run-keeps (ActsInTurn who now) IsCleanEffect Both (λ a b x fine both acts. (stands who now a b x both.0 acts, turn-works a b x whole fine both.0 acts both.1)) effects s t clean (stood, was) run
+  pub runs-work : (effects : List Effect) (s t : Scene) → AllClean effects → StandsWith who s → Has s → Runs (ActsInTurn who now) effects s t → StandsWith who t × Has t
+  runs-work effects s t clean stood was run =
+      run-keeps (ActsInTurn who now) IsCleanEffect Both (λ a b x fine both acts. (stands who now a b x both.0 acts, turn-works a b x fine both.0 acts both.1)) effects s t clean (stood, was) run
 
   -- an effect that ends the event
-  fails-work : (s t : Scene) (effect : Effect) (fault : CoreFault) → IsWhole who.space → Fails who now s effect fault t → Has s → Has t
-  fails-work s t (Join room) fault whole fails was = subst Has (sym fails.1) was
-  fails-work s t (Leave room) fault whole fails was = subst Has (sym fails.1) was
-  fails-work s t (Emit e) fault whole fails was = subst Has (sym fails.1) was
-  fails-work s t (Reply r) fault whole (id, asked, (same, why)) was = subst Has (sym same) was
-  fails-work s t (EmitAsk q) fault whole (same, why) was = subst Has (sym same) was
-  fails-work s t Disconnect fault whole (inl (short, same)) was = subst Has (sym same) was
-  fails-work s t Disconnect fault whole (inr (inl fails)) was = subst Has (sym fails.1) was
-  fails-work s t Disconnect fault whole (inr (inr (between, says, fails))) was = subst Has (sym fails.1) (work-goodbye s.history between s.done.clients whole says was)
-  fails-work s t (AllJoin m room) fault whole fails was = subst Has (sym fails.1) was
-  fails-work s t (AllLeave m room) fault whole fails was = subst Has (sym fails.1) was
-  fails-work s t (AllEnd m) fault whole (inl (short, same)) was = subst Has (sym same) was
-  fails-work s t (AllEnd m) fault whole (inr fails) was = subst Has (sym fails.1) was
+  fails-work : (s t : Scene) (effect : Effect) (fault : CoreFault) → IsSeated who s.history → Fails who now s effect fault t → Has s → Has t
+  fails-work s t (Join room) fault seated fails was = subst Has (sym fails.1) was
+  fails-work s t (Leave room) fault seated fails was = subst Has (sym fails.1) was
+  fails-work s t (Emit e) fault seated fails was = subst Has (sym fails.1) was
+  fails-work s t (Reply r) fault seated (id, asked, (same, why)) was = subst Has (sym same) was
+  fails-work s t (EmitAsk q) fault seated (same, why) was = subst Has (sym same) was
+  fails-work s t Disconnect fault seated (inl (short, same)) was = subst Has (sym same) was
+  fails-work s t Disconnect fault seated (inr (inl fails)) was = subst Has (sym fails.1) was
+  fails-work s t Disconnect fault seated (inr (inr (between, says, fails))) was = subst Has (sym fails.1) (work-goodbye s.history between s.done.clients seated says was)
+  fails-work s t (AllJoin m room) fault seated fails was = subst Has (sym fails.1) was
+  fails-work s t (AllLeave m room) fault seated fails was = subst Has (sym fails.1) was
+  fails-work s t (AllEnd m) fault seated (inl (short, same)) was = subst Has (sym same) was
+  fails-work s t (AllEnd m) fault seated (inr fails) was = subst Has (sym fails.1) was
 
-  stop-works : (s t : Scene) (effect : Effect) (fault : CoreFault) → IsWhole who.space → Stops who now s effect fault t → Has s → Has t
-  stop-works s t effect fault whole (fresh, inl (bad, is, same)) was = subst Has (sym same) was
-  stop-works s t effect fault whole (fresh, inr (fine, fails)) was = fails-work s t effect fault whole fails was
+  stop-works : (s t : Scene) (effect : Effect) (fault : CoreFault) → StandsWith who s → Stops who now s effect fault t → Has s → Has t
+  stop-works s t effect fault stood (fresh, inl (bad, is, same)) was = subst Has (sym same) was
+  stop-works s t effect fault stood (fresh, inr (fine, fails)) was =
+      fails-work s t effect fault (stood.seated fresh (neither s.ended (is_wrong s.history.limits s.asked effect) fine).0) fails was
 
   -- the effects until one ends the event: the client is open still
-  pub stopped-works : (before : ℕ) (effects : List Effect) (s : Scene) (stopped : Stopped) (t : Scene) → IsWhole who.space → AllClean effects → StandsWith who s → Has s
+  pub stopped-works : (before : ℕ) (effects : List Effect) (s : Scene) (stopped : Stopped) (t : Scene) → AllClean effects → StandsWith who s → Has s
       → StopsAfter who now before effects s stopped t → (is_open t.history.base t.history.journal who.client ≡ true) × Has t
-  stopped-works before effects s stopped t whole clean stood was (done, number, at, run, effect, there, stops) =
-      let both = runs-work (take done effects) s at whole (all-take IsCleanEffect done effects clean) stood was run in
-      (stopped-open who now at t effect stopped.fault both.0 stops, stop-works at t effect stopped.fault whole stops both.1)
+  stopped-works before effects s stopped t clean stood was (done, number, at, run, effect, there, stops) =
+      let both = runs-work (take done effects) s at (all-take IsCleanEffect done effects clean) stood was run in
+      (stopped-open who now at t effect stopped.fault both.0 stops, stop-works at t effect stopped.fault both.0 stops both.1)

@@ -14,7 +14,7 @@ use Rattle.journal.specs.declared.error.HubError.TheVariants as hub
 use Rattle.journal.specs.declared.step.What.{What}
 use Rattle.journal.specs.declared.ending.Side.TheVariants as side
 use Rattle.journal.specs.declared.step.What.TheVariants as what
-use Rattle.journal.specs.Plain.{PlainDismissal}
+use Rattle.journal.specs.Plain.{Limits, PlainDismissal}
 use Rattle.journal.specs.Journal.{History}
 use Rattle.journal.specs.ManySockets.{joining, leaving, dismissal}
 use Rattle.connection.specs.declared.ack_error.AckError.TheVariants as ack
@@ -33,7 +33,7 @@ use Rattle.events.specs.declared.fault.CoreFault.{CoreFault}
 use Rattle.events.specs.declared.fault.CoreFault.TheVariants.{Memory, Spent, BadEffect}
 use Rattle.events.specs.Emission.{PlainEmission}
 use Rattle.events.specs.Selection.{PlainSelection}
-use Rattle.journal.specs.Membership.{is_open, place_of}
+use Rattle.journal.specs.Membership.{is_open, is_space, place_of}
 use Rattle.effects.specs.Commands.{Makes, IsRefused, StopsAt, DoesOr, IsSeated}
 use Rattle.events.specs.declared.fault.Stopped.{Stopped}
 use Rattle.effects.specs.declared.scene.Tally.{Tally}
@@ -72,16 +72,28 @@ Closes c now cause s t = Makes s.history now (what.Closed c) t.history
 abbrev pub is_unsendable : List ℕ → List (List ℕ) → Bool
 is_unsendable payload attachments = not (list_any is_bracket payload) || nat_lt 32 (length attachments)
 
--- the effect can't be done by itself: what it sends can't be sent, or no reply is asked for any more
-abbrev pub is_wrong : (asked : Option ℕ) → Effect → Bool
-is_wrong asked (Emit e) = is_unsendable e.payload e.attachments
-is_wrong asked (EmitAsk q) = is_unsendable q.payload q.attachments
-is_wrong asked (Reply r) = is_none asked || is_unsendable r.payload r.attachments
-is_wrong asked _ = false
+-- the server doesn't have the namespace
+abbrev pub is_unknown : Limits → (space : List ℕ) → Bool
+is_unknown limits space = not (is_space limits (place_of limits space))
+
+-- the event has no namespace to be sent in, or can't be sent
+abbrev pub is_bad_emission : Limits → PlainEmission → Bool
+is_bad_emission limits e = is_unknown limits e.space || is_unsendable e.payload e.attachments
+
+-- the effect can't be done by itself: the namespace that it names isn't there, what it sends can't be sent, or no reply is
+-- asked for any more
+abbrev pub is_wrong : Limits → (asked : Option ℕ) → Effect → Bool
+is_wrong limits asked (Emit e) = is_bad_emission limits e
+is_wrong limits asked (EmitAsk q) = is_unsendable q.payload q.attachments
+is_wrong limits asked (Reply r) = is_none asked || is_unsendable r.payload r.attachments
+is_wrong limits asked (AllJoin m room) = is_unknown limits m.space
+is_wrong limits asked (AllLeave m room) = is_unknown limits m.space
+is_wrong limits asked (AllEnd m) = is_unknown limits m.space
+is_wrong limits asked _ = false
 
 -- it can't be done, or comes after the socket was disconnected
 abbrev pub is_bad : Scene → Effect → Bool
-is_bad s effect = s.ended || is_wrong s.asked effect
+is_bad s effect = s.ended || is_wrong s.history.limits s.asked effect
 
 -- ---- each effect
 
@@ -91,9 +103,9 @@ ChangesRooms what now s t =
     (Makes s.history now what t.history × (t ≡ record (counted s) { history = t.history }))
     ⊎ ((e : RoomError) × IsRefused s.history now what (hub.RoomRefused e) × (t ≡ record s { done = noted (Some e) (one_more s.done) }))
 
--- an event is sent
+-- an event is sent, in its own namespace
 abbrev pub Emits : Who → PlainEmission → ℕ → Scene → Scene → Type 0
-Emits who e now s t = Broadcasts who.client who.space e now (work s.history s.done) (work t.history t.done)
+Emits who e now s t = Broadcasts who.client e now (work s.history s.done) (work t.history t.done)
     × (t ≡ record s { history = t.history; done = t.done })
 
 -- the client is told this
@@ -162,16 +174,16 @@ abbrev pub Disconnects : Who → ℕ → Scene → Scene → Type 0
 Disconnects who now s t = (between : History) × SaysGoodbye who now s.history between × Makes between now (what.Ended who.sid side.Server) t.history
     × Advances s.line (Disconnected who.sid ∷ []) t.line × (t ≡ record (counted s) { history = t.history; line = t.line; ended = true })
 
--- ---- effects on all sockets of the namespace that match
+-- ---- effects on all sockets of a namespace that match
 
-abbrev pub all_joined : Who → PlainSelection → (room : List ℕ) → History → What
-all_joined who m room h = what.AllJoined (joining h (place_of h.limits who.space) m.rooms m.excepted room)
+abbrev pub all_joined : PlainSelection → (room : List ℕ) → History → What
+all_joined m room h = what.AllJoined (joining h (place_of h.limits m.space) m.rooms m.excepted room)
 
-abbrev pub all_left : Who → PlainSelection → (room : List ℕ) → History → What
-all_left who m room h = what.AllLeft (leaving h (place_of h.limits who.space) m.rooms m.excepted room)
+abbrev pub all_left : PlainSelection → (room : List ℕ) → History → What
+all_left m room h = what.AllLeft (leaving h (place_of h.limits m.space) m.rooms m.excepted room)
 
-abbrev pub dismissed : Who → PlainSelection → History → PlainDismissal
-dismissed who m h = dismissal h (place_of h.limits who.space) m.rooms m.excepted
+abbrev pub dismissed : PlainSelection → History → PlainDismissal
+dismissed m h = dismissal h (place_of h.limits m.space) m.rooms m.excepted
 
 -- the acting socket is one of those that end
 abbrev pub is_among : ℕ → List ℕ → Bool
@@ -179,7 +191,7 @@ is_among sid ended = list_any (λ s. sid == s) ended
 
 -- the sockets end; where the acting one is among them, its questions go
 abbrev pub EndsAll : Who → PlainSelection → ℕ → Scene → Scene → Type 0
-EndsAll who m now s t = let d = dismissed who m s.history in
+EndsAll who m now s t = let d = dismissed m s.history in
     Makes s.history now (what.AllEnded d) t.history
     × (t ≡ record s { history = t.history; line = t.line; done = told who.client d.told (one_more s.done); ended = is_among who.sid d.ended })
     × elim (is_among who.sid d.ended) [ true ↦ Advances s.line (Disconnected who.sid ∷ []) t.line | false ↦ t.line ≡ s.line ]
@@ -192,8 +204,8 @@ Acts who now s (Emit e) t = Emits who e now s t
 Acts who now s (Reply r) t = (id : ℕ) × (s.asked ≡ Some id) × Replies who id r now s t
 Acts who now s (EmitAsk q) t = Asks who q now s t
 Acts who now s Disconnect t = Disconnects who now s t
-Acts who now s (AllJoin m room) t = ChangesRooms (all_joined who m room s.history) now s t
-Acts who now s (AllLeave m room) t = ChangesRooms (all_left who m room s.history) now s t
+Acts who now s (AllJoin m room) t = ChangesRooms (all_joined m room s.history) now s t
+Acts who now s (AllLeave m room) t = ChangesRooms (all_left m room s.history) now s t
 Acts who now s (AllEnd m) t = EndsAll who m now s t
 
 -- an effect in its turn: after the client was closed nothing more is done
@@ -215,8 +227,8 @@ abbrev pub FailsAt : What → ℕ → Scene → CoreFault → Scene → Type 0
 FailsAt what now s fault t = StopsAt s.history now what fault × (t ≡ s)
 
 -- the broadcast isn't sent
-abbrev pub FailsToEmit : Who → PlainEmission → Scene → CoreFault → Scene → Type 0
-FailsToEmit who e s fault t = CannotBroadcast who.space e s.history fault × (t ≡ s)
+abbrev pub FailsToEmit : PlainEmission → Scene → CoreFault → Scene → Type 0
+FailsToEmit e s fault t = CannotBroadcast e s.history fault × (t ≡ s)
 
 -- the event isn't acknowledged
 abbrev pub FailsToReply : Who → (id : ℕ) → reply.Reply → ℕ → Scene → CoreFault → Scene → Type 0
@@ -230,8 +242,8 @@ FailsToDisconnect who now s fault t = ((fault ≡ Memory) × (t ≡ s)) ⊎ Fail
     × FailsAt (what.Ended who.sid side.Server) now (record s { history = between }) fault t)
 
 -- the sockets don't end
-abbrev pub FailsToEndAll : Who → PlainSelection → ℕ → Scene → CoreFault → Scene → Type 0
-FailsToEndAll who m now s fault t = ((fault ≡ Memory) × (t ≡ s)) ⊎ FailsAt (what.AllEnded (dismissed who m s.history)) now s fault t
+abbrev pub FailsToEndAll : PlainSelection → ℕ → Scene → CoreFault → Scene → Type 0
+FailsToEndAll m now s fault t = ((fault ≡ Memory) × (t ≡ s)) ⊎ FailsAt (what.AllEnded (dismissed m s.history)) now s fault t
 
 -- the socket's book has no id left, or no memory
 abbrev pub HasNoId : PlainLine → (sid : ℕ) → CoreFault → Type 0
@@ -249,13 +261,13 @@ FailsToAsk who q now s fault t = (t ≡ record s { line = t.line })
 abbrev pub Fails : Who → ℕ → Scene → Effect → CoreFault → Scene → Type 0
 Fails who now s (Join room) fault t = FailsAt (what.Joined who.sid room) now s fault t
 Fails who now s (Leave room) fault t = FailsAt (what.Left who.sid room) now s fault t
-Fails who now s (Emit e) fault t = FailsToEmit who e s fault t
+Fails who now s (Emit e) fault t = FailsToEmit e s fault t
 Fails who now s (Reply r) fault t = (id : ℕ) × (s.asked ≡ Some id) × FailsToReply who id r now s fault t
 Fails who now s (EmitAsk q) fault t = FailsToAsk who q now s fault t
 Fails who now s Disconnect fault t = FailsToDisconnect who now s fault t
-Fails who now s (AllJoin m room) fault t = FailsAt (all_joined who m room s.history) now s fault t
-Fails who now s (AllLeave m room) fault t = FailsAt (all_left who m room s.history) now s fault t
-Fails who now s (AllEnd m) fault t = FailsToEndAll who m now s fault t
+Fails who now s (AllJoin m room) fault t = FailsAt (all_joined m room s.history) now s fault t
+Fails who now s (AllLeave m room) fault t = FailsAt (all_left m room s.history) now s fault t
+Fails who now s (AllEnd m) fault t = FailsToEndAll m now s fault t
 
 -- the effect ends the event with this fault
 abbrev pub Stops : Who → ℕ → Scene → Effect → CoreFault → Scene → Type 0

@@ -11,7 +11,7 @@ use Rattle.events.specs.declared.app.Who.{Who}
 use Rattle.events.specs.declared.fault.CoreFault.{CoreFault}
 use Rattle.events.specs.declared.fault.CoreFault.TheVariants.{Memory, BadEffect}
 use Rattle.events.specs.App.{Policy, AllClean}
-use Rattle.effects.specs.Effects.{is_unsendable}
+use Rattle.effects.specs.Effects.{is_bad_emission}
 use Rattle.effects.specs.Runs.{RunsOrFails}
 use Rattle.effects.specs.Broadcasting.{Work, BroadcastsOrFails}
 
@@ -27,13 +27,14 @@ name_of limits k = get_or limits.spaces k.space []
 abbrev pub who_of : Limits → Socket → Who
 who_of limits k = record { client = k.client; space = name_of limits k; sid = k.sid }
 
--- an effect of a socket that has ended: it can only be an event, and one that can be sent; all else is refused
-abbrev pub Sends : (c now : ℕ) → (space : List ℕ) → Work → Effect → Result (Unit {0}) CoreFault → Work → Type 0
-Sends c now space s (Emit e) r t = elim (is_unsendable e.payload e.attachments) [
+-- an effect of a socket that has ended: it can only be an event, one that can be sent, in a namespace that is there; all else
+-- is refused
+abbrev pub Sends : (c now : ℕ) → Work → Effect → Result (Unit {0}) CoreFault → Work → Type 0
+Sends c now s (Emit e) r t = elim (is_bad_emission s.history.limits e) [
   | true ↦ (r ≡ Err BadEffect) × (t ≡ s)
-  | false ↦ BroadcastsOrFails c space e now s r t
+  | false ↦ BroadcastsOrFails c e now s r t
 ]
-Sends c now space s _ r t = (r ≡ Err BadEffect) × (t ≡ s)
+Sends c now s _ r t = (r ≡ Err BadEffect) × (t ≡ s)
 
 module _ (policy : Policy) (c now : ℕ) where
   -- the app hears of a socket that has ended, and what it wants then is done until something is refused; or it has no memory
@@ -41,7 +42,7 @@ module _ (policy : Policy) (c now : ℕ) where
   HearsOf s gone r t =
       ((r ≡ Err Memory) × (t ≡ s))
       ⊎ ((effects : List Effect) × policy.ends (who_of s.history.limits gone.socket) gone.rooms gone.ending effects × AllClean effects
-      × RunsOrFails (Sends c now (name_of s.history.limits gone.socket)) effects s r t)
+      × RunsOrFails (Sends c now) effects s r t)
 
   -- it hears of each of them in turn
   abbrev pub HearsOfAll : List PlainEnded → Work → Result (Unit {0}) CoreFault → Work → Type 0

@@ -9,27 +9,30 @@ ghost use Rattle.effects.specs.Runs.{Runs};
 ghost use Rattle.effects.specs.Scene.{seen, IsActing, DoesOrFails, IsSameEvent};
 
 use crate::ask::ask;
-use crate::broadcast::{broadcast, is_unsendable};
-use crate::rooms::{change, end_all};
+use crate::broadcast::{broadcast, is_bad_emission, is_unsendable};
+use crate::rooms::{change, end_all, join_all, leave_all};
 use crate::{Acted, Scene, Visit, commands};
-use events::{Cause, CoreFault, Effect, Reply, Selection, Stopped, Who, Worked};
+use events::{Cause, CoreFault, Effect, Reply, Stopped, Who, Worked};
+use hub_state::State;
 use journal::Side;
 use sio_wire::{Header, Kind, disconnect_text, write_header};
 use std::alloc::Global;
 use terms::{Attachments, Entry, Text};
 
 /// Whether the effect can't be done by itself.
-fn is_wrong(asked: Option<u64>, effect: &Effect) -> bool
-    ensures { result ≡ is_wrong asked effect.now }
+fn is_wrong(state: &State, asked: Option<u64>, effect: &Effect) -> bool
+    ensures { result ≡ is_wrong state.now.limits asked effect.now }
 {
     match effect {
-        Effect::Emit(emission) => is_unsendable(emission.payload.as_str(), &emission.attachments),
+        Effect::Emit(emission) => is_bad_emission(state, emission),
         Effect::Reply(reply) => {
             asked.is_none() || is_unsendable(reply.payload.as_str(), &reply.attachments)
         }
         Effect::EmitAsk(inquiry) => is_unsendable(inquiry.payload.as_str(), &inquiry.attachments),
         Effect::Join(_) | Effect::Leave(_) | Effect::Disconnect => false,
-        Effect::AllJoin(_, _) | Effect::AllLeave(_, _) | Effect::AllEnd(_) => false,
+        Effect::AllJoin(selection, _)
+        | Effect::AllLeave(selection, _)
+        | Effect::AllEnd(selection) => !state.has_space(selection.space.as_str()),
     }
 }
 
@@ -122,12 +125,12 @@ fn disconnect(scene: &mut Scene, who: &Who) -> Acted
 fn act_allowed(scene: &mut Scene, who: &Who, effect: Effect) -> Acted
     requires own { who.now.client ≡ scene.old.visit.client }
     requires seated { IsSeated who.now scene.old.state.now }
-    requires allowed { is_wrong scene.old.tally.now.asked effect ≡ false }
+    requires allowed { let limits = scene.old.state.now.limits in
+        is_wrong limits scene.old.tally.now.asked effect ≡ false }
     ensures { DoesOrFails (λ now s t. Acts who.now now s effect t)
         (λ now s f t. Fails who.now now s effect f t) scene.old result scene.new }
 {
     let Visit { alloc, moment, .. } = scene.visit;
-    let space = who.space.as_str();
     match effect {
         Effect::Join(room) => {
             let answer = scene.state.join(alloc, who.sid, room, moment);
@@ -139,7 +142,7 @@ fn act_allowed(scene: &mut Scene, who: &Who, effect: Effect) -> Acted
         }
         Effect::Emit(emission) => {
             let done = &mut scene.tally.done;
-            broadcast(scene.visit, scene.state, done, &who.space, emission)
+            broadcast(scene.visit, scene.state, done, emission)
         }
         Effect::Reply(answer) => match scene.tally.asked {
             Some(id) => reply(scene, who, id, answer),
@@ -147,18 +150,8 @@ fn act_allowed(scene: &mut Scene, who: &Who, effect: Effect) -> Acted
         },
         Effect::EmitAsk(inquiry) => ask(scene, who, inquiry),
         Effect::Disconnect => disconnect(scene, who),
-        Effect::AllJoin(selection, room) => {
-            let Selection { rooms, excepted } = selection;
-            let state = &mut *scene.state;
-            let answer = state.sockets_join(alloc, space, rooms, excepted, room, moment);
-            change(answer, scene.tally)
-        }
-        Effect::AllLeave(selection, room) => {
-            let Selection { rooms, excepted } = selection;
-            let state = &mut *scene.state;
-            let answer = state.sockets_leave(alloc, space, rooms, excepted, room, moment);
-            change(answer, scene.tally)
-        }
+        Effect::AllJoin(selection, room) => join_all(scene, selection, room),
+        Effect::AllLeave(selection, room) => leave_all(scene, selection, room),
         Effect::AllEnd(selection) => end_all(scene, who, selection),
     }
 }
@@ -173,7 +166,7 @@ fn act(scene: &mut Scene, who: &Who, effect: Effect) -> Acted
         return Ok(());
     }
     // An effect after the socket was disconnected can't be done either.
-    if scene.tally.ended || is_wrong(scene.tally.asked, &effect) {
+    if scene.tally.ended || is_wrong(scene.state, scene.tally.asked, &effect) {
         return Err(CoreFault::BadEffect);
     }
     act_allowed(scene, who, effect)

@@ -2,14 +2,14 @@
 
 ghost use Rattle.std.specs.Prelude.{◌≡◌, true, false, not, filter, ◌==◌};
 ghost use Rattle.journal.specs.Membership.{is_space, place_of};
-ghost use Rattle.effects.specs.Effects.{is_unsendable};
+ghost use Rattle.effects.specs.Effects.{is_unsendable, is_bad_emission};
 ghost use Rattle.effects.specs.Broadcasting.{work, BroadcastsOrFails};
 
 use crate::{Acted, Visit};
 use events::{Done, Emission};
 use hub_state::State;
 use journal::Cast;
-use terms::{Attachments, Text};
+use terms::Attachments;
 
 /// The most attachments of a packet.
 const MOST_ATTACHMENTS: usize = 32;
@@ -21,6 +21,14 @@ pub(crate) fn is_unsendable(payload: &str, attachments: &Attachments) -> bool
     !payload.as_bytes().contains(&b']') || attachments.len() > MOST_ATTACHMENTS
 }
 
+/// Whether the event can't be sent: the hub doesn't have its namespace, or its payload can't be.
+pub(crate) fn is_bad_emission(state: &State, emission: &Emission) -> bool
+    ensures { result ≡ is_bad_emission state.now.limits emission.now }
+{
+    !state.has_space(emission.space.as_str())
+        || is_unsendable(emission.payload.as_str(), &emission.attachments)
+}
+
 /// Keeps the clients but one.
 pub(crate) fn retain_others(ids: &mut Vec<u128>, client: u128)
     ensures { ids.new.items ≡ filter (λ d. not (d == client)) ids.old.items }
@@ -28,23 +36,22 @@ pub(crate) fn retain_others(ids: &mut Vec<u128>, client: u128)
     ids.retain(|id| *id != client);
 }
 
-/// Sends an event to the sockets of some rooms of a namespace, and counts it.
+/// Sends an event to the sockets of some rooms of its namespace, and counts it.
 pub(crate) fn broadcast(
     visit: Visit,
     state: &mut State,
     done: &mut Done,
-    space: &Text,
     emission: Emission,
 ) -> Acted
-    requires there { is_space state.old.limits (place_of state.old.limits space.now) ≡ true }
+    requires there { is_space state.old.limits (place_of state.old.limits emission.space) ≡ true }
     requires sendable { is_unsendable emission.payload emission.attachments ≡ false }
-    ensures { BroadcastsOrFails visit.client space.now emission visit.moment
+    ensures { BroadcastsOrFails visit.client emission visit.moment
         (work state.old done.old) result (work state.new done.new) }
 {
     let Visit { alloc, moment, .. } = visit;
     done.clients.reserve()?;
     let cast = Cast {
-        space: space.clone()?,
+        space: emission.space,
         rooms: emission.rooms,
         excepted: emission.excepted,
         logged: emission.logged,

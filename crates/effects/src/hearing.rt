@@ -1,48 +1,39 @@
 //! What the app does where sockets have ended (Socket.IO server documentation, "Server API": the
 //! events `disconnecting` and `disconnect`).
 
-ghost use Rattle.std.specs.Prelude.{◌≡◌, ◌<◌, length, drop, slice_get, Some, true};
-ghost use Rattle.journal.specs.Membership.{is_space, place_of};
+ghost use Rattle.std.specs.Prelude.{◌≡◌, ◌<◌, length, drop, slice_get, Some};
 ghost use Rattle.hub_state.specs.EndedSockets.{PlainEnded, ended_sockets};
 ghost use Rattle.effects.specs.Hearing.{Sends, HearsOf, HearsOfAll};
 ghost use Rattle.effects.specs.Runs.{RunsOrFails};
 ghost use Rattle.effects.specs.Broadcasting.{work};
 
-use crate::broadcast::{broadcast, is_unsendable};
+use crate::broadcast::{broadcast, is_bad_emission};
 use crate::{Acted, Visit};
 use events::{App, CoreFault, Done, Effect, Who};
 use hub_state::State;
 use terms::Text;
 
 /// Does an effect of a socket that has ended.
-fn send(visit: Visit, state: &mut State, done: &mut Done, space: &Text, effect: Effect) -> Acted
-    requires { is_space state.old.limits (place_of state.old.limits space.now) ≡ true }
-    ensures { Sends visit.client visit.moment space.now
+fn send(visit: Visit, state: &mut State, done: &mut Done, effect: Effect) -> Acted
+    ensures { Sends visit.client visit.moment
         (work state.old done.old) effect result (work state.new done.new) }
 {
     let Effect::Emit(emission) = effect else {
         return Err(CoreFault::BadEffect);
     };
-    if is_unsendable(emission.payload.as_str(), &emission.attachments) {
+    if is_bad_emission(state, &emission) {
         return Err(CoreFault::BadEffect);
     }
-    broadcast(visit, state, done, space, emission)
+    broadcast(visit, state, done, emission)
 }
 
 /// Does the effects of a socket that has ended, until one of them is refused.
-fn send_all(
-    visit: Visit,
-    state: &mut State,
-    done: &mut Done,
-    space: &Text,
-    effects: Vec<Effect>,
-) -> Acted
-    requires { is_space state.old.limits (place_of state.old.limits space.now) ≡ true }
-    ensures { RunsOrFails (Sends visit.client visit.moment space.now) effects.items
+fn send_all(visit: Visit, state: &mut State, done: &mut Done, effects: Vec<Effect>) -> Acted
+    ensures { RunsOrFails (Sends visit.client visit.moment) effects.items
         (work state.old done.old) result (work state.new done.new) }
 {
     for effect in effects {
-        send(visit, state, done, space, effect)?;
+        send(visit, state, done, effect)?;
     }
     Ok(())
 }
@@ -63,7 +54,7 @@ fn hear_of<A: App>(visit: Visit, state: &mut State, app: &A, done: &mut Done, in
         sid: gone.socket.sid,
     };
     let effects = app.ended(visit.alloc, &who, &gone.rooms, gone.ending)?;
-    send_all(visit, state, done, &who.space, effects)
+    send_all(visit, state, done, effects)
 }
 
 /// The app hears of the sockets that have ended, from the one at an index on, and what it wants

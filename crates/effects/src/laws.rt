@@ -1,6 +1,7 @@
 //! Laws about the steps of an event.
 
 ghost use Rattle.std.specs.Prelude.{◌≡◌, ℕ, true, List, []};
+ghost use Rattle.std.specs.List.{AllByRecursion};
 ghost use Rattle.eio_wire.specs.Payload.{IsWhole};
 ghost use Rattle.journal.specs.Journal.{History};
 ghost use Rattle.journal.specs.Membership.{is_open};
@@ -21,17 +22,17 @@ pub fn others_are_spared()
 
 /// The effects of a packet, done to their end or until one ends the event, are work for its client:
 /// they open nobody and take nothing, speak of no other client but where they are for many, put
-/// something for the listed clients alone, and bring in no U+001E where none of them has one. The
-/// client stays open unless it was closed. It has no effect.
+/// something for the listed clients alone, and bring in no U+001E where none of them and no name of
+/// a namespace has one. The client stays open unless it was closed. It has no effect.
 pub fn effects_are_work()
     ensures done { (who : Who) (now : ℕ) (f : History) (effects : List Effect) (s t : Scene)
-        → IsWhole who.space → AllClean effects → StandsWith who s
+        → AllByRecursion IsWhole f.limits.spaces → AllClean effects → StandsWith who s
         → WorksFor who.client f s.history s.done.clients
         → Runs (ActsInTurn who now) effects s t
         → StandsWith who t × WorksFor who.client f t.history t.done.clients }
     ensures stopped { (who : Who) (now before : ℕ) (f : History) (effects : List Effect)
         (s : Scene) (stopped : Stopped) (t : Scene)
-        → IsWhole who.space → AllClean effects → StandsWith who s
+        → AllByRecursion IsWhole f.limits.spaces → AllClean effects → StandsWith who s
         → WorksFor who.client f s.history s.done.clients
         → StopsAfter who now before effects s stopped t
         → (is_open t.history.base t.history.journal who.client ≡ true)

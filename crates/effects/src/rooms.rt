@@ -1,20 +1,21 @@
 //! What effects on rooms do, of the acting socket and of many (Socket.IO server documentation,
 //! "Rooms" and "Utility methods").
 
-ghost use Rattle.std.specs.Prelude.{◌≡◌, ℕ, IfErr, OnOk};
+ghost use Rattle.std.specs.Prelude.{◌≡◌, ℕ, true, IfErr, OnOk};
 ghost use Rattle.connection.specs.Line.{PlainLine};
 ghost use Rattle.journal.specs.Journal.{History};
 ghost use Rattle.journal.specs.Command.{Does};
+ghost use Rattle.journal.specs.Membership.{is_space, place_of};
 ghost use Rattle.journal.specs.declared.step.What.{What};
-ghost use Rattle.effects.specs.Commands.{IsSeated, IsRoomChange};
-ghost use Rattle.effects.specs.Effects.{scene, is_among, ChangesRooms, EndsAll, FailsAt, FailsToEndAll};
+ghost use Rattle.effects.specs.Commands.{IsRoomChange};
+ghost use Rattle.effects.specs.Effects.{scene, is_among, all_joined, all_left, ChangesRooms, EndsAll, FailsAt, FailsToEndAll};
 ghost use Rattle.effects.specs.Scene.{DoesOrFails};
 
 use crate::broadcast::retain_others;
 use crate::{Acted, Scene, Tally, Visit};
 use events::{Selection, Who};
 use journal::{Dismissed, HubError};
-use terms::Sid;
+use terms::{Room, Sid};
 
 /// Counts a change of rooms that the hub answered so, or skips it where the rooms don't allow it.
 pub(crate) fn change<X: Drop>(answer: Result<X, HubError>, tally: &mut Tally) -> Acted
@@ -37,6 +38,48 @@ pub(crate) fn change<X: Drop>(answer: Result<X, HubError>, tally: &mut Tally) ->
     Ok(())
 }
 
+/// All these sockets join a room, or none does.
+pub(crate) fn join_all(scene: &mut Scene, selection: Selection, room: Room) -> Acted
+    requires { let limits = scene.old.state.now.limits in
+        is_space limits (place_of limits selection.space) ≡ true }
+    ensures { DoesOrFails
+        (λ now s t. ChangesRooms (all_joined selection room s.history) now s t)
+        (λ now s f t. FailsAt (all_joined selection room s.history) now s f t)
+        scene.old result scene.new }
+{
+    let Visit { alloc, moment, .. } = scene.visit;
+    let Selection {
+        space,
+        rooms,
+        excepted,
+    } = selection;
+    let space = space.as_str();
+    let state = &mut *scene.state;
+    let answer = state.sockets_join(alloc, space, rooms, excepted, room, moment);
+    change(answer, scene.tally)
+}
+
+/// All these sockets leave a room, or none does.
+pub(crate) fn leave_all(scene: &mut Scene, selection: Selection, room: Room) -> Acted
+    requires { let limits = scene.old.state.now.limits in
+        is_space limits (place_of limits selection.space) ≡ true }
+    ensures { DoesOrFails
+        (λ now s t. ChangesRooms (all_left selection room s.history) now s t)
+        (λ now s f t. FailsAt (all_left selection room s.history) now s f t)
+        scene.old result scene.new }
+{
+    let Visit { alloc, moment, .. } = scene.visit;
+    let Selection {
+        space,
+        rooms,
+        excepted,
+    } = selection;
+    let space = space.as_str();
+    let state = &mut *scene.state;
+    let answer = state.sockets_leave(alloc, space, rooms, excepted, room, moment);
+    change(answer, scene.tally)
+}
+
 /// Whether the socket is one of these.
 fn is_among(sids: &[Sid], sid: Sid) -> bool
     ensures { result ≡ is_among sid sids.now }
@@ -46,15 +89,20 @@ fn is_among(sids: &[Sid], sid: Sid) -> bool
 
 /// Disconnects all these sockets. Where the acting one is among them, its questions go.
 pub(crate) fn end_all(scene: &mut Scene, who: &Who, selection: Selection) -> Acted
-    requires { IsSeated who.now scene.old.state.now }
-    ensures { DoesOrFails (EndsAll who.now selection) (FailsToEndAll who.now selection)
+    requires { let limits = scene.old.state.now.limits in
+        is_space limits (place_of limits selection.space) ≡ true }
+    ensures { DoesOrFails (EndsAll who.now selection) (FailsToEndAll selection)
         scene.old result scene.new }
 {
     let Visit { alloc, moment, .. } = scene.visit;
     let tally = &mut *scene.tally;
     tally.done.clients.reserve()?;
-    let Selection { rooms, excepted } = selection;
-    let space = who.space.as_str();
+    let Selection {
+        space,
+        rooms,
+        excepted,
+    } = selection;
+    let space = space.as_str();
     let Dismissed { ended, mut told } = scene
         .state
         .disconnect_sockets(alloc, space, rooms, excepted, moment)?;

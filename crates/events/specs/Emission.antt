@@ -1,8 +1,9 @@
 -- An event that the app sends, as plain data.
 use Rattle.std.specs.Prelude.{ℕ, Bool, List}
 
--- its rooms and excepted rooms, whether it is logged, the event as a JSON array and its attachments
+-- its namespace, its rooms and excepted rooms, whether it is logged, the event as a JSON array and its attachments
 pub record PlainEmission : Type 0 where
+  pub space : List ℕ
   pub rooms : List (List ℕ)
   pub excepted : List (List ℕ)
   pub logged : Bool

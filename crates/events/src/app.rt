@@ -59,8 +59,8 @@ pub struct Answer {
     pub attachments: Attachments,
 }
 
-/// What the app wants done. All of it is done in the namespace of the socket that it is asked
-/// about.
+/// What the app wants done. Effects that speak of many sockets name their namespace. One that the
+/// server doesn't have can't be spoken of.
 #[derive(Drop)]
 pub enum Effect {
     /// The socket joins a room.
@@ -90,6 +90,8 @@ pub type Wanted = Result<Vec<Effect>, AllocError>;
 /// The sockets of a namespace that are in one of some rooms. In a contract it is plain data.
 #[derive(Drop)]
 pub struct Selection {
+    /// The name of the namespace.
+    pub space: Text,
     /// The rooms. None means everybody in the namespace.
     pub rooms: Vec<Room>,
     /// The rooms whose sockets aren't meant.
@@ -101,12 +103,18 @@ impl Model for Selection {
 
     ghost Value = { PlainSelection };
 
-    ghost view = { λ m. record { rooms = m.rooms.items; excepted = m.excepted.items } };
+    ghost view = { λ m. record {
+      space = m.space;
+      rooms = m.rooms.items;
+      excepted = m.excepted.items;
+    } };
 }
 
 /// An event for the sockets of some rooms. In a contract it is plain data.
 #[derive(Drop)]
 pub struct Emission {
+    /// The name of the namespace.
+    pub space: Text,
     /// The rooms that it goes to. None means everybody in the namespace.
     pub rooms: Vec<Room>,
     /// The rooms whose sockets don't get it.
@@ -125,6 +133,7 @@ impl Model for Emission {
     ghost Value = { PlainEmission };
 
     ghost view = { λ e. record {
+      space = e.space;
       rooms = e.rooms.items;
       excepted = e.excepted.items;
       logged = e.logged;

@@ -1,14 +1,12 @@
 use Rattle.std.proofs.Common.{ℕ, ◌≡◌, ◌==◌, not, None, List, ◌∷◌, [], ◌++◌, filter, ◌∙◌, ap, subst, rules}
 use Rattle.journal.specs.Plain.{PlainCast, PlainCastDone}
 use Rattle.journal.specs.Casting.{refusal_of, IsCast}
-use Rattle.events.specs.Emission.{PlainEmission}
 use Rattle.effects.specs.Broadcasting.{cast_of}
 use Rattle.effects.proofs.broadcast.broadcast.Goals as goal
 
 pub returns : goal.returns
 returns c =
-    let space : c.in_ok-clone.field-0 ≡ c.args.space.now = search rules in
-    let made = ap (λ (e : PlainEmission). cast_of c.in_ok-clone.field-0 e) c.emission.view_is ∙ ap (λ (text : List ℕ). cast_of text c.args.emission) space in
+    let made = ap cast_of c.emission.view_is in
     let there =
     subst (λ (cast : PlainCast). (refusal_of c.args.state.now cast ≡ None) × IsCast c.args.state.now c.cast.new.self c.args.visit.moment cast c.in_ok-cast_done.cast_done)
     made c.in_ok-cast_done.ensures.does in

@@ -4,21 +4,19 @@ use Rattle.events.specs.declared.app.Effect.{Effect}
 use Rattle.effects.specs.Hearing.{Sends}
 use Rattle.effects.specs.Runs.{Runs}
 use Rattle.effects.specs.Broadcasting.{work}
-use Rattle.effects.proofs.HearingLemmas.{sent-limits}
 use Rattle.effects.proofs.RunsLemmas.{runs-more, runs-none, take-done, get-next}
 use Rattle.effects.proofs.hearing.send_all.Goals as goal
 
 pub loop-effect-init : goal.loop-effect-init
-loop-effect-init c = record { run = runs-none _ _; split = search rules; there = c.requires }
+loop-effect-init c = record { run = runs-none _ _; split = search rules }
 
 pub loop-effect-preserved : goal.loop-effect-preserved
 loop-effect-preserved c =
     let l = c.loop-effect in
     let sent = c.in_ok-send.ensures in
     record {
-      run = runs-more (λ a x b. Sends c.args.visit.client c.args.visit.moment c.args.space.now a x (Ok tt) b) l.yielded c.in-Some.effect _ _ _ l.invariant.run sent;
+      run = runs-more (λ a x b. Sends c.args.visit.client c.args.visit.moment a x (Ok tt) b) l.yielded c.in-Some.effect _ _ _ l.invariant.run sent;
       split = split-more _ l.yielded _ c.next.new.self.rest.items c.in-Some.effect l.invariant.split c.in-Some.ensures.steps.0;
-      there = rw (sent-limits c.args.visit.client c.args.visit.moment c.args.space.now (work l.state l.done) (work c.send.new.state c.send.new.done) c.in-Some.effect tt sent) l.invariant.there;
     }
 
 pub returns-in_err-send : goal.returns-in_err-send
@@ -28,7 +26,7 @@ returns-in_err-send c =
     rw is (
       length l.yielded,
       work l.state l.done,
-      subst (λ (xs : List Effect). Runs (λ a x b. Sends c.args.visit.client c.args.visit.moment c.args.space.now a x (Ok tt) b) xs (work c.args.state.now c.args.done.now) (work l.state l.done))
+      subst (λ (xs : List Effect). Runs (λ a x b. Sends c.args.visit.client c.args.visit.moment a x (Ok tt) b) xs (work c.args.state.now c.args.done.now) (work l.state l.done))
           (sym (take-done c.args.effects.items l.yielded _ l.invariant.split)) l.invariant.run,
       c.in-Some.effect,
       get-next c.args.effects.items l.yielded _ c.next.new.self.rest.items c.in-Some.effect l.invariant.split c.in-Some.ensures.steps.0,

@@ -1,5 +1,4 @@
-use Rattle.std.proofs.Common.{◌≡◌, ◌++◌, Ok, true}
-use Rattle.journal.specs.Membership.{is_space, place_of}
+use Rattle.std.proofs.Common.{◌≡◌, ◌++◌, Ok}
 use Rattle.effects.specs.Hearing.{Sends}
 use Rattle.effects.specs.Runs.{Runs}
 use Rattle.effects.specs.Broadcasting.{work}
@@ -7,7 +6,6 @@ use Rattle.effects.proofs.hearing.send_all.Given as goal
 
 abbrev pub invariant-loop-effect : goal.invariant-loop-effect
 invariant-loop-effect l = record {
-  run : Runs (λ a x b. Sends l.fn.visit.client l.fn.visit.moment l.space a x (Ok tt) b) l.yielded (work l.fn.state l.fn.done) (work l.state l.done);
+  run : Runs (λ a x b. Sends l.fn.visit.client l.fn.visit.moment a x (Ok tt) b) l.yielded (work l.fn.state l.fn.done) (work l.state l.done);
   split : l.fn.effects.items ≡ l.yielded ++ l.effect-iterator.rest.items;
-  there : is_space l.state.limits (place_of l.state.limits l.space) ≡ true;
 }
