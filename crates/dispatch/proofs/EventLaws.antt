@@ -1,6 +1,8 @@
 -- What the row of an event leaves: steps of an event of its client, which put something for the listed clients alone, a line for each open
 -- client, and each client handed what its takes say.
 use Rattle.std.proofs.Common.{◌≡◌, ℕ, ◌==◌, Bool, true, false, List, [], ◌∷◌, refl, sym, ◌∙◌, ap, subst, is_some, is_none, Option, None, Some, Ok, Err, IfOk, inl, inr}
+use Rattle.std.specs.List.{AllByRecursion}
+use Rattle.eio_wire.specs.Payload.{IsWhole}
 use Rattle.eio_wire.specs.declared.handshake.Numbers.{Numbers}
 use Rattle.eio_wire.specs.declared.packet.Packet.{Packet}
 use Rattle.connection.specs.declared.timing.Due.{Due}
@@ -22,7 +24,7 @@ use Rattle.events.specs.App.{Policy}
 use Rattle.effects.specs.Commands.{Makes}
 use Rattle.effects.specs.Following.{is_turn, is_work, Follows, Spares, WorksFor}
 use Rattle.events.specs.Plain.{PlainDone}
-use Rattle.effects.proofs.StepLemmas.{itself, open-no-more, opened-then, work-on}
+use Rattle.effects.proofs.StepLemmas.{itself, open-no-more, opened-then, work-on, Goes, goes-of, Working}
 use Rattle.events.specs.declared.event.Event.{Event}
 use Rattle.events.specs.declared.event.Event.TheVariants as event
 use Rattle.events.specs.declared.event.WsFrame.{WsFrame}
@@ -40,7 +42,7 @@ use Rattle.dispatch.specs.Upgrade.{Upgrades, LosesProbe, Probes, ProbesOn, EndsP
 use Rattle.dispatch.specs.Upkeep.{Ticks, TicksOn, Sweeps}
 use Rattle.dispatch.proofs.HandedLemmas.{Given, taken-given, sent-given, given-turn, handed-open, handed-work}
 use Rattle.dispatch.proofs.PacketLaws.{After, all-after, broken-after}
-use Rattle.dispatch.proofs.TurnLemmas.{Leads, leads-none, leads-on, works-none, turns-of, agree-gone, agree-still, agree-each}
+use Rattle.dispatch.proofs.TurnLemmas.{Leads, leads-none, leads-on, works-none, working-none, turns-of, goes-turn, goes-work, agree-gone, agree-still, agree-each}
 
 -- where fewer may be listed, more may be
 spares-more : (c : ℕ) (h g : History) (lists : List (List ℕ)) → Spares c h g [] → Spares c h g lists
@@ -53,15 +55,19 @@ module _ (c now : ℕ) (h g : History) (old new : List (ℕ × PlainLine)) (agre
   abbrev t : Holding
   t = holding g new
 
+  -- no name of a namespace holds U+001E
+  abbrev pub Names : Type 0
+  Names = AllByRecursion IsWhole h.limits.spaces
+
   -- a client's event: its steps, and the lines after it
   pub record Turned (answer : Answer) : Type 0 where
-    pub work : Follows (is_work c) h g
-    pub spares : IfOk answer (λ o. Spares c h g (listed o))
+    pub work : Names → Follows (is_work c) h g
+    pub spares : Names → IfOk answer (λ o. Spares c h g (listed o))
     pub agrees : Agree g new
 
   works : (answer : Answer) → WorksFor c h g [] → Agree g new → Turned answer
-  works (Ok o) was agrees = record { work = was.follows; spares = spares-more c h g (listed o) was.spares; agrees = agrees }
-  works (Err e) was agrees = record { work = was.follows; spares = tt; agrees = agrees }
+  works (Ok o) was agrees = record { work = λ names. was.follows; spares = λ names. spares-more c h g (listed o) was.spares; agrees = agrees }
+  works (Err e) was agrees = record { work = λ names. was.follows; spares = λ names. tt; agrees = agrees }
 
   unchanged : g ≡ h → WorksFor c h g []
   unchanged same = subst (λ (k : History). WorksFor c h k []) (sym same) (works-none c h [])
@@ -84,7 +90,7 @@ module _ (c now : ℕ) (h g : History) (old new : List (ℕ × PlainLine)) (agre
 
   has-line : (line : PlainLine) → line_of old c ≡ Some line → (P : PlainLine → Type 0) → g ≡ h → HasLine c P s t → Agree g new
   has-line line is P same has =
-      agree-still c h g old new agree (turns-of c h g (unchanged same).follows) has.1 (has-some P has) (ap (λ (k : History). is_open k.base k.journal c) same ∙ known line is)
+      agree-still c h g old new agree (goes-work c h g [] (unchanged same)) has.1 (has-some P has) (ap (λ (k : History). is_open k.base k.journal c) same ∙ known line is)
 
   advanced : (line : PlainLine) → line_of old c ≡ Some line → (calls : List Call) (answer : Answer) → AdvancesLine c line calls s t → Turned answer
   advanced line is calls answer (same, has) = works answer (unchanged same) (has-line line is _ same has)
@@ -92,7 +98,7 @@ module _ (c now : ℕ) (h g : History) (old new : List (ℕ × PlainLine)) (agre
   -- the client is gone
   gone : (w : What) (answer : Answer) → Makes h now w g → closes w c ≡ true → opens w ≡ [] → WorksFor c h g [] → LosesLine c s t → Turned answer
   gone w answer made closed nobody work (none, others) =
-      works answer work (agree-gone c h g old new agree (turns-of c h g work.follows) others none (open-no-more h g now w made.1 c closed nobody))
+      works answer work (agree-gone c h g old new agree (goes-work c h g [] work) others none (open-no-more h g now w made.1 c closed nobody))
 
   closed : (answer : Answer) → Makes h now (what.Closed c) g → LosesLine c s t → Turned answer
   closed answer made lost = gone (what.Closed c) answer made (itself c) refl (work-on c h now (what.Closed c) h g made.1 (itself c) (itself c) refl tt [] (works-none c h [])) lost
@@ -166,33 +172,33 @@ module _ (c now : ℕ) (h g : History) (old new : List (ℕ × PlainLine)) (agre
 
   module _ (policy : Policy) (ids left : ℕ → ℕ) where
     start : (line : PlainLine) → line_of old c ≡ Some line → After c now h (Ok tt) (opening h line)
-    start line is = record { stays = known line is; has = works-none c h [] }
+    start line is = record { stays = known line is; has = working-none c h [] }
 
-    kept : (m : Course) (line : PlainLine) → Follows (is_work c) h g → KeepsWhileOpen c m.scene.done m.scene.line s t
+    kept : (m : Course) (line : PlainLine) → Goes (is_work c) h g → KeepsWhileOpen c m.scene.done m.scene.line s t
         → is_open g.base g.journal c ≡ is_none m.scene.done.closed → Agree g new
     kept m line work keeps stays = on m.scene.done.closed keeps stays
       where
         on : (o : Option Cause) → elim o as (λ (o : Option Cause). Type 0) [ Some why ↦ LosesLine c s t | None ↦ HasLine c (λ after. after ≡ m.scene.line) s t ] → is_open g.base g.journal c ≡ is_none o → Agree g new
-        on (Some why) (none, others) closed = agree-gone c h g old new agree (turns-of c h g work) others none closed
-        on None has open_still = agree-still c h g old new agree (turns-of c h g work) has.1 (has-some _ has) open_still
+        on (Some why) (none, others) closed = agree-gone c h g old new agree (goes-turn c h g work) others none closed
+        on None has open_still = agree-still c h g old new agree (goes-turn c h g work) has.1 (has-some _ has) open_still
 
     works-on : (packets : List Packet) (answer : Answer) (line : PlainLine) → line_of old c ≡ Some line → WorksOn policy now c packets line s ids answer t left → Turned answer
     works-on packets (Ok (outcome.Done done)) line is (m, run, said, there, keeps, drawn) =
         let after = all-after c now h policy packets (course (opening h line) ids) m run (start line is) in
-        let work = subst (λ (k : History). WorksFor c h k m.scene.done.clients) (sym there) after.has in
+        let work = subst (λ (k : History). Working c h k m.scene.done.clients) (sym there) after.has in
         record {
-          work = work.follows;
-          spares = subst (λ (d : PlainDone). Spares c h g d.clients) (sym said) work.spares;
-          agrees = kept m line work.follows keeps (ap (λ (k : History). is_open k.base k.journal c) there ∙ after.stays);
+          work = λ names. (work.works names).follows;
+          spares = λ names. subst (λ (d : PlainDone). Spares c h g d.clients) (sym said) (work.works names).spares;
+          agrees = kept m line work.goes keeps (ap (λ (k : History). is_open k.base k.journal c) there ∙ after.stays);
         }
     works-on packets (Ok _) line is none = absurd none
     works-on packets (Err e) line is (m, breaks, there, has, drawn) =
         let after = broken-after c now h policy packets (course (opening h line) ids) e m breaks (start line is) in
-        let work = subst (λ (k : History). WorksFor c h k m.scene.done.clients) (sym there) after.1 in
+        let work = subst (λ (k : History). Working c h k m.scene.done.clients) (sym there) after.1 in
         record {
-          work = work.follows;
-          spares = tt;
-          agrees = agree-still c h g old new agree (turns-of c h g work.follows) has.1 (has-some _ has) (ap (λ (k : History). is_open k.base k.journal c) there ∙ after.0);
+          work = λ names. (work.works names).follows;
+          spares = λ names. tt;
+          agrees = agree-still c h g old new agree (goes-turn c h g work.goes) has.1 (has-some _ has) (ap (λ (k : History). is_open k.base k.journal c) there ∙ after.0);
         }
 
     posts : (body : List ℕ) (answer : Answer) (line : PlainLine) → line_of old c ≡ Some line → Posts policy now c body line s ids answer t left → Turned answer
@@ -237,7 +243,15 @@ pub record Applied (event : Event) (ids : ℕ → ℕ) (answer : Answer) (h g : 
   pub agrees : Agree g new
   pub hands : (c : ℕ) (turns : List Turn) → Handed c turns h → Handed c ((event, answer) ∷ turns) g
 
+-- a line for each open client, and the rest where no name of a namespace holds U+001E
+pub record Leaves (event : Event) (ids : ℕ → ℕ) (answer : Answer) (h g : History) (new : List (ℕ × PlainLine)) : Type 0 where
+  pub agrees : Agree g new
+  pub applied : AllByRecursion IsWhole h.limits.spaces → Applied event ids answer h g new
+
 module _ (now : ℕ) (h g : History) (old new : List (ℕ × PlainLine)) (agree : Agree h old) (ids : ℕ → ℕ) (answer : Answer) where
+  leaves : (event : Event) → Applied event ids answer h g new → Leaves event ids answer h g new
+  leaves event applied = record { agrees = applied.agrees; applied = λ names. applied }
+
   -- an event of one client
   module _ (event : Event) (c : ℕ) (own : (d : ℕ) → IsOf event ids d → d ≡ c) where
     of-client : Follows (is_turn c) h g → IfOk answer (λ o. Spares c h g (listed o)) → Agree g new → ((d : ℕ) (turns : List Turn) → Handed d turns h → Handed d ((event, answer) ∷ turns) g) → Applied event ids answer h g new
@@ -254,12 +268,16 @@ module _ (now : ℕ) (h g : History) (old new : List (ℕ × PlainLine)) (agree 
         each (Err e) spares = tt
 
     -- that neither opens it nor takes anything
-    of-work : ((d : ℕ) → handed.opens d event answer ≡ false) → ((d : ℕ) → handed.takes d event ≡ false) → Turned c now h g old new agree answer → Applied event ids answer h g new
-    of-work opened took turned = of-client (turns-of c h g turned.work) turned.spares turned.agrees (handed-work event c answer h g opened took turned.work)
+    of-work : ((d : ℕ) → handed.opens d event answer ≡ false) → ((d : ℕ) → handed.takes d event ≡ false) → Turned c now h g old new agree answer → Leaves event ids answer h g new
+    of-work opened took turned =
+        record {
+          agrees = turned.agrees;
+          applied = λ names. of-client (turns-of c h g (turned.work names)) (turned.spares names) turned.agrees (handed-work event c answer h g opened took (turned.work names));
+        }
 
     -- or takes something
-    of-take : ((d : ℕ) → handed.opens d event answer ≡ false) → ((d : ℕ) → handed.takes d event ≡ (c == d)) → Agree g new → Given c answer h g → Applied event ids answer h g new
-    of-take opened took agrees given = of-client given.2.leads.follows (each answer) agrees (given-turn event c answer h g opened took given)
+    of-take : ((d : ℕ) → handed.opens d event answer ≡ false) → ((d : ℕ) → handed.takes d event ≡ (c == d)) → Agree g new → Given c answer h g → Leaves event ids answer h g new
+    of-take opened took agrees given = leaves event (of-client given.2.leads.follows (each answer) agrees (given-turn event c answer h g opened took given))
       where
         each : (answer : Answer) → IfOk answer (λ o. Spares c h g (listed o))
         each (Ok o) = spares-more c h g (listed o) given.2.leads.spares
@@ -277,7 +295,7 @@ module _ (now : ℕ) (h g : History) (old new : List (ℕ × PlainLine)) (agree 
       on : (answer : Answer) → Opens timing numbers now socket (ids 0) (holding h old) answer (holding g new) → Leads (ids 0) h g × Agree g new
       on (Ok (outcome.Opened o)) (client, told, made, has) =
           let leads = leads-on (ids 0) h h g now (what.Opened (ids 0)) made.1 (itself (ids 0)) refl tt (leads-none (ids 0) h h refl) in
-          (leads, agree-still (ids 0) h g old new agree leads.follows has.1 (has-some (ids 0) now h g old new agree _ has) (opened-then h g now (ids 0) made.1))
+          (leads, agree-still (ids 0) h g old new agree (goes-of (is_turn (ids 0)) h g leads.follows) has.1 (has-some (ids 0) now h g old new agree _ has) (opened-then h g now (ids 0) made.1))
       on (Ok _) none = absurd none
       on (Err e) (fails, (is, same, lines)) = (leads-none (ids 0) h g same, lines-kept (ids 0) now h g old new agree same lines)
 
@@ -315,11 +333,11 @@ module _ (now : ℕ) (h g : History) (old new : List (ℕ × PlainLine)) (agree 
       on None none (is, same, lines) = lines-kept c now h g old new agree same lines
       on (Some line) is does =
           let has = each line does in
-          agree-still c h g old new agree given.2.leads.follows has.1.1 (has-some c now h g old new agree has.0 has.1) (stays ∙ known c now h g old new agree line is)
+          agree-still c h g old new agree (goes-of (is_turn c) h g given.2.leads.follows) has.1.1 (has-some c now h g old new agree has.0 has.1) (stays ∙ known c now h g old new agree line is)
 
   module _ (policy : Policy) (timing : Timing) (numbers : Numbers) (left : ℕ → ℕ) where
-    pub applied : (event : Event) → Row policy now timing numbers event (holding h old) ids answer (holding g new) left → Applied event ids answer h g new
-    applied (event.Opened socket) (does, drawn) = opens-applied timing numbers socket does
+    pub applied : (event : Event) → Row policy now timing numbers event (holding h old) ids answer (holding g new) left → Leaves event ids answer h g new
+    applied (event.Opened socket) (does, drawn) = leaves (event.Opened socket) (opens-applied timing numbers socket does)
     applied (event.Post c body) does = of-work _ c (λ d of. of) (λ d. refl) (λ d. refl) (posts-for c now h g old new agree policy ids left body answer does)
     applied (event.Frame c frame) does = of-work _ c (λ d of. of) (λ d. refl) (λ d. refl) (hears-for c now h g old new agree policy ids left frame answer does)
     applied (event.PollBegin c) (does, drawn) = of-work _ c (λ d of. of) (λ d. refl) (λ d. refl) (for-client c now h g old new agree (Begins now c) answer (begins c now h g old new agree answer) does)
@@ -343,4 +361,4 @@ module _ (now : ℕ) (h g : History) (old new : List (ℕ × PlainLine)) (agree 
     applied (event.ProbeLost c) (does, drawn) = of-work _ c (λ d of. of) (λ d. refl) (λ d. refl) (for-client c now h g old new agree (LosesProbe c) answer (ends-probe c now h g old new agree ProbeLost answer) does)
     applied (event.TransportLost c) (does, drawn) = of-work _ c (λ d of. of) (λ d. refl) (λ d. refl) (for-client c now h g old new agree (λ line. Loses now c) answer (λ line is row. loses c now h g old new agree answer row) does)
     applied (event.Tick c) (does, drawn) = of-work _ c (λ d of. of) (λ d. refl) (λ d. refl) (for-client c now h g old new agree (Ticks now c) answer (ticks c now h g old new agree answer) does)
-    applied event.Sweep (does, drawn) = sweeps-applied does
+    applied event.Sweep (does, drawn) = leaves event.Sweep (sweeps-applied does)

@@ -181,7 +181,7 @@ module _ (policy : Policy) (now : ℕ)
 
   pub left-by : AllByRecursion IsWhole h.limits.spaces → DoesSo → Applied event ids answer h g new
   left-by names (m, said, row, heard) =
-      let does = applied now h m old new agree ids said policy timing numbers left event row in
+      let does = (applied now h m old new agree ids said policy timing numbers left event row).applied names in
       let some = of-some event ids in
       let kept : AllByRecursion IsWhole m.limits.spaces = subst (λ (limits : Limits). AllByRecursion IsWhole limits.spaces) (sym (does.turns some.0 some.1).limits) names in
       left-heard policy now (ended_since h m) m g said answer event ids h new kept does (client_of event) refl heard

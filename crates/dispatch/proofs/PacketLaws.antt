@@ -32,12 +32,12 @@ use Rattle.events.specs.App.{Policy, IsCleanArrival, AllClean}
 use Rattle.hub_state.specs.Recovering.{recovery_asked}
 use Rattle.effects.specs.Commands.{Makes, IsSeated, seat}
 use Rattle.effects.specs.Effects.{Scene, told_to, Closes}
-use Rattle.effects.specs.Following.{is_clean, is_work, is_turn, is_cast, WorksFor}
+use Rattle.effects.specs.Following.{is_clean, is_work, is_turn, is_cast}
 use Rattle.effects.specs.Runs.{Runs}
 use Rattle.effects.proofs.ActLemmas.{stands-seated}
 use Rattle.effects.proofs.CleanLemmas.{clean-answer-at}
 use Rattle.effects.proofs.RunsLemmas.{run-keeps}
-use Rattle.effects.proofs.StepLemmas.{itself, open-still, open-no-more, connected-then, own-then, work-on}
+use Rattle.effects.proofs.StepLemmas.{itself, open-still, open-no-more, connected-then, own-then, Working, working-on}
 use Rattle.effects.proofs.WorkLemmas.{runs-work, stopped-works}
 use Rattle.dispatch.specs.Packets.{Course, Upshot, StopsFor, IsShort, DrawsNone, ClosesFor, ParksFor, refusal_entry, Refuses, DoesAll, ClientDisconnects, Decides, TakesAck, HearsEvent, Serves, ServesJoined, ConnectsAs, AsksApp, AsksToRecover, MayRecover, AsksToConnect, Works, GoesOn, with_line, TakesFrame, TakesText, ReadsBinary, TakesBinary, Handles, begun, HandlesOrBreaks, HandlesInTurn, BreaksAfter}
 use Rattle.dispatch.proofs.ConnectLemmas.{clean-refusal}
@@ -50,7 +50,7 @@ StaysOpen c (Err e) t = is_open t.history.base t.history.journal c ≡ true
 module _ (c now : ℕ) (f : History) where
   -- so far the event is one of this client's
   abbrev pub Has : Scene → Type 0
-  Has s = WorksFor c f s.history s.done.clients
+  Has s = Working c f s.history s.done.clients
 
   -- and its client is open
   abbrev pub Open : Scene → Type 0
@@ -87,7 +87,7 @@ module _ (c now : ℕ) (f : History) where
   made : (w : What) (s t u : Scene) → Makes s.history now w t.history → is_work c s.history w ≡ true → is_turn c s.history w ≡ true → is_cast w ≡ false
       → AllPass is_clean (own_entries s.history.limits w) → t ≡ u → u.history ≡ t.history → u.done.clients ≡ s.done.clients → Has s → Has t
   made w s t u makes work turn isnt clean is history clients was =
-      subst Has (sym is) (rw (history, clients) (work-on c f now w s.history t.history makes.1 work turn isnt clean s.done.clients was))
+      subst Has (sym is) (rw (history, clients) (working-on c f now w s.history t.history makes.1 work turn isnt (λ names. clean) s.done.clients was))
 
   closed-after : (w : What) (cause : Cause) (s t : Scene) → Makes s.history now w t.history → closes w c ≡ true → opens w ≡ [] → is_work c s.history w ≡ true → is_turn c s.history w ≡ true → is_cast w ≡ false
       → AllPass is_clean (own_entries s.history.limits w) → t ≡ record s { history = t.history; done = record s.done { closed = Some cause } } → Has s → After (Ok tt) t
@@ -130,23 +130,23 @@ module _ (c now : ℕ) (f : History) where
   abbrev his : (space : List ℕ) → (sid : ℕ) → Who
   his space sid = record { client = c; space = space; sid = sid }
 
-  does-all-after : (space : List ℕ) (sid before : ℕ) (effects : List Effect) (s : Scene) (result : Upshot) (t : Scene) → IsWhole space → AllClean effects
+  does-all-after : (space : List ℕ) (sid before : ℕ) (effects : List Effect) (s : Scene) (result : Upshot) (t : Scene) → AllClean effects
       → IsSeated (his space sid) s.history → s.done.closed ≡ None → Has s → DoesAll (his space sid) now before effects s result t → After result t
-  does-all-after space sid before effects s (Ok done) t whole clean seated fresh was run =
-      let both = runs-work (his space sid) now f effects s t whole clean (stands-seated (his space sid) now s fresh seated) was run in
+  does-all-after space sid before effects s (Ok done) t clean seated fresh was run =
+      let both = runs-work (his space sid) now f effects s t clean (stands-seated (his space sid) now s fresh seated) was run in
       record { stays = both.0.open_client; has = both.1 }
-  does-all-after space sid before effects s (Err e) t whole clean seated fresh was stops =
-      let both = stopped-works (his space sid) now f before effects s e t whole clean (stands-seated (his space sid) now s fresh seated) was stops in
+  does-all-after space sid before effects s (Err e) t clean seated fresh was stops =
+      let both = stopped-works (his space sid) now f before effects s e t clean (stands-seated (his space sid) now s fresh seated) was stops in
       record { stays = both.0; has = both.1 }
 
   leaves-after : (space : List ℕ) (sid : ℕ) (s : Scene) (result : Upshot) (t : Scene) → IsSeated (his space sid) s.history → ClientDisconnects (his space sid) now s result t → Before s → After result t
   leaves-after space sid s (Ok done) t seated (makes, advances, is) was = open-after (what.Ended sid side.Client) s t _ makes refl seated.own seated.own refl tt is refl refl refl was
   leaves-after space sid s (Err e) t seated (fails, stops) was = stops-after e.fault s e t stops was
 
-  module _ (policy : Policy) (space : List ℕ) (sid : ℕ) (named : IsWhole space) where
+  module _ (policy : Policy) (space : List ℕ) (sid : ℕ) where
     decides-after : (what : Arrived) (s : Scene) (result : Upshot) (t : Scene) → IsCleanArrival what → IsSeated (his space sid) s.history → Decides policy (his space sid) what now s result t → Before s → After result t
     decides-after what s result t clean seated (inl short) was = short-after s result t short was
-    decides-after what s result t clean seated (inr (effects, decided, each, does)) was = does-all-after space sid 0 effects s result t named (each clean) seated was.fresh was.has does
+    decides-after what s result t clean seated (inr (effects, decided, each, does)) was = does-all-after space sid 0 effects s result t (each clean) seated was.fresh was.has does
 
     hears-after : (id : Option ℕ) (payload : List ℕ) (attachments : List (List ℕ)) (s : Scene) (result : Upshot) (t : Scene) → IsWhole payload → IsSeated (his space sid) s.history
         → HearsEvent policy (his space sid) id payload attachments now s result t → Before s → After result t
@@ -172,16 +172,16 @@ module _ (c now : ℕ) (f : History) where
     serves-after kind.Connect id payload attachments s result t whole seated (is, same) was = done-after result t is (subst Before (sym same) was)
     serves-after kind.ConnectError id payload attachments s result t whole seated (is, same) was = done-after result t is (subst Before (sym same) was)
 
-  joined-after : (policy : Policy) (p : SioPacket) (s : Scene) (result : Upshot) (t : Scene) → IsWhole p.header.space → IsWhole p.header.payload
+  joined-after : (policy : Policy) (p : SioPacket) (s : Scene) (result : Upshot) (t : Scene) → IsWhole p.header.payload
       → ServesJoined policy c p now s result t → Before s → After result t
-  joined-after policy p s result t named whole does was = on (socket_of s.history.base s.history.journal c (place_of s.history.limits p.header.space)) does
+  joined-after policy p s result t whole does was = on (socket_of s.history.base s.history.journal c (place_of s.history.limits p.header.space)) does
     where
       on : (o : Option Socket) → elim o as (λ (o : Option Socket). Type 0) [
         | None ↦ ClosesFor c now cause.NotJoined s result t
         | Some k ↦ IsSeated (his p.header.space k.sid) s.history × Serves policy p.header.kind (his p.header.space k.sid) p.header.id p.header.payload p.attachments now s result t
       ] → After result t
       on None closes = closes-after cause.NotJoined s result t closes was
-      on (Some k) (seated, serves) = serves-after policy p.header.space k.sid named p.header.kind p.header.id p.header.payload p.attachments s result t whole seated serves was
+      on (Some k) (seated, serves) = serves-after policy p.header.space k.sid p.header.kind p.header.id p.header.payload p.attachments s result t whole seated serves was
 
   -- ---- a CONNECT
 
@@ -199,7 +199,7 @@ module _ (c now : ℕ) (f : History) where
           own = own-then s.history between.history now attached makes.1 socket (his space sid) refl (rw (itself sid, itself c) refl);
           in_space = rw makes.1 there;
         } in
-        does-all-after space sid 1 effects between result t named clean seated same has does
+        does-all-after space sid 1 effects between result t clean seated same has does
     connects-as sid pid effects s result t there clean (inr (inl (refused, closes))) was = closes-after cause.OutboxFull s result t closes was
     connects-as sid pid effects s result t there clean (inr (inr (e, is, fails, stops))) was = subst (λ (r : Upshot). After r t) (sym is) (stops-after e.fault s e t stops was)
 
@@ -255,12 +255,12 @@ module _ (c now : ℕ) (f : History) where
           | _ ↦ DrawsNone (ServesJoined policy c p now) s result t
         ] → After result t.scene
         on kind.Connect does = connect-after p.header.space whole.0 policy p.header.payload whole.1 s result t does was
-        on kind.Disconnect (does, drawn) = joined-after policy p s.scene result t.scene whole.0 whole.1 does was
-        on kind.Event (does, drawn) = joined-after policy p s.scene result t.scene whole.0 whole.1 does was
-        on kind.Ack (does, drawn) = joined-after policy p s.scene result t.scene whole.0 whole.1 does was
-        on kind.ConnectError (does, drawn) = joined-after policy p s.scene result t.scene whole.0 whole.1 does was
-        on kind.BinaryEvent (does, drawn) = joined-after policy p s.scene result t.scene whole.0 whole.1 does was
-        on kind.BinaryAck (does, drawn) = joined-after policy p s.scene result t.scene whole.0 whole.1 does was
+        on kind.Disconnect (does, drawn) = joined-after policy p s.scene result t.scene whole.1 does was
+        on kind.Event (does, drawn) = joined-after policy p s.scene result t.scene whole.1 does was
+        on kind.Ack (does, drawn) = joined-after policy p s.scene result t.scene whole.1 does was
+        on kind.ConnectError (does, drawn) = joined-after policy p s.scene result t.scene whole.1 does was
+        on kind.BinaryEvent (does, drawn) = joined-after policy p s.scene result t.scene whole.1 does was
+        on kind.BinaryAck (does, drawn) = joined-after policy p s.scene result t.scene whole.1 does was
 
     goes-after : (given : Result (Option SioPacket) SioError) (s : Course) (result : Upshot) (t : Course) → GoesOn policy c given now s result t → Before s.scene → After result t.scene
     goes-after (Ok None) s result t (is, same) was = done-after result t.scene is (subst (λ (u : Course). Before u.scene) (sym same) was)

@@ -18,7 +18,7 @@ use Rattle.events.specs.declared.fault.CoreFault.TheVariants.{IdTaken}
 use Rattle.events.specs.App.{Policy}
 use Rattle.effects.specs.Commands.{StopsAt}
 use Rattle.effects.specs.Following.{is_clean, is_cast, is_turn, is_work, AreMade, Follows, Spares, WorksFor}
-use Rattle.effects.proofs.StepLemmas.{follows-on, spares-on}
+use Rattle.effects.proofs.StepLemmas.{follows-on, spares-on, Goes, goes-of, Working, working-of}
 use Rattle.dispatch.specs.Machine.{opening, WorksOn}
 use Rattle.dispatch.specs.Packets.{Course, course, BreaksAfter}
 use Rattle.dispatch.specs.Holding.{Holding, line_of, holding, KeepsOthers, Agree}
@@ -40,6 +40,9 @@ leads-on c f h g now w made turn isnt clean was =
 
 pub works-none : (c : ℕ) (h : History) (lists : List (List ℕ)) → WorksFor c h h lists
 works-none c h lists = record { follows = follows-none (is_work c) h; spares = λ d other out. refl }
+
+pub working-none : (c : ℕ) (h : History) (lists : List (List ℕ)) → Working c h h lists
+working-none c h lists = working-of c h h lists (works-none c h lists)
 
 -- work for a client is of its event
 work-turn : (c : ℕ) (h : History) (what : What) → is_work c h what ≡ true → is_turn c h what ≡ true
@@ -65,6 +68,13 @@ all-turns c h (step ∷ steps) work = (work-turn c (history h.base h.limits (ste
 
 pub turns-of : (c : ℕ) (h g : History) → Follows (is_work c) h g → Follows (is_turn c) h g
 turns-of c h g f = record { steps = f.steps; base = f.base; limits = f.limits; journal = f.journal; own = all-turns c h f.steps f.own; clean = f.clean }
+
+-- the same of steps that bring in whatever they do
+pub goes-turn : (c : ℕ) (h g : History) → Goes (is_work c) h g → Goes (is_turn c) h g
+goes-turn c h g f = record { steps = f.steps; base = f.base; limits = f.limits; journal = f.journal; own = all-turns c h f.steps f.own }
+
+pub goes-work : (c : ℕ) (h g : History) (lists : List (List ℕ)) → WorksFor c h g lists → Goes (is_turn c) h g
+goes-work c h g lists works = goes-turn c h g (goes-of (is_work c) h g works.follows)
 
 -- ---- the other clients
 
@@ -97,40 +107,40 @@ others-after c d h (step ∷ steps) own other =
     ∙ others-after c d h steps own.1 other
 
 -- another client is open as it was before an event of this one
-pub open-others : (c : ℕ) (h g : History) → Follows (is_turn c) h g → (d : ℕ) → (c == d) ≡ false → is_open g.base g.journal d ≡ is_open h.base h.journal d
-open-others c h g follows d other =
-    ap (λ (base : PlainBase). is_open base g.journal d) follows.base
-    ∙ ap (λ (journal : List Step). is_open h.base journal d) follows.journal
-    ∙ others-after c d h follows.steps follows.own other
+pub open-others : (c : ℕ) (h g : History) → Goes (is_turn c) h g → (d : ℕ) → (c == d) ≡ false → is_open g.base g.journal d ≡ is_open h.base h.journal d
+open-others c h g goes d other =
+    ap (λ (base : PlainBase). is_open base g.journal d) goes.base
+    ∙ ap (λ (journal : List Step). is_open h.base journal d) goes.journal
+    ∙ others-after c d h goes.steps goes.own other
 
 -- ---- the lines
 
 -- where the client of the event has a line just where it is open, all clients have
-pub agree-after : (c : ℕ) (h g : History) (old new : List (ℕ × PlainLine)) → Agree h old → Follows (is_turn c) h g → KeepsOthers c (holding h old) (holding g new)
+pub agree-after : (c : ℕ) (h g : History) (old new : List (ℕ × PlainLine)) → Agree h old → Goes (is_turn c) h g → KeepsOthers c (holding h old) (holding g new)
     → is_some (line_of new c) ≡ is_open g.base g.journal c → Agree g new
-agree-after c h g old new agree follows others own d = on (c == d) refl
+agree-after c h g old new agree goes others own d = on (c == d) refl
   where
     on : (b : Bool) → (c == d) ≡ b → is_some (line_of new d) ≡ is_open g.base g.journal d
     on true is = subst (λ (e : ℕ). is_some (line_of new e) ≡ is_open g.base g.journal e) (same is) own
       where
         same : (c == d) ≡ true → c ≡ d
         same e = grind (arith, nat_tests, e)
-    on false is = ap (λ (o : Option PlainLine). is_some o) (others d is) ∙ agree d ∙ sym (open-others c h g follows d is)
+    on false is = ap (λ (o : Option PlainLine). is_some o) (others d is) ∙ agree d ∙ sym (open-others c h g goes d is)
 
 -- where the client isn't open any more and has no line
-pub agree-gone : (c : ℕ) (h g : History) (old new : List (ℕ × PlainLine)) → Agree h old → Follows (is_turn c) h g → KeepsOthers c (holding h old) (holding g new)
+pub agree-gone : (c : ℕ) (h g : History) (old new : List (ℕ × PlainLine)) → Agree h old → Goes (is_turn c) h g → KeepsOthers c (holding h old) (holding g new)
     → line_of new c ≡ None → is_open g.base g.journal c ≡ false → Agree g new
-agree-gone c h g old new agree follows others gone closed =
-    agree-after c h g old new agree follows others (ap (λ (o : Option PlainLine). is_some o) gone ∙ sym closed)
+agree-gone c h g old new agree goes others gone closed =
+    agree-after c h g old new agree goes others (ap (λ (o : Option PlainLine). is_some o) gone ∙ sym closed)
 
 -- where it is open still and has one
-pub agree-still : (c : ℕ) (h g : History) (old new : List (ℕ × PlainLine)) → Agree h old → Follows (is_turn c) h g → KeepsOthers c (holding h old) (holding g new)
+pub agree-still : (c : ℕ) (h g : History) (old new : List (ℕ × PlainLine)) → Agree h old → Goes (is_turn c) h g → KeepsOthers c (holding h old) (holding g new)
     → is_some (line_of new c) ≡ true → is_open g.base g.journal c ≡ true → Agree g new
-agree-still c h g old new agree follows others has open_still = agree-after c h g old new agree follows others (has ∙ sym open_still)
+agree-still c h g old new agree goes others has open_still = agree-after c h g old new agree goes others (has ∙ sym open_still)
 
 -- after steps that are of each client
 pub agree-each : (h g : History) → ((c : ℕ) → Follows (is_turn c) h g) → (lines : List (ℕ × PlainLine)) → Agree h lines → Agree g lines
-agree-each h g follows lines agree d = agree d ∙ sym (open-others (d + 1) h g (follows (d + 1)) d (next d))
+agree-each h g follows lines agree d = agree d ∙ sym (open-others (d + 1) h g (goes-of (is_turn (d + 1)) h g (follows (d + 1))) d (next d))
   where
     next : (d : ℕ) → (d + 1 == d) ≡ false
     next d = grind (arith, nat_tests)

@@ -155,11 +155,11 @@ turned s g = work g s.done
 abbrev pub SimWork : (Work → Work → Type 0) → Work → Work → History → Type 0
 SimWork R s t g = (m : History) × Grown s.history t.history g m × R (turned s g) (turned t m)
 
-pub says-alike : StaysSound → (c : ℕ) (space : List ℕ) (e : PlainEmission) (now : ℕ) (s t : Work) (g : History) → AreAlike s.history g → Broadcasts c space e now s t → SimWork (Broadcasts c space e now) s t g
-says-alike keeps c space e now s t g alike (unrefused, done, cast, is) =
-    let both = cast-alike keeps s.history g t.history now (cast_of space e) done alike unrefused cast in
-    (with_step g now (Cast cast.b), both.0, (refusal_of-alike s.history g alike (cast_of space e) ∙ unrefused, done, both.1, is))
+pub says-alike : StaysSound → (c : ℕ) (e : PlainEmission) (now : ℕ) (s t : Work) (g : History) → AreAlike s.history g → Broadcasts c e now s t → SimWork (Broadcasts c e now) s t g
+says-alike keeps c e now s t g alike (unrefused, done, cast, is) =
+    let both = cast-alike keeps s.history g t.history now (cast_of e) done alike unrefused cast in
+    (with_step g now (Cast cast.b), both.0, (refusal_of-alike s.history g alike (cast_of e) ∙ unrefused, done, both.1, is))
 
-pub cannot-say : (space : List ℕ) (e : PlainEmission) (h g : History) → AreAlike h g → (fault : CoreFault) → CannotBroadcast space e h fault → CannotBroadcast space e g fault
-cannot-say space e h g alike fault (inl short) = inl short
-cannot-say space e h g alike fault (inr (spent, by)) = inr (spent, spent-by-alike h g alike (cast_of space e) by)
+pub cannot-say : (e : PlainEmission) (h g : History) → AreAlike h g → (fault : CoreFault) → CannotBroadcast e h fault → CannotBroadcast e g fault
+cannot-say e h g alike fault (inl short) = inl short
+cannot-say e h g alike fault (inr (spent, by)) = inr (spent, spent-by-alike h g alike (cast_of e) by)

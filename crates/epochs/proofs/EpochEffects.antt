@@ -1,6 +1,6 @@
 -- The app's effects after two histories that say the same.
 use Rattle.std.proofs.Common.{◌≡◌, ℕ, true, false, List, [], ◌∷◌, refl, sym, ◌∙◌, ap, subst, take, Option, None, Some, Result, Ok, Err, inl, inr}
-use Rattle.std.specs.Prelude.{is_some, ◌==◌, ◌&&◌}
+use Rattle.std.specs.Prelude.{is_some, ◌==◌, ◌&&◌, ◌||◌}
 use Rattle.terms.specs.declared.entry.Entry.{Entry}
 use Rattle.connection.specs.History.{Disconnected}
 use Rattle.connection.specs.Line.{Advances}
@@ -26,7 +26,7 @@ use Rattle.events.specs.declared.fault.Stopped.{Stopped}
 use Rattle.events.specs.Emission.{PlainEmission}
 use Rattle.events.specs.Selection.{PlainSelection}
 use Rattle.effects.specs.Commands.{Makes, IsRefused, StopsAt, IsSeated}
-use Rattle.effects.specs.Effects.{Scene, Closes, ChangesRooms, Emits, told_to, Replies, Asks, goodbye, SaysGoodbye, Disconnects, all_joined, all_left, dismissed, is_among, EndsAll, Acts, ActsInTurn, is_bad, FailsToTell, FailsAt, FailsToEmit, FailsToReply, FailsToDisconnect, FailsToEndAll, FailsToAsk, Fails, Stops, StopsAfter}
+use Rattle.effects.specs.Effects.{Scene, Closes, ChangesRooms, Emits, told_to, Replies, Asks, goodbye, SaysGoodbye, Disconnects, all_joined, all_left, dismissed, is_among, EndsAll, Acts, ActsInTurn, is_bad, is_wrong, FailsToTell, FailsAt, FailsToEmit, FailsToReply, FailsToDisconnect, FailsToEndAll, FailsToAsk, Fails, Stops, StopsAfter}
 use Rattle.events.specs.Plain.{one_more, told}
 use Rattle.effects.specs.Runs.{Runs, RunsOrFails}
 use Rattle.effects.specs.Broadcasting.{work}
@@ -79,7 +79,7 @@ module _ (keeps : StaysSound) (now : ℕ) where
 
   emits-alike : (who : Who) (e : PlainEmission) (s t : Scene) (g : History) → AreAlike s.history g → Emits who e now s t → Sim (Emits who e now) s t g
   emits-alike who e s t g alike (says, is) =
-      let (m, grown, also) = says-alike keeps who.client who.space e now (work s.history s.done) (work t.history t.done) g alike says in
+      let (m, grown, also) = says-alike keeps who.client e now (work s.history s.done) (work t.history t.done) g alike says in
       (m, grown, (also, ap (λ (u : Scene). moved u m) is))
 
   replies-alike : (who : Who) (id : ℕ) (r : reply.Reply) (s t : Scene) (g : History) → AreAlike s.history g → Replies who id r now s t → Sim (Replies who id r now) s t g
@@ -113,20 +113,20 @@ module _ (keeps : StaysSound) (now : ℕ) where
 
   -- ---- of many sockets
 
-  all_joined-alike : (who : Who) (p : PlainSelection) (room : List ℕ) (h g : History) → AreAlike h g → all_joined who p room g ≡ all_joined who p room h
-  all_joined-alike who p room h g alike =
-      ap what.AllJoined (joining-alike h g alike (place_of g.limits who.space) p.rooms p.excepted room)
-      ∙ ap (λ (l : Limits). what.AllJoined (joining h (place_of l who.space) p.rooms p.excepted room)) alike.same.same_limits
+  all_joined-alike : (p : PlainSelection) (room : List ℕ) (h g : History) → AreAlike h g → all_joined p room g ≡ all_joined p room h
+  all_joined-alike p room h g alike =
+      ap what.AllJoined (joining-alike h g alike (place_of g.limits p.space) p.rooms p.excepted room)
+      ∙ ap (λ (l : Limits). what.AllJoined (joining h (place_of l p.space) p.rooms p.excepted room)) alike.same.same_limits
 
-  all_left-alike : (who : Who) (p : PlainSelection) (room : List ℕ) (h g : History) → AreAlike h g → all_left who p room g ≡ all_left who p room h
-  all_left-alike who p room h g alike =
-      ap what.AllLeft (leaving-alike h g alike (place_of g.limits who.space) p.rooms p.excepted room)
-      ∙ ap (λ (l : Limits). what.AllLeft (leaving h (place_of l who.space) p.rooms p.excepted room)) alike.same.same_limits
+  all_left-alike : (p : PlainSelection) (room : List ℕ) (h g : History) → AreAlike h g → all_left p room g ≡ all_left p room h
+  all_left-alike p room h g alike =
+      ap what.AllLeft (leaving-alike h g alike (place_of g.limits p.space) p.rooms p.excepted room)
+      ∙ ap (λ (l : Limits). what.AllLeft (leaving h (place_of l p.space) p.rooms p.excepted room)) alike.same.same_limits
 
-  dismissed-alike : (who : Who) (p : PlainSelection) (h g : History) → AreAlike h g → dismissed who p g ≡ dismissed who p h
-  dismissed-alike who p h g alike =
-      dismissal-alike h g alike (place_of g.limits who.space) p.rooms p.excepted
-      ∙ ap (λ (l : Limits). dismissal h (place_of l who.space) p.rooms p.excepted) alike.same.same_limits
+  dismissed-alike : (p : PlainSelection) (h g : History) → AreAlike h g → dismissed p g ≡ dismissed p h
+  dismissed-alike p h g alike =
+      dismissal-alike h g alike (place_of g.limits p.space) p.rooms p.excepted
+      ∙ ap (λ (l : Limits). dismissal h (place_of l p.space) p.rooms p.excepted) alike.same.same_limits
 
   -- the sockets of this dismissal end
   abbrev EndsThose : Who → PlainDismissal → Scene → Scene → Type 0
@@ -137,10 +137,10 @@ module _ (keeps : StaysSound) (now : ℕ) where
 
   ends_all-alike : (who : Who) (p : PlainSelection) (s t : Scene) (g : History) → AreAlike s.history g → EndsAll who p now s t → Sim (EndsAll who p now) s t g
   ends_all-alike who p s t g alike (makes, is, lines) =
-      let d = dismissed who p s.history in
-      let both = make-alike s.history g t.history alike (what.AllEnded d) (dismissal-right s.history (place_of s.history.limits who.space) p.rooms p.excepted) makes in
+      let d = dismissed p s.history in
+      let both = make-alike s.history g t.history alike (what.AllEnded d) (dismissal-right s.history (place_of s.history.limits p.space) p.rooms p.excepted) makes in
       let m = with_step g now (what.AllEnded d) in
-      (m, both.0, subst (λ (e : PlainDismissal). EndsThose who e (moved s g) (moved t m)) (sym (dismissed-alike who p s.history g alike)) (both.1, ap (λ (u : Scene). moved u m) is, lines))
+      (m, both.0, subst (λ (e : PlainDismissal). EndsThose who e (moved s g) (moved t m)) (sym (dismissed-alike p s.history g alike)) (both.1, ap (λ (u : Scene). moved u m) is, lines))
 
   acts-alike : (who : Who) (effect : Effect) (s t : Scene) (g : History) → AreAlike s.history g → Acts who now s effect t → Sim (λ a b. Acts who now a effect b) s t g
   acts-alike who (Join room) s t g alike does = changes-alike _ _ refl s t g alike tt does
@@ -150,18 +150,22 @@ module _ (keeps : StaysSound) (now : ℕ) where
   acts-alike who (EmitAsk q) s t g alike does = asks-alike who q s t g alike does
   acts-alike who Disconnect s t g alike does = disconnects-alike who s t g alike does
   acts-alike who (AllJoin p room) s t g alike does =
-      changes-alike (all_joined who p room s.history) (all_joined who p room g) (all_joined-alike who p room s.history g alike) s t g alike (joining-right s.history (place_of s.history.limits who.space) p.rooms p.excepted room) does
+      changes-alike (all_joined p room s.history) (all_joined p room g) (all_joined-alike p room s.history g alike) s t g alike (joining-right s.history (place_of s.history.limits p.space) p.rooms p.excepted room) does
   acts-alike who (AllLeave p room) s t g alike does =
-      changes-alike (all_left who p room s.history) (all_left who p room g) (all_left-alike who p room s.history g alike) s t g alike (leaving-right s.history (place_of s.history.limits who.space) p.rooms p.excepted room) does
+      changes-alike (all_left p room s.history) (all_left p room g) (all_left-alike p room s.history g alike) s t g alike (leaving-right s.history (place_of s.history.limits p.space) p.rooms p.excepted room) does
   acts-alike who (AllEnd p) s t g alike does = ends_all-alike who p s t g alike does
+
+  -- an effect is as bad in both
+  bad-alike : (effect : Effect) (s : Scene) (g : History) → AreAlike s.history g → is_bad (moved s g) effect ≡ is_bad s effect
+  bad-alike effect s g alike = ap (λ (l : Limits). s.ended || is_wrong l s.asked effect) alike.same.same_limits
 
   pub turn-alike : (who : Who) (effect : Effect) (s t : Scene) (g : History) → AreAlike s.history g → ActsInTurn who now s effect t → Sim (λ a b. ActsInTurn who now a effect b) s t g
   turn-alike who effect s t g alike does = on s.done.closed does
     where
       on : (o : Option Cause) → elim o as (λ (o : Option Cause). Type 0) [ Some cause ↦ t ≡ s | None ↦ (is_bad s effect ≡ false) × Acts who now s effect t ]
-          → (m : History) × Grown s.history t.history g m × elim o as (λ (o : Option Cause). Type 0) [ Some cause ↦ moved t m ≡ moved s g | None ↦ (is_bad s effect ≡ false) × Acts who now (moved s g) effect (moved t m) ]
+          → (m : History) × Grown s.history t.history g m × elim o as (λ (o : Option Cause). Type 0) [ Some cause ↦ moved t m ≡ moved s g | None ↦ (is_bad (moved s g) effect ≡ false) × Acts who now (moved s g) effect (moved t m) ]
       on (Some cause) is = (g, grown-none s.history t.history g alike (ap (λ (u : Scene). u.history) is), ap (λ (u : Scene). moved u g) is)
-      on None (fine, acts) = let (m, grown, also) = acts-alike who effect s t g alike acts in (m, grown, (fine, also))
+      on None (fine, acts) = let (m, grown, also) = acts-alike who effect s t g alike acts in (m, grown, (bad-alike effect s g alike ∙ fine, also))
 
   -- ---- where the effects stop
 
@@ -181,9 +185,9 @@ module _ (keeps : StaysSound) (now : ℕ) where
   fails-to-tell who h g alike entry fault (inr (refused, stops)) =
       inr (refused-alike h g alike (told_to who.client entry) hub.OutboxFull refused, stops-alike h g alike (what.Closed who.client) fault stops)
 
-  fails-to-emit : (who : Who) (e : PlainEmission) (s : Scene) (fault : CoreFault) (t : Scene) (g : History) → AreAlike s.history g → FailsToEmit who e s fault t → Ends (FailsToEmit who e) s fault t g
-  fails-to-emit who e s fault t g alike (cannot, is) =
-      (g, grown-none s.history t.history g alike (ap (λ (u : Scene). u.history) is), (cannot-say who.space e s.history g alike fault cannot, ap (λ (u : Scene). moved u g) is))
+  fails-to-emit : (e : PlainEmission) (s : Scene) (fault : CoreFault) (t : Scene) (g : History) → AreAlike s.history g → FailsToEmit e s fault t → Ends (FailsToEmit e) s fault t g
+  fails-to-emit e s fault t g alike (cannot, is) =
+      (g, grown-none s.history t.history g alike (ap (λ (u : Scene). u.history) is), (cannot-say e s.history g alike fault cannot, ap (λ (u : Scene). moved u g) is))
 
   fails-to-reply : (who : Who) (id : ℕ) (r : reply.Reply) (s : Scene) (fault : CoreFault) (t : Scene) (g : History) → AreAlike s.history g → FailsToReply who id r now s fault t → Ends (FailsToReply who id r now) s fault t g
   fails-to-reply who id r s fault t g alike (is, inl short) = (g, grown-none s.history t.history g alike (ap (λ (u : Scene). u.history) is), (ap (λ (u : Scene). moved u g) is, inl short))
@@ -198,10 +202,10 @@ module _ (keeps : StaysSound) (now : ℕ) where
       let there = grown-none between t.history m grown.alike (ap (λ (u : Scene). u.history) is) in
       (m, grown-on s.history between t.history g m m grown there, inr (inr (m, said, (stops-alike between m grown.alike (what.Ended who.sid side.Server) fault stops, ap (λ (u : Scene). moved u m) is))))
 
-  fails-to-end-all : (who : Who) (p : PlainSelection) (s : Scene) (fault : CoreFault) (t : Scene) (g : History) → AreAlike s.history g → FailsToEndAll who p now s fault t → Ends (FailsToEndAll who p now) s fault t g
-  fails-to-end-all who p s fault t g alike (inl (short, is)) = (g, grown-none s.history t.history g alike (ap (λ (u : Scene). u.history) is), inl (short, ap (λ (u : Scene). moved u g) is))
-  fails-to-end-all who p s fault t g alike (inr fails) =
-      let (m, grown, also) = fails-at (what.AllEnded (dismissed who p s.history)) (what.AllEnded (dismissed who p g)) (ap what.AllEnded (dismissed-alike who p s.history g alike)) s fault t g alike fails in (m, grown, inr also)
+  fails-to-end-all : (p : PlainSelection) (s : Scene) (fault : CoreFault) (t : Scene) (g : History) → AreAlike s.history g → FailsToEndAll p now s fault t → Ends (FailsToEndAll p now) s fault t g
+  fails-to-end-all p s fault t g alike (inl (short, is)) = (g, grown-none s.history t.history g alike (ap (λ (u : Scene). u.history) is), inl (short, ap (λ (u : Scene). moved u g) is))
+  fails-to-end-all p s fault t g alike (inr fails) =
+      let (m, grown, also) = fails-at (what.AllEnded (dismissed p s.history)) (what.AllEnded (dismissed p g)) (ap what.AllEnded (dismissed-alike p s.history g alike)) s fault t g alike fails in (m, grown, inr also)
 
   fails-to-ask : (who : Who) (q : inquiry.Inquiry) (s : Scene) (fault : CoreFault) (t : Scene) (g : History) → AreAlike s.history g → FailsToAsk who q now s fault t → Ends (FailsToAsk who q now) s fault t g
   fails-to-ask who q s fault t g alike (is, inl none) = (g, grown-none s.history t.history g alike (ap (λ (u : Scene). u.history) is), (ap (λ (u : Scene). moved u g) is, inl none))
@@ -216,17 +220,17 @@ module _ (keeps : StaysSound) (now : ℕ) where
   fails-alike : (who : Who) (effect : Effect) (s : Scene) (fault : CoreFault) (t : Scene) (g : History) → AreAlike s.history g → Fails who now s effect fault t → Ends (λ a f b. Fails who now a effect f b) s fault t g
   fails-alike who (Join room) s fault t g alike does = fails-at (what.Joined who.sid room) (what.Joined who.sid room) refl s fault t g alike does
   fails-alike who (Leave room) s fault t g alike does = fails-at (what.Left who.sid room) (what.Left who.sid room) refl s fault t g alike does
-  fails-alike who (Emit e) s fault t g alike does = fails-to-emit who e s fault t g alike does
+  fails-alike who (Emit e) s fault t g alike does = fails-to-emit e s fault t g alike does
   fails-alike who (Reply r) s fault t g alike (id, asked, does) = let (m, grown, also) = fails-to-reply who id r s fault t g alike does in (m, grown, (id, asked, also))
   fails-alike who (EmitAsk q) s fault t g alike does = fails-to-ask who q s fault t g alike does
   fails-alike who Disconnect s fault t g alike does = fails-to-disconnect who s fault t g alike does
-  fails-alike who (AllJoin p room) s fault t g alike does = fails-at (all_joined who p room s.history) (all_joined who p room g) (all_joined-alike who p room s.history g alike) s fault t g alike does
-  fails-alike who (AllLeave p room) s fault t g alike does = fails-at (all_left who p room s.history) (all_left who p room g) (all_left-alike who p room s.history g alike) s fault t g alike does
-  fails-alike who (AllEnd p) s fault t g alike does = fails-to-end-all who p s fault t g alike does
+  fails-alike who (AllJoin p room) s fault t g alike does = fails-at (all_joined p room s.history) (all_joined p room g) (all_joined-alike p room s.history g alike) s fault t g alike does
+  fails-alike who (AllLeave p room) s fault t g alike does = fails-at (all_left p room s.history) (all_left p room g) (all_left-alike p room s.history g alike) s fault t g alike does
+  fails-alike who (AllEnd p) s fault t g alike does = fails-to-end-all p s fault t g alike does
 
   stop-alike : (who : Who) (effect : Effect) (s : Scene) (fault : CoreFault) (t : Scene) (g : History) → AreAlike s.history g → Stops who now s effect fault t → Ends (λ a f b. Stops who now a effect f b) s fault t g
-  stop-alike who effect s fault t g alike (fresh, inl (bad, is, same)) = (g, grown-none s.history t.history g alike (ap (λ (u : Scene). u.history) same), (fresh, inl (bad, is, ap (λ (u : Scene). moved u g) same)))
-  stop-alike who effect s fault t g alike (fresh, inr (fine, fails)) = let (m, grown, also) = fails-alike who effect s fault t g alike fails in (m, grown, (fresh, inr (fine, also)))
+  stop-alike who effect s fault t g alike (fresh, inl (bad, is, same)) = (g, grown-none s.history t.history g alike (ap (λ (u : Scene). u.history) same), (fresh, inl (bad-alike effect s g alike ∙ bad, is, ap (λ (u : Scene). moved u g) same)))
+  stop-alike who effect s fault t g alike (fresh, inr (fine, fails)) = let (m, grown, also) = fails-alike who effect s fault t g alike fails in (m, grown, (fresh, inr (bad-alike effect s g alike ∙ fine, also)))
 
 -- ---- runs
 

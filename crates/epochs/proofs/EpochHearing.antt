@@ -11,8 +11,8 @@ use Rattle.events.specs.Answer.{Answer}
 use Rattle.events.specs.App.{Policy, AllClean}
 use Rattle.events.specs.Emission.{PlainEmission}
 use Rattle.events.specs.Plain.{PlainDone}
-use Rattle.effects.specs.Hearing.{name_of, who_of, Sends, HearsOf, HearsOfAll}
-use Rattle.effects.specs.Effects.{is_unsendable}
+use Rattle.effects.specs.Hearing.{who_of, Sends, HearsOf, HearsOfAll}
+use Rattle.effects.specs.Effects.{is_bad_emission}
 use Rattle.effects.specs.Runs.{RunsOrFails}
 use Rattle.effects.specs.Broadcasting.{Work, work, BroadcastsOrFails}
 use Rattle.epochs.specs.Epochs.{AreAlike}
@@ -28,24 +28,26 @@ same-work : (s t : Work) (g : History) → AreAlike s.history g → t ≡ s → 
 same-work s t g alike is = grown-none s.history t.history g alike (ap (λ (u : Work). u.history) is)
 
 module _ (keeps : StaysSound) (c now : ℕ) where
-  says-or-fails : (space : List ℕ) (e : PlainEmission) (s : Work) (r : Result (Unit {0}) CoreFault) (t : Work) (g : History) → AreAlike s.history g → BroadcastsOrFails c space e now s r t → SimWork (λ a b. BroadcastsOrFails c space e now a r b) s t g
-  says-or-fails space e s (Ok x) t g alike says = says-alike keeps c space e now s t g alike says
-  says-or-fails space e s (Err fault) t g alike (cannot, is) = (g, same-work s t g alike is, (cannot-say space e s.history g alike fault cannot, ap (λ (u : Work). turned u g) is))
+  says-or-fails : (e : PlainEmission) (s : Work) (r : Result (Unit {0}) CoreFault) (t : Work) (g : History) → AreAlike s.history g → BroadcastsOrFails c e now s r t → SimWork (λ a b. BroadcastsOrFails c e now a r b) s t g
+  says-or-fails e s (Ok x) t g alike says = says-alike keeps c e now s t g alike says
+  says-or-fails e s (Err fault) t g alike (cannot, is) = (g, same-work s t g alike is, (cannot-say e s.history g alike fault cannot, ap (λ (u : Work). turned u g) is))
 
   -- the row of an event, by whether it can be sent
-  abbrev SendsIf : Bool → (space : List ℕ) → PlainEmission → Result (Unit {0}) CoreFault → Work → Work → Type 0
-  SendsIf bad space e r a b = elim bad as (λ (bad : Bool). Type 0) [ true ↦ (r ≡ Err BadEffect) × (b ≡ a) | false ↦ BroadcastsOrFails c space e now a r b ]
+  abbrev SendsIf : Bool → PlainEmission → Result (Unit {0}) CoreFault → Work → Work → Type 0
+  SendsIf bad e r a b = elim bad as (λ (bad : Bool). Type 0) [ true ↦ (r ≡ Err BadEffect) × (b ≡ a) | false ↦ BroadcastsOrFails c e now a r b ]
 
-  emit-alike : (space : List ℕ) (e : PlainEmission) (s : Work) (r : Result (Unit {0}) CoreFault) (t : Work) (g : History) → AreAlike s.history g → Sends c now space s (Emit e) r t → SimWork (λ a b. Sends c now space a (Emit e) r b) s t g
-  emit-alike space e s r t g alike does = on (is_unsendable e.payload e.attachments) does
+  emit-alike : (e : PlainEmission) (s : Work) (r : Result (Unit {0}) CoreFault) (t : Work) (g : History) → AreAlike s.history g → Sends c now s (Emit e) r t → SimWork (λ a b. Sends c now a (Emit e) r b) s t g
+  emit-alike e s r t g alike does =
+      subst (λ (l : Limits). (m : History) × Grown s.history t.history g m × SendsIf (is_bad_emission l e) e r (turned s g) (turned t m)) (sym alike.same.same_limits)
+      (on (is_bad_emission s.history.limits e) does)
     where
-      on : (bad : Bool) → SendsIf bad space e r s t → (m : History) × Grown s.history t.history g m × SendsIf bad space e r (turned s g) (turned t m)
+      on : (bad : Bool) → SendsIf bad e r s t → (m : History) × Grown s.history t.history g m × SendsIf bad e r (turned s g) (turned t m)
       on true (is, same) = (g, same-work s t g alike same, (is, ap (λ (u : Work). turned u g) same))
-      on false does = says-or-fails space e s r t g alike does
+      on false does = says-or-fails e s r t g alike does
 
-  sends-alike : (space : List ℕ) (s : Work) (effect : Effect) (r : Result (Unit {0}) CoreFault) (t : Work) (g : History) → AreAlike s.history g → Sends c now space s effect r t → SimWork (λ a b. Sends c now space a effect r b) s t g
-  sends-alike space s (Emit e) r t g alike does = emit-alike space e s r t g alike does
-  sends-alike space s _ r t g alike (is, same) = (g, same-work s t g alike same, (is, ap (λ (u : Work). turned u g) same))
+  sends-alike : (s : Work) (effect : Effect) (r : Result (Unit {0}) CoreFault) (t : Work) (g : History) → AreAlike s.history g → Sends c now s effect r t → SimWork (λ a b. Sends c now a effect r b) s t g
+  sends-alike s (Emit e) r t g alike does = emit-alike e s r t g alike does
+  sends-alike s _ r t g alike (is, same) = (g, same-work s t g alike same, (is, ap (λ (u : Work). turned u g) same))
 
   -- ---- what it hears
 
@@ -54,7 +56,7 @@ module _ (keeps : StaysSound) (c now : ℕ) where
     abbrev HearsBy : Limits → PlainEnded → Result (Unit {0}) CoreFault → Work → Work → Type 0
     HearsBy limits gone r a b =
         ((r ≡ Err Memory) × (b ≡ a))
-        ⊎ ((effects : List Effect) × policy.ends (who_of limits gone.socket) gone.rooms gone.ending effects × AllClean effects × RunsOrFails (Sends c now (name_of limits gone.socket)) effects a r b)
+        ⊎ ((effects : List Effect) × policy.ends (who_of limits gone.socket) gone.rooms gone.ending effects × AllClean effects × RunsOrFails (Sends c now) effects a r b)
 
     hears-of : (s : Work) (gone : PlainEnded) (r : Result (Unit {0}) CoreFault) (t : Work) (g : History) → AreAlike s.history g → HearsOf policy c now s gone r t → SimWork (λ a b. HearsOf policy c now a gone r b) s t g
     hears-of s gone r t g alike does =
@@ -63,8 +65,7 @@ module _ (keeps : StaysSound) (c now : ℕ) where
         on : HearsBy s.history.limits gone r s t → (m : History) × Grown s.history t.history g m × HearsBy s.history.limits gone r (turned s g) (turned t m)
         on (inl (is, same)) = (g, same-work s t g alike same, inl (is, ap (λ (u : Work). turned u g) same))
         on (inr (effects, wants, clean, run)) =
-            let space = name_of s.history.limits gone.socket in
-            let (m, grown, also) = runs-or-fails-alike (λ (u : Work). u.history) turned (Sends c now space) (sends-alike space) effects s r t g alike run in
+            let (m, grown, also) = runs-or-fails-alike (λ (u : Work). u.history) turned (Sends c now) sends-alike effects s r t g alike run in
             (m, grown, inr (effects, wants, clean, also))
 
     pub hears-of-all : (ended : List PlainEnded) (s : Work) (r : Result (Unit {0}) CoreFault) (t : Work) (g : History) → AreAlike s.history g → HearsOfAll policy c now ended s r t → SimWork (λ a b. HearsOfAll policy c now ended a r b) s t g

@@ -8,7 +8,7 @@ use Rattle.dispatch.specs.Packets.{Course, course, HandlesInTurn, HandlesOrBreak
 use Rattle.dispatch.proofs.PacketLaws.{all-after}
 use Rattle.dispatch.proofs.PacketLemmas.{in-turn, out-of-turn, still-open}
 use Rattle.dispatch.proofs.RunLemmas.{runs-take}
-use Rattle.dispatch.proofs.TurnLemmas.{works-none}
+use Rattle.dispatch.proofs.TurnLemmas.{working-none}
 use Rattle.dispatch.proofs.packets.handle_each.Goals as goal
 use Rattle.dispatch.proofs.packets.handle_each.Goals.{then-not-is_closed+in_default, else-not-is_closed}
 
@@ -22,7 +22,7 @@ handle-requires g c =
     let open_still = still-open now.state.now now.visit.client now.tally.now.done.closed
     (rw c.loop-packet.invariant.same.visit (all-after c.args.scene.now.visit.client c.args.scene.now.visit.moment c.args.scene.now.state.now (g.A.App.policy c.args.app.now) (take c.loop-packet.packet-index c.args.packets.now)
     (course start (g.I.IdSource.stream c.args.ids.now)) (course (seen c.loop-packet.scene) (g.I.IdSource.stream c.loop-packet.ids)) c.loop-packet.invariant.run
-    (record { stays = c.requires.open_client ∙ sym (ap (λ (o : Option Cause). is_none o) c.requires.fresh); has = works-none c.args.scene.now.visit.client c.args.scene.now.state.now start.done.clients })).stays)
+    (record { stays = c.requires.open_client ∙ sym (ap (λ (o : Option Cause). is_none o) c.requires.fresh); has = working-none c.args.scene.now.visit.client c.args.scene.now.state.now start.done.clients })).stays)
     (sym c.is_closed.ensures ∙ c.if-not-is_closed.true) in
     rw c.begin.ensures (open_still.0, open_still.1, refl)
 
