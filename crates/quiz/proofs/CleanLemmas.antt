@@ -9,6 +9,7 @@ use Rattle.events.specs.App.{AllClean, IsCleanArrival}
 use Rattle.events.specs.declared.app.Arrived.{Arrived}
 use Rattle.events.specs.declared.app.Arrived.TheVariants.{Event, Answer}
 use Rattle.events.specs.declared.app.Effect.{Effect}
+use Rattle.events.specs.declared.app.Who.{Who}
 use Rattle.quiz.specs.Quiz.{begins_with, ask, announce, reply, decided}
 
 holds_none : List ℕ → Bool
@@ -42,16 +43,16 @@ clean-event true false = (question, tt)
 clean-event false true = (brackets, tt)
 clean-event false false = tt
 
-clean-answer : (knows : Bool) → AllClean ((if knows then announce else ask) ∷ [])
-clean-answer true = (solved, tt)
-clean-answer false = (question, tt)
+clean-answer : (who : Who) (knows : Bool) → AllClean ((if knows then announce who else ask) ∷ [])
+clean-answer who true = (solved, tt)
+clean-answer who false = (question, tt)
 
-clean-decided : (arrived : Arrived) → AllClean (decided arrived)
-clean-decided (Event message) = clean-event (begins_with message.payload (codes "play")) message.asked
-clean-decided (Answer answer) = clean-answer (begins_with answer.payload (codes "42"))
+clean-decided : (who : Who) (arrived : Arrived) → AllClean (decided who arrived)
+clean-decided who (Event message) = clean-event (begins_with message.payload (codes "play")) message.asked
+clean-decided who (Answer answer) = clean-answer who (begins_with answer.payload (codes "42"))
 
 -- of the effects that were decided
-pub clean-effects : {V E : Type 0} (items : V → List Effect) (arrived : Arrived) (r : Result V E)
-    → IfOk r (λ effects. items effects ≡ decided arrived) → IfOk r (λ effects. IsCleanArrival arrived → AllClean (items effects))
-clean-effects items arrived (Ok effects) is = λ _. subst AllClean (sym is) (clean-decided arrived)
-clean-effects items arrived (Err e) is = tt
+pub clean-effects : {V E : Type 0} (items : V → List Effect) (who : Who) (arrived : Arrived) (r : Result V E)
+    → IfOk r (λ effects. items effects ≡ decided who arrived) → IfOk r (λ effects. IsCleanArrival arrived → AllClean (items effects))
+clean-effects items who arrived (Ok effects) is = λ _. subst AllClean (sym is) (clean-decided who arrived)
+clean-effects items who arrived (Err e) is = tt

@@ -6,6 +6,7 @@ use Rattle.events.specs.App.{PlainVerdict, Accepted, Refused}
 use Rattle.events.specs.declared.app.Arrived.{Arrived}
 use Rattle.events.specs.declared.app.Arrived.TheVariants.{Event, Answer}
 use Rattle.events.specs.declared.app.Effect.{Effect}
+use Rattle.events.specs.declared.app.Who.{Who}
 use Rattle.events.specs.declared.app.Effect.TheVariants as effect
 
 -- every client may connect
@@ -36,10 +37,11 @@ ask =
       wait = 30000;
     })
 
--- everybody hears that it is solved
-abbrev pub announce : Effect
-announce =
+-- everybody in the socket's namespace hears that it is solved
+abbrev pub announce : Who → Effect
+announce who =
     effect.Emit (record {
+      space = who.space;
       rooms = [];
       excepted = [];
       logged = true;
@@ -52,8 +54,9 @@ reply = effect.Reply (record { payload = codes "[]"; attachments = [] })
 
 -- who plays is asked, and asked again until the answer is right; what asks for an
 -- acknowledgement gets one
-abbrev pub decided : Arrived → List Effect
-decided (Event message) =
+abbrev pub decided : Who → Arrived → List Effect
+decided who (Event message) =
     (if begins_with message.payload (codes "play") then ask ∷ [] else [])
     ++ (if message.asked then reply ∷ [] else [])
-decided (Answer answer) = (if begins_with answer.payload (codes "42") then announce else ask) ∷ []
+decided who (Answer answer) =
+    (if begins_with answer.payload (codes "42") then announce who else ask) ∷ []

@@ -22,7 +22,7 @@ pub struct Quiz;
 impl App for Quiz {
     ghost policy = { λ app. record {
       allows = λ space payload verdict. Allows verdict;
-      decides = λ who arrived effects. effects ≡ decided arrived;
+      decides = λ who arrived effects. effects ≡ decided who arrived;
       ends = λ who rooms ending effects. effects ≡ [];
     } };
 
@@ -30,8 +30,8 @@ impl App for Quiz {
         Ok(Verdict::Accept(Vec::new(alloc)))
     }
 
-    fn decides(&self, alloc: Global, _who: &Who, arrived: &Arrived) -> Wanted {
-        decide(alloc, arrived)
+    fn decides(&self, alloc: Global, who: &Who, arrived: &Arrived) -> Wanted {
+        decide(alloc, who, arrived)
     }
 
     fn ended(&self, alloc: Global, _who: &Who, _rooms: &[Room], _ending: Ending) -> Wanted {
@@ -40,8 +40,8 @@ impl App for Quiz {
 }
 
 /// The effects of what arrived.
-fn decide(alloc: Global, arrived: &Arrived) -> Wanted
-    ensures { IfOk result (λ effects. effects.items ≡ decided arrived.now) }
+fn decide(alloc: Global, who: &Who, arrived: &Arrived) -> Wanted
+    ensures { IfOk result (λ effects. effects.items ≡ decided who.now arrived.now) }
 {
     let mut effects = Vec::new(alloc);
     match arrived {
@@ -55,7 +55,7 @@ fn decide(alloc: Global, arrived: &Arrived) -> Wanted
         }
         Arrived::Answer(answer) => {
             let next = if begins_with(alloc, answer.payload.as_str(), "42")? {
-                announce(alloc)?
+                announce(alloc, who)?
             } else {
                 ask(alloc)?
             };
@@ -88,11 +88,12 @@ fn ask(alloc: Global) -> Result<Effect, AllocError>
     }))
 }
 
-/// Everybody hears that somebody knew it; who comes back later too.
-fn announce(alloc: Global) -> Result<Effect, AllocError>
-    ensures { IfOk result (λ effect. effect ≡ table.announce) }
+/// Everybody in the socket's namespace hears that somebody knew it; who comes back later too.
+fn announce(alloc: Global, who: &Who) -> Result<Effect, AllocError>
+    ensures { IfOk result (λ effect. effect ≡ table.announce who.now) }
 {
     Ok(Effect::Emit(Emission {
+        space: who.space.clone()?,
         rooms: Vec::new(alloc),
         excepted: Vec::new(alloc),
         logged: true,

@@ -13,6 +13,7 @@ use Rattle.journal.specs.declared.ending.Ending.{Ending}
 use Rattle.journal.specs.declared.ending.Ending.TheVariants.{Saved, Closed, Alone, Together}
 use Rattle.journal.specs.declared.ending.Side.TheVariants.{Client, Server}
 use Rattle.events.specs.App.{AllClean}
+use Rattle.events.specs.declared.app.Who.{Who}
 use Rattle.relay.specs.Presence.{payload, name_of, others, event_for, told_of}
 
 holds_none : List ℕ → Bool
@@ -62,9 +63,9 @@ whole-payload sid ending =
     (whole-name ending))
     (whole (codes "\"]") refl)
 
-clean-event_for : (rooms : List (List ℕ)) (sid : ℕ) (ending : Ending) → AllClean (event_for rooms sid ending)
-clean-event_for [] sid ending = tt
-clean-event_for (room ∷ rooms) sid ending = (whole-payload sid ending, tt)
+clean-event_for : (rooms : List (List ℕ)) (who : Who) (ending : Ending) → AllClean (event_for rooms who ending)
+clean-event_for [] who ending = tt
+clean-event_for (room ∷ rooms) who ending = (whole-payload who.sid ending, tt)
 
-pub clean-told : (sid : ℕ) (rooms : List (List ℕ)) (ending : Ending) → AllClean (told_of sid rooms ending)
-clean-told sid rooms ending = clean-event_for (others (own_room sid) rooms) sid ending
+pub clean-told : (who : Who) (rooms : List (List ℕ)) (ending : Ending) → AllClean (told_of who rooms ending)
+clean-told who rooms ending = clean-event_for (others (own_room who.sid) rooms) who ending

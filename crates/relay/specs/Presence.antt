@@ -6,6 +6,7 @@ use Rattle.journal.specs.declared.ending.Ending.{Ending}
 use Rattle.journal.specs.declared.ending.Ending.TheVariants.{Saved, Closed, Alone, Together}
 use Rattle.journal.specs.declared.ending.Side.TheVariants.{Client, Server}
 use Rattle.events.specs.declared.app.Effect.{Effect}
+use Rattle.events.specs.declared.app.Who.{Who}
 use Rattle.events.specs.declared.app.Effect.TheVariants.{Emit}
 
 -- how a socket ended, in a word
@@ -24,27 +25,28 @@ payload sid ending = codes "[\"left\",\"" ++ id_digits sid ++ codes "\",\"" ++ n
 abbrev pub others : (own : List ℕ) → List (List ℕ) → List (List ℕ)
 others own rooms = filter (λ room. not (same_room room own)) rooms
 
--- the event for these rooms, but not for the socket itself, should it come back; it is logged, so others who come back get it,
--- too. Where there are none there is no event
-abbrev pub event_for : List (List ℕ) → (sid : ℕ) → Ending → List Effect
-event_for [] sid ending = []
-event_for (room ∷ rooms) sid ending =
+-- the event for these rooms of its namespace, but not for the socket itself, should it come back; it is logged, so others who
+-- come back get it, too. Where there are none there is no event
+abbrev pub event_for : List (List ℕ) → Who → Ending → List Effect
+event_for [] who ending = []
+event_for (room ∷ rooms) who ending =
     Emit (record {
+      space = who.space;
       rooms = room ∷ rooms;
-      excepted = own_room sid ∷ [];
+      excepted = own_room who.sid ∷ [];
       logged = true;
-      payload = payload sid ending;
+      payload = payload who.sid ending;
       attachments = [];
     })
     ∷ []
 
 -- what the rooms of a socket besides its own are told
-abbrev pub told_of : (sid : ℕ) → List (List ℕ) → Ending → List Effect
-told_of sid rooms ending = event_for (others (own_room sid) rooms) sid ending
+abbrev pub told_of : Who → List (List ℕ) → Ending → List Effect
+told_of who rooms ending = event_for (others (own_room who.sid) rooms) who ending
 
 -- they are told it, or nobody is told anything
-abbrev pub told : (tells : Bool) → (sid : ℕ) → List (List ℕ) → Ending → List Effect
-told tells sid rooms ending = if tells then told_of sid rooms ending else []
+abbrev pub told : (tells : Bool) → Who → List (List ℕ) → Ending → List Effect
+told tells who rooms ending = if tells then told_of who rooms ending else []
 
 -- effects that an app may want, and then what is told
 abbrev pub Leaves : (wants : List Effect → Type 0) → (told : List Effect) → List Effect → Type 0

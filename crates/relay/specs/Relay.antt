@@ -4,6 +4,7 @@ use Rattle.sio_wire.specs.declared.error.SioError.{SioError}
 use Rattle.sio_wire.specs.JsonFields.{names_at}
 use Rattle.terms.specs.Room.{own_room}
 use Rattle.events.specs.App.{PlainVerdict, Accepted, Refused}
+use Rattle.events.specs.Selection.{PlainSelection}
 use Rattle.events.specs.declared.app.Who.{Who}
 use Rattle.events.specs.declared.app.Message.{Message}
 use Rattle.events.specs.declared.app.Arrived.{Arrived}
@@ -71,10 +72,11 @@ room_in index texts = room_of (slice_get texts index)
 
 -- ---- the effects
 
--- the event as it came, for these rooms except those
-abbrev pub emit : (rooms excepted : List (List ℕ)) → (logged : Bool) → Message → Effect
-emit rooms excepted logged m =
+-- the event as it came, for these rooms of the socket's namespace except those
+abbrev pub emit : Who → (rooms excepted : List (List ℕ)) → (logged : Bool) → Message → Effect
+emit who rooms excepted logged m =
     effect.Emit (record {
+      space = who.space;
       rooms = rooms;
       excepted = excepted;
       logged = logged;
@@ -82,13 +84,13 @@ emit rooms excepted logged m =
       attachments = m.attachments;
     })
 
-abbrev pub to_two : (own room : List ℕ) → Option (List ℕ) → Message → Option Effect
-to_two own r (Some q) m = Some (emit (r ∷ q ∷ []) (own ∷ []) true m)
-to_two own r None m = None
+abbrev pub to_two : Who → (room : List ℕ) → Option (List ℕ) → Message → Option Effect
+to_two who r (Some q) m = Some (emit who (r ∷ q ∷ []) (own_room who.sid ∷ []) true m)
+to_two who r None m = None
 
-abbrev pub to_one_but : (own room : List ℕ) → Option (List ℕ) → Message → Option Effect
-to_one_but own r (Some q) m = Some (emit (r ∷ []) (q ∷ own ∷ []) true m)
-to_one_but own r None m = None
+abbrev pub to_one_but : Who → (room : List ℕ) → Option (List ℕ) → Message → Option Effect
+to_one_but who r (Some q) m = Some (emit who (r ∷ []) (q ∷ own_room who.sid ∷ []) true m)
+to_one_but who r None m = None
 
 -- the event as it came, as a question to its socket; an answer is waited for ten seconds
 abbrev pub ask : Message → Effect
@@ -100,34 +102,37 @@ ask m =
       wait = 10000;
     })
 
--- the sockets of a room join a second one, or leave it
-abbrev pub pull : (room : List ℕ) → Option (List ℕ) → Option Effect
-pull r (Some q) = Some (effect.AllJoin (record { rooms = r ∷ []; excepted = [] }) q)
-pull r None = None
+-- the sockets of a room of the socket's namespace, except those in some others
+abbrev pub select : Who → (room : List ℕ) → (excepted : List (List ℕ)) → PlainSelection
+select who room excepted = record { space = who.space; rooms = room ∷ []; excepted = excepted }
 
-abbrev pub push : (room : List ℕ) → Option (List ℕ) → Option Effect
-push r (Some q) = Some (effect.AllLeave (record { rooms = r ∷ []; excepted = [] }) q)
-push r None = None
+-- the sockets of a room join a second one, or leave it
+abbrev pub pull : Who → (room : List ℕ) → Option (List ℕ) → Option Effect
+pull who r (Some q) = Some (effect.AllJoin (select who r []) q)
+pull who r None = None
+
+abbrev pub push : Who → (room : List ℕ) → Option (List ℕ) → Option Effect
+push who r (Some q) = Some (effect.AllLeave (select who r []) q)
+push who r None = None
 
 -- by what is asked for and the first two rooms
-abbrev pub effect_for : (own : List ℕ) → Word → (r q : Option (List ℕ)) → Message → Option Effect
-effect_for own word.Join (Some r) q m = Some (effect.Join r)
-effect_for own word.Leave (Some r) q m = Some (effect.Leave r)
-effect_for own word.Say (Some r) q m = Some (emit (r ∷ []) (own ∷ []) true m)
-effect_for own word.Two (Some r) q m = to_two own r q m
-effect_for own word.But (Some r) q m = to_one_but own r q m
-effect_for own word.Quiet (Some r) q m = Some (emit (r ∷ []) (own ∷ []) false m)
-effect_for own word.All r q m = Some (emit [] [] true m)
-effect_for own word.Ask r q m = Some (ask m)
-effect_for own word.Pull (Some r) q m = pull r q
-effect_for own word.Push (Some r) q m = push r q
-effect_for own word.Kick (Some r) q m =
-    Some (effect.AllEnd (record { rooms = r ∷ []; excepted = own ∷ [] }))
-effect_for own _ r q m = None
+abbrev pub effect_for : Who → Word → (r q : Option (List ℕ)) → Message → Option Effect
+effect_for who word.Join (Some r) q m = Some (effect.Join r)
+effect_for who word.Leave (Some r) q m = Some (effect.Leave r)
+effect_for who word.Say (Some r) q m = Some (emit who (r ∷ []) (own_room who.sid ∷ []) true m)
+effect_for who word.Two (Some r) q m = to_two who r q m
+effect_for who word.But (Some r) q m = to_one_but who r q m
+effect_for who word.Quiet (Some r) q m = Some (emit who (r ∷ []) (own_room who.sid ∷ []) false m)
+effect_for who word.All r q m = Some (emit who [] [] true m)
+effect_for who word.Ask r q m = Some (ask m)
+effect_for who word.Pull (Some r) q m = pull who r q
+effect_for who word.Push (Some r) q m = push who r q
+effect_for who word.Kick (Some r) q m = Some (effect.AllEnd (select who r (own_room who.sid ∷ [])))
+effect_for who _ r q m = None
 
 -- what an event does before it is acknowledged
-abbrev pub first_effect : (own : List ℕ) → List (Option (List ℕ)) → Message → Option Effect
-first_effect own texts m = effect_for own (word_in texts) (room_in 1 texts) (room_in 2 texts) m
+abbrev pub first_effect : Who → List (Option (List ℕ)) → Message → Option Effect
+first_effect who texts m = effect_for who (word_in texts) (room_in 1 texts) (room_in 2 texts) m
 
 -- the acknowledgement
 abbrev pub reply : Effect
@@ -148,12 +153,12 @@ farewell _ = []
 
 -- the effects of an event: where it was asked, the acknowledgement comes last
 -- but for the disconnection
-abbrev pub effects_of : (own : List ℕ) → Message → List Effect
-effects_of own m = listed (first_effect own (texts_of m.payload) m)
+abbrev pub effects_of : Who → Message → List Effect
+effects_of who m = listed (first_effect who (texts_of m.payload) m)
     ++ answer m.asked
     ++ farewell (word_in (texts_of m.payload))
 
 -- what the app decides: an answer to a question has no effects
 abbrev pub decided : Who → Arrived → List Effect
-decided who (Event m) = effects_of (own_room who.sid) m
+decided who (Event m) = effects_of who m
 decided who (Answer a) = []

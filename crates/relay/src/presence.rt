@@ -21,7 +21,7 @@ impl<A: App> App for Presence<A> {
     ghost policy = { λ presence. record (A.policy presence.app) {
       ends = λ who rooms ending.
           Leaves ((A.policy presence.app).ends who rooms ending)
-          (told presence.tells who.sid rooms ending);
+          (told presence.tells who rooms ending);
     } };
 
     fn connects(&self, alloc: Global, space: &str, payload: &str) -> Result<Verdict, AllocError> {
@@ -35,7 +35,7 @@ impl<A: App> App for Presence<A> {
     fn ended(&self, alloc: Global, who: &Who, rooms: &[Room], ending: Ending) -> Wanted {
         let mut effects = self.app.ended(alloc, who, rooms, ending)?;
         if self.tells {
-            announce(alloc, &mut effects, who.sid, rooms, ending)?;
+            announce(alloc, &mut effects, who, rooms, ending)?;
         }
         Ok(effects)
     }
@@ -45,22 +45,23 @@ impl<A: App> App for Presence<A> {
 fn announce(
     alloc: Global,
     effects: &mut Vec<Effect>,
-    sid: Sid,
+    who: &Who,
     rooms: &[Room],
     ending: Ending,
 ) -> Result<(), AllocError>
     ensures { OnOk result
-        (effects.new.items ≡ effects.old.items ++ table.told_of sid rooms.now ending) }
+        (effects.new.items ≡ effects.old.items ++ table.told_of who.now rooms.now ending) }
 {
-    let own = Room::own(sid);
+    let own = Room::own(who.sid);
     let rooms = others(alloc, rooms, own)?;
     if !rooms.is_empty() {
         effects.push(Effect::Emit(Emission {
+            space: who.space.clone()?,
             rooms,
             // A session that comes back doesn't hear that it had left.
             excepted: Vec::from_slice(alloc, &[own])?,
             logged: true,
-            payload: payload(alloc, sid, ending)?,
+            payload: payload(alloc, who.sid, ending)?,
             attachments: Attachments::new(alloc),
         }))?;
     }

@@ -1,6 +1,6 @@
 //! The demonstration app: what it does with each event.
 
-ghost use Rattle.std.specs.Prelude.{◌≡◌, [], ◌∷◌, IfOk};
+ghost use Rattle.std.specs.Prelude.{◌≡◌, [], IfOk};
 ghost use Rattle.relay.specs.Relay as table;
 ghost use Rattle.relay.specs.Relay.{Allows, decided, texts_of, word_of, word_in, room_in};
 
@@ -38,7 +38,7 @@ impl App for RelayApp {
 
     fn decides(&self, alloc: Global, who: &Who, arrived: &Arrived) -> Wanted {
         match arrived {
-            Arrived::Event(message) => decide(alloc, Room::own(who.sid), message),
+            Arrived::Event(message) => decide(alloc, who, message),
             Arrived::Answer(_) => Ok(Vec::new(alloc)),
         }
     }
@@ -48,13 +48,13 @@ impl App for RelayApp {
     }
 }
 
-/// The effects of an event, from a socket whose own room this is.
-fn decide(alloc: Global, own: Room, message: &Message) -> Wanted
-    ensures { IfOk result (λ effects. effects.items ≡ table.effects_of own message.now) }
+/// The effects of an event.
+fn decide(alloc: Global, who: &Who, message: &Message) -> Wanted
+    ensures { IfOk result (λ effects. effects.items ≡ table.effects_of who.now message.now) }
 {
     let texts = texts_of(alloc, message.payload.as_str())?;
     let mut effects = Vec::new(alloc);
-    if let Some(effect) = first_effect(alloc, own, &texts, message)? {
+    if let Some(effect) = first_effect(alloc, who, &texts, message)? {
         effects.push(effect)?;
     }
     if message.asked {
@@ -80,24 +80,34 @@ fn texts_of(alloc: Global, payload: &str) -> Result<Vec<Option<Text>>, AllocErro
 /// What an event does before it is acknowledged.
 fn first_effect(
     alloc: Global,
-    own: Room,
+    who: &Who,
     texts: &[Option<Text>],
     message: &Message,
 ) -> Result<Option<Effect>, AllocError>
-    ensures { IfOk result (λ effect. effect ≡ table.first_effect own texts.now message.now) }
+    ensures { IfOk result (λ effect.
+        effect ≡ table.first_effect who.now texts.now message.now) }
 {
+    let own = Room::own(who.sid);
     let effect = match (word_in(texts), room_in(texts, 1), room_in(texts, 2)) {
         (Word::Join, Some(room), _) => Effect::Join(room),
         (Word::Leave, Some(room), _) => Effect::Leave(room),
-        (Word::Say, Some(room), _) => emit(alloc, &[room], &[own], true, message)?,
-        (Word::Quiet, Some(room), _) => emit(alloc, &[room], &[own], false, message)?,
-        (Word::Two, Some(room), Some(other)) => emit(alloc, &[room, other], &[own], true, message)?,
-        (Word::But, Some(room), Some(other)) => emit(alloc, &[room], &[other, own], true, message)?,
-        (Word::All, _, _) => emit(alloc, &[], &[], true, message)?,
+        (Word::Say, Some(room), _) => emit(alloc, who, &[room], &[own], true, message)?,
+        (Word::Quiet, Some(room), _) => emit(alloc, who, &[room], &[own], false, message)?,
+        (Word::Two, Some(room), Some(other)) => {
+            emit(alloc, who, &[room, other], &[own], true, message)?
+        }
+        (Word::But, Some(room), Some(other)) => {
+            emit(alloc, who, &[room], &[other, own], true, message)?
+        }
+        (Word::All, _, _) => emit(alloc, who, &[], &[], true, message)?,
         (Word::Ask, _, _) => ask(alloc, message)?,
-        (Word::Pull, Some(room), Some(other)) => Effect::AllJoin(select(alloc, room, &[])?, other),
-        (Word::Push, Some(room), Some(other)) => Effect::AllLeave(select(alloc, room, &[])?, other),
-        (Word::Kick, Some(room), _) => Effect::AllEnd(select(alloc, room, &[own])?),
+        (Word::Pull, Some(room), Some(other)) => {
+            Effect::AllJoin(select(alloc, who, room, &[])?, other)
+        }
+        (Word::Push, Some(room), Some(other)) => {
+            Effect::AllLeave(select(alloc, who, room, &[])?, other)
+        }
+        (Word::Kick, Some(room), _) => Effect::AllEnd(select(alloc, who, room, &[own])?),
         _ => return Ok(None),
     };
     Ok(Some(effect))
@@ -115,27 +125,31 @@ fn ask(alloc: Global, message: &Message) -> Result<Effect, AllocError>
     }))
 }
 
-/// The sockets of a room, except those in some others.
-fn select(alloc: Global, room: Room, excepted: &[Room]) -> Result<Selection, AllocError>
-    ensures { IfOk result (λ s. s ≡ record { rooms = room ∷ []; excepted = excepted.now }) }
+/// The sockets of a room of the socket's namespace, except those in some others.
+fn select(alloc: Global, who: &Who, room: Room, excepted: &[Room]) -> Result<Selection, AllocError>
+    ensures { IfOk result (λ s. s ≡ table.select who.now room excepted.now) }
 {
     Ok(Selection {
+        space: who.space.clone()?,
         rooms: Vec::from_slice(alloc, &[room])?,
         excepted: Vec::from_slice(alloc, excepted)?,
     })
 }
 
-/// The event as it came, for these rooms except those.
+/// The event as it came, for these rooms of the socket's namespace except those.
 fn emit(
     alloc: Global,
+    who: &Who,
     rooms: &[Room],
     excepted: &[Room],
     logged: bool,
     message: &Message,
 ) -> Result<Effect, AllocError>
-    ensures { IfOk result (λ e. e ≡ table.emit rooms.now excepted.now logged message.now) }
+    ensures { IfOk result (λ e.
+        e ≡ table.emit who.now rooms.now excepted.now logged message.now) }
 {
     Ok(Effect::Emit(Emission {
+        space: who.space.clone()?,
         rooms: Vec::from_slice(alloc, rooms)?,
         excepted: Vec::from_slice(alloc, excepted)?,
         logged,
