@@ -1,7 +1,8 @@
 -- What a server goes by where nothing else is said.
-use Rattle.std.specs.Prelude.{ℕ, List, [], ◌∷◌, codes}
+use Rattle.std.specs.Prelude.{◌≡◌, ℕ, List, [], ◌∷◌, None, codes, string_bytes}
 use Rattle.connection.specs.declared.timing.Timing.{Timing}
 use Rattle.journal.specs.Plain.{Limits}
+use Rattle.settings.specs.declared.settings.Settings.{Settings}
 
 -- pings each 25 s, 20 s for the answer, 45 s to join a namespace
 abbrev pub timing : Timing
@@ -23,3 +24,22 @@ hub =
       first_offset = 1;
       spaces = spaces;
     }
+
+-- the settings of a server with so many loops at this port, where nothing else is said; the defaults
+-- of the options in `arguments` are to be these. It listens to the machine itself, ends after no
+-- number of connections, serves all pages and has no files, and tells no counts and no totals
+pub record IsUsual (its_port loops : ℕ) (s : Settings) : Type 0 where
+  pub host : string_bytes s.host ≡ codes "127.0.0.1"
+  pub port : s.port ≡ its_port
+  pub workers : s.workers ≡ loops
+  pub connections : s.connections ≡ None
+  pub hub : s.hub ≡ hub
+  pub timing : s.timing ≡ timing
+  pub max_payload : s.max_payload ≡ 1000000
+  pub receiving : s.receiving ≡ 268435456
+  pub together : s.together ≡ 16
+  pub poll_entries : s.poll_entries ≡ 15
+  pub origins : s.origins.items ≡ []
+  pub page : s.page ≡ []
+  pub metrics : s.metrics ≡ None
+  pub report : s.report ≡ None

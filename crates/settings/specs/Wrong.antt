@@ -1,5 +1,5 @@
 -- Which settings allow no server.
-use Rattle.std.specs.Prelude.{◌==◌, Bool, ◌||◌, [], ◌∷◌, Option, nat_lt}
+use Rattle.std.specs.Prelude.{◌==◌, ℕ, Bool, ◌||◌, List, [], ◌∷◌, Option, codes, nat_lt}
 use Rattle.terms.specs.Refusal.{first_refusal}
 use Rattle.connection.specs.declared.timing.Timing.{Timing}
 use Rattle.journal.specs.Config.{is_bad_config}
@@ -24,3 +24,13 @@ wrong_setting s =
     ∷ (nat_lt s.receiving 1048576, setting.Receiving)
     ∷ (is_bad_config s.hub, setting.Limits)
     ∷ [])
+
+-- how a wrong setting is told
+abbrev pub told : Setting → List ℕ
+told setting.Workers = codes "number of workers"
+told setting.Together = codes "number of connections together"
+told setting.PollEntries = codes "number of entries in a payload"
+told setting.Timing = codes "timing"
+told setting.MaxPayload = codes "size of payloads"
+told setting.Receiving = codes "bound of what is received"
+told setting.Limits = codes "limits"

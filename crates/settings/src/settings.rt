@@ -1,9 +1,10 @@
 //! The settings of a server: which are usual, and which allow no server.
 
-ghost use Rattle.std.specs.Prelude.{◌≡◌, ◌<◌, None, IfOk};
+ghost use Rattle.std.specs.Prelude.{◌≡◌, ◌<◌, None, Some, IfOk};
 ghost use Rattle.settings.specs.Usual as usual;
+ghost use Rattle.settings.specs.Usual.{IsUsual};
 ghost use Rattle.settings.specs.Wrong as rules;
-ghost use Rattle.settings.specs.Wrong.{wrong_setting};
+ghost use Rattle.settings.specs.Wrong.{told, wrong_setting};
 
 use connection::Timing;
 use eio_wire::Numbers;
@@ -77,6 +78,8 @@ pub enum Setting {
 }
 
 impl fmt::Display for Setting {
+    ghost output = { λ setting. Some (told setting) };
+
     fn fmt<W: fmt::Write>(&self, f: &mut fmt::Formatter<W>) -> fmt::Result {
         f.write_str(match self {
             Setting::Workers => "number of workers",
@@ -138,9 +141,7 @@ pub struct Settings {
 impl Settings {
     /// The usual settings of a server with so many loops, at this port of the machine itself.
     pub fn usual(alloc: Global, port: u16, workers: usize) -> Result<Settings, AllocError>
-        ensures asked { IfOk result (λ s. (s.port ≡ port) × (s.workers ≡ workers)) }
-        ensures usual { IfOk result (λ s. (s.hub ≡ usual.hub) × (s.timing ≡ usual.timing)
-            × (s.max_payload ≡ 1000000) × (s.receiving ≡ 268435456)) }
+        ensures { IfOk result (IsUsual port workers) }
     {
         Ok(Settings {
             host: String::from_str(alloc, "127.0.0.1")?,
