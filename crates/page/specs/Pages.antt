@@ -9,6 +9,10 @@ use Rattle.page.specs.declared.pages.PageError.TheVariants.{TooMany, TooLarge}
 abbrev pub Files : Type 0
 Files = List File
 
+-- the file of this name with these bytes
+abbrev pub file_of : (name bytes : List ℕ) → File
+file_of name bytes = record { name = name; bytes = bytes }
+
 -- how many bytes the files have together
 abbrev pub size_of : Files → ℕ
 size_of files = sum_by (λ f. length f.bytes) files

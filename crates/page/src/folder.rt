@@ -1,5 +1,8 @@
 //! Reading the files of a folder.
 
+ghost use Rattle.std.specs.Prelude.{◌≡◌, ◌++◌, ◌∷◌, [], None, IfSome, OnOk, OnErr};
+ghost use Rattle.page.specs.Pages.{file_of, refusal};
+
 use crate::file::File;
 use crate::pages::{MOST_BYTES, MOST_FILES, Page, PageError};
 use std::alloc::{AllocError, Global};
@@ -60,34 +63,46 @@ pub fn read_folder<R: Files + AllocGlobal + Clone + Drop>(
     let entries = fs::read_dir(rt, folder).map_err(|error| fault_at(alloc, folder, &error))?;
     for entry in entries {
         let entry = entry.map_err(|error| fault_at(alloc, folder, &error))?;
-        let (path, left) = (entry.path(), MOST_BYTES - page.size());
-        let read = read_file(rt, path, left).map_err(|error| fault_at(
-            alloc,
-            path.as_str(),
-            &error,
-        ))?;
-        if let Some(bytes) = read {
+        let path = entry.path();
+        let file = open_file(rt, path).map_err(|error| fault_at(alloc, path.as_str(), &error))?;
+        if let Some(file) = file {
             let name = Text::copy_of(alloc, entry.file_name())?;
-            let bytes = Bytes::from_vec(bytes);
-            page.add(File { name, bytes })?;
+            add_whole(alloc, &mut page, path.as_str(), name, file)?;
         }
     }
     Ok(page)
 }
 
-/// The bytes of a file, but just one more than these where it has more. Nothing where it
-/// is no file.
-fn read_file<R: Files + AllocGlobal>(
-    rt: &R,
-    path: Path<'_>,
-    left: usize,
-) -> io::Result<Option<Vec<u8>>> {
+/// The file at a path, or nothing where it is no file.
+fn open_file<R: Files>(rt: &R, path: Path<'_>) -> io::Result<Option<R::File>> {
     if !fs::metadata(rt, path)?.is_file() {
         return Ok(None);
     }
-    let file = fs::open(rt, path)?;
-    let most = (left as u64).saturating_add(1);
-    let mut bytes = Vec::new(rt.alloc());
-    file.take(most).read_to_end(&mut bytes)?;
-    Ok(Some(bytes))
+    Ok(Some(fs::open(rt, path)?))
+}
+
+/// Adds the file of this name that has all that the reader gives. Of one that is too large just one
+/// byte more than there is space for is read.
+fn add_whole<R: Read + Drop>(
+    alloc: Global,
+    page: &mut Page,
+    path: &str,
+    name: Text,
+    reader: R,
+) -> Result<(), FolderError>
+    ensures whole { OnOk result (IfSome (R.remaining reader)
+        (λ all. page.new ≡ page.old ++ file_of name all ∷ [])) }
+    ensures allowed { OnOk result (IfSome (R.remaining reader)
+        (λ all. refusal page.old (file_of name all) ≡ None)) }
+    ensures unchanged { OnErr result (page.new ≡ page.old) }
+{
+    let most = (MOST_BYTES - page.size() + 1) as u64;
+    let mut bytes = Vec::new(alloc);
+    let mut reader = reader.take(most);
+    reader
+        .read_to_end(&mut bytes)
+        .map_err(|error| fault_at(alloc, path, &error))?;
+    let bytes = Bytes::from_vec(bytes);
+    page.add(File { name, bytes })?;
+    Ok(())
 }
