@@ -1,6 +1,6 @@
 -- Which texts hold no U+001E, which separates the packets of a payload.
 use Rattle.std.proofs.Common.{◌≡◌, ◌≢◌, ℕ, zero, suc, ◌+◌, ◌<◌, ◌/◌, ◌%◌, ◌^◌, ◌==◌, Bool, true, false, not, ◌||◌, cond, List, [], ◌∷◌, ◌++◌, length, take, get_or, refl, sym, ◌∙◌, ap, subst, arith, nat_lt, Option, None, Some}
-use Rattle.std.specs.Prelude.{codes, decimal, bytes_eq, position, unwrap_or, if◌then◌else◌}
+use Rattle.std.specs.Prelude.{codes, decimal, IfSome, bytes_eq, position, unwrap_or, if◌then◌else◌}
 use Rattle.std.specs.Char.{digit_value}
 use Rattle.std.specs.List.{AllByRecursion, list_any, before_last}
 use Rattle.std.specs.Option.{option_map_or}
@@ -27,7 +27,7 @@ use Rattle.journal.specs.declared.error.HubError.TheVariants.{UnknownNamespace, 
 use Rattle.journal.specs.declared.socket.Socket.{Socket}
 use Rattle.journal.specs.Journal.{History}
 use Rattle.journal.specs.Plain.{Limits, PlainBroadcast, PlainCast}
-use Rattle.journal.specs.Broadcast.{event_header}
+use Rattle.journal.specs.Broadcast.{broadcast_header, id_of, kind_of}
 use Rattle.journal.specs.Casting.{refusal_of, IsCastOf}
 use Rattle.journal.specs.Membership.{place_of, is_space}
 use Rattle.journal.specs.Outboxes.{answer, farewell}
@@ -164,6 +164,10 @@ lacks-offset payload (Some o) none =
     (both (front ++ codes ",\"") (hex_digits 16 o) (both front (codes ",\"") (lacks-take _ payload none) refl) (lacks-hex 16 o))
     refl
 
+lacks-id : (id : Option ℕ) → IfSome id (λ n. n < 2 ^ 64) → Lacks (id_text id)
+lacks-id None fits = refl
+lacks-id (Some n) fits = lacks-decimal n fits
+
 pub clean-disconnect : (space : List ℕ) → IsWhole space → Lacks (disconnect_text space)
 clean-disconnect space whole = both (codes "1") (space_text space) refl (lacks-space space (lacks space whole))
 
@@ -196,10 +200,10 @@ clean-cast h c b asked allowed names payload =
     let few : length b.entry.attachments < 2 ^ 64 = rw asked.attachments (grind (arith, nat_tests, fine.1)) in
     let named : get_or h.limits.spaces b.space [] ≡ c.space = rw asked.space (space-at h.limits c.space fine.0) in
     ap not
-    (lacks-plain (event_header (get_or h.limits.spaces b.space []) c.payload (length b.entry.attachments) b.offset) b.entry.text asked.text
-    (few-digits (event_header [] [] (length b.entry.attachments) None).kind (length b.entry.attachments) few)
+    (lacks-plain (broadcast_header c.form (get_or h.limits.spaces b.space []) c.payload (length b.entry.attachments) b.offset) b.entry.text asked.text.text
+    (few-digits (kind_of c.form (length b.entry.attachments)) (length b.entry.attachments) few)
     (rw named (lacks c.space (whole-there h.limits c.space fine.0 names)))
-    refl
+    (lacks-id (id_of c.form) asked.text.fits)
     (lacks-offset c.payload b.offset (lacks c.payload payload)))
 
 -- ---- acknowledgements and questions

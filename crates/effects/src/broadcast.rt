@@ -8,7 +8,7 @@ ghost use Rattle.effects.specs.Broadcasting.{work, BroadcastsOrFails};
 use crate::{Acted, Visit};
 use events::{Done, Emission};
 use hub_state::State;
-use journal::Cast;
+use journal::{Cast, Form};
 use terms::Attachments;
 
 /// The most attachments of a packet.
@@ -54,7 +54,9 @@ pub(crate) fn broadcast(
         space: emission.space,
         rooms: emission.rooms,
         excepted: emission.excepted,
-        logged: emission.logged,
+        form: Form::Event {
+            logged: emission.logged,
+        },
         payload: emission.payload,
         attachments: emission.attachments,
     };

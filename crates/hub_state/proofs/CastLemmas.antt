@@ -14,7 +14,7 @@ use Rattle.hub_state.specs.Sending.{done_of}
 
 -- a broadcast that may be made was made, or nothing changed for want of memory
 pub cast-does : (before after : History) (now : ℕ) (c : PlainCast) (b : PlainBroadcast) (messages : List PlainMessage) (result : Result PlainCastDone HubError)
-    → IsCastOf before c b → refusal_of before c ≡ None → has_no_offset before c.logged ≡ false → Tells before.base before.limits before.journal b messages
+    → IsCastOf before c b → refusal_of before c ≡ None → has_no_offset before c.form ≡ false → Tells before.base before.limits before.journal b messages
     → is_spent before.base before.limits before.journal (Cast b) ≡ false
     → OnOk result (after ≡ with_step before now (Cast b)) → OnErr result (after ≡ before) → IfErr result (λ e. e ≡ Memory) → IfOk result (λ done. done ≡ done_of b messages)
     → CastDoes before after now c result

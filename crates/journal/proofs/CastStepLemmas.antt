@@ -21,12 +21,12 @@ use Rattle.journal.specs.Membership.{open_clients, is_open, sockets, sockets_of,
 use Rattle.journal.specs.Sessions.{sessions}
 use Rattle.journal.specs.Log.{logged, with_call, log_calls, log, next_number, next}
 use Rattle.journal.specs.Outboxes.{put, entries_for, taken_by, placements, waiting, is_addressed, is_full, receivers}
-use Rattle.journal.specs.Broadcast.{RightCast, SpellsEvent, is_dropped, reaches}
+use Rattle.journal.specs.Broadcast.{RightCast, IsOfAForm, is_dropped, reaches}
 use Rattle.journal.specs.Totals.{is_spent}
 use Rattle.terms.specs.Refusal.{first_refusal}
 use Rattle.sio_wire.specs.Offset.{is_bracket}
 use Rattle.journal.specs.declared.error.HubError.TheVariants.{UnknownNamespace, BadPayload}
-use Rattle.journal.specs.Refusals.{cast_refusal, broadcast_refusal}
+use Rattle.journal.specs.Refusals.{broadcast_refusal}
 use Rattle.journal.specs.Legal.{IsAllowed, IsLegal, IsSound, EachTwo, AreApart, DifferInIds}
 use Rattle.journal.specs.Fields.{Fields, Counted, CanCount, client_at}
 use Rattle.journal.specs.Casting.{in_space, ListsInside, client_of, is_full_in, messages_for, missing, receiver_of, pair_of, with_entries, with_logged, Tells}
@@ -271,6 +271,12 @@ module _ (base : PlainBase) (limits : Limits) (before : List Step) (b : PlainBro
         on None e given = backlog-quiet base limits step before (leaves e) late sound
         on (Some o) e given = backlog-one o e given
 
+-- where an offset is given is where one is asked for
+pub given-where-asked : (asked : Bool) (next : Option ℕ) → (asked && not (is_some next)) ≡ false → is_some (if asked then next else None) ≡ asked
+given-where-asked true (Some offset) e = refl
+given-where-asked true None e = absurd (cc e)
+given-where-asked false next e = refl
+
 -- ---- the command
 
 module _ (base : PlainBase) (limits : Limits) (before : List Step) (b : PlainBroadcast) (legal : IsLegal base limits before) (sound : IsSound base limits before) where
@@ -300,10 +306,10 @@ module _ (base : PlainBase) (limits : Limits) (before : List Step) (b : PlainBro
   unfolding put
   puts-known = all-known (λ (k : Socket). is_addressed base before b k && not (list_any (λ s. s == k.sid) b.dropped)) (sockets base before) sound.of_open_clients
 
-  module _ (payload : List ℕ) (unrefused : cast_refusal limits b.space payload (length b.entry.attachments) ≡ None) (text : SpellsEvent limits b payload) (given : IfSome b.offset (λ offset. next base before ≡ Some offset))
+  module _ (formed : IsOfAForm limits b) (given : IfSome b.offset (λ offset. next base before ≡ Some offset))
       (messages : List PlainMessage) (told : Tells base limits before b messages) where
     free : broadcast_refusal limits b ≡ None
-    free = on (is_space limits b.space) (list_any is_bracket payload) (nat_lt 32 (length b.entry.attachments)) unrefused
+    free = on (is_space limits b.space) (list_any is_bracket formed.payload) (nat_lt 32 (length b.entry.attachments)) formed.refusal
       where
         on : (s p n : Bool) → first_refusal ((not s, UnknownNamespace) ∷ (not p || n, BadPayload) ∷ []) ≡ None → first_refusal ((not s, UnknownNamespace) ∷ (n, BadPayload) ∷ []) ≡ None
         on false p n e = cc
@@ -312,7 +318,7 @@ module _ (base : PlainBase) (limits : Limits) (before : List Step) (b : PlainBro
         on true false n e = cc
 
     allowed : (at : ℕ) → is_spent base limits before (Cast b) ≡ false → IsAllowed base limits before (record { at = at; what = Cast b }) (Cast b)
-    allowed at room = (or_none free room, record { payload = payload; refusal = unrefused; text = text; offset = given; cast = told.right at })
+    allowed at room = (or_none free room, record { formed = formed; offset = given; cast = told.right at })
 
     sound-cast : (at : ℕ) → is_spent base limits before (Cast b) ≡ false → moment base before ≤ at → IsSound base limits (record { at = at; what = Cast b } ∷ before)
     unfolding rooms

@@ -202,7 +202,7 @@ module _ (limits : Limits) (base base' : PlainBase) (before before' : List Step)
         (λ k. k.sid == x && may_exit base' before' m.space m.rooms m.excepted m.room k) (λ k. k.sid == x && may_exit base before m.space m.rooms m.excepted m.room k)
         (λ k known i. k.sid == x && may_exit-same m k i)) right.changed;
   }
-  right-back at (Cast b) free right = record { payload = right.payload; refusal = right.refusal; text = right.text; offset = numbered b.offset right.offset; cast = right-cast at b right.cast }
+  right-back at (Cast b) free right = record { formed = right.formed; offset = numbered b.offset right.offset; cast = right-cast at b right.cast }
   right-back at (Took c most n) free right = right ∙ ap (λ w. min most (length w)) (same.same_waiting c (is-known (is_open base before c) _ free))
   right-back at (AllEnded d) free right = record {
     ended = lists-as _ _ d.ended (λ x. any-socket-as limits base base' before before' sound sound' same

@@ -5,6 +5,7 @@ use Rattle.std.specs.List.Sorted.{IsStrictlySortedBy}
 use Rattle.std.specs.Ordering.{nat_cmp, eq_by_cmp}
 use Rattle.std.specs.Option.{option_map_or}
 use Rattle.terms.specs.declared.entry.Entry.{Entry}
+use Rattle.journal.specs.declared.form.Form.{Form}
 use Rattle.journal.specs.declared.socket.Socket.{Socket}
 use Rattle.journal.specs.declared.step.Step.{Step}
 use Rattle.journal.specs.declared.step.What.TheVariants.{Cast}
@@ -16,7 +17,7 @@ use Rattle.journal.specs.Journal.{History, with_step}
 use Rattle.journal.specs.Membership.{place_of}
 use Rattle.journal.specs.Log.{next}
 use Rattle.journal.specs.Outboxes.{has_no_space, entries_for, put}
-use Rattle.journal.specs.Broadcast.{RightCast, SpellsEvent, reaches}
+use Rattle.journal.specs.Broadcast.{RightCast, Spells, is_logged, reaches}
 use Rattle.journal.specs.Totals.{is_spent}
 use Rattle.journal.specs.Refusals.{cast_refusal}
 use Rattle.journal.specs.Fields.{client_at}
@@ -105,37 +106,31 @@ pub record Tells (base : PlainBase) (limits : Limits) (before : List Step) (b : 
 
 -- ---- the command
 
--- the broadcast is an event with a payload that isn't refused
-abbrev pub IsEvent : Limits → PlainBroadcast → Type 0
-IsEvent limits b = (payload : List ℕ)
-    × (cast_refusal limits b.space payload (length b.entry.attachments) ≡ None)
-    × SpellsEvent limits b payload
-
 -- why the cast is refused
 abbrev pub refusal_of : History → PlainCast → Option HubError
 refusal_of h c = cast_refusal h.limits (place_of h.limits c.space) c.payload (length c.attachments)
 
--- the offset that the cast gets: the next one, where it is logged
-abbrev pub offset_of : History → Bool → Option ℕ
-offset_of h logged = if logged then next h.base h.journal else None
+-- the offset that a broadcast of this form gets: the next one, where it is logged
+abbrev pub offset_of : History → Form → Option ℕ
+offset_of h form = if is_logged form then next h.base h.journal else None
 
 -- it is to be logged, and the log has no offset left
-abbrev pub has_no_offset : History → Bool → Bool
-has_no_offset h logged = logged && not (is_some (next h.base h.journal))
+abbrev pub has_no_offset : History → Form → Bool
+has_no_offset h form = is_logged form && not (is_some (next h.base h.journal))
 
 -- the broadcast is what the cast asks for
 pub record IsCastOf (h : History) (c : PlainCast) (b : PlainBroadcast) : Type 0 where
   pub space : b.space ≡ place_of h.limits c.space
   pub rooms : b.rooms ≡ c.rooms
   pub excepted : b.excepted ≡ c.excepted
-  pub offset : b.offset ≡ offset_of h c.logged
-  pub text : SpellsEvent h.limits b c.payload
+  pub offset : b.offset ≡ offset_of h c.form
+  pub text : Spells h.limits b c.form c.payload
   pub attachments : b.entry.attachments ≡ c.attachments
 
 -- by the broadcast that the cast asks for a count would pass the greatest u64, or the offset would
 abbrev pub IsSpentBy : History → PlainCast → Type 0
 IsSpentBy h c =
-    (has_no_offset h c.logged ≡ true)
+    (has_no_offset h c.form ≡ true)
     ⊎ ((b : PlainBroadcast) × IsCastOf h c b
     × ((at : ℕ) → RightCast h.base h.limits h.journal (record { at = at; what = Cast b }) b)
     × (is_spent h.base h.limits h.journal (Cast b) ≡ true))
@@ -151,7 +146,7 @@ pub record IsCast (before after : History) (now : ℕ) (c : PlainCast) (done : P
     : Type 0 where
   pub b : PlainBroadcast
   pub asked : IsCastOf before c b
-  pub numbered : has_no_offset before c.logged ≡ false
+  pub numbered : has_no_offset before c.form ≡ false
   pub right : (at : ℕ)
       → RightCast before.base before.limits before.journal (record { at = at; what = Cast b }) b
   pub unspent : is_spent before.base before.limits before.journal (Cast b) ≡ false

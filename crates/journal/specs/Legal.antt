@@ -15,10 +15,9 @@ use Rattle.journal.specs.Membership.{open_clients, is_open, sockets, sid_of, is_
 use Rattle.journal.specs.Sessions.{sessions, session_with}
 use Rattle.journal.specs.Log.{log, log_calls, next, next_number}
 use Rattle.journal.specs.Outboxes.{waiting}
-use Rattle.journal.specs.Broadcast.{RightCast, SpellsEvent}
+use Rattle.journal.specs.Broadcast.{RightCast, IsOfAForm}
 use Rattle.journal.specs.Totals.{IsConserved}
 use Rattle.journal.specs.ManySockets.{RightJoining, RightLeaving, RightDismissal}
-use Rattle.journal.specs.Refusals.{cast_refusal}
 use Rattle.journal.specs.Command.{refusal}
 
 -- a recovery brings back what was saved: the socket's ids and rooms, and the
@@ -36,13 +35,11 @@ pub record RightRecovery (base : PlainBase) (limits : Limits) (before : List Ste
       })
   pub missed_is : r.missed ≡ missed r.offset r.socket.space r.rooms (log base limits before)
 
--- a broadcast is the text of an event, has the next offset where it has one, and
+-- a broadcast is the text of a form, has the next offset where it has one, and
 -- reaches whom it is for
 pub record RightBroadcast (base : PlainBase) (limits : Limits) (before : List Step)
     (step : Step) (b : PlainBroadcast) : Type 0 where
-  pub payload : List ℕ
-  pub refusal : cast_refusal limits b.space payload (length b.entry.attachments) ≡ None
-  pub text : SpellsEvent limits b payload
+  pub formed : IsOfAForm limits b
   pub offset : IfSome b.offset (λ offset. next base before ≡ Some offset)
   pub cast : RightCast base limits before step b
 

@@ -1,9 +1,10 @@
 -- The data of configuration, steps and base as plain values, in which two are equal
 -- where their contents are.
-use Rattle.std.specs.Prelude.{ℕ, Bool, List, Option}
+use Rattle.std.specs.Prelude.{ℕ, List, Option}
 use Rattle.terms.specs.declared.entry.Entry.{Entry}
 use Rattle.recovery.specs.PacketLog.{PlainLogged}
 use Rattle.recovery.specs.SavedTable.{PlainSaved}
+use Rattle.journal.specs.declared.form.Form.{Form}
 use Rattle.journal.specs.declared.socket.Socket.{Socket}
 use Rattle.journal.specs.declared.totals.Totals.{Totals}
 
@@ -49,13 +50,13 @@ pub record PlainDismissal : Type 0 where
   pub ended : List ℕ
   pub told : List ℕ
 
--- a broadcast that is asked for: the name of its namespace, its rooms and excepted rooms, whether
--- it is logged, the event as a JSON array and its attachments
+-- a broadcast that is asked for: the name of its namespace, its rooms and excepted rooms, its form,
+-- its payload as a JSON array and its attachments
 pub record PlainCast : Type 0 where
   pub space : List ℕ
   pub rooms : List (List ℕ)
   pub excepted : List (List ℕ)
-  pub logged : Bool
+  pub form : Form
   pub payload : List ℕ
   pub attachments : List (List ℕ)
 

@@ -2,10 +2,12 @@
 
 ghost use Rattle.journal.specs.Plain.{PlainCast, PlainCastDone};
 
+use crate::form::Form;
 use std::marker::Model;
 use terms::{Attachments, Room, Sid, Text};
 
-/// An event for the sockets of a namespace. In a contract it is plain data.
+/// An event for the sockets of a namespace, or an acknowledgement of one that came from them. In a
+/// contract it is plain data.
 #[derive(Drop)]
 pub struct Cast {
     /// The name of the namespace.
@@ -14,9 +16,9 @@ pub struct Cast {
     pub rooms: Vec<Room>,
     /// The rooms whose sockets don't get it.
     pub excepted: Vec<Room>,
-    /// Whether it gets an offset and is logged, so that a session that comes back gets it too.
-    pub logged: bool,
-    /// The event as a JSON array.
+    /// What it is, and whether it is logged.
+    pub form: Form,
+    /// The event, or the answer, as a JSON array.
     pub payload: Text,
     /// What the placeholders of the payload stand for.
     pub attachments: Attachments,
@@ -29,7 +31,7 @@ impl Model for Cast {
       space = c.space;
       rooms = c.rooms.items;
       excepted = c.excepted.items;
-      logged = c.logged;
+      form = c.form;
       payload = c.payload;
       attachments = c.attachments;
     } };

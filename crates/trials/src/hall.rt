@@ -5,7 +5,7 @@ use crate::fault::Fault;
 use crate::rows::{Counted, Deed, MISSPELLED, Measured, NOW, Row};
 use http_edge::Gathered;
 use hub_totals::{Hub, Pass};
-use journal::{Cast, HubError};
+use journal::{Cast, Form, HubError};
 use recovery::Pid;
 use std::alloc::Global;
 use std::rt::Clock;
@@ -127,7 +127,7 @@ impl<C: Ledger, T: Ledger> Hall<C, T> {
             space: Text::copy_of(alloc, space)?,
             rooms,
             excepted: Vec::new(alloc),
-            logged,
+            form: Form::Event { logged },
             payload: Text::copy_of(alloc, PAYLOAD)?,
             attachments: Attachments::new(alloc),
         };

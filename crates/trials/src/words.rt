@@ -1,6 +1,6 @@
 //! The words of a line, and what they say. What is missing is empty, and no number is 0.
 
-use journal::{Cast, Config, HubError};
+use journal::{Cast, Config, Form, HubError};
 use recovery::Pid;
 use std::alloc::{AllocError, Global};
 use terms::{Attachments, Bytes, Entry, Room, Sid, Text};
@@ -119,7 +119,9 @@ impl<'a> Words<'a> {
             space: self.text(alloc, 1)?,
             rooms: self.rooms(alloc, 2)?,
             excepted: self.rooms(alloc, 3)?,
-            logged: self.word(0) == "cast",
+            form: Form::Event {
+                logged: self.word(0) == "cast",
+            },
             payload: self.text(alloc, 4)?,
             attachments: parts(alloc, self.word(5))?,
         })

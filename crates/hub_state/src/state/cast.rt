@@ -1,7 +1,8 @@
-//! Events are put into the outboxes of those whom they are for (Socket.IO server documentation,
-//! "Rooms" and "Adapter"; Socket.IO protocol 5, "Sending and receiving data").
+//! Broadcasts are put into the outboxes of those whom they are for (Socket.IO server documentation,
+//! "Rooms" and "Adapter"; Socket.IO protocol 5, "Sending and receiving data" and
+//! "Acknowledgement").
 
-ghost use Rattle.std.specs.Prelude.{◌≡◌, ◌≤◌, ℕ, false, map, nat_eq, None, Some, IfSome, IfOk, IfErr, OnOk, OnErr, ◌==◌, [], length, get_or, if◌then◌else◌};
+ghost use Rattle.std.specs.Prelude.{◌≡◌, ◌<◌, ◌≤◌, ◌^◌, ℕ, false, map, nat_eq, None, Some, IfSome, IfOk, IfErr, OnOk, OnErr, [], length, get_or};
 ghost use Rattle.std.specs.List.{IsDistinct, AllByRecursion, list_any};
 ghost use Rattle.std.specs.Option.{option_map, option_map_or};
 ghost use Rattle.std.specs.Ordering.{nat_cmp};
@@ -9,13 +10,12 @@ ghost use Rattle.std.specs.BTreeMap.{get};
 ghost use Rattle.std.specs.Arc.{arc_value};
 ghost use Rattle.sio_wire.specs.Header.{Plain};
 ghost use Rattle.sio_wire.specs.Offset.{is_bracket, payload_with_offset};
-ghost use Rattle.sio_wire.specs.declared.kind.Kind.{Kind};
 ghost use Rattle.journal.specs.Outboxes.{entries_for};
 ghost use Rattle.journal.specs.Membership.{place_of};
-ghost use Rattle.journal.specs.Casting.{is_full_in, receiver_of, pair_of, with_entries, with_logged, IsEvent, refusal_of, offset_of, has_no_offset, IsCastOf, IsCastError, CastDoes};
+ghost use Rattle.journal.specs.Casting.{is_full_in, receiver_of, pair_of, with_entries, with_logged, refusal_of, offset_of, has_no_offset, IsCastOf, IsCastError, CastDoes};
 ghost use Rattle.journal.specs.Log.{logged, next};
 ghost use Rattle.journal.specs.Journal.{moment_at};
-ghost use Rattle.journal.specs.Broadcast.{event_header};
+ghost use Rattle.journal.specs.Broadcast.{IsOfAForm, broadcast_header, id_of};
 ghost use Rattle.journal.specs.declared.step.What.{What};
 ghost use Rattle.hub_state.specs.Changes.{SameClients, WithoutNewest, MakesStep};
 ghost use Rattle.hub_state.specs.Sending.{done_of, IsCounted};
@@ -24,9 +24,9 @@ ghost use Rattle.hub_state.specs.Words.{TellsNow, AllHear};
 use crate::state::deliver::{put_entry, take_back};
 use crate::state::{NONE, State};
 use hub_parts::Client;
-use journal::{Broadcast, Cast, CastDone, Counts, HubError, Message, What};
+use journal::{Broadcast, Cast, CastDone, Counts, Form, HubError, Message, What};
 use recovery::{Logged, PacketLog};
-use sio_wire::{Header, Kind, with_offset, write_header};
+use sio_wire::{Header, with_offset, write_header};
 use std::alloc::{AllocError, Global};
 use std::collections::BTreeMap;
 use std::sync::Arc;
@@ -129,17 +129,6 @@ fn payload_of(alloc: Global, payload: Text, offset: Option<u64>) -> Result<Text,
     Ok(Text::from_string(text))
 }
 
-/// An event, or a binary one where there are attachments.
-fn kind_of(attachments: usize) -> Kind
-    ensures { result ≡ (if attachments == 0 then Kind.Event else Kind.BinaryEvent) }
-{
-    if attachments == 0 {
-        Kind::Event
-    } else {
-        Kind::BinaryEvent
-    }
-}
-
 impl State {
     /// The offset of the next broadcast that is logged, or `None` where the greatest has been
     /// used.
@@ -158,7 +147,7 @@ impl State {
         entry: Option<Logged>,
         now: u64,
     ) -> Result<CastDone, HubError>
-        requires event { IsEvent self.old.limits broadcast }
+        requires formed { IsOfAForm self.old.limits broadcast }
         requires counted { IsCounted self.old broadcast }
         requires tells { TellsNow self.old broadcast messages.items }
         requires logged { entry
@@ -187,9 +176,9 @@ impl State {
     /// The place of the namespace that a cast is for, and its offset.
     fn judge(&self, cast: &Cast) -> Result<(u16, Option<u64>), HubError>
         ensures place { IfOk result (λ both. both.0 ≡ place_of self.now.limits cast.now.space) }
-        ensures offset { IfOk result (λ both. both.1 ≡ offset_of self.now cast.now.logged) }
+        ensures offset { IfOk result (λ both. both.1 ≡ offset_of self.now cast.now.form) }
         ensures accepted { IfOk result (λ _. refusal_of self.now cast.now ≡ None) }
-        ensures numbered { IfOk result (λ _. has_no_offset self.now cast.now.logged ≡ false) }
+        ensures numbered { IfOk result (λ _. has_no_offset self.now cast.now.form ≡ false) }
         ensures refused { IfErr result (IsCastError self.now cast.now
             (refusal_of self.now cast.now)) }
     {
@@ -197,7 +186,7 @@ impl State {
         if !has_bracket(cast.payload.as_str()) || cast.attachments.len() > 32 {
             return Err(HubError::BadPayload);
         }
-        if !cast.logged {
+        if !cast.form.is_logged() {
             return Ok((place, None));
         }
         let offset = self.next_offset().ok_or(HubError::Spent)?;
@@ -214,7 +203,7 @@ impl State {
         cast: Cast,
     ) -> Result<(Broadcast, Vec<Message>), AllocError>
         requires place { place ≡ place_of self.now.limits cast.space }
-        requires offset { offset ≡ offset_of self.now cast.logged }
+        requires offset { offset ≡ offset_of self.now cast.form }
         requires accepted { refusal_of self.now cast ≡ None }
         ensures asked { IfOk result (λ both. IsCastOf self.now cast both.0) }
         ensures tells { IfOk result (λ both. TellsNow self.now both.0 both.1.items) }
@@ -223,18 +212,27 @@ impl State {
             space: _,
             rooms,
             excepted,
-            logged: _,
+            form,
             payload,
             attachments,
         } = cast;
-        let entry = self.event(alloc, usize::from(place), payload, attachments, offset)?;
+        let entry = self.entry(
+            alloc,
+            usize::from(place),
+            form,
+            payload,
+            attachments,
+            offset,
+        )?;
         self.aim(alloc, place, rooms, excepted, offset, entry)
     }
 
-    /// Puts an event into the outboxes of the sockets of a namespace that are in one of the rooms,
-    /// or where none is named of all, but for those in an excepted room. A socket whose client's
-    /// outbox has no space for it is counted as dropped. Where the cast is logged, the event gets
-    /// the next offset as its payload's last element (Socket.IO server documentation, "Connection
+    /// Puts an event, a question or an answer into the outboxes of the sockets of a namespace that
+    /// are in one of the rooms, or where none is named of all, but for those in an excepted room. A
+    /// socket whose client's outbox has no space for it is counted as dropped. A question asks each
+    /// socket for an acknowledgement under its id, and an answer acknowledges the event that has
+    /// its id (Socket.IO protocol 5, "Acknowledgement"). Where an event is logged, it gets the next
+    /// offset as its payload's last element (Socket.IO server documentation, "Connection
     /// state recovery"). Refused as `UnknownNamespace`, `BadPayload`, `Spent`, then for `Memory`,
     /// which may come instead of `Spent`. It takes the logarithm of the namespaces, and walks the
     /// members of the rooms in all namespaces, or where no room is named the sockets of its
@@ -258,10 +256,11 @@ impl State {
     }
 
     /// What is sent.
-    pub(crate) fn event(
+    pub(crate) fn entry(
         &self,
         alloc: Global,
         place: usize,
+        form: Form,
         payload: Text,
         attachments: Attachments,
         offset: Option<u64>,
@@ -269,13 +268,15 @@ impl State {
         requires { length attachments ≤ 32 }
         ensures text { let name = get_or self.now.limits.spaces place []
             in IfOk result (λ entry. Plain
-            (event_header name payload (length attachments) offset) (arc_value entry).text) }
+            (broadcast_header form name payload (length attachments) offset)
+            (arc_value entry).text) }
+        ensures fits { IfOk result (λ _. IfSome (id_of form) (λ id. id < 2 ^ 64)) }
         ensures attachments { IfOk result (λ entry. (arc_value entry).attachments ≡ attachments) }
     {
         let header = Header {
-            kind: kind_of(attachments.len()),
+            kind: form.kind(attachments.len()),
             space: Text::copy_of(alloc, self.name_at(place))?,
-            id: None,
+            id: form.id(),
             payload: payload_of(alloc, payload, offset)?,
             count: attachments.len() as u32,
         };

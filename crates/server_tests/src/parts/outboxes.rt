@@ -2,7 +2,7 @@
 
 use crate::parts::play::{Part, play};
 use hub_state::State;
-use journal::{Cast, Config, HubError, Totals};
+use journal::{Cast, Config, Form, HubError, Totals};
 use recovery::Pid;
 use std::alloc::{AllocError, Global};
 use terms::{Attachments, Room, Sid, Text};
@@ -108,7 +108,7 @@ fn cast(alloc: Global) -> Result<Cast, AllocError> {
         space: Text::copy_of(alloc, "/")?,
         rooms,
         excepted: Vec::new(alloc),
-        logged: true,
+        form: Form::Event { logged: true },
         payload: Text::copy_of(alloc, "[\"a\"]")?,
         attachments: Attachments::new(alloc),
     })

@@ -1,14 +1,25 @@
-use Rattle.std.proofs.Common.{rules, arith, ◌≡◌, sym, false, None, Err}
+use Rattle.std.proofs.Common.{rules, arith, ◌≡◌, ◌∙◌, ap, sym, false, None, Err}
+use Rattle.std.specs.Prelude.{is_some}
 use Rattle.journal.specs.declared.step.What.TheVariants.{Cast}
+use Rattle.journal.specs.Broadcast.{is_logged}
+use Rattle.journal.specs.Log.{next}
 use Rattle.journal.specs.Totals.{is_spent}
+use Rattle.journal.proofs.CastStepLemmas.{given-where-asked}
 use Rattle.journal.proofs.CountsLemmas.{unspent}
 use Rattle.hub_state.proofs.CastLemmas.{cast-does, cast-spent}
 use Rattle.hub_state.proofs.state.State.cast.Goals as goal
 
-pub send-done-requires-clause-event : goal.send-done-requires-clause-event
-send-done-requires-clause-event c =
+pub send-done-requires-clause-formed : goal.send-done-requires-clause-formed
+send-done-requires-clause-formed c =
     let made = c.in_ok-broadcast.ensures in
-    (c.args.cast.payload, rw (made.asked.space, made.asked.attachments) c.in_ok-place.ensures.accepted, made.asked.text)
+    let h = c.args.self.now in
+    record {
+      form = c.args.cast.form;
+      payload = c.args.cast.payload;
+      refusal = rw (made.asked.space, made.asked.attachments) c.in_ok-place.ensures.accepted;
+      text = made.asked.text;
+      logged = ap is_some made.asked.offset ∙ given-where-asked (is_logged c.args.cast.form) (next h.base h.journal) c.in_ok-place.ensures.numbered;
+    }
 
 pub returns-in_err-may_count-clause-does : goal.returns-in_err-may_count-clause-does
 returns-in_err-may_count-clause-does c =

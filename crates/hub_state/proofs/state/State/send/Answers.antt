@@ -16,7 +16,7 @@ put_messages-requires-clause-places c =
 
 pub invariant_of-self-2 : goal.invariant_of-self-2
 invariant_of-self-2 c =
-    let event = rw (← c.self.view_is) at c.requires.event in
+    let formed = rw (← c.self.view_is) at c.requires.formed in
     let given = rw (← c.self.view_is) at c.requires.counted.offset in
     let told = rw (← c.self.view_is) at c.requires.tells in
     let room = rw (← c.self.view_is) at c.requires.counted.unspent in
@@ -26,7 +26,7 @@ invariant_of-self-2 c =
     let dropped : c.len-2.result ≡ length c.args.broadcast.dropped = search rules in
     let hub = hub-of c.self.inside c.self.invariant in
     rw (c.add.ensures.steps, c.add.ensures.last, c.reserve.ensures.same, c.add.ensures.counts, placed, dropped)
-    (plus (casted c.self.inside.base c.self.inside.limits c.self.inside.records.steps.steps c.args.broadcast c.self.invariant.1 c.self.invariant.2 event.0 event.1 event.2 given
+    (plus (casted c.self.inside.base c.self.inside.limits c.self.inside.records.steps.steps c.args.broadcast c.self.invariant.1 c.self.invariant.2 formed given
     c.args.messages.items told c.args.now c.self.inside.records.last (get nat_cmp c.self.inside.clients) (get nat_cmp c.put_messages.new.clients) (get nat_cmp c.self.inside.live.seats)
     (sorted.contains nat_cmp c.self.inside.live.pids) c.self.inside.live.rooms c.self.inside.saved c.self.inside.log c.push_logged.new.log c.self.inside.records.counts
     hub room logged c.in_ok-put_messages.ensures.ok)
