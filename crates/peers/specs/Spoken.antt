@@ -54,11 +54,18 @@ module _ {S M : Type 0} (remaining contents : S → Option (List ℕ)) (gives : 
     pub timed : IsTimedResult gives result old.moments new.moments
 
 module _ {S : Type 0} (contents : S → Option (List ℕ)) where
-  -- all frames were sent, in their order; where nothing waited in the socket, just they were written, and nothing waits
-  abbrev pub Sends : List WsFrame → Socket S → Result (Unit {0}) PeerFault → Socket S → Type 0
-  Sends frames old (Ok _) new = old.output ≡ []
-      → AddsFrames old.conn.role (contents old.stream) frames (contents new.stream) × (new.output ≡ [])
-  Sends frames old (Err why) new = (why ≡ fault.Memory) ⊎ (why ≡ fault.Device)
+  -- all frames were sent, in their order, and nothing else has changed; where nothing waited in the
+  -- socket, just they were written, and nothing waits
+  abbrev pub SendsAll : List WsFrame → Socket S → Result (Unit {0}) PeerFault → Socket S → Type 0
+  SendsAll frames old (Ok _) new = (new.conn ≡ old.conn) × (new.input ≡ old.input) × (old.output ≡ []
+      → AddsFrames old.conn.role (contents old.stream) frames (contents new.stream) × (new.output ≡ []))
+  SendsAll frames old (Err why) new = (why ≡ fault.Memory) ⊎ (why ≡ fault.Device)
+
+  -- frames were sent; where there are none, nothing was done
+  pub record Sends (frames : List WsFrame) (old : Socket S) (result : Result (Unit {0}) PeerFault)
+      (new : Socket S) : Type 0 where
+    pub all : SendsAll frames old result new
+    pub none : frames ≡ [] → (result ≡ Ok tt) × (new ≡ old)
 
 -- the stage and the result, once what was to be sent was sent or not
 abbrev pub heard : SocketStage → Result (Unit {0}) PeerFault → SocketStage × Result (Unit {0}) PeerFault

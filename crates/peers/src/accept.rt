@@ -1,7 +1,8 @@
 //! The opening handshake (RFC 6455, section 4.2).
 
 ghost use Rattle.std.specs.Prelude.{IfSome};
-ghost use Rattle.peers.specs.Accepted.{BeginsWith, HasLimit, HasMostBytes};
+ghost use Rattle.peers.specs.Accepted.{Accepts, BeginsWith, HasLimit, HasMostBytes};
+ghost use Rattle.tungstenite.specs.Heads.{Serves};
 ghost use Rattle.tungstenite.specs.Socket.{IsFresh};
 ghost use Rattle.websocket.specs.declared.protocol.config.Role.TheVariants.{Server};
 
@@ -37,6 +38,57 @@ pub(crate) fn renewed<S: Drop>(alloc: Global, socket: WebSocket<S, NoMask>) -> W
     WebSocket::from_raw_socket(alloc, stream, NoMask, Role::Server, Some(config()))
 }
 
+/// Who answers the request whose head a stream has first.
+trait Greeter<S> {
+    ghost use Rattle.http_edge.specs.declared.replay.Replay.{Replay};
+    ghost use Rattle.std.specs.Prelude.{Option};
+    ghost use Rattle.tungstenite.specs.Socket.{Socket};
+
+    /// Of the stream the WebSocket, if there is one.
+    ghost gives: { Self → Replay S → Option (Socket (Replay S)) → Type 0 } = { λ _ _ _. Unit {0} };
+
+    fn greet(self, alloc: Global, stream: Replay<S>) -> Option<WebSocket<Replay<S>, NoMask>>
+        ensures { gives self stream result };
+}
+
+/// Answers it by the opening handshake.
+#[derive(Clone, Copy)]
+struct Handshake;
+
+impl<S: Read + Write + Drop> Greeter<S> for Handshake {
+    ghost use Rattle.std.specs.Prelude.{IfSome};
+    ghost use Rattle.tungstenite.specs.Heads.{Serves};
+
+    ghost gives = { λ _ _ gave. IfSome gave Serves };
+
+    fn greet(self, alloc: Global, stream: Replay<S>) -> Option<WebSocket<Replay<S>, NoMask>>
+        ensures { IfSome result Serves }
+    {
+        server::start(alloc, stream, NoCallback, Some(config()))
+            .handshake()
+            .ok()
+    }
+}
+
+/// Has the request answered, over the stream with its head before it. Of what that gives comes the
+/// WebSocket.
+fn accept_by<S: Drop, G: Greeter<S>>(
+    alloc: Global,
+    greeter: G,
+    stream: S,
+    head: Vec<u8>,
+    rest: Vec<u8>,
+) -> Option<WebSocket<Replay<S>, NoMask>>
+    ensures accepted { Accepts (G.gives greeter) head.items stream rest.items result }
+    ensures limits { IfSome result (λ socket. HasMostBytes 1048576 socket.conn.config) }
+{
+    let replay = Replay::new(head, stream);
+    let accepted = greeter.greet(alloc, replay)?;
+    let stream = accepted.into_inner();
+    let config = Some(config());
+    Some(WebSocket::from_partially_read(alloc, stream, NoMask, rest, Role::Server, config))
+}
+
 /// Answers the request whose head was read, and gives its WebSocket; else the stream is dropped. The
 /// bytes that were read past the head are the first that the WebSocket has.
 pub fn accept_socket<S: Read + Write + Drop>(
@@ -48,11 +100,5 @@ pub fn accept_socket<S: Read + Write + Drop>(
     ensures served { IfSome result (BeginsWith rest.items) }
     ensures limits { IfSome result (λ socket. HasMostBytes 1048576 socket.conn.config) }
 {
-    let replay = Replay::new(head, stream);
-    let config = Some(config());
-    let accepted = server::start(alloc, replay, NoCallback, config)
-        .handshake()
-        .ok()?;
-    let stream = accepted.into_inner();
-    Some(WebSocket::from_partially_read(alloc, stream, NoMask, rest, Role::Server, config))
+    accept_by(alloc, Handshake, stream, head, rest)
 }

@@ -47,6 +47,11 @@ impl<S, M> Model for SocketPeer<S, M> {
 }
 
 impl<S: Drop, M> SocketPeer<S, M> {
+    ghost use Rattle.std.specs.Borrow.{Lends, sem};
+    ghost use Rattle.tungstenite.specs.contracts.protocol.WebSocket.{the_row as socket_row};
+    ghost use Rattle.websocket.specs.contracts.protocol.NoMask.{the_row as no_mask};
+    ghost use Rattle.peers.specs.contracts.socket_peer.SocketPeer.{the_row};
+
     /// Nothing was asked of the core yet, and nothing sent.
     pub fn new(
         alloc: Global,
@@ -113,9 +118,13 @@ impl<S: Drop, M> SocketPeer<S, M> {
         matches!(self.stage, SocketStage::Taking { idle: true, .. })
     }
 
-    /// The stream of the socket, which a driver may send or poll.
-    pub fn stream_mut(&mut self) -> &mut S {
-        self.socket.get_mut()
+    /// The socket, whose stream a driver may send or poll.
+    pub fn socket_mut(&mut self) -> &mut WebSocket<S, NoMask>
+        ensures* writes_back { sem 𝓛 (Lends (the_row S.row M.row) (socket_row S.row no_mask)
+            self.entry result (λ socket. record self.old { socket = socket })) }
+        ensures value { result.now ≡ self.old.socket }
+    {
+        &mut self.socket
     }
 }
 

@@ -66,7 +66,7 @@ impl<'a, R: Clock + Drop> Service<'a, R> {
         match self {
             Service::Gathering { stream, .. } | Service::Answered { stream, .. } => Some(stream),
             Service::Polling(peer) => Some(peer.wire_mut().get_mut()),
-            Service::Speaking(peer) => Some(peer.stream_mut().get_mut()),
+            Service::Speaking(peer) => Some(peer.socket_mut().get_mut().get_mut()),
             Service::Gone => None,
         }
     }

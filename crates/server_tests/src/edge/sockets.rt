@@ -213,7 +213,7 @@ fn write_served<C: Ledger, T: Ledger>(
     let end = serve(alloc, usual, &mut peer, events);
     let (on, idle) = (usual.core.transport(1), peer.is_idle());
     write!(text, "= {end:?} {on:?} idle:{idle}")?;
-    write_frames(text, peer.stream_mut().written.as_slice())?;
+    write_frames(text, peer.socket_mut().get_mut().written.as_slice())?;
     text.push('\n')
 }
 
@@ -329,7 +329,7 @@ impl OnCore for ComesEarly {
         let rest = Vec::from_slice(alloc, FRAME).ok()?;
         let mut peer = accepted(alloc, self.head, rest, "close")?;
         let end = serve(alloc, usual, &mut peer, 1_000);
-        let written = peer.stream_mut().get_mut().written.as_slice();
+        let written = peer.socket_mut().get_mut().get_mut().written.as_slice();
         let mut text = format!(in alloc; "{end:?}").ok()?;
         write_frames(&mut text, written.strip_prefix(SWITCHES).unwrap_or(&[])).ok()?;
         Some(is_open && text.as_str() == "Failed(Ended) opened connected closed")
