@@ -9,27 +9,29 @@ use relay::{Presence, RelayApp};
 use std::alloc::{AllocError, Global};
 use terms::{Attachments, Room, Sid, Text};
 
-fn everybody(alloc: Global) -> Selection {
-    Selection {
+fn everybody(alloc: Global, space: &str) -> Result<Selection, AllocError> {
+    Ok(Selection {
+        space: Text::copy_of(alloc, space)?,
         rooms: Vec::new(alloc),
         excepted: Vec::new(alloc),
-    }
+    })
 }
 
-fn nobody(alloc: Global) -> Result<Selection, AllocError> {
-    let mut selection = everybody(alloc);
+fn nobody(alloc: Global, space: &str) -> Result<Selection, AllocError> {
+    let mut selection = everybody(alloc, space)?;
     selection.rooms.push(Room::own(Sid::new(0)))?;
     Ok(selection)
 }
 
 /// What is no array is sent, asked or acknowledged.
-fn no_array(alloc: Global, wish: &str) -> Option<Effect>
-    ensures { IfSome result IsCleanEffect }
+fn no_array(alloc: Global, space: &str, wish: &str) -> Result<Option<Effect>, AllocError>
+    ensures { IfOk result (λ found. IfSome found IsCleanEffect) }
 {
     let payload = Text::from_string(String::new(alloc));
     let attachments = Attachments::new(alloc);
-    match wish {
+    Ok(match wish {
         "[\"mute\"]" => Some(Effect::Emit(Emission {
+            space: Text::copy_of(alloc, space)?,
             rooms: Vec::new(alloc),
             excepted: Vec::new(alloc),
             logged: false,
@@ -47,35 +49,48 @@ fn no_array(alloc: Global, wish: &str) -> Option<Effect>
             attachments,
         })),
         _ => None,
-    }
+    })
 }
 
 /// What an event or a CONNECT wants that the demonstration app never wants, or the last of two such
 /// effects.
-fn last_effect(alloc: Global, own: Room, wish: &str) -> Result<Option<Effect>, AllocError>
+fn last_effect(
+    alloc: Global,
+    space: &str,
+    own: Room,
+    wish: &str,
+) -> Result<Option<Effect>, AllocError>
     ensures { IfOk result (λ found. IfSome found IsCleanEffect) }
 {
     match wish {
-        "[\"over\"]" => Ok(Some(Effect::AllEnd(everybody(alloc)))),
-        "[\"gone\"]" => Ok(Some(Effect::AllEnd(nobody(alloc)?))),
+        "[\"over\"]" => Ok(Some(Effect::AllEnd(everybody(alloc, space)?))),
+        "[\"gone\"]" => Ok(Some(Effect::AllEnd(nobody(alloc, space)?))),
         "[\"own\"]" => Ok(Some(Effect::Leave(own))),
         "[\"late\"]" | "{\"do\":\"late\"}" | "{\"do\":\"join\"}" => {
             Ok(Some(Effect::Join(Room::own(Sid::new(7)))))
         }
-        wish => Ok(no_array(alloc, wish)),
+        wish => no_array(alloc, space, wish),
     }
 }
 
 /// The effects that are wanted: that all are disconnected, twice, or to join a room after the
 /// disconnection, or one.
-fn effects_of(alloc: Global, own: Room, wish: &str) -> Result<Option<Vec<Effect>>, AllocError>
+fn effects_of(
+    alloc: Global,
+    space: &str,
+    own: Room,
+    wish: &str,
+) -> Result<Option<Vec<Effect>>, AllocError>
     ensures { IfOk result (λ found. IfSome found (λ effects. AllClean effects.items)) }
 {
-    let Some(last) = last_effect(alloc, own, wish)? else {
+    let Some(last) = last_effect(alloc, space, own, wish)? else {
         return Ok(None);
     };
     match wish {
-        "[\"over\"]" => Ok(Some(vec![in alloc; Effect::AllEnd(everybody(alloc)), last]?)),
+        "[\"over\"]" => {
+            let first = Effect::AllEnd(everybody(alloc, space)?);
+            Ok(Some(vec![in alloc; first, last]?))
+        }
         "[\"late\"]" | "{\"do\":\"late\"}" => Ok(Some(vec![in alloc; Effect::Disconnect, last]?)),
         _ => Ok(Some(vec![in alloc; last]?)),
     }
@@ -98,7 +113,7 @@ impl App for WildApp {
     } };
 
     fn connects(&self, alloc: Global, space: &str, payload: &str) -> Result<Verdict, AllocError> {
-        match effects_of(alloc, Room::own(Sid::new(7)), payload)? {
+        match effects_of(alloc, space, Room::own(Sid::new(7)), payload)? {
             Some(effects) => Ok(Verdict::Accept(effects)),
             None => RelayApp.connects(alloc, space, payload),
         }
@@ -108,6 +123,7 @@ impl App for WildApp {
         if let Arrived::Event(message) = arrived
             && let Some(effects) = effects_of(
                 alloc,
+                who.space.as_str(),
                 Room::own(who.sid),
                 message.payload.as_str(),
             )?
