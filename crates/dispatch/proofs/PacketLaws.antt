@@ -157,8 +157,9 @@ module _ (c now : ℕ) (f : History) where
         → TakesAck policy (his space sid) id payload attachments now s result t → Before s → After result t
     ack-after None payload attachments s result t whole seated (is, same) was =
         done-after result t is (subst Before (sym same) (same-before s (record s { done = record s.done { ignored = true } }) refl refl refl refl was))
-    ack-after (Some id) payload attachments s result t whole seated (inl (none, is, advances, same)) was =
-        done-after result t is (subst Before (sym same) (same-before s (record s { line = t.line; done = record s.done { ignored = true } }) refl refl refl refl was))
+    ack-after (Some id) payload attachments s result t whole seated (inl (line, none, advances, does)) was =
+        let noted = record s { line = line; done = record s.done { ignored = true } } in
+        decides-after _ noted result t whole seated does (same-before s noted refl refl refl refl was)
     ack-after (Some id) payload attachments s result t whole seated (inr (question, line, asked, advances, does)) was =
         decides-after _ (record s { line = line }) result t whole seated does (same-before s (record s { line = line }) refl refl refl refl was)
 

@@ -1,6 +1,6 @@
 -- What the packets of a client do (Engine.IO protocol 4, "Packet types"; Socket.IO protocol 5, "Exchange protocol";
 -- Socket.IO server documentation, "Connection state recovery").
-use Rattle.std.specs.Prelude.{◌≡◌, ◌≢◌, ◌⊎◌, ◌<◌, ◌^◌, ℕ, ◌+◌, true, false, List, [], ◌∷◌, length, is_some, Option, None, Some, Result, Ok, Err, codes, slice_get, take}
+use Rattle.std.specs.Prelude.{◌≡◌, ◌≢◌, ◌⊎◌, ◌<◌, ◌^◌, ℕ, ◌+◌, true, false, List, [], ◌∷◌, length, Option, None, Some, Result, Ok, Err, codes, slice_get, take}
 use Rattle.eio_wire.specs.Payload.{IsWhole}
 use Rattle.eio_wire.specs.declared.packet.Packet.{Packet}
 use Rattle.eio_wire.specs.declared.packet.Packet.TheVariants as eio
@@ -131,12 +131,20 @@ module _ (policy : Policy) where
       ⊎ ((effects : List Effect) × policy.decides who arrived effects × (IsCleanArrival arrived → AllClean effects)
       × DoesAll who now 0 effects s result t)
 
-  -- the answer to a question that isn't open is ignored; else the question is forgotten, and the app decides
+  -- an answer to no question of its socket is noted as ignored, and the app decides: it may be to a question that was asked
+  -- of a room
+  abbrev pub HearsStray : Who → (id : ℕ) → (payload : List ℕ) → (attachments : List (List ℕ)) → ℕ → Scene → Upshot → Scene → Type 0
+  HearsStray who id payload attachments now s result t =
+      Decides who (arrived.Stray (record { id = id; payload = payload; attachments = attachments }))
+      now (record s { done = record s.done { ignored = true } }) result t
+
+  -- the answer to a question that isn't open is a stray one; else the question is forgotten, and the app decides (Socket.IO
+  -- protocol 5, "Acknowledgement")
   abbrev pub TakesAnswer : Who → (id : ℕ) → (payload : List ℕ) → (attachments : List (List ℕ))
       → ℕ → Scene → Upshot → Scene → Type 0
   TakesAnswer who id payload attachments now s result t =
-      (ForEachHistory s.line (λ o h. question_at 0 (book_calls who.sid h) id ≡ None)
-      × (result ≡ Ok tt) × Advances s.line [] t.line × (t ≡ record s { line = t.line; done = record s.done { ignored = true } }))
+      ((line : PlainLine) × ForEachHistory s.line (λ o h. question_at 0 (book_calls who.sid h) id ≡ None)
+      × Advances s.line [] line × HearsStray who id payload attachments now (record s { line = line }) result t)
       ⊎ ((question : Question) × (line : PlainLine)
       × ForEachHistory s.line (λ o h. question_at 0 (book_calls who.sid h) id ≡ Some question)
       × Advances s.line (Answered who.sid id ∷ []) line
@@ -151,7 +159,7 @@ module _ (policy : Policy) where
   -- an event with an id asks to be acknowledged
   abbrev pub HearsEvent : Who → Option ℕ → (payload : List ℕ) → (attachments : List (List ℕ)) → ℕ → Scene → Upshot → Scene → Type 0
   HearsEvent who id payload attachments now s result t =
-      Decides who (arrived.Event (record { payload = payload; attachments = attachments; asked = is_some id })) now (record s { asked = id }) result t
+      Decides who (arrived.Event (record { payload = payload; attachments = attachments; id = id })) now (record s { asked = id }) result t
 
   -- what a packet of a connected socket does; a CONNECT_ERROR is ignored
   abbrev pub Serves : Kind → Who → Option ℕ → (payload : List ℕ) → (attachments : List (List ℕ))

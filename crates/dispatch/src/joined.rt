@@ -3,11 +3,11 @@
 
 ghost use Rattle.effects.specs.Commands.{IsSeated};
 ghost use Rattle.effects.specs.Scene.{IsActing, Plays};
-ghost use Rattle.dispatch.specs.Packets.{IsReady, Decides, ClientDisconnects, TakesAck, HearsEvent, Serves, ServesJoined};
+ghost use Rattle.dispatch.specs.Packets.{IsReady, Decides, ClientDisconnects, TakesAck, HearsEvent, HearsStray, Serves, ServesJoined};
 
 use crate::packets::close_for;
 use effects::{Scene, act_all, commands};
-use events::{Answer, App, Arrived, Cause, CoreFault, Message, Who, Worked};
+use events::{Answer, App, Arrived, Cause, CoreFault, Message, Stray, Who, Worked};
 use journal::Side;
 use sio_wire::{Kind, SioPacket};
 use terms::{Attachments, Text};
@@ -42,7 +42,22 @@ fn disconnect(scene: &mut Scene, who: &Who) -> Worked
     Ok(())
 }
 
-/// Takes the answer to a question. One to a question that isn't open is ignored.
+/// Hears an answer to no question of its socket. It is noted as ignored.
+fn hear_stray<A: App>(scene: &mut Scene, app: &A, who: &Who, id: u64, said: Said) -> Worked
+    requires { IsActing who.now scene.old }
+    ensures { Plays (HearsStray (A.policy app.now) who.now id said.payload said.attachments)
+        scene.old result scene.new }
+{
+    scene.tally.ignore();
+    let arrived = Arrived::Stray(Stray {
+        id,
+        payload: said.payload,
+        attachments: said.attachments,
+    });
+    decide(scene, app, who, arrived)
+}
+
+/// Takes the answer to a question. One to a question that isn't open is a stray one.
 fn take_answer<A: App>(scene: &mut Scene, app: &A, who: &Who, said: Said) -> Worked
     requires { IsActing who.now scene.old }
     ensures { Plays (TakesAck (A.policy app.now) who.now said.id said.payload said.attachments)
@@ -53,8 +68,7 @@ fn take_answer<A: App>(scene: &mut Scene, app: &A, who: &Who, said: Said) -> Wor
         return Ok(());
     };
     let Ok(tag) = scene.line.answer(who.sid, id) else {
-        scene.tally.ignore();
-        return Ok(());
+        return hear_stray(scene, app, who, id, said);
     };
     let arrived = Arrived::Answer(Answer {
         tag,
@@ -74,7 +88,7 @@ fn hear<A: App>(scene: &mut Scene, app: &A, who: &Who, said: Said) -> Worked
     let arrived = Arrived::Event(Message {
         payload: said.payload,
         attachments: said.attachments,
-        asked: said.id.is_some(),
+        id: said.id,
     });
     decide(scene, app, who, arrived)
 }

@@ -1,6 +1,5 @@
 -- What an event that the app sends does (Socket.IO server documentation, "Broadcasting events").
 use Rattle.std.specs.Prelude.{◌≡◌, ◌⊎◌, ℕ, None, Result, Ok, Err}
-use Rattle.journal.specs.declared.form.Form.TheVariants.{Event}
 use Rattle.journal.specs.Plain.{PlainCast, PlainCastDone}
 use Rattle.journal.specs.Journal.{History}
 use Rattle.journal.specs.Casting.{refusal_of, IsCast, IsSpentBy}
@@ -20,7 +19,7 @@ work history done = record { history = history; done = done }
 -- the broadcast that is asked for
 abbrev pub cast_of : PlainEmission → PlainCast
 cast_of e =
-    record { space = e.space; rooms = e.rooms; excepted = e.excepted; form = Event e.logged; payload = e.payload; attachments = e.attachments }
+    record { space = e.space; rooms = e.rooms; excepted = e.excepted; form = e.form; payload = e.payload; attachments = e.attachments }
 
 -- it is sent in its namespace and counted, and who got it is listed, but for the event's own client
 abbrev pub Broadcasts : (c : ℕ) → PlainEmission → ℕ → Work → Work → Type 0

@@ -8,7 +8,7 @@ ghost use Rattle.effects.specs.Broadcasting.{work, BroadcastsOrFails};
 use crate::{Acted, Visit};
 use events::{Done, Emission};
 use hub_state::State;
-use journal::{Cast, Form};
+use journal::Cast;
 use terms::Attachments;
 
 /// The most attachments of a packet.
@@ -54,9 +54,7 @@ pub(crate) fn broadcast(
         space: emission.space,
         rooms: emission.rooms,
         excepted: emission.excepted,
-        form: Form::Event {
-            logged: emission.logged,
-        },
+        form: emission.form,
         payload: emission.payload,
         attachments: emission.attachments,
     };

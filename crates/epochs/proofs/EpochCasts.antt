@@ -13,11 +13,13 @@ use Rattle.journal.specs.Membership.{is_space, place_of}
 use Rattle.journal.specs.Log.{next}
 use Rattle.terms.specs.declared.entry.Entry.{Entry}
 use Rattle.journal.specs.Outboxes.{put, placements, is_addressed, is_full, has_no_space}
-use Rattle.journal.specs.Broadcast.{RightCast, SpellsEvent, reaches}
+use Rattle.journal.specs.declared.form.Form.{Form}
+use Rattle.journal.specs.Broadcast.{RightCast, Spells, is_logged, reaches}
 use Rattle.journal.specs.Casting.{refusal_of, has_no_offset, IsCastOf, IsSpentBy, IsCast}
 use Rattle.journal.specs.Totals.{dropped_by, handed_out_by, is_past, is_spent}
 use Rattle.journal.specs.Refusals.{cast_refusal}
 use Rattle.journal.specs.Legal.{IsAllowed}
+use Rattle.journal.proofs.CastStepLemmas.{given-where-asked}
 use Rattle.journal.proofs.CountsLemmas.{or_none}
 use Rattle.journal.proofs.EpochsOutboxesLemmas.{reaches-same, placed-same, placements-cast, addressed-same}
 use Rattle.journal.proofs.EpochsSocketsLemmas.{any-socket-as}
@@ -32,8 +34,8 @@ use Rattle.epochs.proofs.EpochSteps.{with-limits, Grown, grown-step, StaysSound}
 pub refusal_of-alike : (h g : History) → AreAlike h g → (c : PlainCast) → refusal_of g c ≡ refusal_of h c
 refusal_of-alike h g alike c = ap (λ (l : Limits). cast_refusal l (place_of l c.space) c.payload (length c.attachments)) alike.same.same_limits
 
-no-offset-alike : (h g : History) → AreAlike h g → (logged : Bool) → has_no_offset g logged ≡ has_no_offset h logged
-no-offset-alike h g alike logged = ap (λ (n : Option ℕ). logged && not (is_some n)) alike.same.same_next
+no-offset-alike : (h g : History) → AreAlike h g → (form : Form) → has_no_offset g form ≡ has_no_offset h form
+no-offset-alike h g alike form = ap (λ (n : Option ℕ). is_logged form && not (is_some n)) alike.same.same_next
 
 spent-alike : (h g : History) → AreAlike h g → (b : PlainBroadcast) → is_spent g.base g.limits g.journal (Cast b) ≡ is_spent h.base h.limits h.journal (Cast b)
 spent-alike h g alike b =
@@ -59,8 +61,8 @@ asked-alike h g alike c b asked = record {
   space = asked.space ∙ ap (λ (l : Limits). place_of l c.space) (sym alike.same.same_limits);
   rooms = asked.rooms;
   excepted = asked.excepted;
-  offset = asked.offset ∙ ap (λ (n : Option ℕ). if c.logged then n else None) (sym alike.same.same_next);
-  text = subst (λ (l : Limits). SpellsEvent l b c.payload) (sym alike.same.same_limits) asked.text;
+  offset = asked.offset ∙ ap (λ (n : Option ℕ). if is_logged c.form then n else None) (sym alike.same.same_next);
+  text = subst (λ (l : Limits). Spells l b c.form c.payload) (sym alike.same.same_limits) asked.text;
   attachments = asked.attachments;
 }
 
@@ -82,7 +84,7 @@ right-cast h g alike at b right =
     })
 
 pub spent-by-alike : (h g : History) → AreAlike h g → (c : PlainCast) → IsSpentBy h c → IsSpentBy g c
-spent-by-alike h g alike c (inl none) = inl (no-offset-alike h g alike c.logged ∙ none)
+spent-by-alike h g alike c (inl none) = inl (no-offset-alike h g alike c.form ∙ none)
 spent-by-alike h g alike c (inr (b, asked, right, spent)) =
     inr (b, asked-alike h g alike c b asked, (λ at. right-cast h g alike at b (right at)), spent-alike h g alike b ∙ spent)
 
@@ -109,15 +111,19 @@ module _ (h : History) (c : PlainCast) (unrefused : refusal_of h c ≡ None) (b 
   its-refusal : cast_refusal h.limits b.space c.payload (length b.entry.attachments) ≡ None
   its-refusal = (λ i. cast_refusal h.limits (asked.space i) c.payload (length (asked.attachments i))) ∙ unrefused
 
-  pub cast-allowed : (at : ℕ) → has_no_offset h c.logged ≡ false → RightCast h.base h.limits h.journal (record { at = at; what = Cast b }) b → is_spent h.base h.limits h.journal (Cast b) ≡ false
+  pub cast-allowed : (at : ℕ) → has_no_offset h c.form ≡ false → RightCast h.base h.limits h.journal (record { at = at; what = Cast b }) b → is_spent h.base h.limits h.journal (Cast b) ≡ false
       → IsAllowed h.base h.limits h.journal (record { at = at; what = Cast b }) (Cast b)
   cast-allowed at some right unspent = (
     or_none (free h.limits b.space (length b.entry.attachments) c.payload its-refusal) unspent,
     record {
-      payload = c.payload;
-      refusal = its-refusal;
-      text = asked.text;
-      offset = subst (λ (o : Option ℕ). IfSome o (λ (offset : ℕ). next h.base h.journal ≡ Some offset)) (sym asked.offset) (numbered c.logged (next h.base h.journal) some);
+      formed = record {
+        form = c.form;
+        payload = c.payload;
+        refusal = its-refusal;
+        text = asked.text;
+        logged = ap is_some asked.offset ∙ given-where-asked (is_logged c.form) (next h.base h.journal) some;
+      };
+      offset = subst (λ (o : Option ℕ). IfSome o (λ (offset : ℕ). next h.base h.journal ≡ Some offset)) (sym asked.offset) (numbered (is_logged c.form) (next h.base h.journal) some);
       cast = right;
     },
   )
@@ -133,7 +139,7 @@ module _ (keeps : StaysSound) where
         record {
           b = b;
           asked = asked-alike h g alike c b was.asked;
-          numbered = no-offset-alike h g alike c.logged ∙ was.numbered;
+          numbered = no-offset-alike h g alike c.form ∙ was.numbered;
           right = λ at. right-cast h g alike at b (was.right at);
           unspent = spent-alike h g alike b ∙ was.unspent;
           step = refl;

@@ -165,8 +165,8 @@ module _ (keeps : StaysSound) (now : ℕ) where
         → TakesAck policy who id payload attachments now s result t → SimFor (TakesAck policy who id payload attachments now) s result t g
     ack-alike who None payload attachments s result t g alike (is, same) =
         (g, grown-none s.history t.history g alike (ap (λ (u : Scene). u.history) same), (is, ap (λ (u : Scene). moved u g) same))
-    ack-alike who (Some id) payload attachments s result t g alike (inl (none, is, advances, same)) =
-        (g, grown-none s.history t.history g alike (ap (λ (u : Scene). u.history) same), inl (none, is, advances, ap (λ (u : Scene). moved u g) same))
+    ack-alike who (Some id) payload attachments s result t g alike (inl (line, none, advances, does)) =
+        let (m, grown, also) = decides-alike who _ (record s { line = line; done = record s.done { ignored = true } }) result t g alike does in (m, grown, inl (line, none, advances, also))
     ack-alike who (Some id) payload attachments s result t g alike (inr (question, line, asked, advances, does)) =
         let (m, grown, also) = decides-alike who _ (record s { line = line }) result t g alike does in (m, grown, inr (question, line, asked, advances, also))
 

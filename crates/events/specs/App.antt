@@ -5,7 +5,7 @@ use Rattle.eio_wire.specs.Payload.{IsWhole}
 use Rattle.events.specs.declared.app.Verdict.{Verdict}
 use Rattle.events.specs.declared.app.Verdict.TheVariants.{Accept, Refuse}
 use Rattle.events.specs.declared.app.Arrived.{Arrived}
-use Rattle.events.specs.declared.app.Arrived.TheVariants.{Event, Answer}
+use Rattle.events.specs.declared.app.Arrived.TheVariants.{Event, Answer, Stray}
 use Rattle.events.specs.declared.app.Effect.{Effect}
 use Rattle.events.specs.declared.app.Effect.TheVariants.{Emit, EmitAsk, Reply}
 use Rattle.events.specs.declared.app.Who.{Who}
@@ -30,6 +30,7 @@ plain_verdict (Refuse message) = Refused message
 abbrev pub IsCleanArrival : Arrived → Type 0
 IsCleanArrival (Event message) = IsWhole message.payload
 IsCleanArrival (Answer answer) = IsWhole answer.payload
+IsCleanArrival (Stray stray) = IsWhole stray.payload
 
 -- no payload that is emitted, asked or replied holds it
 abbrev pub IsCleanEffect : Effect → Type 0

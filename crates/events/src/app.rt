@@ -3,7 +3,7 @@
 ghost use Rattle.std.specs.Prelude.{◌≡◌, ◌+◌, ℕ, IfOk};
 ghost use Rattle.events.specs.App.{Policy, plain_verdict, IsCleanVerdict, IsCleanArrival, AllClean};
 
-use journal::Ending;
+use journal::{Ending, Form};
 use std::alloc::{AllocError, Global};
 use std::marker::Model;
 use terms::{Attachments, Room, Sid, Text};
@@ -33,8 +33,10 @@ pub enum Verdict {
 pub enum Arrived {
     /// An event.
     Event(Message),
-    /// The answer to a question.
+    /// The answer to a question of this socket.
     Answer(Answer),
+    /// An answer to no question of this socket: to one that was asked of a room, or that ran out.
+    Stray(Stray),
 }
 
 /// An event that arrived.
@@ -44,8 +46,8 @@ pub struct Message {
     pub payload: Text,
     /// What the placeholders of the payload stand for.
     pub attachments: Attachments,
-    /// Whether an acknowledgement is asked for.
-    pub asked: bool,
+    /// The id under which it asks to be acknowledged, if it does.
+    pub id: Option<u64>,
 }
 
 /// An answer that arrived.
@@ -53,6 +55,17 @@ pub struct Message {
 pub struct Answer {
     /// The tag of the question.
     pub tag: u64,
+    /// The answer's data as a JSON array.
+    pub payload: Text,
+    /// What the placeholders of the payload stand for.
+    pub attachments: Attachments,
+}
+
+/// An answer that arrived and is to no question of its socket.
+#[derive(Debug, Drop)]
+pub struct Stray {
+    /// The id of the question that it answers.
+    pub id: u64,
     /// The answer's data as a JSON array.
     pub payload: Text,
     /// What the placeholders of the payload stand for.
@@ -67,7 +80,7 @@ pub enum Effect {
     Join(Room),
     /// The socket leaves a room.
     Leave(Room),
-    /// An event is sent to the sockets of some rooms.
+    /// An event, a question or an answer is sent to the sockets of some rooms.
     Emit(Emission),
     /// The socket is asked a question, whose answer the app gets.
     EmitAsk(Inquiry),
@@ -110,7 +123,8 @@ impl Model for Selection {
     } };
 }
 
-/// An event for the sockets of some rooms. In a contract it is plain data.
+/// An event for the sockets of some rooms, or an acknowledgement of one that came from them. In a
+/// contract it is plain data.
 #[derive(Drop)]
 pub struct Emission {
     /// The name of the namespace.
@@ -119,9 +133,9 @@ pub struct Emission {
     pub rooms: Vec<Room>,
     /// The rooms whose sockets don't get it.
     pub excepted: Vec<Room>,
-    /// Whether it gets an offset and is logged, so that a session that comes back gets it too.
-    pub logged: bool,
-    /// The event as a JSON array.
+    /// What it is, and whether it is logged.
+    pub form: Form,
+    /// The event, or the answer, as a JSON array.
     pub payload: Text,
     /// What the placeholders of the payload stand for.
     pub attachments: Attachments,
@@ -136,7 +150,7 @@ impl Model for Emission {
       space = e.space;
       rooms = e.rooms.items;
       excepted = e.excepted.items;
-      logged = e.logged;
+      form = e.form;
       payload = e.payload;
       attachments = e.attachments;
     } };

@@ -11,8 +11,8 @@ mod outcome;
 mod peer;
 
 pub use app::{
-    Answer, App, Arrived, Effect, Emission, IdSource, Inquiry, Message, Reply, Selection, Verdict,
-    Wanted, Who,
+    Answer, App, Arrived, Effect, Emission, IdSource, Inquiry, Message, Reply, Selection, Stray,
+    Verdict, Wanted, Who,
 };
 pub use cause::Cause;
 pub use event::{Event, WsFrame};

@@ -1,13 +1,13 @@
 -- Nothing that the quiz says holds U+001E.
 use Rattle.std.proofs.Common.{◌≡◌, refl, ◌≢◌, ℕ, Bool, true, false, List, [], ◌∷◌, ◌++◌, Result, Ok, Err, sym, subst}
-use Rattle.std.specs.Prelude.{codes, if◌then◌else◌, IfOk}
+use Rattle.std.specs.Prelude.{codes, if◌then◌else◌, is_some, IfOk}
 use Rattle.std.proofs.Math.Dec.{eqb}
 use Rattle.std.proofs.lemmas.Bool.{eqb-false}
 use Rattle.std.proofs.lemmas.List.Elements.{All-nil, All-cons}
 use Rattle.eio_wire.specs.Payload.{IsWhole}
 use Rattle.events.specs.App.{AllClean, IsCleanArrival}
 use Rattle.events.specs.declared.app.Arrived.{Arrived}
-use Rattle.events.specs.declared.app.Arrived.TheVariants.{Event, Answer}
+use Rattle.events.specs.declared.app.Arrived.TheVariants.{Event, Answer, Stray}
 use Rattle.events.specs.declared.app.Effect.{Effect}
 use Rattle.events.specs.declared.app.Who.{Who}
 use Rattle.quiz.specs.Quiz.{begins_with, ask, announce, reply, decided}
@@ -48,8 +48,9 @@ clean-answer who true = (solved, tt)
 clean-answer who false = (question, tt)
 
 clean-decided : (who : Who) (arrived : Arrived) → AllClean (decided who arrived)
-clean-decided who (Event message) = clean-event (begins_with message.payload (codes "play")) message.asked
+clean-decided who (Event message) = clean-event (begins_with message.payload (codes "play")) (is_some message.id)
 clean-decided who (Answer answer) = clean-answer who (begins_with answer.payload (codes "42"))
+clean-decided who (Stray stray) = tt
 
 -- of the effects that were decided
 pub clean-effects : {V E : Type 0} (items : V → List Effect) (who : Who) (arrived : Arrived) (r : Result V E)

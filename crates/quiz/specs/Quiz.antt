@@ -1,10 +1,11 @@
 -- What the quiz does with what arrives.
-use Rattle.std.specs.Prelude.{◌≡◌, ℕ, Bool, true, false, if◌then◌else◌, List, [], ◌∷◌, ◌++◌, codes, bytes_eq, Option, Some, None, Result, Ok, Err, slice_get}
+use Rattle.std.specs.Prelude.{◌≡◌, ℕ, Bool, true, false, if◌then◌else◌, List, [], ◌∷◌, ◌++◌, codes, bytes_eq, is_some, Option, Some, None, Result, Ok, Err, slice_get}
 use Rattle.sio_wire.specs.declared.error.SioError.{SioError}
 use Rattle.sio_wire.specs.JsonFields.{names_at}
+use Rattle.journal.specs.declared.form.Form.TheVariants as form
 use Rattle.events.specs.App.{PlainVerdict, Accepted, Refused}
 use Rattle.events.specs.declared.app.Arrived.{Arrived}
-use Rattle.events.specs.declared.app.Arrived.TheVariants.{Event, Answer}
+use Rattle.events.specs.declared.app.Arrived.TheVariants.{Event, Answer, Stray}
 use Rattle.events.specs.declared.app.Effect.{Effect}
 use Rattle.events.specs.declared.app.Who.{Who}
 use Rattle.events.specs.declared.app.Effect.TheVariants as effect
@@ -44,7 +45,7 @@ announce who =
       space = who.space;
       rooms = [];
       excepted = [];
-      logged = true;
+      form = form.Event true;
       payload = codes "[\"solved\"]";
       attachments = [];
     })
@@ -52,11 +53,12 @@ announce who =
 abbrev pub reply : Effect
 reply = effect.Reply (record { payload = codes "[]"; attachments = [] })
 
--- who plays is asked, and asked again until the answer is right; what asks for an
--- acknowledgement gets one
+-- who plays is asked, and asked again until the answer is right; what asks for an acknowledgement
+-- gets one, and an answer that nobody waits for gets nothing
 abbrev pub decided : Who → Arrived → List Effect
 decided who (Event message) =
     (if begins_with message.payload (codes "play") then ask ∷ [] else [])
-    ++ (if message.asked then reply ∷ [] else [])
+    ++ (if is_some message.id then reply ∷ [] else [])
 decided who (Answer answer) =
     (if begins_with answer.payload (codes "42") then announce who else ask) ∷ []
+decided who (Stray stray) = []

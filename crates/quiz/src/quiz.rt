@@ -5,7 +5,7 @@ ghost use Rattle.quiz.specs.Quiz as table;
 ghost use Rattle.quiz.specs.Quiz.{Allows, begins_with, decided};
 
 use events::{App, Arrived, Effect, Emission, Inquiry, Reply, Verdict, Wanted, Who};
-use journal::Ending;
+use journal::{Ending, Form};
 use sio_wire::{SioError, names};
 use std::alloc::{AllocError, Global};
 use terms::{Attachments, Room, Text};
@@ -49,7 +49,7 @@ fn decide(alloc: Global, who: &Who, arrived: &Arrived) -> Wanted
             if begins_with(alloc, message.payload.as_str(), "play")? {
                 effects.push(ask(alloc)?)?;
             }
-            if message.asked {
+            if message.id.is_some() {
                 effects.push(reply(alloc)?)?;
             }
         }
@@ -61,6 +61,7 @@ fn decide(alloc: Global, who: &Who, arrived: &Arrived) -> Wanted
             };
             effects.push(next)?;
         }
+        Arrived::Stray(_) => {}
     }
     Ok(effects)
 }
@@ -96,7 +97,7 @@ fn announce(alloc: Global, who: &Who) -> Result<Effect, AllocError>
         space: who.space.clone()?,
         rooms: Vec::new(alloc),
         excepted: Vec::new(alloc),
-        logged: true,
+        form: Form::Event { logged: true },
         payload: Text::copy_of(alloc, r#"["solved"]"#)?,
         attachments: Attachments::new(alloc),
     }))

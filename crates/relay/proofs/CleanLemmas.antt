@@ -1,6 +1,6 @@
 -- No effect of an event without U+001E holds it.
 use Rattle.std.proofs.Common.{◌≡◌, ◌≢◌, ℕ, Bool, true, false, List, [], ◌∷◌, ◌++◌, Option, Some, None, Result, Ok, Err, sym, subst}
-use Rattle.std.specs.Prelude.{codes, if◌then◌else◌, IfOk}
+use Rattle.std.specs.Prelude.{codes, if◌then◌else◌, is_some, IfOk}
 use Rattle.std.specs.List.{AllByRecursion}
 use Rattle.std.proofs.lemmas.List.Elements.{All-nil, All-cons}
 use Rattle.eio_wire.specs.Payload.{IsWhole}
@@ -88,9 +88,9 @@ clean-effects : (who : Who) (m : Message) → IsWhole m.payload → AllClean (ef
 clean-effects who m whole =
     let texts = texts_of m.payload in
     let first = listed (effect_for who (word_in texts) (room_in 1 texts) (room_in 2 texts) m) in
-    let answer = if m.asked then reply ∷ [] else [] in
+    let answer = if is_some m.id then reply ∷ [] else [] in
     all_append IsCleanEffect (first ++ answer) (farewell (word_in texts))
-    (all_append IsCleanEffect first answer (clean-first who (word_in texts) (room_in 1 texts) (room_in 2 texts) m whole) (clean-reply m.asked))
+    (all_append IsCleanEffect first answer (clean-first who (word_in texts) (room_in 1 texts) (room_in 2 texts) m whole) (clean-reply (is_some m.id)))
     (clean-farewell (word_in texts))
 
 clean-arrived : (who : Who) (m : Message) (arrived : Arrived) (effects : List Effect) → arrived ≡ Event m → effects ≡ effects_of who m → IsCleanArrival arrived → AllClean effects

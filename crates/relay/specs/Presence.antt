@@ -5,6 +5,7 @@ use Rattle.terms.specs.Room.{own_room, same_room}
 use Rattle.journal.specs.declared.ending.Ending.{Ending}
 use Rattle.journal.specs.declared.ending.Ending.TheVariants.{Saved, Closed, Alone, Together}
 use Rattle.journal.specs.declared.ending.Side.TheVariants.{Client, Server}
+use Rattle.journal.specs.declared.form.Form.TheVariants as form
 use Rattle.events.specs.declared.app.Effect.{Effect}
 use Rattle.events.specs.declared.app.Who.{Who}
 use Rattle.events.specs.declared.app.Effect.TheVariants.{Emit}
@@ -34,7 +35,7 @@ event_for (room ∷ rooms) who ending =
       space = who.space;
       rooms = room ∷ rooms;
       excepted = own_room who.sid ∷ [];
-      logged = true;
+      form = form.Event true;
       payload = payload who.sid ending;
       attachments = [];
     })

@@ -1,14 +1,15 @@
 -- What the demonstration app does with each event.
-use Rattle.std.specs.Prelude.{◌≡◌, ◌≢◌, ℕ, Bool, true, false, if◌then◌else◌, List, [], ◌∷◌, ◌++◌, length, codes, bytes_eq, nat_lt, Option, Some, None, Result, Ok, Err, slice_get}
+use Rattle.std.specs.Prelude.{◌≡◌, ◌≢◌, ℕ, Bool, true, false, if◌then◌else◌, List, [], ◌∷◌, ◌++◌, length, codes, bytes_eq, nat_lt, is_some, Option, Some, None, Result, Ok, Err, slice_get}
 use Rattle.sio_wire.specs.declared.error.SioError.{SioError}
 use Rattle.sio_wire.specs.JsonFields.{names_at}
 use Rattle.terms.specs.Room.{own_room}
+use Rattle.journal.specs.declared.form.Form.TheVariants as form
 use Rattle.events.specs.App.{PlainVerdict, Accepted, Refused}
 use Rattle.events.specs.Selection.{PlainSelection}
 use Rattle.events.specs.declared.app.Who.{Who}
 use Rattle.events.specs.declared.app.Message.{Message}
 use Rattle.events.specs.declared.app.Arrived.{Arrived}
-use Rattle.events.specs.declared.app.Arrived.TheVariants.{Event, Answer}
+use Rattle.events.specs.declared.app.Arrived.TheVariants.{Event, Answer, Stray}
 use Rattle.events.specs.declared.app.Effect.{Effect}
 use Rattle.events.specs.declared.app.Effect.TheVariants as effect
 use Rattle.relay.specs.declared.relay_app.Word.{Word}
@@ -79,7 +80,7 @@ emit who rooms excepted logged m =
       space = who.space;
       rooms = rooms;
       excepted = excepted;
-      logged = logged;
+      form = form.Event logged;
       payload = m.payload;
       attachments = m.attachments;
     })
@@ -143,7 +144,7 @@ abbrev pub listed : Option Effect → List Effect
 listed (Some e) = e ∷ []
 listed None = []
 
--- where it was asked for
+-- where an acknowledgement was asked for
 abbrev pub answer : Bool → List Effect
 answer asked = if asked then reply ∷ [] else []
 
@@ -155,10 +156,11 @@ farewell _ = []
 -- but for the disconnection
 abbrev pub effects_of : Who → Message → List Effect
 effects_of who m = listed (first_effect who (texts_of m.payload) m)
-    ++ answer m.asked
+    ++ answer (is_some m.id)
     ++ farewell (word_in (texts_of m.payload))
 
--- what the app decides: an answer to a question has no effects
+-- what the app decides: an answer has no effects, whether its socket was asked or not
 abbrev pub decided : Who → Arrived → List Effect
 decided who (Event m) = effects_of who m
 decided who (Answer a) = []
+decided who (Stray s) = []

@@ -5,7 +5,7 @@ ghost use Rattle.relay.specs.Presence as table;
 ghost use Rattle.relay.specs.Presence.{Leaves, told};
 
 use events::{App, Arrived, Effect, Emission, Verdict, Wanted, Who};
-use journal::{Ending, Side};
+use journal::{Ending, Form, Side};
 use std::alloc::{AllocError, Global};
 use terms::{Attachments, Room, Sid, Text, ascii_text, id_text};
 
@@ -60,7 +60,7 @@ fn announce(
             rooms,
             // A session that comes back doesn't hear that it had left.
             excepted: Vec::from_slice(alloc, &[own])?,
-            logged: true,
+            form: Form::Event { logged: true },
             payload: payload(alloc, who.sid, ending)?,
             attachments: Attachments::new(alloc),
         }))?;

@@ -7,7 +7,7 @@ ghost use Rattle.relay.specs.Relay.{Allows, decided, texts_of, word_of, word_in,
 use events::{
     App, Arrived, Effect, Emission, Inquiry, Message, Reply, Selection, Verdict, Wanted, Who,
 };
-use journal::Ending;
+use journal::{Ending, Form};
 use sio_wire::{SioError, names};
 use std::alloc::{AllocError, Global};
 use terms::{Attachments, Room, Text};
@@ -39,7 +39,7 @@ impl App for RelayApp {
     fn decides(&self, alloc: Global, who: &Who, arrived: &Arrived) -> Wanted {
         match arrived {
             Arrived::Event(message) => decide(alloc, who, message),
-            Arrived::Answer(_) => Ok(Vec::new(alloc)),
+            Arrived::Answer(_) | Arrived::Stray(_) => Ok(Vec::new(alloc)),
         }
     }
 
@@ -57,7 +57,7 @@ fn decide(alloc: Global, who: &Who, message: &Message) -> Wanted
     if let Some(effect) = first_effect(alloc, who, &texts, message)? {
         effects.push(effect)?;
     }
-    if message.asked {
+    if message.id.is_some() {
         effects.push(reply(alloc)?)?;
     }
     if word_in(&texts) == Word::Bye {
@@ -152,7 +152,7 @@ fn emit(
         space: who.space.clone()?,
         rooms: Vec::from_slice(alloc, rooms)?,
         excepted: Vec::from_slice(alloc, excepted)?,
-        logged,
+        form: Form::Event { logged },
         payload: message.payload.clone()?,
         attachments: message.attachments.clone()?,
     }))

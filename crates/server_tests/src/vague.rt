@@ -5,8 +5,8 @@ use journal::Ending;
 use std::alloc::{AllocError, Global};
 use terms::Room;
 
-/// It lets everybody in. A socket of which something came it wants disconnected twice, and one that
-/// has ended once more.
+/// It lets everybody in. A socket of which an event or its answer came it wants disconnected twice,
+/// and one that has ended once more.
 #[derive(Clone, Copy)]
 pub struct Vague;
 
@@ -21,8 +21,11 @@ impl App for Vague {
         Ok(Verdict::Accept(Vec::new(alloc)))
     }
 
-    fn decides(&self, alloc: Global, _who: &Who, _arrived: &Arrived) -> Wanted {
+    fn decides(&self, alloc: Global, _who: &Who, arrived: &Arrived) -> Wanted {
         let mut effects = Vec::new(alloc);
+        if matches!(arrived, Arrived::Stray(_)) {
+            return Ok(effects);
+        }
         effects.push(Effect::Disconnect)?;
         effects.push(Effect::Disconnect)?;
         Ok(effects)

@@ -4,7 +4,7 @@ ghost use Rattle.std.specs.Prelude.{IfOk, IfSome};
 ghost use Rattle.events.specs.App.{AllClean, IsCleanEffect};
 
 use events::{App, Arrived, Effect, Emission, Inquiry, Reply, Selection, Verdict, Wanted, Who};
-use journal::Ending;
+use journal::{Ending, Form};
 use relay::{Presence, RelayApp};
 use std::alloc::{AllocError, Global};
 use terms::{Attachments, Room, Sid, Text};
@@ -34,7 +34,7 @@ fn no_array(alloc: Global, space: &str, wish: &str) -> Result<Option<Effect>, Al
             space: Text::copy_of(alloc, space)?,
             rooms: Vec::new(alloc),
             excepted: Vec::new(alloc),
-            logged: false,
+            form: Form::Event { logged: false },
             payload,
             attachments,
         })),

@@ -15,5 +15,5 @@ loop-list-preserved c =
     record {
       remembers = remembered_on c.args.self.now _ _ c.args.notes.now _ _ c.loop-list.invariant.remembers c.loop-client.invariant.remembers;
       lists = list_more c.args.own c.args.loops (map f c.args.lists.now) c.loop-list.list-index c.loop-client.self c.loop-client.notes c.loop-client.invariant.lists
-    (subst (λ cs. AreTold c.args.own c.args.loops cs c.loop-client.self c.loop-client.notes) at here);
+          (subst (λ cs. AreTold c.args.own c.args.loops cs c.loop-client.self c.loop-client.notes) at here);
     }
