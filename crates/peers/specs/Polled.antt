@@ -55,6 +55,26 @@ module _ {W : Type 0} (written : W → Option (List ℕ)) (is_broken : W → Boo
   Responds origin None old result new = (result ≡ Ok tt) × (new ≡ old)
   Responds origin (Some response) old result new = Writes origin response old result new
 
+  -- so a response is told, and nothing but the wire changes
+  abbrev pub Tells : {M : Type 0} → Polled W M → PlainResponse → Result (Unit {0}) PeerFault
+      → Polled W M → Type 0
+  Tells old response result new =
+      Writes old.origin response old.wire result new.wire × (new ≡ record old { wire = new.wire })
+
+-- so a peer pauses, and nothing but its moments changes
+abbrev pub Pauses : {W M : Type 0} → (pauses : M → M → Type 0) → (old new : Polled W M) → Type 0
+Pauses pauses old new =
+    pauses old.moments new.moments × (new ≡ record old { moments = new.moments })
+
+module _ {T : Type 0} (pauses : T → T → Type 0)
+    (tells : T → PlainResponse → Result (Unit {0}) PeerFault → T → Type 0) where
+  -- where there is to be a pause it is first, and then the response is told
+  pub record TellsPaced (is_paced : Bool) (old : T) (response : PlainResponse)
+      (result : Result (Unit {0}) PeerFault) (new : T) : Type 0 where
+    pub paused : T
+    pub pauses_first : PausesIf pauses is_paced old paused
+    pub tells_then : tells paused response result new
+
 module _ {W M : Type 0} (written : W → Option (List ℕ)) (is_broken : W → Bool) (pauses : M → M → Type 0) where
   -- before it is written that nothing waits, the peer pauses, and before no other answer
   abbrev pub Paces : Option PlainResponse → Answer → M → M → Type 0

@@ -1,7 +1,9 @@
 //! One request over HTTP, as a peer.
 
 ghost use Rattle.std.specs.Prelude.{◌≡◌, option_map, string_bytes};
+ghost use Rattle.peers.specs.Polled.{Pauses, Tells, TellsPaced};
 ghost use Rattle.peers.specs.Polling.{client_of, given_up, is_idle};
+ghost use Rattle.peers.specs.Responses.{plain_response};
 ghost use Rattle.peers.specs.declared.poll_stage.PollStage.TheVariants as stage;
 
 use crate::moments::{Moments, is_noop};
@@ -140,16 +142,68 @@ impl<W: Wire, M: Moments> Peer for PollPeer<W, M> {
     fn answer(&mut self, got: &Answered) -> Result<(), PeerFault> {
         let response = response_to(&self.stage, got);
         self.stage = mem::replace(&mut self.stage, PollStage::Opening).after(got);
-        let Some(Response { status, body }) = response else {
-            return Ok(());
-        };
-        if is_noop(got) {
-            self.moments.pause();
+        match response {
+            Some(response) => tell_paced(self, response, is_noop(got)),
+            None => Ok(()),
         }
+    }
+}
+
+/// Who can pause, and can tell a response.
+trait Teller {
+    ghost use Rattle.std.specs.Prelude.{Result};
+    ghost use Rattle.events.specs.declared.peer.PeerFault.{PeerFault};
+    ghost use Rattle.peers.specs.Responses.{PlainResponse, plain_response};
+
+    ghost pauses: { Self → Self → Type 0 } = { λ _ _. Unit {0} };
+
+    ghost tells: { Self → PlainResponse → Result (Unit {0}) PeerFault
+        → Self → Type 0 } = { λ _ _ _ _. Unit {0} };
+
+    fn pause(&mut self)
+        ensures { pauses self.old self.new };
+
+    fn tell(&mut self, response: Response<'_>) -> Result<(), PeerFault>
+        ensures { tells self.old (plain_response response.entry) result self.new };
+}
+
+impl<W: Wire, M: Moments> Teller for PollPeer<W, M> {
+    ghost use Rattle.peers.specs.Polled.{Pauses, Tells};
+
+    ghost pauses = { Pauses M.pauses };
+
+    ghost tells = { Tells W.written W.is_broken };
+
+    fn pause(&mut self)
+        ensures { Pauses M.pauses self.old self.new }
+    {
+        self.moments.pause();
+    }
+
+    fn tell(&mut self, response: Response<'_>) -> Result<(), PeerFault>
+        ensures { Tells W.written W.is_broken self.old (plain_response response.entry)
+            result self.new }
+    {
+        let Response { status, body } = response;
         match write_response(self.alloc, &mut self.wire, status, &self.origin, body) {
             Ok(()) => Ok(()),
             Err(EdgeError::Memory) => Err(PeerFault::Memory),
             Err(_) => Err(PeerFault::Device),
         }
     }
+}
+
+/// Tells a response, after a pause where it is paced.
+fn tell_paced<T: Teller>(
+    teller: &mut T,
+    response: Response<'_>,
+    is_paced: bool,
+) -> Result<(), PeerFault>
+    ensures { TellsPaced T.pauses T.tells is_paced teller.old (plain_response response.entry)
+        result teller.new }
+{
+    if is_paced {
+        teller.pause();
+    }
+    teller.tell(response)
 }
