@@ -10,7 +10,10 @@ use Rattle.sio_wire.specs.declared.kind.Kind.TheVariants.{Ack, BinaryAck, Event,
 use Rattle.sio_wire.specs.Header.{Plain}
 use Rattle.sio_wire.specs.Offset.{is_bracket}
 use Rattle.sio_wire.specs.Disconnect.{disconnect_text}
+use Rattle.std.specs.Option.{option_map_or}
 use Rattle.journal.specs.declared.error.HubError.TheVariants as hub
+use Rattle.journal.specs.declared.form.Form.{Form}
+use Rattle.journal.specs.Broadcast.{id_of}
 use Rattle.journal.specs.declared.step.What.{What}
 use Rattle.journal.specs.declared.ending.Side.TheVariants as side
 use Rattle.journal.specs.declared.step.What.TheVariants as what
@@ -76,9 +79,13 @@ is_unsendable payload attachments = not (list_any is_bracket payload) || nat_lt 
 abbrev pub is_unknown : Limits → (space : List ℕ) → Bool
 is_unknown limits space = not (is_space limits (place_of limits space))
 
--- the event has no namespace to be sent in, or can't be sent
+-- its id has more than the fifteen digits that a packet's id may have: who answers would be closed
+abbrev pub has_long_id : Form → Bool
+has_long_id form = option_map_or (λ id. nat_lt 999999999999999 id) (id_of form) false
+
+-- there is no namespace to send it in, or it can't be sent
 abbrev pub is_bad_emission : Limits → PlainEmission → Bool
-is_bad_emission limits e = is_unknown limits e.space || is_unsendable e.payload e.attachments
+is_bad_emission limits e = is_unknown limits e.space || (is_unsendable e.payload e.attachments || has_long_id e.form)
 
 -- the effect can't be done by itself: the namespace that it names isn't there, what it sends can't be sent, or no reply is
 -- asked for any more

@@ -2,17 +2,20 @@
 
 ghost use Rattle.std.specs.Prelude.{◌≡◌, true, false, not, filter, ◌==◌};
 ghost use Rattle.journal.specs.Membership.{is_space, place_of};
-ghost use Rattle.effects.specs.Effects.{is_unsendable, is_bad_emission};
+ghost use Rattle.effects.specs.Effects.{has_long_id, is_unsendable, is_bad_emission};
 ghost use Rattle.effects.specs.Broadcasting.{work, BroadcastsOrFails};
 
 use crate::{Acted, Visit};
 use events::{Done, Emission};
 use hub_state::State;
-use journal::Cast;
+use journal::{Cast, Form};
 use terms::Attachments;
 
 /// The most attachments of a packet.
 const MOST_ATTACHMENTS: usize = 32;
+
+/// The greatest id of a packet: one of fifteen digits.
+const MOST_ID: u64 = 999_999_999_999_999;
 
 /// Whether a payload with so many attachments can't be sent.
 pub(crate) fn is_unsendable(payload: &str, attachments: &Attachments) -> bool
@@ -21,12 +24,21 @@ pub(crate) fn is_unsendable(payload: &str, attachments: &Attachments) -> bool
     !payload.as_bytes().contains(&b']') || attachments.len() > MOST_ATTACHMENTS
 }
 
-/// Whether the event can't be sent: the hub doesn't have its namespace, or its payload can't be.
+/// Whether its id has more digits than a packet's may have, so that who answers would be closed.
+fn has_long_id(form: Form) -> bool
+    ensures { result ≡ has_long_id form }
+{
+    matches!(form.id(), Some(id) if id > MOST_ID)
+}
+
+/// Whether it can't be sent: the hub doesn't have its namespace, its payload can't be sent, or its id
+/// is too long.
 pub(crate) fn is_bad_emission(state: &State, emission: &Emission) -> bool
     ensures { result ≡ is_bad_emission state.now.limits emission.now }
 {
     !state.has_space(emission.space.as_str())
         || is_unsendable(emission.payload.as_str(), &emission.attachments)
+        || has_long_id(emission.form)
 }
 
 /// Keeps the clients but one.

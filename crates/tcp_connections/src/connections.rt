@@ -142,13 +142,25 @@ impl<'a, R: Clock + Drop> Connections<'a, R> {
             return Next::Pauses(Pause::Done);
         };
         connection.read_up_to(limit);
-        let next = if connection.posts && connection.bytes_unfinished() >= limit {
+        let waits = connection.posts && connection.bytes_unfinished() >= limit;
+        let next = if waits {
             Next::Pauses(Pause::Done)
         } else {
             connection.next(alloc, now)
         };
         self.settle(key, sender, attached, now);
+        if waits {
+            self.call_unless_held(key);
+        }
         next
+    }
+
+    /// One that had to wait, and isn't held after all, is looked at again.
+    fn call_unless_held(&mut self, key: usize) {
+        let connection = self.slots.get(key);
+        if connection.is_some_and(|connection| !connection.held) {
+            self.roster.rota.call(key);
+        }
     }
 
     /// Who sends over a connection: its client, once it speaks over it.
