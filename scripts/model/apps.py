@@ -1,6 +1,8 @@
 """What apps want of a CONNECT, an event, an answer, and where a socket has ended."""
 from wire import id_text, is_text
 
+# The id of a question that is asked of a whole namespace.
+POLL = 900
 # How a socket ended, as its rooms are told.
 WORDS = {"Saved": "saved", "Closed": "closed", "Alone(Client)": "left", "Alone(Server)": "alone",
          "Together": "together"}
@@ -19,6 +21,10 @@ class Relay:
         return effects + [("reply",)] * (header.id is not None) + [("bye",)] * (texts[0] == "bye")
 
     def answers(self, header):
+        return []
+
+    def strays(self, header):
+        """What an answer wants that is to no question of its socket."""
         return []
 
     def left(self, sid, rooms, ending):
@@ -57,6 +63,9 @@ class Wild(Relay):
     def decides(self, sid, header):
         return self.wild(header.payload, id_text(sid)) or super().decides(sid, header)
 
+    def strays(self, header):
+        return self.wild('["heard"]', "") if header.id == POLL else []
+
     def left(self, sid, rooms, ending):
         """A room's name says what is wanted where a socket of it has ended."""
         others = [room for room in rooms if room != id_text(sid)]
@@ -70,6 +79,8 @@ class Wild(Relay):
             '["over"]': [("end", [], []), ("end", [], [])], '["gone"]': [("end", [id_text(0)], [])], '["own"]': [("leave", own)],
             '["late"]': late, '{"do":"late"}': late, '{"do":"join"}': join, '["mute"]': [("no array",)],
             '["vague"]': [("no array",)], '["again"]': [("no array",)],
+            '["far"]': [("send", "/admin", True)], '["nowhere"]': [("send", "/none", True)], '["heard"]': [("send", None, False)],
+            '["poll"]': [("send", None, ("25", POLL))], '["told"]': [("send", None, ("36", POLL))],
         }.get(wish)
 
 
@@ -86,6 +97,9 @@ class Quiz:
 
     def answers(self, header):
         return [("emit", [], [], True, '["solved"]')] if begins_with(header, "42") else [self.QUESTION]
+
+    def strays(self, header):
+        return []
 
     def left(self, sid, rooms, ending):
         return []

@@ -1,6 +1,7 @@
 """Scripts that are drawn: lines that look random, each fit for what the model knows of the server by then."""
 import random
 
+from apps import POLL
 from script import Script
 from wire import SEPARATOR, id_text, write_base64
 
@@ -11,8 +12,8 @@ WORDS = ("join", "join", "join", "leave", "say", "say", "say", "two", "but", "qu
 # Payloads of a CONNECT that bring no session back.
 CONNECTS = ("", "", "", "", "", "{}", '{"do":"join"}', '{"do":"late"}', '{"token":"no"}', '{"pid":1,"offset":"0"}',
             '{"pid":"x","offset":"y"}', '{"pid": "' + "A" * 32 + '"}')
-# Events of which the app of `trials` wants what can't be done.
-WISHES = ("mute", "vague", "again", "late", "over", "gone", "own")
+# Events of which the app of `trials` wants what can't be done, or what is for another namespace, a question to all, or an answer.
+WISHES = ("mute", "vague", "again", "late", "over", "gone", "own", "far", "nowhere", "poll", "told")
 # Texts of packets that a server refuses, or takes though they look odd.
 ODD = (
     "4", "47", "4x", "9x", "x", "", "b", "bAQ", "bAQI=", "bAQJ=", "b====", "451[]", "45-[1]", "451234567890123456-[1]",
@@ -153,7 +154,7 @@ class Drawer:
             return [self.random.choice(ODD)]
         if self.chance(0.04):
             return [self.mutated(self.event())]
-        if self.chance(0.03):
+        if self.chance(0.04):
             return [self.start("2") + self.random.choice(("", "", "3")) + f'["{self.random.choice(WISHES)}"]']
         if self.chance(0.07):
             return [self.random.choice(("0", "1", "2", "3", "3", "3", "3", "3", "3", "3", "5", "6"))]
@@ -163,7 +164,7 @@ class Drawer:
         if self.chance(0.03):
             return [self.start("1")]
         if self.chance(0.12):
-            return [self.start("3") + f'{self.random.randrange(3)}["yes"]']
+            return [self.start("3") + f'{self.random.choice((0, 1, 2, POLL))}["yes"]']
         if self.chance(0.02):
             return [self.start("4") + '{"message":"x"}']
         if self.chance(0.12):

@@ -209,16 +209,18 @@ class Hub:
         self.rooms[sid].remove(room)
         self.step("left", now)
 
-    def cast(self, space, rooms, excepted, is_logged, payload, parts, now):
-        """Gives the offset, how many sockets missed it, and the clients that got it."""
+    def cast(self, space, rooms, excepted, form, payload, parts, now):
+        """Gives the offset, how many sockets missed it, and the clients that got it. It is an event, logged or not, or has the kinds
+        and the id of a question or of an answer."""
         self.look_at_space(space)
+        is_logged, has_id = form is True, form if isinstance(form, tuple) else ()
         if "]" not in payload or len(parts) > MOST_ATTACHMENTS:
             raise Refused("BadPayload")
         offset = self.next if is_logged else None
         if is_logged and offset is None:
             raise Refused("Spent")
         payload = with_offset(payload, offset) if is_logged else payload
-        entry = Entry(event_text(space, payload, len(parts)), parts)
+        entry = Entry(event_text(space, payload, len(parts), *has_id), parts)
         reached, dropped = [], 0
         for sid in self.addressed(space, rooms, excepted):
             client = self.sockets[sid].client

@@ -299,6 +299,7 @@ class Server:
         elif header.kind in "36":
             if line.questions[sid][1].pop(header.id, None) is None:
                 done.is_ignored = True
+                self.act(client, sid, header, parts, self.app.strays(header), done, now)
             else:
                 self.act(client, sid, header, parts, self.app.answers(header), done, now)
         return None
@@ -350,6 +351,11 @@ class Server:
         elif name == "emit":
             own = words[3:]
             hub.cast(space, *words[:3], *own or [header.payload], [] if own else parts, now)
+        elif name == "send":
+            other = words[0] or space
+            if other not in hub.limits["spaces"]:
+                raise Refused("BadEffect")
+            hub.cast(other, [], [], words[1], '["far"]', [], now)
         elif name == "pull":
             hub.join_all(space, words[0], [], words[1], now)
         elif name == "push":
@@ -373,7 +379,7 @@ class Server:
 
     def ask(self, client, book, space, payload, wait, parts, now):
         number, book[0] = book[0], book[0] + 1
-        self.tell(client, event_text(space, payload, len(parts), number), now, parts)
+        self.tell(client, event_text(space, payload, len(parts), number=number), now, parts)
         book[1][number] = min(now + wait, GREATEST)
 
 

@@ -179,6 +179,6 @@ def connected_text(space, sid, pid):
     return f'0{start(space)}{{"sid":"{id_text(sid)}","pid":"{id_text(pid)}"}}'
 
 
-def event_text(space, payload, count, number=""):
-    kind = f"5{count}-" if count else "2"
+def event_text(space, payload, count, kinds="25", number=""):
+    kind = f"{kinds[1]}{count}-" if count else kinds[0]
     return f"{kind}{start(space)}{number}{payload}"

@@ -12,7 +12,7 @@ use Rattle.events.specs.declared.app.Effect.{Effect}
 use Rattle.events.specs.declared.app.Who.{Who}
 use Rattle.quiz.specs.Quiz.{begins_with, ask, announce, reply, decided}
 
-holds_none : List ℕ → Bool
+unfoldable pub holds_none : List ℕ → Bool
 holds_none [] = true
 holds_none (b ∷ bs) = if eqb b 30 then false else holds_none bs
 
@@ -20,7 +20,8 @@ whole-step : (b : ℕ) (bs : List ℕ) (is_it : Bool) → eqb b 30 ≡ is_it →
 whole-step b bs true is rest none = cc none
 whole-step b bs false is rest none = All-cons (λ b. b ≢ 30) b bs (eqb-false b 30 is) (rest none)
 
-whole : (text : List ℕ) → holds_none text ≡ true → IsWhole text
+-- what doesn't hold it is whole
+pub whole : (text : List ℕ) → holds_none text ≡ true → IsWhole text
 unfolding holds_none
 whole [] none = All-nil (λ b. b ≢ 30)
 whole (b ∷ bs) none = whole-step b bs (eqb b 30) refl (whole bs) none

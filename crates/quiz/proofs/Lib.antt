@@ -1,1 +1,1 @@
-mod CleanLemmas
+pub mod CleanLemmas

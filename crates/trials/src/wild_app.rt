@@ -1,4 +1,5 @@
-//! The demonstration app, which of some events, CONNECTs and ends wants what can't be done.
+//! The demonstration app, which of some events, CONNECTs and ends wants what can't be done, or what it
+//! never wants by itself.
 
 ghost use Rattle.std.specs.Prelude.{IfOk, IfSome};
 ghost use Rattle.events.specs.App.{AllClean, IsCleanEffect};
@@ -52,6 +53,38 @@ fn no_array(alloc: Global, space: &str, wish: &str) -> Result<Option<Effect>, Al
     })
 }
 
+/// The id of a question that is asked of a whole namespace.
+const POLL: u64 = 900;
+
+/// What goes to everybody in a namespace in this form.
+#[tactic(auto, using(crate::proofs::WishLemmas::far_is_whole))]
+fn sent_to(alloc: Global, space: &str, form: Form) -> Result<Effect, AllocError>
+    ensures { IfOk result IsCleanEffect }
+{
+    Ok(Effect::Emit(Emission {
+        space: Text::copy_of(alloc, space)?,
+        rooms: Vec::new(alloc),
+        excepted: Vec::new(alloc),
+        form,
+        payload: Text::copy_of(alloc, "[\"far\"]")?,
+        attachments: Attachments::new(alloc),
+    }))
+}
+
+/// Something goes to another namespace, is asked of all, or is answered to all.
+fn sent_far(alloc: Global, space: &str, wish: &str) -> Result<Option<Effect>, AllocError>
+    ensures { IfOk result (λ found. IfSome found IsCleanEffect) }
+{
+    Ok(Some(match wish {
+        "[\"far\"]" => sent_to(alloc, "/admin", Form::Event { logged: true })?,
+        "[\"nowhere\"]" => sent_to(alloc, "/none", Form::Event { logged: true })?,
+        "[\"heard\"]" => sent_to(alloc, space, Form::Event { logged: false })?,
+        "[\"poll\"]" => sent_to(alloc, space, Form::Question(POLL))?,
+        "[\"told\"]" => sent_to(alloc, space, Form::Answer(POLL))?,
+        _ => return Ok(None),
+    }))
+}
+
 /// What an event or a CONNECT wants that the demonstration app never wants, or the last of two such
 /// effects.
 fn last_effect(
@@ -69,7 +102,10 @@ fn last_effect(
         "[\"late\"]" | "{\"do\":\"late\"}" | "{\"do\":\"join\"}" => {
             Ok(Some(Effect::Join(Room::own(Sid::new(7)))))
         }
-        wish => no_array(alloc, space, wish),
+        wish => match sent_far(alloc, space, wish)? {
+            Some(effect) => Ok(Some(effect)),
+            None => no_array(alloc, space, wish),
+        },
     }
 }
 
@@ -120,14 +156,13 @@ impl App for WildApp {
     }
 
     fn decides(&self, alloc: Global, who: &Who, arrived: &Arrived) -> Wanted {
-        if let Arrived::Event(message) = arrived
-            && let Some(effects) = effects_of(
-                alloc,
-                who.space.as_str(),
-                Room::own(who.sid),
-                message.payload.as_str(),
-            )?
-        {
+        let wish = match arrived {
+            Arrived::Event(message) => message.payload.as_str(),
+            Arrived::Stray(stray) if stray.id == POLL => "[\"heard\"]",
+            _ => "",
+        };
+        let own = Room::own(who.sid);
+        if let Some(effects) = effects_of(alloc, who.space.as_str(), own, wish)? {
             return Ok(effects);
         }
         RelayApp.decides(alloc, who, arrived)
