@@ -27,6 +27,14 @@ class Relay:
         """What an answer wants that is to no question of its socket."""
         return []
 
+    def connected(self, payload):
+        """What is wanted of a socket that has connected."""
+        return []
+
+    def returned(self, rooms):
+        """What is wanted of a session that has come back."""
+        return []
+
     def left(self, sid, rooms, ending):
         return []
 
@@ -66,6 +74,12 @@ class Wild(Relay):
     def strays(self, header):
         return self.wild('["heard"]', "") if header.id == POLL else []
 
+    def connected(self, payload):
+        return self.wild('["heard"]', "") if payload == '{"do":"greet"}' else []
+
+    def returned(self, rooms):
+        return self.wild('["heard"]', "") if "back" in rooms else []
+
     def left(self, sid, rooms, ending):
         """A room's name says what is wanted where a socket of it has ended."""
         others = [room for room in rooms if room != id_text(sid)]
@@ -80,6 +94,7 @@ class Wild(Relay):
             '["late"]': late, '{"do":"late"}': late, '{"do":"join"}': join, '["mute"]': [("no array",)],
             '["vague"]': [("no array",)], '["again"]': [("no array",)],
             '["far"]': [("send", "/admin", True)], '["nowhere"]': [("send", "/none", True)], '["heard"]': [("send", None, False)],
+            '["fine"]': [("report",)], '["report"]': [("leave", own), ("report",)], '["list"]': [("fetch",)],
             '["poll"]': [("send", None, ("25", POLL))], '["told"]': [("send", None, ("36", POLL))],
         }.get(wish)
 
@@ -99,6 +114,12 @@ class Quiz:
         return [("emit", [], [], True, '["solved"]')] if begins_with(header, "42") else [self.QUESTION]
 
     def strays(self, header):
+        return []
+
+    def connected(self, payload):
+        return []
+
+    def returned(self, rooms):
         return []
 
     def left(self, sid, rooms, ending):

@@ -10,10 +10,11 @@ SPACES = ("/", "/", "/", "/admin", "/admin", "/none")
 WORDS = ("join", "join", "join", "leave", "say", "say", "say", "two", "but", "quiet", "all", "all", "ask", "pull", "push",
          "kick", "x")
 # Payloads of a CONNECT that bring no session back.
-CONNECTS = ("", "", "", "", "", "{}", '{"do":"join"}', '{"do":"late"}', '{"token":"no"}', '{"pid":1,"offset":"0"}',
+CONNECTS = ("", "", "", "", "", "{}", '{"do":"greet"}', '{"do":"join"}', '{"do":"late"}', '{"token":"no"}', '{"pid":1,"offset":"0"}',
             '{"pid":"x","offset":"y"}', '{"pid": "' + "A" * 32 + '"}')
 # Events of which the app of `trials` wants what can't be done, or what is for another namespace, a question to all, or an answer.
-WISHES = ("mute", "vague", "again", "late", "over", "gone", "own", "far", "nowhere", "poll", "told")
+WISHES = ("mute", "vague", "again", "late", "over", "gone", "own", "far", "nowhere", "poll", "told",
+          "fine", "report", "list")
 # Texts of packets that a server refuses, or takes though they look odd.
 ODD = (
     "4", "47", "4x", "9x", "x", "", "b", "bAQ", "bAQI=", "bAQJ=", "b====", "451[]", "45-[1]", "451234567890123456-[1]",
@@ -119,7 +120,7 @@ class Drawer:
     def room(self):
         sids = list(self.script.server.hub.sockets) or [1]
         own = id_text(self.random.choice(sids))
-        return self.random.choice(("r", "r", "r", "r", "q", "q", "wake", "wake", "wake", "oops", "ä", "", own, own))
+        return self.random.choice(("r", "r", "r", "r", "q", "q", "wake", "wake", "wake", "back", "oops", "ä", "", own, own))
 
     def say(self, name):
         line = self.line(self.script.names.get(name))

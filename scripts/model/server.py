@@ -1,16 +1,19 @@
 """A server: each client's connection and its packets, and an app behind it."""
 import contextlib
 import itertools
+import json
 
 from hub import Entry, Hub, Refused
-from wire import (SEPARATOR, Fault, Header, event_text, named_session, open_text, read_packet, read_payload, start,
-                  write_base64)
+from wire import (SEPARATOR, Fault, Header, event_text, id_text, named_session, open_text, read_packet, read_payload,
+                  start, write_base64)
 
 GREATEST = 2**64 - 1
 PING_INTERVAL, PING_TIMEOUT, CONNECT_TIMEOUT = 25_000, 20_000, 45_000
 LONGEST_FRAME = 1_000_000
 MOST_TAKEN = 262_144
 WAIT = 10_000
+# Why a room couldn't be joined or left, as a report says it.
+REFUSALS = {"AlreadyIn": "already in", "NotIn": "not in", "OwnRoom": "own room", "TooManyRooms": "too many rooms"}
 
 
 def fitting(entries):
@@ -313,9 +316,12 @@ class Server:
         named = named_session(header.payload)
         if named:
             try:
-                return self.lines[client].enter(self.hub.recover(client, space, *named, now))
+                sid = self.hub.recover(client, space, *named, now)
             except Refused:
                 pass
+            else:
+                self.lines[client].enter(sid)
+                return self.act(client, sid, header, [], self.app.returned(self.hub.rooms[sid]), done, now)
         effects = self.app.connects(header.payload)
         if effects is None:
             return self.tell(client, f'4{start(space)}{{"message":"Not allowed"}}', now)
@@ -327,20 +333,24 @@ class Server:
                 raise Closed("OutboxFull") from None
             raise
         self.lines[client].enter(sid)
-        return self.act(client, sid, header, [], effects, done, now)
+        return self.act(client, sid, header, [], effects + self.app.connected(header.payload), done, now)
 
     def act(self, client, sid, header, parts, effects, done, now):
         """Does what the app wants. A room that can't be joined or left is skipped, and the first reason told."""
+        refused_here = None
         for effect in effects:
             if sid not in self.hub.sockets:
                 raise Refused("BadEffect")
             try:
+                if effect == ("report",):
+                    effect = ("say", ["error", REFUSALS[refused_here]] if refused_here else ["ok"])
                 self.do(client, sid, header, parts, effect, now)
             except Refused as refused:
                 room, _, reason = str(refused).partition("(")
                 if room != "RoomRefused":
                     raise
                 done.skipped = done.skipped or reason[:-1]
+                refused_here = refused_here or reason[:-1]
 
     def do(self, client, sid, header, parts, effect, now):
         hub, line, (name, *words), space = self.hub, self.lines[client], effect, header.space
@@ -370,6 +380,13 @@ class Server:
             self.ask(client, line.questions[sid], space, *words or (header.payload, WAIT), [] if words else parts, now)
         elif name == "reply":
             self.tell(client, f"3{start(space)}{header.id}[]", now)
+        elif name == "fetch":
+            sids = sorted(sid for sid, it in hub.sockets.items() if it.space == space)
+            self.do(client, sid, header, parts, ("say", ["ok", [id_text(it) for it in sids]]), now)
+        elif name == "say":
+            if header.id is None:
+                raise Refused("BadEffect")
+            self.tell(client, f"3{start(space)}{header.id}{json.dumps(words[0], separators=(',', ':'))}", now)
         elif name == "bye":
             farewell = Entry(f"1{start(space)}")
             if hub.has_space(client, [farewell]):

@@ -1,5 +1,5 @@
 -- What a CONNECT does, from what its parts do.
-use Rattle.std.proofs.Common.{◌≡◌, ◌≢◌, ℕ, ◌+◌, ◌/◌, ◌%◌, ◌==◌, Bool, true, false, not, ◌||◌, cond, List, [], ◌∷◌, ◌++◌, refl, ◌∙◌, ap, arith, nat_lt, get_or, inr, Option, None, Some, Ok, Err, OnOk, IfErr}
+use Rattle.std.proofs.Common.{◌≡◌, ◌≢◌, ℕ, ◌+◌, ◌/◌, ◌%◌, ◌==◌, Bool, true, false, not, ◌||◌, cond, List, [], ◌∷◌, ◌++◌, refl, ◌∙◌, ap, subst, arith, nat_lt, get_or, inr, Option, None, Some, Ok, Err, OnOk, IfErr}
 use native.Mathlib.Numerals.{unary_clauses}
 use Rattle.std.specs.Prelude.{codes, bytes_eq, if◌then◌else◌}
 use Rattle.std.specs.Char.{digit_char}
@@ -14,7 +14,8 @@ use Rattle.sio_wire.specs.Header.{space_text}
 use Rattle.journal.specs.declared.error.HubError.TheVariants as hub
 use Rattle.journal.specs.declared.step.What.TheVariants as what
 use Rattle.journal.specs.Journal.{History}
-use Rattle.journal.specs.Membership.{is_open, is_space, place_of, socket_of, sid_of}
+use Rattle.journal.specs.Plain.{PlainRecovery}
+use Rattle.journal.specs.Membership.{is_open, is_connected, is_space, place_of, socket_of, sid_of}
 use Rattle.events.specs.declared.app.Effect.{Effect}
 use Rattle.events.specs.declared.app.Who.{Who}
 use Rattle.events.specs.declared.cause.Cause.TheVariants as cause
@@ -122,6 +123,17 @@ seated-new who pid now h g makes is there =
       open_client = open-still h g now (what.Attached socket) makes.1 who.client is refl;
       connected = connected-then h g now (what.Attached socket) makes.1 socket refl;
       own = own-then h g now (what.Attached socket) makes.1 socket who refl (rw (itself who.sid, itself who.client) refl);
+      in_space = rw makes.1 there;
+    }
+
+-- the socket of a session that came back
+pub seated-back : (who : Who) (now : ℕ) (r : PlainRecovery) (h g : History) → r.socket.client ≡ who.client → r.socket.sid ≡ who.sid → Makes h now (what.Recovered r) g
+    → is_open h.base h.journal who.client ≡ true → is_space h.limits (place_of h.limits who.space) ≡ true → IsSeated who g
+seated-back who now r h g his its makes is there =
+    record {
+      open_client = open-still h g now (what.Recovered r) makes.1 who.client is refl;
+      connected = subst (λ s. is_connected sid_of g.base g.journal s ≡ true) its (connected-then h g now (what.Recovered r) makes.1 r.socket refl);
+      own = own-then h g now (what.Recovered r) makes.1 r.socket who refl (rw (its, his, itself who.sid, itself who.client) refl);
       in_space = rw makes.1 there;
     }
 

@@ -1,5 +1,5 @@
 -- What a packet leaves: its client open unless it is closed, and steps that are of an event of this client.
-use Rattle.std.proofs.Common.{◌≡◌, ℕ, Bool, true, false, List, [], ◌∷◌, refl, sym, ◌∙◌, ap, subst, take, length, codes, is_none, Option, None, Some, Result, Ok, Err, inl, inr}
+use Rattle.std.proofs.Common.{◌≡◌, ℕ, Bool, true, false, List, [], ◌∷◌, ◌++◌, refl, sym, ◌∙◌, ap, subst, take, length, codes, is_none, Option, None, Some, Result, Ok, Err, inl, inr}
 use Rattle.std.specs.List.{AllByRecursion}
 use Rattle.eio_wire.specs.Payload.{IsWhole}
 use Rattle.eio_wire.specs.declared.packet.Packet.{Packet}
@@ -39,8 +39,13 @@ use Rattle.effects.proofs.CleanLemmas.{clean-answer-at}
 use Rattle.effects.proofs.RunsLemmas.{run-keeps}
 use Rattle.effects.proofs.StepLemmas.{itself, open-still, open-no-more, connected-then, own-then, Working, working-on}
 use Rattle.effects.proofs.WorkLemmas.{runs-work, stopped-works}
-use Rattle.dispatch.specs.Packets.{Course, Upshot, StopsFor, IsShort, DrawsNone, ClosesFor, ParksFor, refusal_entry, Refuses, DoesAll, ClientDisconnects, Decides, TakesAck, HearsEvent, Serves, ServesJoined, ConnectsAs, AsksApp, AsksToRecover, MayRecover, AsksToConnect, Works, GoesOn, with_line, TakesFrame, TakesText, ReadsBinary, TakesBinary, Handles, begun, HandlesOrBreaks, HandlesInTurn, BreaksAfter}
-use Rattle.dispatch.proofs.ConnectLemmas.{clean-refusal}
+use Rattle.dispatch.specs.Packets.{Course, Upshot, StopsFor, IsShortAfter, IsShort, DrawsNone, ClosesFor, ParksFor, refusal_entry, Refuses, DoesAll, ClientDisconnects, DecidesAfter, TakesAck, HearsEvent, Serves, ServesJoined, ConnectsAs, AsksApp, AsksToRecover, MayRecover, AsksToConnect, Works, GoesOn, with_line, TakesFrame, TakesText, ReadsBinary, TakesBinary, Handles, begun, HandlesOrBreaks, HandlesInTurn, BreaksAfter}
+use Rattle.dispatch.proofs.ConnectLemmas.{clean-refusal, seated-back}
+
+-- both lists of effects are clean
+all-both : (xs ys : List Effect) → AllClean xs → AllClean ys → AllClean (xs ++ ys)
+all-both [] ys left right = right
+all-both (x ∷ xs) ys (one, left) right = (one, all-both xs ys left right)
 
 -- after a packet the client is open unless it was closed, and after a fault in any case
 abbrev pub StaysOpen : ℕ → Upshot → Scene → Type 0
@@ -79,9 +84,12 @@ module _ (c now : ℕ) (f : History) where
   stops-after : (fault : CoreFault) (s : Scene) (e : Stopped) (t : Scene) → StopsFor fault s e t → Before s → After (Err e) t
   stops-after fault s e t (is, same) was = record { stays = rw same was.is; has = rw same was.has }
 
+  shorter-after : (before : ℕ) (s : Scene) (result : Upshot) (t : Scene) → IsShortAfter before s result t → Before s → After result t
+  shorter-after before s (Ok done) t short was = absurd short
+  shorter-after before s (Err e) t (is, same) was = record { stays = rw same was.is; has = rw same was.has }
+
   short-after : (s : Scene) (result : Upshot) (t : Scene) → IsShort s result t → Before s → After result t
-  short-after s (Ok done) t short was = absurd short
-  short-after s (Err e) t short was = stops-after Memory s e t short was
+  short-after s result t short was = shorter-after 0 s result t short was
 
   -- a step of this client's event
   made : (w : What) (s t u : Scene) → Makes s.history now w t.history → is_work c s.history w ≡ true → is_turn c s.history w ≡ true → is_cast w ≡ false
@@ -144,14 +152,14 @@ module _ (c now : ℕ) (f : History) where
   leaves-after space sid s (Err e) t seated (fails, stops) was = stops-after e.fault s e t stops was
 
   module _ (policy : Policy) (space : List ℕ) (sid : ℕ) where
-    decides-after : (what : Arrived) (s : Scene) (result : Upshot) (t : Scene) → IsCleanArrival what → IsSeated (his space sid) s.history → Decides policy (his space sid) what now s result t → Before s → After result t
-    decides-after what s result t clean seated (inl short) was = short-after s result t short was
-    decides-after what s result t clean seated (inr (effects, decided, each, does)) was = does-all-after space sid 0 effects s result t (each clean) seated was.fresh was.has does
+    decides-after : (before : ℕ) (what : Arrived) (s : Scene) (result : Upshot) (t : Scene) → IsCleanArrival what → IsSeated (his space sid) s.history → DecidesAfter policy before (his space sid) what now s result t → Before s → After result t
+    decides-after before what s result t clean seated (inl short) was = shorter-after before s result t short was
+    decides-after before what s result t clean seated (inr (effects, decided, each, does)) was = does-all-after space sid before effects s result t (each clean) seated was.fresh was.has does
 
     hears-after : (id : Option ℕ) (payload : List ℕ) (attachments : List (List ℕ)) (s : Scene) (result : Upshot) (t : Scene) → IsWhole payload → IsSeated (his space sid) s.history
         → HearsEvent policy (his space sid) id payload attachments now s result t → Before s → After result t
     hears-after id payload attachments s result t whole seated hears was =
-        decides-after _ (record s { asked = id }) result t whole seated hears (same-before s (record s { asked = id }) refl refl refl refl was)
+        decides-after 0 _ (record s { asked = id }) result t whole seated hears (same-before s (record s { asked = id }) refl refl refl refl was)
 
     ack-after : (id : Option ℕ) (payload : List ℕ) (attachments : List (List ℕ)) (s : Scene) (result : Upshot) (t : Scene) → IsWhole payload → IsSeated (his space sid) s.history
         → TakesAck policy (his space sid) id payload attachments now s result t → Before s → After result t
@@ -159,9 +167,9 @@ module _ (c now : ℕ) (f : History) where
         done-after result t is (subst Before (sym same) (same-before s (record s { done = record s.done { ignored = true } }) refl refl refl refl was))
     ack-after (Some id) payload attachments s result t whole seated (inl (line, none, advances, does)) was =
         let noted = record s { line = line; done = record s.done { ignored = true } } in
-        decides-after _ noted result t whole seated does (same-before s noted refl refl refl refl was)
+        decides-after 0 _ noted result t whole seated does (same-before s noted refl refl refl refl was)
     ack-after (Some id) payload attachments s result t whole seated (inr (question, line, asked, advances, does)) was =
-        decides-after _ (record s { line = line }) result t whole seated does (same-before s (record s { line = line }) refl refl refl refl was)
+        decides-after 0 _ (record s { line = line }) result t whole seated does (same-before s (record s { line = line }) refl refl refl refl was)
 
     serves-after : (k : Kind) (id : Option ℕ) (payload : List ℕ) (attachments : List (List ℕ)) (s : Scene) (result : Upshot) (t : Scene) → IsWhole payload → IsSeated (his space sid) s.history
         → Serves policy k (his space sid) id payload attachments now s result t → Before s → After result t
@@ -207,14 +215,20 @@ module _ (c now : ℕ) (f : History) where
     module _ (policy : Policy) (payload : List ℕ) (whole : IsWhole payload) (s : Course) (result : Upshot) (t : Course) (there : is_space s.scene.history.limits (place_of s.scene.history.limits space) ≡ true) (was : Before s.scene) where
       asks-after : AsksApp policy c space payload now s result t → After result t.scene
       asks-after (inl (short, drawn)) = short-after s.scene result t.scene short was
-      asks-after (inr (inl (effects, allowed, clean, (drawn, does)))) = connects-as (s.ids 0) (s.ids 1) effects s.scene result t.scene there (clean whole) does was
+      asks-after (inr (inl (effects, allowed, clean, (drawn, inl short)))) = short-after s.scene result t.scene short was
+      asks-after (inr (inl (effects, allowed, clean, (drawn, inr (all, (more, decided, also, is), does))))) =
+          connects-as (s.ids 0) (s.ids 1) all s.scene result t.scene there (subst AllClean (sym is) (all-both effects more (clean whole) (also whole))) does was
       asks-after (inr (inr (message, allowed, (refuses, drawn)))) = refuses-after space message named s.scene result t.scene refuses was
 
       returns-after : (pid offset : ℕ) → AsksToRecover policy c space payload pid offset now s result t → After result t.scene
-      returns-after pid offset (inl ((is, makes, advances, same), drawn)) =
+      returns-after pid offset (inl ((between, makes, advances, is, decides), drawn)) =
           let r = recovery_asked c space pid offset s.scene.history in
-          subst (λ (q : Upshot). After q t.scene) (sym is)
-          (open-after (what.Recovered r) s.scene t.scene _ makes refl (itself c) (itself c) refl (clean-answer-at s.scene.history.limits space r.socket there refl named, tt) same refl refl refl was)
+          let back = what.Recovered r in
+          let same : between.done.closed ≡ None = ap (λ (u : Scene). u.done.closed) is ∙ was.fresh in
+          let has : Has between = made back s.scene between _ makes (itself c) (itself c) refl (clean-answer-at s.scene.history.limits space r.socket there refl named, tt) is refl refl was.has in
+          let seated : IsSeated (his space r.socket.sid) between.history = seated-back (his space r.socket.sid) now r s.scene.history between.history refl refl makes was.is there in
+          let on : between.ended ≡ false = ap (λ (u : Scene). u.ended) is ∙ was.on in
+          decides-after policy space r.socket.sid 1 _ between result t.scene tt seated decides (record { is = seated.open_client; fresh = same; on = on; has = has })
       returns-after pid offset (inr (inl (cannot, asks))) = asks-after asks
       returns-after pid offset (inr (inr (e, is, fails, stops, drawn))) = subst (λ (q : Upshot). After q t.scene) (sym is) (stops-after e.fault s.scene e t.scene stops was)
 

@@ -116,7 +116,7 @@ Loses now c s (Err e) t = ChangesNone e s t × FailsToPark s.history now c e.fau
 
 -- the scene before the first packet
 abbrev pub opening : History → PlainLine → Scene
-opening history line = record { history = history; line = line; done = nothing_done; asked = None; ended = false }
+opening history line = record { history = history; line = line; done = nothing_done; asked = None; refused = None; ended = false }
 
 module _ (policy : Policy) (now : ℕ) where
   -- the packets of a payload in order, until one closes the client or the event ends; the answer tells what is held then of

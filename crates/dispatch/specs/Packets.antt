@@ -1,6 +1,6 @@
 -- What the packets of a client do (Engine.IO protocol 4, "Packet types"; Socket.IO protocol 5, "Exchange protocol";
 -- Socket.IO server documentation, "Connection state recovery").
-use Rattle.std.specs.Prelude.{◌≡◌, ◌≢◌, ◌⊎◌, ◌<◌, ◌^◌, ℕ, ◌+◌, true, false, List, [], ◌∷◌, length, Option, None, Some, Result, Ok, Err, codes, slice_get, take}
+use Rattle.std.specs.Prelude.{◌≡◌, ◌≢◌, ◌⊎◌, ◌<◌, ◌^◌, ℕ, ◌+◌, true, false, List, [], ◌∷◌, ◌++◌, length, Option, None, Some, Result, Ok, Err, codes, slice_get, take}
 use Rattle.eio_wire.specs.Payload.{IsWhole}
 use Rattle.eio_wire.specs.declared.packet.Packet.{Packet}
 use Rattle.eio_wire.specs.declared.packet.Packet.TheVariants as eio
@@ -26,6 +26,8 @@ use Rattle.journal.specs.declared.step.What.{What}
 use Rattle.journal.specs.declared.ending.Side.TheVariants as side
 use Rattle.journal.specs.declared.step.What.TheVariants as what
 use Rattle.journal.specs.Membership.{place_of, is_space, socket_of}
+use Rattle.journal.specs.Sessions.{rooms_rising}
+use Rattle.hub_state.specs.Words.{rooms_now}
 use Rattle.events.specs.declared.app.Arrived.{Arrived}
 use Rattle.events.specs.declared.app.Arrived.TheVariants as arrived
 use Rattle.events.specs.declared.app.Effect.{Effect}
@@ -77,10 +79,14 @@ Upshot = Result (Unit {0}) Stopped
 abbrev pub StopsFor : CoreFault → Scene → Stopped → Scene → Type 0
 StopsFor fault s e t = (e ≡ record { fault = fault; effects = 0 }) × (t ≡ s)
 
--- there is no memory for what was to be done
+-- there is no memory for what was to be done, after so many effects
+abbrev pub IsShortAfter : (before : ℕ) → Scene → Upshot → Scene → Type 0
+IsShortAfter before s (Ok done) t = ⊥
+IsShortAfter before s (Err e) t = (e ≡ record { fault = Memory; effects = before }) × (t ≡ s)
+
+-- nor for the first of it
 abbrev pub IsShort : Scene → Upshot → Scene → Type 0
-IsShort s (Ok done) t = ⊥
-IsShort s (Err e) t = StopsFor Memory s e t
+IsShort s result t = IsShortAfter 0 s result t
 
 -- it is done so, and no id is drawn
 abbrev pub DrawsNone : (Scene → Upshot → Scene → Type 0) → Course → Upshot → Course → Type 0
@@ -125,11 +131,14 @@ ClientDisconnects who now s (Ok done) t = Makes s.history now (what.Ended who.si
 ClientDisconnects who now s (Err e) t = StopsAt s.history now (what.Ended who.sid side.Client) e.fault × StopsFor e.fault s e t
 
 module _ (policy : Policy) where
-  -- the app decides what is done where something arrived; U+001E comes into no effect where none arrived
-  abbrev pub Decides : Who → Arrived → ℕ → Scene → Upshot → Scene → Type 0
-  Decides who arrived now s result t = IsShort s result t
+  -- after so many effects the app decides what is done where something arrived; U+001E comes into no effect where none arrived
+  abbrev pub DecidesAfter : (before : ℕ) → Who → Arrived → ℕ → Scene → Upshot → Scene → Type 0
+  DecidesAfter before who arrived now s result t = IsShortAfter before s result t
       ⊎ ((effects : List Effect) × policy.decides who arrived effects × (IsCleanArrival arrived → AllClean effects)
-      × DoesAll who now 0 effects s result t)
+      × DoesAll who now before effects s result t)
+
+  abbrev pub Decides : Who → Arrived → ℕ → Scene → Upshot → Scene → Type 0
+  Decides who arrived now s result t = DecidesAfter 0 who arrived now s result t
 
   -- an answer to no question of its socket is noted as ignored, and the app decides: it may be to a question that was asked
   -- of a room
@@ -200,28 +209,41 @@ ConnectsAs who pid effects now s result t = let attached = what.Attached (seat w
     ⊎ (IsRefused s.history now attached hub.OutboxFull × ClosesFor who.client now cause.OutboxFull s result t)
     ⊎ ((e : Stopped) × (result ≡ Err e) × StopsAt s.history now attached e.fault × StopsFor e.fault s e t)
 
--- it has the next two ids
-abbrev pub Connects : ℕ → (space : List ℕ) → List Effect → ℕ → Course → Upshot → Course → Type 0
-Connects c space effects now s result t = (t.ids ≡ (λ k. s.ids (k + 2)))
-    × ConnectsAs (record { client = c; space = space; sid = s.ids 0 }) (s.ids 1) effects now s.scene result t.scene
-
--- the session comes back, and the app isn't asked
-abbrev pub IsRecovered : What → (sid : ℕ) → ℕ → Scene → Upshot → Scene → Type 0
-IsRecovered back sid now s result t = (result ≡ Ok tt) × Makes s.history now back t.history × Advances s.line (Connected sid ∷ []) t.line
-    × (t ≡ record (counted s) { history = t.history; line = t.line })
+-- the socket to be in a namespace, with this id
+abbrev pub socket_in : ℕ → (space : List ℕ) → (sid : ℕ) → Who
+socket_in c space sid = record { client = c; space = space; sid = sid }
 
 module _ (policy : Policy) where
+  -- what the app wants where it lets a socket in, and then what it wants where that has connected
+  abbrev pub Greets : Who → (payload : List ℕ) → List Effect → List Effect → Type 0
+  Greets who payload effects all = (more : List Effect) × policy.decides who (arrived.Connected payload) more
+      × (IsWhole payload → AllClean more) × (all ≡ effects ++ more)
+
+  -- it has the next two ids, and the app decides what is done where it has connected
+  abbrev pub Connects : ℕ → (space payload : List ℕ) → List Effect → ℕ → Course → Upshot → Course → Type 0
+  Connects c space payload effects now s result t = (t.ids ≡ (λ k. s.ids (k + 2)))
+      × (IsShort s.scene result t.scene
+      ⊎ ((all : List Effect) × Greets (socket_in c space (s.ids 0)) payload effects all
+      × ConnectsAs (socket_in c space (s.ids 0)) (s.ids 1) all now s.scene result t.scene))
+
+  -- the session comes back, and the app decides what is done where it has
+  abbrev pub ComesBack : What → Who → ℕ → Scene → Upshot → Scene → Type 0
+  ComesBack back who now s result t = (between : Scene) × Makes s.history now back between.history
+      × Advances s.line (Connected who.sid ∷ []) between.line
+      × (between ≡ record (counted s) { history = between.history; line = between.line })
+      × DecidesAfter policy 1 who (arrived.Returned (rooms_rising (rooms_now between.history) who.sid)) now between result t
+
   -- the app says whether the socket is connected; U+001E comes into no effect where none stands in the payload
   abbrev pub AsksApp : ℕ → (space payload : List ℕ) → ℕ → Course → Upshot → Course → Type 0
   AsksApp c space payload now s result t = DrawsNone IsShort s result t
       ⊎ ((effects : List Effect) × policy.allows space payload (Accepted effects) × (IsWhole payload → AllClean effects)
-      × Connects c space effects now s result t)
+      × Connects c space payload effects now s result t)
       ⊎ ((message : List ℕ) × policy.allows space payload (Refused message) × DrawsNone (Refuses c now space message) s result t)
 
   -- the session that the payload names comes back; where it can't come back, the app is asked
   abbrev pub AsksToRecover : ℕ → (space payload : List ℕ) → (pid offset : ℕ) → ℕ → Course → Upshot → Course → Type 0
   AsksToRecover c space payload pid offset now s result t = let r = recovery_asked c space pid offset s.scene.history in
-      DrawsNone (IsRecovered (what.Recovered r) r.socket.sid now) s result t
+      DrawsNone (ComesBack (what.Recovered r) (socket_in c space r.socket.sid) now) s result t
       ⊎ (CannotRecover s.scene.history now (what.Recovered r) × AsksApp c space payload now s result t)
       ⊎ ((e : Stopped) × (result ≡ Err e) × StopsAt s.scene.history now (what.Recovered r) e.fault
       × StopsFor e.fault s.scene e t.scene × (t.ids ≡ s.ids))
@@ -303,7 +325,7 @@ module _ (policy : Policy) where
 
   -- one packet more is worked on, which asks for no acknowledgement yet
   abbrev pub begun : Course → Course
-  begun s = record s { scene = record s.scene { done = one_packet_more s.scene.done; asked = None; ended = false } }
+  begun s = record s { scene = record s.scene { done = one_packet_more s.scene.done; asked = None; refused = None; ended = false } }
 
   -- a packet in its turn: after the client was closed nothing more is done
   abbrev pub HandlesOrBreaks : ℕ → Packet → ℕ → Course → Upshot → Course → Type 0

@@ -1,13 +1,14 @@
 //! What a packet of a connected socket does (Socket.IO protocol 5, "Sending and receiving data",
 //! "Acknowledgement" and "Disconnection from a namespace").
 
+ghost use Rattle.std.specs.Prelude.{◌≤◌};
 ghost use Rattle.effects.specs.Commands.{IsSeated};
 ghost use Rattle.effects.specs.Scene.{IsActing, Plays};
-ghost use Rattle.dispatch.specs.Packets.{IsReady, Decides, ClientDisconnects, TakesAck, HearsEvent, HearsStray, Serves, ServesJoined};
+ghost use Rattle.dispatch.specs.Packets.{IsReady, DecidesAfter, ClientDisconnects, TakesAck, HearsEvent, HearsStray, Serves, ServesJoined};
 
 use crate::packets::close_for;
 use effects::{Scene, act_all, commands};
-use events::{Answer, App, Arrived, Cause, CoreFault, Message, Stray, Who, Worked};
+use events::{Answer, App, Arrived, Cause, CoreFault, Message, Stopped, Stray, Who, Worked};
 use journal::Side;
 use sio_wire::{Kind, SioPacket};
 use terms::{Attachments, Text};
@@ -21,14 +22,25 @@ struct Said {
     attachments: Attachments,
 }
 
-/// Asks the app about what arrived, and does what it wants.
-fn decide<A: App>(scene: &mut Scene, app: &A, who: &Who, arrived: Arrived) -> Worked
-    requires { IsActing who.now scene.old }
-    ensures { Plays (Decides (A.policy app.now) who.now arrived) scene.old result scene.new }
+/// Asks the app about what arrived, and does what it wants, after so many effects of the packet.
+pub(crate) fn decide<A: App>(
+    scene: &mut Scene,
+    app: &A,
+    who: &Who,
+    arrived: Arrived,
+    before: usize,
+) -> Worked
+    requires acting { IsActing who.now scene.old }
+    requires few { before ≤ 1 }
+    ensures { Plays (DecidesAfter (A.policy app.now) before who.now arrived)
+        scene.old result scene.new }
 {
     match app.decides(scene.visit.alloc, who, &arrived) {
-        Ok(wanted) => act_all(scene, who, wanted, 0),
-        Err(_) => Err(CoreFault::Memory.into()),
+        Ok(wanted) => act_all(scene, who, wanted, before),
+        Err(_) => Err(Stopped {
+            fault: CoreFault::Memory,
+            effects: before,
+        }),
     }
 }
 
@@ -54,7 +66,7 @@ fn hear_stray<A: App>(scene: &mut Scene, app: &A, who: &Who, id: u64, said: Said
         payload: said.payload,
         attachments: said.attachments,
     });
-    decide(scene, app, who, arrived)
+    decide(scene, app, who, arrived, 0)
 }
 
 /// Takes the answer to a question. One to a question that isn't open is a stray one.
@@ -75,7 +87,7 @@ fn take_answer<A: App>(scene: &mut Scene, app: &A, who: &Who, said: Said) -> Wor
         payload: said.payload,
         attachments: said.attachments,
     });
-    decide(scene, app, who, arrived)
+    decide(scene, app, who, arrived, 0)
 }
 
 /// Hears an event of a socket. One with an id asks to be acknowledged.
@@ -90,7 +102,7 @@ fn hear<A: App>(scene: &mut Scene, app: &A, who: &Who, said: Said) -> Worked
         attachments: said.attachments,
         id: said.id,
     });
-    decide(scene, app, who, arrived)
+    decide(scene, app, who, arrived, 0)
 }
 
 /// What a packet of a connected socket does.

@@ -3,6 +3,7 @@
 use Rattle.std.proofs.Common.{◌≡◌, ℕ, Bool, true, false, not, ◌==◌, ◌||◌, List, [], ◌∷◌, ◌++◌, filter, refl, sym, ◌∙◌, ap, subst, is_some, is_none, Option, None, Some, Result, Ok, Err, OnOk, IfErr, OnErr, inl, inr}
 use Rattle.connection.specs.Line.{PlainLine}
 use Rattle.terms.specs.declared.entry.Entry.{Entry}
+use Rattle.room_maps.specs.declared.error.RoomError.{RoomError}
 use Rattle.journal.specs.declared.socket.Socket.{Socket}
 use Rattle.journal.specs.declared.error.HubError.TheVariants as hub
 use Rattle.journal.specs.declared.step.What.{What}
@@ -12,7 +13,7 @@ use Rattle.journal.specs.Journal.{History}
 use Rattle.journal.specs.Membership.{is_open, ends, connects, closes}
 use Rattle.journal.proofs.SocketsLemmas.{neither}
 use Rattle.events.specs.declared.app.Effect.{Effect}
-use Rattle.events.specs.declared.app.Effect.TheVariants.{Join, Leave, Emit, EmitAsk, Reply, Disconnect, AllJoin, AllLeave, AllEnd}
+use Rattle.events.specs.declared.app.Effect.TheVariants.{Join, Leave, Emit, EmitAsk, Reply, Report, Fetch, Disconnect, AllJoin, AllLeave, AllEnd}
 use Rattle.events.specs.declared.app.Reply as reply
 use Rattle.events.specs.declared.app.Who.{Who}
 use Rattle.effects.specs.declared.scene.Tally.{Tally}
@@ -66,14 +67,19 @@ module _ (who : Who) (now : ℕ) where
         seated = λ _ on. seated on;
       }
 
+  stands-replies : (s t : Scene) (id : ℕ) (r : reply.Reply) → Replies who id r now s t → s.done.closed ≡ None → IsSeated who s.history → StandsWith who t
+  stands-replies s t id r (entry, is, inl (made, same)) fresh seated =
+      stands-made (told_to who.client entry) (λ l. refl) refl refl s t made (ap (λ (u : Scene). u.done.closed) same) fresh seated
+  stands-replies s t id r (entry, is, inr (refused, closed)) fresh seated = stands-closed OutboxFull s t closed
+
   acts-stands : (s t : Scene) (effect : Effect) → s.done.closed ≡ None → IsSeated who s.history → Acts who now s effect t → StandsWith who t
   acts-stands s t (Join room) fresh seated acts = stands-rooms (what.Joined who.sid room) (λ l. refl) refl refl s t acts fresh seated
   acts-stands s t (Leave room) fresh seated acts = stands-rooms (what.Left who.sid room) (λ l. refl) refl refl s t acts fresh seated
   acts-stands s t (Emit e) fresh seated ((allowed, done, cast, told), is) =
       stands-seated t (ap (λ (d : PlainDone). d.closed) told ∙ fresh) (seated-still s.history t.history now (what.Cast cast.b) cast.step who seated (λ l. refl) refl refl)
-  acts-stands s t (Reply r) fresh seated (id, asked, (entry, is, inl (made, same))) =
-      stands-made (told_to who.client entry) (λ l. refl) refl refl s t made (ap (λ (u : Scene). u.done.closed) same) fresh seated
-  acts-stands s t (Reply r) fresh seated (id, asked, (entry, is, inr (refused, closed))) = stands-closed OutboxFull s t closed
+  acts-stands s t (Reply r) fresh seated (id, asked, replies) = stands-replies s t id _ replies fresh seated
+  acts-stands s t Report fresh seated (id, asked, replies) = stands-replies s t id _ replies fresh seated
+  acts-stands s t (Fetch m) fresh seated (id, asked, replies) = stands-replies s t id _ replies fresh seated
   acts-stands s t (EmitAsk q) fresh seated (id, next, entry, is, inl (made, advances, same)) =
       stands-made (told_to who.client entry) (λ l. refl) refl refl s t made (ap (λ (u : Scene). u.done.closed) same) fresh seated
   acts-stands s t (EmitAsk q) fresh seated (id, next, entry, is, inr (refused, vain, closed)) = stands-closed OutboxFull (record s { line = t.line }) t closed
@@ -106,6 +112,8 @@ module _ (who : Who) (now : ℕ) where
   fails-stands s t (Leave room) fault fresh on was fails = stops-at (what.Left who.sid room) s t fault was fails
   fails-stands s t (Emit e) fault fresh on was (why, same) = subst (StandsWith who) (sym same) was
   fails-stands s t (Reply r) fault fresh on was (id, asked, (same, why)) = subst (StandsWith who) (sym same) was
+  fails-stands s t Report fault fresh on was (id, asked, (same, why)) = subst (StandsWith who) (sym same) was
+  fails-stands s t (Fetch m) fault fresh on was (id, asked, (same, why)) = subst (StandsWith who) (sym same) was
   fails-stands s t (EmitAsk q) fault fresh on was (same, why) = subst (StandsWith who) (sym same) (record { open_client = was.open_client; seated = was.seated })
   fails-stands s t Disconnect fault fresh on was (inl (short, same)) = subst (StandsWith who) (sym same) was
   fails-stands s t Disconnect fault fresh on was (inr (inl fails)) = stops-at (goodbye who) s t fault was fails
@@ -132,6 +140,8 @@ module _ (who : Who) (now : ℕ) where
       same-closed (Leave room) fails = at-all s refl fails.1
       same-closed (Emit e) fails = at-all s refl fails.1
       same-closed (Reply r) (id, asked, (same, why)) = at-all s refl same
+      same-closed Report (id, asked, (same, why)) = at-all s refl same
+      same-closed (Fetch m) (id, asked, (same, why)) = at-all s refl same
       same-closed (EmitAsk q) (same, why) = at-all (record s { line = t.line }) refl same
       same-closed Disconnect (inl (short, same)) = at-all s refl same
       same-closed Disconnect (inr (inl fails)) = at-all s refl fails.1
@@ -200,7 +210,7 @@ reply-untold who id r now h g entry is old fault stops f is-it l = (rw stops.1 r
 -- ---- sockets that end
 
 -- what was done of the event, where its receivers are pushed and it is counted
-pub told-is : (old new : Tally) (d : PlainDone) (asked : Option ℕ) (ended : Bool) (next : List (List ℕ)) (c : ℕ) (ids others : List ℕ) → ◌≡◌ {A = Tally} (record { done = d; asked = asked; ended = ended }) old
-    → new ≡ record { done = one_more (record d { clients = next }); asked = asked; ended = ended } → next ≡ d.clients ++ others ∷ [] → others ≡ filter (λ d. not (d == c)) ids
+pub told-is : (old new : Tally) (d : PlainDone) (asked : Option ℕ) (refused : Option RoomError) (ended : Bool) (next : List (List ℕ)) (c : ℕ) (ids others : List ℕ) → ◌≡◌ {A = Tally} (record { done = d; asked = asked; refused = refused; ended = ended }) old
+    → new ≡ record { done = one_more (record d { clients = next }); asked = asked; refused = refused; ended = ended } → next ≡ d.clients ++ others ∷ [] → others ≡ filter (λ d. not (d == c)) ids
     → new ≡ record old { done = told c ids (one_more old.done) }
-told-is old new d asked ended next c ids others view counted pushed kept = counted ∙ rw (← view, pushed, kept) refl
+told-is old new d asked refused ended next c ids others view counted pushed kept = counted ∙ rw (← view, pushed, kept) refl

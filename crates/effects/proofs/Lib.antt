@@ -1,4 +1,5 @@
 pub mod ActLemmas
+mod AnsweringLemmas
 mod AskLemmas
 pub mod CleanLemmas
 pub mod HearingLemmas

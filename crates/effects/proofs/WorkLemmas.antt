@@ -11,7 +11,8 @@ use Rattle.journal.specs.Membership.{is_open, is_space, place_of}
 use Rattle.journal.specs.Entries.{AllPass, own_entries}
 use Rattle.journal.proofs.SocketsLemmas.{neither}
 use Rattle.events.specs.declared.app.Effect.{Effect}
-use Rattle.events.specs.declared.app.Effect.TheVariants.{Join, Leave, Emit, EmitAsk, Reply, Disconnect, AllJoin, AllLeave, AllEnd}
+use Rattle.events.specs.declared.app.Effect.TheVariants.{Join, Leave, Emit, EmitAsk, Reply, Report, Fetch, Disconnect, AllJoin, AllLeave, AllEnd}
+use Rattle.events.specs.declared.app.Reply as reply
 use Rattle.events.specs.declared.app.Who.{Who}
 use Rattle.events.specs.declared.cause.Cause.{Cause}
 use Rattle.events.specs.declared.cause.Cause.TheVariants.{OutboxFull}
@@ -20,12 +21,14 @@ use Rattle.events.specs.declared.fault.Stopped.{Stopped}
 use Rattle.events.specs.App.{IsCleanEffect, AllClean}
 use Rattle.events.specs.Emission.{PlainEmission}
 use Rattle.events.specs.Plain.{PlainDone}
+use Rattle.hub_state.specs.Words.{selected}
 use Rattle.effects.specs.Commands.{Makes, IsSeated}
-use Rattle.effects.specs.Effects.{Scene, Closes, is_bad, is_wrong, is_unsendable, told_to, goodbye, dismissed, all_joined, all_left, ChangesRooms, SaysGoodbye, Acts, ActsInTurn, Stops, StopsAfter, Fails, StandsWith}
+use Rattle.effects.specs.Effects.{Scene, Closes, is_bad, is_wrong, is_unsendable, told_to, goodbye, dismissed, all_joined, all_left, ChangesRooms, Replies, SaysGoodbye, Acts, ActsInTurn, Stops, StopsAfter, Fails, StandsWith}
 use Rattle.effects.specs.Following.{is_clean, is_work, is_turn, is_cast}
 use Rattle.effects.specs.Runs.{Runs}
 use Rattle.effects.specs.Broadcasting.{Work, work, Broadcasts, cast_of}
 use Rattle.effects.proofs.ActLemmas.{seated-after, stands, stopped-open}
+use Rattle.effects.proofs.AnsweringLemmas.{list-fine, list-whole, report-fine, report-whole}
 use Rattle.effects.proofs.CleanLemmas.{whole-there, clean-cast, clean-packet, clean-disconnect, clean-farewell}
 use Rattle.effects.proofs.RunsLemmas.{all-take, run-keeps}
 use Rattle.effects.proofs.StepLemmas.{itself, Goes, Working, names-still, working-on, working-cast, working-dismissed}
@@ -78,14 +81,21 @@ module _ (who : Who) (now : ℕ) (f : History) where
       (λ names. (ap not (clean-disconnect who.space (whole-here h seated was.goes names)), tt)) lists was
   work-goodbye h g lists seated (inr (refused, same)) was = subst (λ (k : History). Working who.client f k lists) (sym same) was
 
+  work-replies : (s t : Scene) (id : ℕ) (r : reply.Reply) → IsWhole r.payload → is_unsendable r.payload r.attachments ≡ false → IsSeated who s.history → Replies who id r now s t → Has s → Has t
+  work-replies s t id r clean fine seated (entry, is, inl (made, same)) was =
+      work-told entry s t _ (λ names. clean-packet _ who.space id _ _ entry fine is (whole-here s.history seated was.goes names) clean) made refl refl same was
+  work-replies s t id r clean fine seated (entry, is, inr (refused, closed)) was = work-closed OutboxFull s t closed was
+
   acts-work : (s t : Scene) (effect : Effect) → IsCleanEffect effect → is_wrong s.history.limits s.asked effect ≡ false → IsSeated who s.history → Acts who now s effect t → Has s → Has t
   acts-work s t (Join room) clean fine seated acts was = work-rooms (what.Joined who.sid room) s t seated.own seated.own refl tt acts was
   acts-work s t (Leave room) clean fine seated acts was = work-rooms (what.Left who.sid room) s t seated.own seated.own refl tt acts was
   acts-work s t (Emit e) clean fine seated (says, is) was = work-says who.client now f e (work s.history s.done) (work t.history t.done) clean says was
-  acts-work s t (Reply r) clean fine seated (id, asked, (entry, is, inl (made, same))) was =
-      work-told entry s t _
-      (λ names. clean-packet _ who.space id _ _ entry (neither (is_none s.asked) (is_unsendable r.payload r.attachments) fine).1 is (whole-here s.history seated was.goes names) clean) made refl refl same was
-  acts-work s t (Reply r) clean fine seated (id, asked, (entry, is, inr (refused, closed))) was = work-closed OutboxFull s t closed was
+  acts-work s t (Reply r) clean fine seated (id, asked, replies) was =
+      work-replies s t id r clean (neither (is_none s.asked) (is_unsendable r.payload r.attachments) fine).1 seated replies was
+  acts-work s t Report clean fine seated (id, asked, replies) was = work-replies s t id _ (report-whole s.refused) (report-fine s.refused) seated replies was
+  acts-work s t (Fetch m) clean fine seated (id, asked, replies) was =
+      let sids = selected s.history (place_of s.history.limits m.space) m.rooms m.excepted in
+      work-replies s t id _ (list-whole sids) (list-fine sids) seated replies was
   acts-work s t (EmitAsk q) clean fine seated (id, next, entry, is, inl (made, advances, same)) was =
       work-told entry s t _ (λ names. clean-packet _ who.space id _ _ entry fine is (whole-here s.history seated was.goes names) clean) made refl refl same was
   acts-work s t (EmitAsk q) clean fine seated (id, next, entry, is, inr (refused, vain, closed)) was = work-closed OutboxFull (record s { line = t.line }) t closed was
@@ -125,6 +135,8 @@ module _ (who : Who) (now : ℕ) (f : History) where
   fails-work s t (Leave room) fault seated fails was = subst Has (sym fails.1) was
   fails-work s t (Emit e) fault seated fails was = subst Has (sym fails.1) was
   fails-work s t (Reply r) fault seated (id, asked, (same, why)) was = subst Has (sym same) was
+  fails-work s t Report fault seated (id, asked, (same, why)) was = subst Has (sym same) was
+  fails-work s t (Fetch m) fault seated (id, asked, (same, why)) was = subst Has (sym same) was
   fails-work s t (EmitAsk q) fault seated (same, why) was = subst Has (sym same) was
   fails-work s t Disconnect fault seated (inl (short, same)) was = subst Has (sym same) was
   fails-work s t Disconnect fault seated (inr (inl fails)) was = subst Has (sym fails.1) was

@@ -10,7 +10,7 @@ use Rattle.sio_wire.specs.declared.kind.Kind.TheVariants.{Ack, BinaryAck, Event,
 use Rattle.sio_wire.specs.Header.{Plain}
 use Rattle.sio_wire.specs.Offset.{is_bracket}
 use Rattle.sio_wire.specs.Disconnect.{disconnect_text}
-use Rattle.std.specs.Option.{option_map_or}
+use Rattle.std.specs.Option.{option_map_or, option_or}
 use Rattle.journal.specs.declared.error.HubError.TheVariants as hub
 use Rattle.journal.specs.declared.form.Form.{Form}
 use Rattle.journal.specs.Broadcast.{id_of}
@@ -26,7 +26,7 @@ use Rattle.connection.specs.Questions.{next_id}
 use Rattle.connection.specs.History.{Call, Asked, Answered, Disconnected, book_calls}
 use Rattle.connection.specs.Line.{PlainLine, ForEachHistory, Advances}
 use Rattle.events.specs.declared.app.Effect.{Effect}
-use Rattle.events.specs.declared.app.Effect.TheVariants.{Join, Leave, Emit, EmitAsk, Reply, Disconnect, AllJoin, AllLeave, AllEnd}
+use Rattle.events.specs.declared.app.Effect.TheVariants.{Join, Leave, Emit, EmitAsk, Reply, Report, Fetch, Disconnect, AllJoin, AllLeave, AllEnd}
 use Rattle.events.specs.declared.app.Inquiry as inquiry
 use Rattle.events.specs.declared.app.Reply as reply
 use Rattle.events.specs.declared.app.Who.{Who}
@@ -37,6 +37,8 @@ use Rattle.events.specs.declared.fault.CoreFault.TheVariants.{Memory, Spent, Bad
 use Rattle.events.specs.Emission.{PlainEmission}
 use Rattle.events.specs.Selection.{PlainSelection}
 use Rattle.journal.specs.Membership.{is_open, is_space, place_of}
+use Rattle.hub_state.specs.Words.{selected}
+use Rattle.effects.specs.Answering.{report_text, list_text}
 use Rattle.effects.specs.Commands.{Makes, IsRefused, StopsAt, DoesOr, IsSeated}
 use Rattle.events.specs.declared.fault.Stopped.{Stopped}
 use Rattle.effects.specs.declared.scene.Tally.{Tally}
@@ -45,16 +47,19 @@ use Rattle.effects.specs.Runs.{Runs}
 use Rattle.effects.specs.Broadcasting.{work, Broadcasts, CannotBroadcast}
 
 -- where an event stands between two effects of a packet: the hub's history, the client's line, what was done of the event,
--- under which id the packet still asks to be acknowledged, and whether its socket was disconnected
+-- under which id the packet still asks to be acknowledged, why the first of its effects that was skipped was, and whether its
+-- socket was disconnected
 pub record Scene : Type 0 where
   pub history : History
   pub line : PlainLine
   pub done : PlainDone
   pub asked : Option ℕ
+  pub refused : Option RoomError
   pub ended : Bool
 
 abbrev pub scene : History → PlainLine → Tally → Scene
-scene history line tally = record { history = history; line = line; done = tally.done; asked = tally.asked; ended = tally.ended }
+scene history line tally =
+    record { history = history; line = line; done = tally.done; asked = tally.asked; refused = tally.refused; ended = tally.ended }
 
 -- the client is open
 abbrev pub IsOpenFor : ℕ → Scene → Type 0
@@ -93,6 +98,8 @@ abbrev pub is_wrong : Limits → (asked : Option ℕ) → Effect → Bool
 is_wrong limits asked (Emit e) = is_bad_emission limits e
 is_wrong limits asked (EmitAsk q) = is_unsendable q.payload q.attachments
 is_wrong limits asked (Reply r) = is_none asked || is_unsendable r.payload r.attachments
+is_wrong limits asked Report = is_none asked
+is_wrong limits asked (Fetch m) = is_none asked || is_unknown limits m.space
 is_wrong limits asked (AllJoin m room) = is_unknown limits m.space
 is_wrong limits asked (AllLeave m room) = is_unknown limits m.space
 is_wrong limits asked (AllEnd m) = is_unknown limits m.space
@@ -108,7 +115,7 @@ is_bad s effect = s.ended || is_wrong s.history.limits s.asked effect
 abbrev pub ChangesRooms : What → ℕ → Scene → Scene → Type 0
 ChangesRooms what now s t =
     (Makes s.history now what t.history × (t ≡ record (counted s) { history = t.history }))
-    ⊎ ((e : RoomError) × IsRefused s.history now what (hub.RoomRefused e) × (t ≡ record s { done = noted (Some e) (one_more s.done) }))
+    ⊎ ((e : RoomError) × IsRefused s.history now what (hub.RoomRefused e) × (t ≡ record s { done = noted (Some e) (one_more s.done); refused = option_or s.refused (Some e) }))
 
 -- an event is sent, in its own namespace
 abbrev pub Emits : Who → PlainEmission → ℕ → Scene → Scene → Type 0
@@ -138,6 +145,14 @@ abbrev pub Replies : Who → (id : ℕ) → reply.Reply → ℕ → Scene → Sc
 Replies who id r now s t = (entry : Entry) × IsReply who.space id r entry
     × ((Makes s.history now (told_to who.client entry) t.history × (t ≡ record (counted s) { history = t.history; asked = None }))
     ⊎ (IsRefused s.history now (told_to who.client entry) hub.OutboxFull × Closes who.client now OutboxFull s t))
+
+-- the event is acknowledged with this text of the server's
+abbrev pub Says : Who → (text : List ℕ) → ℕ → Scene → Scene → Type 0
+Says who text now s t = (id : ℕ) × (s.asked ≡ Some id) × Replies who id (record { payload = text; attachments = [] }) now s t
+
+-- the sockets of the namespace that match, as the text of a list
+abbrev pub listed : PlainSelection → History → List ℕ
+listed m h = list_text (selected h (place_of h.limits m.space) m.rooms m.excepted)
 
 -- the question with this id
 abbrev pub IsInquiry : List ℕ → (id : ℕ) → inquiry.Inquiry → Entry → Type 0
@@ -209,6 +224,8 @@ Acts who now s (Join room) t = ChangesRooms (what.Joined who.sid room) now s t
 Acts who now s (Leave room) t = ChangesRooms (what.Left who.sid room) now s t
 Acts who now s (Emit e) t = Emits who e now s t
 Acts who now s (Reply r) t = (id : ℕ) × (s.asked ≡ Some id) × Replies who id r now s t
+Acts who now s Report t = Says who (report_text s.refused) now s t
+Acts who now s (Fetch m) t = Says who (listed m s.history) now s t
 Acts who now s (EmitAsk q) t = Asks who q now s t
 Acts who now s Disconnect t = Disconnects who now s t
 Acts who now s (AllJoin m room) t = ChangesRooms (all_joined m room s.history) now s t
@@ -242,6 +259,9 @@ abbrev pub FailsToReply : Who → (id : ℕ) → reply.Reply → ℕ → Scene �
 FailsToReply who id r now s fault t = (t ≡ s)
     × ((fault ≡ Memory) ⊎ ((entry : Entry) × IsReply who.space id r entry × FailsToTell who now s.history entry fault))
 
+abbrev pub FailsToSay : Who → (text : List ℕ) → ℕ → Scene → CoreFault → Scene → Type 0
+FailsToSay who text now s fault t = (id : ℕ) × (s.asked ≡ Some id) × FailsToReply who id (record { payload = text; attachments = [] }) now s fault t
+
 -- the socket isn't disconnected; its client may have been told already
 abbrev pub FailsToDisconnect : Who → ℕ → Scene → CoreFault → Scene → Type 0
 FailsToDisconnect who now s fault t = ((fault ≡ Memory) × (t ≡ s)) ⊎ FailsAt (goodbye who) now s fault t
@@ -270,6 +290,8 @@ Fails who now s (Join room) fault t = FailsAt (what.Joined who.sid room) now s f
 Fails who now s (Leave room) fault t = FailsAt (what.Left who.sid room) now s fault t
 Fails who now s (Emit e) fault t = FailsToEmit e s fault t
 Fails who now s (Reply r) fault t = (id : ℕ) × (s.asked ≡ Some id) × FailsToReply who id r now s fault t
+Fails who now s Report fault t = FailsToSay who (report_text s.refused) now s fault t
+Fails who now s (Fetch m) fault t = FailsToSay who (listed m s.history) now s fault t
 Fails who now s (EmitAsk q) fault t = FailsToAsk who q now s fault t
 Fails who now s Disconnect fault t = FailsToDisconnect who now s fault t
 Fails who now s (AllJoin m room) fault t = FailsAt (all_joined m room s.history) now s fault t

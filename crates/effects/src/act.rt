@@ -4,15 +4,16 @@
 ghost use Rattle.std.specs.Prelude.{◌≡◌, ◌≤◌, false, IfOk, IfErr, OnOk};
 ghost use Rattle.journal.specs.declared.step.What.{What};
 ghost use Rattle.effects.specs.Commands.{IsSeated};
-ghost use Rattle.effects.specs.Effects.{is_unsendable, is_wrong, IsPacket, Closes, Replies, Disconnects, Acts, ActsInTurn, Fails, Stops, StopsAfter, FailsAt, IsOpenFor, FailsToReply, FailsToDisconnect};
+ghost use Rattle.effects.specs.Effects.{is_unsendable, is_wrong, IsPacket, Closes, Disconnects, Acts, ActsInTurn, Fails, Stops, StopsAfter, FailsAt, IsOpenFor, FailsToDisconnect};
 ghost use Rattle.effects.specs.Runs.{Runs};
 ghost use Rattle.effects.specs.Scene.{seen, IsActing, DoesOrFails, IsSameEvent};
 
+use crate::answering::{fetch, reply, report};
 use crate::ask::ask;
 use crate::broadcast::{broadcast, is_bad_emission, is_unsendable};
 use crate::rooms::{change, end_all, join_all, leave_all};
 use crate::{Acted, Scene, Visit, commands};
-use events::{Cause, CoreFault, Effect, Reply, Stopped, Who, Worked};
+use events::{Cause, CoreFault, Effect, Stopped, Who, Worked};
 use hub_state::State;
 use journal::Side;
 use sio_wire::{Header, Kind, disconnect_text, write_header};
@@ -27,6 +28,10 @@ fn is_wrong(state: &State, asked: Option<u64>, effect: &Effect) -> bool
         Effect::Emit(emission) => is_bad_emission(state, emission),
         Effect::Reply(reply) => {
             asked.is_none() || is_unsendable(reply.payload.as_str(), &reply.attachments)
+        }
+        Effect::Report => asked.is_none(),
+        Effect::Fetch(selection) => {
+            asked.is_none() || !state.has_space(selection.space.as_str())
         }
         Effect::EmitAsk(inquiry) => is_unsendable(inquiry.payload.as_str(), &inquiry.attachments),
         Effect::Join(_) | Effect::Leave(_) | Effect::Disconnect => false,
@@ -80,25 +85,6 @@ pub(crate) fn entry_of(
     })
 }
 
-/// Tells the client the acknowledgement of an event, or closes it where its outbox has no space.
-fn reply(scene: &mut Scene, who: &Who, id: u64, reply: Reply) -> Acted
-    requires own { who.now.client ≡ scene.old.visit.client }
-    requires open_client { IsOpenFor who.now.client (seen scene.old) }
-    requires sendable { is_unsendable reply.payload reply.attachments ≡ false }
-    ensures { DoesOrFails (Replies who.now id reply) (FailsToReply who.now id reply)
-        scene.old result scene.new }
-{
-    let alloc = scene.visit.alloc;
-    let kinds = (Kind::Ack, Kind::BinaryAck);
-    let entry = entry_of(alloc, kinds, who, id, reply.payload, reply.attachments)?;
-    if commands::tell(scene.visit, scene.state, entry)? {
-        scene.tally.count();
-        scene.tally.asked = None;
-        return Ok(());
-    }
-    close_for(scene, Cause::OutboxFull)
-}
-
 /// Disconnects the socket, and tells the client so where its outbox has space. Its questions go.
 fn disconnect(scene: &mut Scene, who: &Who) -> Acted
     requires own { who.now.client ≡ scene.old.visit.client }
@@ -148,6 +134,8 @@ fn act_allowed(scene: &mut Scene, who: &Who, effect: Effect) -> Acted
             Some(id) => reply(scene, who, id, answer),
             None => unreachable!(),
         },
+        Effect::Report => report(scene, who),
+        Effect::Fetch(selection) => fetch(scene, who, &selection),
         Effect::EmitAsk(inquiry) => ask(scene, who, inquiry),
         Effect::Disconnect => disconnect(scene, who),
         Effect::AllJoin(selection, room) => join_all(scene, selection, room),

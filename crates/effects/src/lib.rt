@@ -2,6 +2,7 @@
 #![tactic(auto)]
 
 mod act;
+mod answering;
 mod ask;
 mod broadcast;
 pub mod commands;

@@ -1,6 +1,7 @@
 //! What an event of one client works on.
 
 ghost use Rattle.std.specs.Prelude.{◌≡◌, None, Some, is_some, true, false};
+ghost use Rattle.std.specs.Option.{option_or};
 ghost use Rattle.events.specs.Plain.{nothing_done, one_packet_more, one_more, noted};
 
 use connection::Line;
@@ -53,6 +54,8 @@ pub struct Tally {
     pub done: Done,
     /// The id under which the packet still asks to be acknowledged.
     pub asked: Option<u64>,
+    /// Why the first of the packet's effects that was skipped was, if one was.
+    pub refused: Option<RoomError>,
     /// Whether the packet's socket was disconnected.
     pub ended: bool,
 }
@@ -60,11 +63,13 @@ pub struct Tally {
 impl Tally {
     /// Nothing was done yet.
     pub fn new(alloc: Global) -> Tally
-        ensures { result ≡ record { done = nothing_done; asked = None; ended = false } }
+        ensures { let done = nothing_done in
+            result ≡ record { done = done; asked = None; refused = None; ended = false } }
     {
         Tally {
             done: Done::nothing(alloc),
             asked: None,
+            refused: None,
             ended: false,
         }
     }
@@ -72,10 +77,11 @@ impl Tally {
     /// A packet begins, of which nothing is known yet.
     pub fn begin(&mut self)
         ensures { let done = one_packet_more self.old.done in
-            self.new ≡ record { done = done; asked = None; ended = false } }
+            self.new ≡ record { done = done; asked = None; refused = None; ended = false } }
     {
         self.done.packets = self.done.packets.saturating_add(1);
         self.asked = None;
+        self.refused = None;
         self.ended = false;
     }
 
@@ -109,11 +115,14 @@ impl Tally {
         self.done.effects = self.done.effects.saturating_add(1);
     }
 
-    /// An effect was skipped for this reason, or not: the first reason is kept.
+    /// An effect was skipped for this reason, or not: the first reason of the event is kept, and
+    /// the first one of the packet.
     pub(crate) fn note(&mut self, refused: Option<RoomError>)
-        ensures { self.new ≡ record self.old { done = noted refused self.old.done } }
+        ensures { let old = self.old in
+            self.new ≡ record old { done = noted refused old.done; refused = option_or old.refused refused } }
     {
         self.done.skipped = self.done.skipped.or(refused);
+        self.refused = self.refused.or(refused);
     }
 }
 

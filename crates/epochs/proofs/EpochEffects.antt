@@ -16,7 +16,7 @@ use Rattle.journal.specs.Legal.{IsRight}
 use Rattle.journal.specs.ManySockets.{joining, leaving, dismissal}
 use Rattle.journal.specs.Membership.{is_space, place_of}
 use Rattle.events.specs.declared.app.Effect.{Effect}
-use Rattle.events.specs.declared.app.Effect.TheVariants.{Join, Leave, Emit, EmitAsk, Reply, Disconnect, AllJoin, AllLeave, AllEnd}
+use Rattle.events.specs.declared.app.Effect.TheVariants.{Join, Leave, Emit, EmitAsk, Reply, Report, Fetch, Disconnect, AllJoin, AllLeave, AllEnd}
 use Rattle.events.specs.declared.app.Inquiry as inquiry
 use Rattle.events.specs.declared.app.Reply as reply
 use Rattle.events.specs.declared.app.Who.{Who}
@@ -25,15 +25,17 @@ use Rattle.events.specs.declared.fault.CoreFault.{CoreFault}
 use Rattle.events.specs.declared.fault.Stopped.{Stopped}
 use Rattle.events.specs.Emission.{PlainEmission}
 use Rattle.events.specs.Selection.{PlainSelection}
+use Rattle.hub_state.specs.Words.{selected}
+use Rattle.effects.specs.Answering.{report_text, list_text}
 use Rattle.effects.specs.Commands.{Makes, IsRefused, StopsAt, IsSeated}
-use Rattle.effects.specs.Effects.{Scene, Closes, ChangesRooms, Emits, told_to, Replies, Asks, goodbye, SaysGoodbye, Disconnects, all_joined, all_left, dismissed, is_among, EndsAll, Acts, ActsInTurn, is_bad, is_wrong, FailsToTell, FailsAt, FailsToEmit, FailsToReply, FailsToDisconnect, FailsToEndAll, FailsToAsk, Fails, Stops, StopsAfter}
+use Rattle.effects.specs.Effects.{Scene, Closes, ChangesRooms, Emits, told_to, Replies, Says, listed, Asks, goodbye, SaysGoodbye, Disconnects, all_joined, all_left, dismissed, is_among, EndsAll, Acts, ActsInTurn, is_bad, is_wrong, FailsToTell, FailsAt, FailsToEmit, FailsToReply, FailsToSay, FailsToDisconnect, FailsToEndAll, FailsToAsk, Fails, Stops, StopsAfter}
 use Rattle.events.specs.Plain.{one_more, told}
 use Rattle.effects.specs.Runs.{Runs, RunsOrFails}
 use Rattle.effects.specs.Broadcasting.{work}
 use Rattle.epochs.specs.Epochs.{AreAlike}
 use Rattle.epochs.proofs.EpochSteps.{refusal-alike, Grown, grown-none, grown-on, grown-step, StaysSound}
 use Rattle.epochs.proofs.EpochCasts.{says-alike, cannot-say}
-use Rattle.epochs.proofs.EpochLists.{any-alike, joining-alike, leaving-alike, dismissal-alike, joining-right, leaving-right, dismissal-right}
+use Rattle.epochs.proofs.EpochLists.{any-alike, joining-alike, leaving-alike, selected-alike, dismissal-alike, joining-right, leaving-right, dismissal-right}
 
 -- the scene with another history
 abbrev pub moved : Scene → History → Scene
@@ -142,11 +144,24 @@ module _ (keeps : StaysSound) (now : ℕ) where
       let m = with_step g now (what.AllEnded d) in
       (m, both.0, subst (λ (e : PlainDismissal). EndsThose who e (moved s g) (moved t m)) (sym (dismissed-alike p s.history g alike)) (both.1, ap (λ (u : Scene). moved u m) is, lines))
 
+  listed-alike : (p : PlainSelection) (h g : History) → AreAlike h g → listed p g ≡ listed p h
+  listed-alike p h g alike =
+      ap (λ (l : Limits). list_text (selected g (place_of l p.space) p.rooms p.excepted)) alike.same.same_limits
+      ∙ ap list_text (selected-alike h g alike (place_of h.limits p.space) p.rooms p.excepted)
+
+  says-back : (who : Who) (text other : List ℕ) → other ≡ text → (s t : Scene) (g : History) → AreAlike s.history g → Says who text now s t
+      → (m : History) × Grown s.history t.history g m × Says who other now (moved s g) (moved t m)
+  says-back who text other is s t g alike (id, asked, does) =
+      let (m, grown, also) = replies-alike who id (record { payload = text; attachments = [] }) s t g alike does in
+      (m, grown, subst (λ (x : List ℕ). Says who x now (moved s g) (moved t m)) (sym is) (id, asked, also))
+
   acts-alike : (who : Who) (effect : Effect) (s t : Scene) (g : History) → AreAlike s.history g → Acts who now s effect t → Sim (λ a b. Acts who now a effect b) s t g
   acts-alike who (Join room) s t g alike does = changes-alike _ _ refl s t g alike tt does
   acts-alike who (Leave room) s t g alike does = changes-alike _ _ refl s t g alike tt does
   acts-alike who (Emit e) s t g alike does = emits-alike who e s t g alike does
   acts-alike who (Reply r) s t g alike (id, asked, does) = let (m, grown, also) = replies-alike who id r s t g alike does in (m, grown, (id, asked, also))
+  acts-alike who Report s t g alike does = says-back who (report_text s.refused) (report_text s.refused) refl s t g alike does
+  acts-alike who (Fetch p) s t g alike does = says-back who (listed p s.history) (listed p g) (listed-alike p s.history g alike) s t g alike does
   acts-alike who (EmitAsk q) s t g alike does = asks-alike who q s t g alike does
   acts-alike who Disconnect s t g alike does = disconnects-alike who s t g alike does
   acts-alike who (AllJoin p room) s t g alike does =
@@ -194,6 +209,12 @@ module _ (keeps : StaysSound) (now : ℕ) where
   fails-to-reply who id r s fault t g alike (is, inr (entry, reads, fails)) =
       (g, grown-none s.history t.history g alike (ap (λ (u : Scene). u.history) is), (ap (λ (u : Scene). moved u g) is, inr (entry, reads, fails-to-tell who s.history g alike entry fault fails)))
 
+  fails-to-say : (who : Who) (text other : List ℕ) → other ≡ text → (s : Scene) (fault : CoreFault) (t : Scene) (g : History) → AreAlike s.history g → FailsToSay who text now s fault t
+      → (m : History) × Grown s.history t.history g m × FailsToSay who other now (moved s g) fault (moved t m)
+  fails-to-say who text other is s fault t g alike (id, asked, does) =
+      let (m, grown, also) = fails-to-reply who id (record { payload = text; attachments = [] }) s fault t g alike does in
+      (m, grown, subst (λ (x : List ℕ). FailsToSay who x now (moved s g) fault (moved t m)) (sym is) (id, asked, also))
+
   fails-to-disconnect : (who : Who) (s : Scene) (fault : CoreFault) (t : Scene) (g : History) → AreAlike s.history g → FailsToDisconnect who now s fault t → Ends (FailsToDisconnect who now) s fault t g
   fails-to-disconnect who s fault t g alike (inl (short, is)) = (g, grown-none s.history t.history g alike (ap (λ (u : Scene). u.history) is), inl (short, ap (λ (u : Scene). moved u g) is))
   fails-to-disconnect who s fault t g alike (inr (inl fails)) = let (m, grown, also) = fails-at (goodbye who) (goodbye who) refl s fault t g alike fails in (m, grown, inr (inl also))
@@ -222,6 +243,8 @@ module _ (keeps : StaysSound) (now : ℕ) where
   fails-alike who (Leave room) s fault t g alike does = fails-at (what.Left who.sid room) (what.Left who.sid room) refl s fault t g alike does
   fails-alike who (Emit e) s fault t g alike does = fails-to-emit e s fault t g alike does
   fails-alike who (Reply r) s fault t g alike (id, asked, does) = let (m, grown, also) = fails-to-reply who id r s fault t g alike does in (m, grown, (id, asked, also))
+  fails-alike who Report s fault t g alike does = fails-to-say who (report_text s.refused) (report_text s.refused) refl s fault t g alike does
+  fails-alike who (Fetch p) s fault t g alike does = fails-to-say who (listed p s.history) (listed p g) (listed-alike p s.history g alike) s fault t g alike does
   fails-alike who (EmitAsk q) s fault t g alike does = fails-to-ask who q s fault t g alike does
   fails-alike who Disconnect s fault t g alike does = fails-to-disconnect who s fault t g alike does
   fails-alike who (AllJoin p room) s fault t g alike does = fails-at (all_joined p room s.history) (all_joined p room g) (all_joined-alike p room s.history g alike) s fault t g alike does

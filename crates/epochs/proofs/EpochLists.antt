@@ -18,6 +18,7 @@ use Rattle.journal.specs.Journal.{History}
 use Rattle.journal.specs.Membership.{is_open, sockets, sid_of, matches}
 use Rattle.journal.specs.Outboxes.{farewell, has_no_space, is_full}
 use Rattle.journal.specs.ManySockets.{rising_by, client_of, may_enter, may_exit, may_hear, joining, leaving, dismissal, ListsSockets, RightJoining, RightLeaving, RightDismissal}
+use Rattle.hub_state.specs.Words.{selected}
 use Rattle.journal.proofs.CastLemmas.{any-map, any-filter}
 use Rattle.journal.proofs.ManySocketsLemmas.{listed}
 use Rattle.journal.proofs.EpochsSocketsLemmas.{any-socket-as}
@@ -113,9 +114,13 @@ leaving-alike h g alike space named excepted room =
     (rising-alike h g alike sid_of (may_exit g.base g.journal space named excepted room) (may_exit h.base h.journal space named excepted room)
     (λ k known i. matches-alike h g alike space named excepted k i && is_in (alike.same.same_rooms i) k.sid room))
 
+pub selected-alike : (h g : History) → AreAlike h g → (space : ℕ) (named excepted : List (List ℕ)) → selected g space named excepted ≡ selected h space named excepted
+selected-alike h g alike space named excepted =
+    rising-alike h g alike sid_of (matches g.base g.journal space named excepted) (matches h.base h.journal space named excepted) (λ k known. matches-alike h g alike space named excepted k)
+
 pub dismissal-alike : (h g : History) → AreAlike h g → (space : ℕ) (named excepted : List (List ℕ)) → dismissal g space named excepted ≡ dismissal h space named excepted
 dismissal-alike h g alike space named excepted =
-    let ends = rising-alike h g alike sid_of (matches g.base g.journal space named excepted) (matches h.base h.journal space named excepted) (λ k known. matches-alike h g alike space named excepted k) in
+    let ends = selected-alike h g alike space named excepted in
     let said = ap (λ (l : Limits). farewell l space) alike.same.same_limits in
     let tells = rising-alike h g alike client_of (may_hear g.base g.limits g.journal space named excepted) (may_hear h.base h.limits h.journal space named excepted)
     (λ k known. (λ i. matches-alike h g alike space named excepted k i && not (full-alike h g alike k.client known (farewell g.limits space) i))

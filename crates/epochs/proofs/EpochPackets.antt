@@ -19,7 +19,7 @@ use Rattle.journal.specs.declared.step.What.TheVariants as what
 use Rattle.journal.specs.Plain.{Limits, PlainRecovery}
 use Rattle.journal.specs.Journal.{History, moment_at, with_step}
 use Rattle.journal.specs.Membership.{is_space, place_of, socket_of}
-use Rattle.journal.specs.Sessions.{session_with}
+use Rattle.journal.specs.Sessions.{rooms_rising, session_with}
 use Rattle.journal.specs.Recovery.{brought_back, no_session}
 use Rattle.journal.specs.Refusals.{recover_refusal}
 use Rattle.journal.specs.Totals.{is_spent}
@@ -28,6 +28,7 @@ use Rattle.journal.proofs.CountsLemmas.{unrefused}
 use Rattle.journal.proofs.EpochsSocketsLemmas.{socket_of-same}
 use Rattle.journal.proofs.RecoverRefusalLemmas.{may-recover, right}
 use Rattle.events.specs.declared.app.Arrived.{Arrived}
+use Rattle.events.specs.declared.app.Arrived.TheVariants as arrived
 use Rattle.events.specs.declared.app.Effect.{Effect}
 use Rattle.events.specs.declared.app.Who.{Who}
 use Rattle.events.specs.declared.cause.Cause.{Cause}
@@ -38,11 +39,12 @@ use Rattle.events.specs.declared.fault.CoreFault.TheVariants.{Memory}
 use Rattle.events.specs.declared.fault.Stopped.{Stopped}
 use Rattle.events.specs.App.{Policy}
 use Rattle.hub_state.specs.Recovering.{recovery_asked}
+use Rattle.hub_state.specs.Words.{rooms_now}
 use Rattle.effects.specs.Commands.{Makes, IsRefused, StopsAt, CannotRecover, IsSeated, seat}
 use Rattle.effects.specs.Effects.{Scene, told_to, counted}
 use Rattle.effects.specs.Runs.{Runs}
 use Rattle.epochs.specs.Epochs.{AreAlike}
-use Rattle.dispatch.specs.Packets.{Course, Upshot, StopsFor, IsShort, DrawsNone, ClosesFor, ParksFor, refusal_entry, Refuses, DoesAll, ClientDisconnects, Decides, TakesAck, Serves, ServesJoined, ConnectsAs, IsRecovered, AsksApp, AsksToRecover, MayRecover, AsksToConnect, Works, GoesOn, with_line, TakesFrame, TakesText, ReadsBinary, TakesBinary, Handles, begun, HandlesOrBreaks, HandlesInTurn, BreaksAfter}
+use Rattle.dispatch.specs.Packets.{Course, Upshot, StopsFor, IsShortAfter, IsShort, DrawsNone, ClosesFor, ParksFor, refusal_entry, Refuses, DoesAll, ClientDisconnects, DecidesAfter, Decides, TakesAck, Serves, ServesJoined, socket_in, ConnectsAs, ComesBack, AsksApp, AsksToRecover, MayRecover, AsksToConnect, Works, GoesOn, with_line, TakesFrame, TakesText, ReadsBinary, TakesBinary, Handles, begun, HandlesOrBreaks, HandlesInTurn, BreaksAfter}
 use Rattle.dispatch.specs.Parking.{ParksOrCloses, FailsToPark}
 use Rattle.epochs.proofs.EpochSteps.{with-limits, Grown, grown-none, grown-on, StaysSound}
 use Rattle.epochs.proofs.EpochEffects.{moved, Sim, make-alike, refused-alike, stops-alike, closes-alike, runs-alike, effects-alike, stopped-alike, seated-alike}
@@ -109,9 +111,12 @@ module _ (keeps : StaysSound) (now : ℕ) where
   stops-for : (fault : CoreFault) (s : Scene) (e : Stopped) (t : Scene) (g : History) → AreAlike s.history g → StopsFor fault s e t → Sim (λ a b. StopsFor fault a e b) s t g
   stops-for fault s e t g alike (is, same) = (g, same-scene s t g alike same, (is, ap (λ (u : Scene). moved u g) same))
 
+  shorter-alike : (before : ℕ) (s : Scene) (result : Upshot) (t : Scene) (g : History) → AreAlike s.history g → IsShortAfter before s result t → SimFor (IsShortAfter before) s result t g
+  shorter-alike before s (Ok done) t g alike none = absurd none
+  shorter-alike before s (Err e) t g alike (is, same) = (g, same-scene s t g alike same, (is, ap (λ (u : Scene). moved u g) same))
+
   short-alike : (s : Scene) (result : Upshot) (t : Scene) (g : History) → AreAlike s.history g → IsShort s result t → SimFor IsShort s result t g
-  short-alike s (Ok done) t g alike none = absurd none
-  short-alike s (Err e) t g alike short = stops-for Memory s e t g alike short
+  short-alike s result t g alike short = shorter-alike 0 s result t g alike short
 
   closes-for : (c : ℕ) (why : Cause) (s : Scene) (result : Upshot) (t : Scene) (g : History) → AreAlike s.history g → ClosesFor c now why s result t → SimFor (ClosesFor c now why) s result t g
   closes-for c why s (Ok done) t g alike closes = closes-alike keeps now c why s t g alike closes
@@ -156,10 +161,14 @@ module _ (keeps : StaysSound) (now : ℕ) where
       (g, same-scene s t g alike same, (stops-alike keeps now s.history g alike (what.Ended who.sid side.Client) e.fault fails, (is, ap (λ (u : Scene). moved u g) same)))
 
   module _ (policy : Policy) where
+    decides-after-alike : (before : ℕ) (who : Who) (arrived : Arrived) (s : Scene) (result : Upshot) (t : Scene) (g : History) → AreAlike s.history g
+        → DecidesAfter policy before who arrived now s result t → SimFor (DecidesAfter policy before who arrived now) s result t g
+    decides-after-alike before who arrived s result t g alike (inl short) = let (m, grown, also) = shorter-alike before s result t g alike short in (m, grown, inl also)
+    decides-after-alike before who arrived s result t g alike (inr (effects, decided, clean, does)) =
+        let (m, grown, also) = does-all who before effects s result t g alike does in (m, grown, inr (effects, decided, clean, also))
+
     decides-alike : (who : Who) (arrived : Arrived) (s : Scene) (result : Upshot) (t : Scene) (g : History) → AreAlike s.history g → Decides policy who arrived now s result t → SimFor (Decides policy who arrived now) s result t g
-    decides-alike who arrived s result t g alike (inl short) = let (m, grown, also) = short-alike s result t g alike short in (m, grown, inl also)
-    decides-alike who arrived s result t g alike (inr (effects, decided, clean, does)) =
-        let (m, grown, also) = does-all who 0 effects s result t g alike does in (m, grown, inr (effects, decided, clean, also))
+    decides-alike who arrived s result t g alike does = decides-after-alike 0 who arrived s result t g alike does
 
     ack-alike : (who : Who) (id : Option ℕ) (payload : List ℕ) (attachments : List (List ℕ)) (s : Scene) (result : Upshot) (t : Scene) (g : History) → AreAlike s.history g
         → TakesAck policy who id payload attachments now s result t → SimFor (TakesAck policy who id payload attachments now) s result t g
@@ -229,28 +238,38 @@ module _ (keeps : StaysSound) (now : ℕ) where
       on (inr (inr (e, is, stops, (none, same)))) =
           (g, same-scene s t g alike same, inr (inr (e, is, stops-alike keeps now s.history g alike (what.Attached (seat who pid s.history)) e.fault stops, (none, ap (λ (u : Scene). moved u g) same))))
 
-  returns-alike : (c : ℕ) (space : List ℕ) (pid offset : ℕ) (s : Scene) (result : Upshot) (t : Scene) (g : History) → AreAlike s.history g
-      → IsRecovered (what.Recovered (recovery_asked c space pid offset s.history)) (recovery_asked c space pid offset s.history).socket.sid now s result t
-      → SimFor (IsRecovered (what.Recovered (recovery_asked c space pid offset s.history)) (recovery_asked c space pid offset s.history).socket.sid now) s result t g
-  returns-alike c space pid offset s result t g alike (is, makes, advances, same) =
-      let w = what.Recovered (recovery_asked c space pid offset s.history) in
-      let both = make-alike keeps now s.history g t.history alike w (return-right s.history now c space pid offset t.history makes) makes in
+  -- the rooms of a socket
+  rooms-alike : (h g : History) → AreAlike h g → (sid : ℕ) → rooms_rising (rooms_now g) sid ≡ rooms_rising (rooms_now h) sid
+  rooms-alike h g alike sid = ap (λ sets. rooms_rising sets sid) alike.same.same_rooms
+
+  returns-alike : (policy : Policy) (c : ℕ) (space : List ℕ) (pid offset : ℕ) (s : Scene) (result : Upshot) (t : Scene) (g : History) → AreAlike s.history g
+      → ComesBack policy (what.Recovered (recovery_asked c space pid offset s.history)) (socket_in c space (recovery_asked c space pid offset s.history).socket.sid) now s result t
+      → SimFor (ComesBack policy (what.Recovered (recovery_asked c space pid offset s.history)) (socket_in c space (recovery_asked c space pid offset s.history).socket.sid) now) s result t g
+  returns-alike policy c space pid offset s result t g alike (between, makes, advances, is, decides) =
+      let r = recovery_asked c space pid offset s.history in
+      let w = what.Recovered r in
+      let who = socket_in c space r.socket.sid in
+      let both = make-alike keeps now s.history g between.history alike w (return-right s.history now c space pid offset between.history makes) makes in
       let m = with_step g now w in
-      (m, both.0, (is, both.1, advances, ap (λ (u : Scene). moved u m) same))
+      let (n, grown, also) = decides-after-alike policy 1 who (arrived.Returned (rooms_rising (rooms_now between.history) who.sid)) between result t m both.0.alike decides in
+      let with_rooms = subst (λ (rooms : List (List ℕ)). DecidesAfter policy 1 who (arrived.Returned rooms) now (moved between m) result (moved t n)) (sym (rooms-alike between.history m both.0.alike who.sid)) also in
+      (n, grown-on s.history between.history t.history g m n both.0 grown, (moved between m, both.1, advances, ap (λ (u : Scene). moved u m) is, with_rooms))
 
   module _ (policy : Policy) (c : ℕ) (space payload : List ℕ) (s : Course) (result : Upshot) (t : Course) (g : History) (alike : AreAlike s.scene.history g) where
     asks-app : AsksApp policy c space payload now s result t → SimFrom (AsksApp policy c space payload now) s result t g
     asks-app (inl (short, drawn)) = let (m, grown, also) = short-alike s.scene result t.scene g alike short in (m, grown, inl (also, drawn))
-    asks-app (inr (inl (effects, allowed, clean, (drawn, does)))) =
-        let (m, grown, also) = connects-as (record { client = c; space = space; sid = s.ids 0 }) (s.ids 1) effects s.scene result t.scene g alike does in
-        (m, grown, inr (inl (effects, allowed, clean, (drawn, also))))
+    asks-app (inr (inl (effects, allowed, clean, (drawn, inl short)))) =
+        let (m, grown, also) = short-alike s.scene result t.scene g alike short in (m, grown, inr (inl (effects, allowed, clean, (drawn, inl also))))
+    asks-app (inr (inl (effects, allowed, clean, (drawn, inr (all, greets, does))))) =
+        let (m, grown, also) = connects-as (socket_in c space (s.ids 0)) (s.ids 1) all s.scene result t.scene g alike does in
+        (m, grown, inr (inl (effects, allowed, clean, (drawn, inr (all, greets, also)))))
     asks-app (inr (inr (message, allowed, (refuses, drawn)))) =
         let (m, grown, also) = refuses-alike c space message s.scene result t.scene g alike refuses in (m, grown, inr (inr (message, allowed, (also, drawn))))
 
     -- the session that is brought back, whichever recovery it is
     abbrev RecoversBy : PlainRecovery → Course → Course → Type 0
     RecoversBy r a b =
-        DrawsNone (IsRecovered (what.Recovered r) r.socket.sid now) a result b
+        DrawsNone (ComesBack policy (what.Recovered r) (socket_in c space r.socket.sid) now) a result b
         ⊎ (CannotRecover a.scene.history now (what.Recovered r) × AsksApp policy c space payload now a result b)
         ⊎ ((e : Stopped) × (result ≡ Err e) × StopsAt a.scene.history now (what.Recovered r) e.fault × StopsFor e.fault a.scene e b.scene × (b.ids ≡ a.ids))
 
@@ -262,7 +281,7 @@ module _ (keeps : StaysSound) (now : ℕ) where
         r = recovery_asked c space pid offset s.scene.history
 
         on : RecoversBy r s t → (m : History) × Grown s.scene.history t.scene.history g m × RecoversBy r (shifted s g) (shifted t m)
-        on (inl (returns, drawn)) = let (m, grown, also) = returns-alike c space pid offset s.scene result t.scene g alike returns in (m, grown, inl (also, drawn))
+        on (inl (returns, drawn)) = let (m, grown, also) = returns-alike policy c space pid offset s.scene result t.scene g alike returns in (m, grown, inl (also, drawn))
         on (inr (inl (cannot, asks))) =
             let (m, grown, also) = asks-app asks in (m, grown, inr (inl (cannot-alike s.scene.history g alike (what.Recovered r) cannot, also)))
         on (inr (inr (e, is, stops, (none, same), drawn))) =

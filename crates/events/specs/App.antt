@@ -5,7 +5,7 @@ use Rattle.eio_wire.specs.Payload.{IsWhole}
 use Rattle.events.specs.declared.app.Verdict.{Verdict}
 use Rattle.events.specs.declared.app.Verdict.TheVariants.{Accept, Refuse}
 use Rattle.events.specs.declared.app.Arrived.{Arrived}
-use Rattle.events.specs.declared.app.Arrived.TheVariants.{Event, Answer, Stray}
+use Rattle.events.specs.declared.app.Arrived.TheVariants.{Connected, Returned, Event, Answer, Stray}
 use Rattle.events.specs.declared.app.Effect.{Effect}
 use Rattle.events.specs.declared.app.Effect.TheVariants.{Emit, EmitAsk, Reply}
 use Rattle.events.specs.declared.app.Who.{Who}
@@ -26,8 +26,10 @@ abbrev pub plain_verdict : Verdict → PlainVerdict
 plain_verdict (Accept effects) = Accepted effects.items
 plain_verdict (Refuse message) = Refused message
 
--- what arrived holds no U+001E, which separates the packets of a payload
+-- what arrived holds no U+001E, which separates the packets of a payload; rooms may
 abbrev pub IsCleanArrival : Arrived → Type 0
+IsCleanArrival (Connected payload) = IsWhole payload
+IsCleanArrival (Returned rooms) = Unit {0}
 IsCleanArrival (Event message) = IsWhole message.payload
 IsCleanArrival (Answer answer) = IsWhole answer.payload
 IsCleanArrival (Stray stray) = IsWhole stray.payload

@@ -2,6 +2,7 @@ pub mod Answer
 pub mod App
 pub mod Cause
 pub mod Emission
+pub mod Ending
 pub mod Event
 pub mod Fault
 pub mod Loss

@@ -28,15 +28,34 @@ pub enum Verdict {
     Refuse(Text),
 }
 
-/// What arrived from a socket.
+/// What arrived from a socket, or became of it.
 #[derive(Debug, Drop)]
 pub enum Arrived {
+    /// It has connected, with this payload of its CONNECT. This comes first.
+    Connected(Text),
+    /// Its session has come back.
+    Returned(Returned),
     /// An event.
     Event(Message),
     /// The answer to a question of this socket.
     Answer(Answer),
     /// An answer to no question of this socket: to one that was asked of a room, or that ran out.
     Stray(Stray),
+}
+
+/// A session that came back. In a contract it is the rooms that it is in.
+#[derive(Debug, Drop)]
+pub struct Returned {
+    /// The rooms that it is in, its own among them, rising by their bytes.
+    pub rooms: Vec<Room>,
+}
+
+impl Model for Returned {
+    ghost use Rattle.std.specs.Prelude.{ℕ, List};
+
+    ghost Value = { List (List ℕ) };
+
+    ghost view = { λ r. r.rooms.items };
 }
 
 /// An event that arrived.
@@ -86,6 +105,11 @@ pub enum Effect {
     EmitAsk(Inquiry),
     /// The event that arrived is acknowledged.
     Reply(Reply),
+    /// It is acknowledged with `"ok"`, or, where an effect of it was skipped, with `"error"` and why
+    /// the first one was.
+    Report,
+    /// It is acknowledged with `"ok"` and the session ids of all these sockets, rising.
+    Fetch(Selection),
     /// The socket is told so and disconnected.
     Disconnect,
     /// All these sockets join a room, or none does.
@@ -188,7 +212,7 @@ pub trait App {
             (policy self.now).allows space.now payload.now (plain_verdict verdict)) }
         ensures clean { IfOk result (λ v. IsCleanVerdict payload.now (plain_verdict v)) };
 
-    /// What is done where something arrived from a socket.
+    /// What is done where something arrived from a socket, or where it has connected or come back.
     fn decides(&self, alloc: Global, who: &Who, arrived: &Arrived) -> Wanted
         ensures decided { IfOk result (λ e. (policy self.now).decides who.now arrived.now e.items) }
         ensures clean { IfOk result (λ e. IsCleanArrival arrived.now → AllClean e.items) };

@@ -4,6 +4,7 @@
 
 mod app;
 mod cause;
+mod ending;
 mod event;
 mod fault;
 mod loss;
@@ -11,10 +12,11 @@ mod outcome;
 mod peer;
 
 pub use app::{
-    Answer, App, Arrived, Effect, Emission, IdSource, Inquiry, Message, Reply, Selection, Stray,
-    Verdict, Wanted, Who,
+    Answer, App, Arrived, Effect, Emission, IdSource, Inquiry, Message, Reply, Returned, Selection,
+    Stray, Verdict, Wanted, Who,
 };
 pub use cause::Cause;
+pub use ending::ending_word;
 pub use event::{Event, WsFrame};
 pub use fault::{CoreError, CoreFault, Stopped, Worked};
 pub use loss::{Loss, Retry};

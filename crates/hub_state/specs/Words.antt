@@ -13,7 +13,8 @@ use Rattle.journal.specs.declared.step.What.{What}
 use Rattle.journal.specs.declared.step.What.TheVariants.{Told, Took}
 use Rattle.journal.specs.Plain.{PlainBroadcast, PlainDismissal, PlainMessage, PlainOutbox}
 use Rattle.journal.specs.Journal.{History}
-use Rattle.journal.specs.Membership.{is_open, is_in_space, place_of, rooms}
+use Rattle.journal.specs.Membership.{is_open, is_in_space, matches, place_of, rooms, sid_of, sockets}
+use Rattle.journal.specs.ManySockets.{rising_by}
 use Rattle.journal.specs.Sessions.{sessions}
 use Rattle.journal.specs.Log.{log, next}
 use Rattle.journal.specs.Outboxes.{waiting, answer}
@@ -107,6 +108,12 @@ DismissesNow h d ks messages = Dismisses h.base h.limits h.journal d ks messages
 abbrev pub ListsMembers : History → (place : ℕ) → (room : List ℕ) → List ℕ → Type 0
 ListsMembers h place room =
     ListsRising nat_cmp (λ s. is_in_space h.base h.journal place s && is_in (rooms_now h) s room)
+
+-- the sockets of the namespace at a place that are in one of the rooms, or all where none is named, but for those in an
+-- excepted one, rising
+abbrev pub selected : History → (place : ℕ) → (named excepted : List (List ℕ)) → List ℕ
+selected h place named excepted =
+    rising_by sid_of (matches h.base h.journal place named excepted) (sockets h.base h.journal)
 
 -- each connected session, where it was true to what it heard, has heard just what is due to it
 abbrev pub AllHear : History → Type 0

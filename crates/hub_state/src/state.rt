@@ -26,6 +26,7 @@ mod connect;
 mod deliver;
 mod dismiss;
 mod end;
+mod listing;
 mod missed;
 mod note_ended;
 mod park;

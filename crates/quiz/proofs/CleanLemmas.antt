@@ -7,7 +7,7 @@ use Rattle.std.proofs.lemmas.List.Elements.{All-nil, All-cons}
 use Rattle.eio_wire.specs.Payload.{IsWhole}
 use Rattle.events.specs.App.{AllClean, IsCleanArrival}
 use Rattle.events.specs.declared.app.Arrived.{Arrived}
-use Rattle.events.specs.declared.app.Arrived.TheVariants.{Event, Answer, Stray}
+use Rattle.events.specs.declared.app.Arrived.TheVariants.{Event, Answer}
 use Rattle.events.specs.declared.app.Effect.{Effect}
 use Rattle.events.specs.declared.app.Who.{Who}
 use Rattle.quiz.specs.Quiz.{begins_with, ask, announce, reply, decided}
@@ -51,7 +51,7 @@ clean-answer who false = (question, tt)
 clean-decided : (who : Who) (arrived : Arrived) → AllClean (decided who arrived)
 clean-decided who (Event message) = clean-event (begins_with message.payload (codes "play")) (is_some message.id)
 clean-decided who (Answer answer) = clean-answer who (begins_with answer.payload (codes "42"))
-clean-decided who (Stray stray) = tt
+clean-decided who _ = tt
 
 -- of the effects that were decided
 pub clean-effects : {V E : Type 0} (items : V → List Effect) (who : Who) (arrived : Arrived) (r : Result V E)

@@ -5,7 +5,7 @@ use Rattle.sio_wire.specs.JsonFields.{names_at}
 use Rattle.journal.specs.declared.form.Form.TheVariants as form
 use Rattle.events.specs.App.{PlainVerdict, Accepted, Refused}
 use Rattle.events.specs.declared.app.Arrived.{Arrived}
-use Rattle.events.specs.declared.app.Arrived.TheVariants.{Event, Answer, Stray}
+use Rattle.events.specs.declared.app.Arrived.TheVariants.{Event, Answer}
 use Rattle.events.specs.declared.app.Effect.{Effect}
 use Rattle.events.specs.declared.app.Who.{Who}
 use Rattle.events.specs.declared.app.Effect.TheVariants as effect
@@ -54,11 +54,11 @@ abbrev pub reply : Effect
 reply = effect.Reply (record { payload = codes "[]"; attachments = [] })
 
 -- who plays is asked, and asked again until the answer is right; what asks for an acknowledgement
--- gets one, and an answer that nobody waits for gets nothing
+-- gets one, and nothing else has effects
 abbrev pub decided : Who → Arrived → List Effect
 decided who (Event message) =
     (if begins_with message.payload (codes "play") then ask ∷ [] else [])
     ++ (if is_some message.id then reply ∷ [] else [])
 decided who (Answer answer) =
     (if begins_with answer.payload (codes "42") then announce who else ask) ∷ []
-decided who (Stray stray) = []
+decided who _ = []

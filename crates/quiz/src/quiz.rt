@@ -61,7 +61,7 @@ fn decide(alloc: Global, who: &Who, arrived: &Arrived) -> Wanted
             };
             effects.push(next)?;
         }
-        Arrived::Stray(_) => {}
+        _ => {}
     }
     Ok(effects)
 }

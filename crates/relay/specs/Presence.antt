@@ -3,24 +3,15 @@ use Rattle.std.specs.Prelude.{◌≡◌, ℕ, Bool, true, not, if◌then◌else�
 use Rattle.terms.specs.Ids.{id_digits}
 use Rattle.terms.specs.Room.{own_room, same_room}
 use Rattle.journal.specs.declared.ending.Ending.{Ending}
-use Rattle.journal.specs.declared.ending.Ending.TheVariants.{Saved, Closed, Alone, Together}
-use Rattle.journal.specs.declared.ending.Side.TheVariants.{Client, Server}
 use Rattle.journal.specs.declared.form.Form.TheVariants as form
 use Rattle.events.specs.declared.app.Effect.{Effect}
 use Rattle.events.specs.declared.app.Who.{Who}
+use Rattle.events.specs.Ending.{ending_word}
 use Rattle.events.specs.declared.app.Effect.TheVariants.{Emit}
-
--- how a socket ended, in a word
-abbrev pub name_of : Ending → List ℕ
-name_of Saved = codes "saved"
-name_of Closed = codes "closed"
-name_of (Alone Client) = codes "left"
-name_of (Alone Server) = codes "alone"
-name_of Together = codes "together"
 
 -- the event: the socket's id, as its client was told it, and how it ended
 abbrev pub payload : (sid : ℕ) → Ending → List ℕ
-payload sid ending = codes "[\"left\",\"" ++ id_digits sid ++ codes "\",\"" ++ name_of ending ++ codes "\"]"
+payload sid ending = codes "[\"left\",\"" ++ id_digits sid ++ codes "\",\"" ++ ending_word ending ++ codes "\"]"
 
 -- the rooms but this one
 abbrev pub others : (own : List ℕ) → List (List ℕ) → List (List ℕ)

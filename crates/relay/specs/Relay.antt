@@ -9,7 +9,7 @@ use Rattle.events.specs.Selection.{PlainSelection}
 use Rattle.events.specs.declared.app.Who.{Who}
 use Rattle.events.specs.declared.app.Message.{Message}
 use Rattle.events.specs.declared.app.Arrived.{Arrived}
-use Rattle.events.specs.declared.app.Arrived.TheVariants.{Event, Answer, Stray}
+use Rattle.events.specs.declared.app.Arrived.TheVariants.{Event}
 use Rattle.events.specs.declared.app.Effect.{Effect}
 use Rattle.events.specs.declared.app.Effect.TheVariants as effect
 use Rattle.relay.specs.declared.relay_app.Word.{Word}
@@ -159,8 +159,7 @@ effects_of who m = listed (first_effect who (texts_of m.payload) m)
     ++ answer (is_some m.id)
     ++ farewell (word_in (texts_of m.payload))
 
--- what the app decides: an answer has no effects, whether its socket was asked or not
+-- what the app decides: nothing but an event has effects
 abbrev pub decided : Who → Arrived → List Effect
 decided who (Event m) = effects_of who m
-decided who (Answer a) = []
-decided who (Stray s) = []
+decided who _ = []

@@ -4,8 +4,8 @@ ghost use Rattle.std.specs.Prelude.{◌≡◌, ◌++◌, IfOk, OnOk};
 ghost use Rattle.relay.specs.Presence as table;
 ghost use Rattle.relay.specs.Presence.{Leaves, told};
 
-use events::{App, Arrived, Effect, Emission, Verdict, Wanted, Who};
-use journal::{Ending, Form, Side};
+use events::{App, Arrived, Effect, Emission, Verdict, Wanted, Who, ending_word};
+use journal::{Ending, Form};
 use std::alloc::{AllocError, Global};
 use terms::{Attachments, Room, Sid, Text, ascii_text, id_text};
 
@@ -82,19 +82,6 @@ fn payload(alloc: Global, sid: Sid, ending: Ending) -> Result<Text, AllocError>
     ensures { IfOk result (λ text. text ≡ table.payload sid ending) }
 {
     let id = id_text(sid.number());
-    let (id, name) = (ascii_text(&id), name_of(ending));
+    let (id, name) = (ascii_text(&id), ending_word(ending));
     Ok(Text::from_string(format!(in alloc; "[\"left\",\"{id}\",\"{name}\"]")?))
-}
-
-/// How a socket ended, in a word.
-fn name_of(ending: Ending) -> &'static str
-    ensures { result.now ≡ table.name_of ending }
-{
-    match ending {
-        Ending::Saved => "saved",
-        Ending::Closed => "closed",
-        Ending::Alone(Side::Client) => "left",
-        Ending::Alone(Side::Server) => "alone",
-        Ending::Together => "together",
-    }
 }

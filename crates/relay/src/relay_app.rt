@@ -39,7 +39,7 @@ impl App for RelayApp {
     fn decides(&self, alloc: Global, who: &Who, arrived: &Arrived) -> Wanted {
         match arrived {
             Arrived::Event(message) => decide(alloc, who, message),
-            Arrived::Answer(_) | Arrived::Stray(_) => Ok(Vec::new(alloc)),
+            _ => Ok(Vec::new(alloc)),
         }
     }
 

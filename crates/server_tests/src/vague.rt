@@ -23,11 +23,10 @@ impl App for Vague {
 
     fn decides(&self, alloc: Global, _who: &Who, arrived: &Arrived) -> Wanted {
         let mut effects = Vec::new(alloc);
-        if matches!(arrived, Arrived::Stray(_)) {
-            return Ok(effects);
+        if matches!(arrived, Arrived::Event(_) | Arrived::Answer(_)) {
+            effects.push(Effect::Disconnect)?;
+            effects.push(Effect::Disconnect)?;
         }
-        effects.push(Effect::Disconnect)?;
-        effects.push(Effect::Disconnect)?;
         Ok(effects)
     }
 

@@ -56,6 +56,9 @@ fn no_array(alloc: Global, space: &str, wish: &str) -> Result<Option<Effect>, Al
 /// The id of a question that is asked of a whole namespace.
 const POLL: u64 = 900;
 
+/// The event by which everybody in a namespace hears of something.
+const HEARD: &str = "[\"heard\"]";
+
 /// What goes to everybody in a namespace in this form.
 #[tactic(auto, using(crate::proofs::WishLemmas::far_is_whole))]
 fn sent_to(alloc: Global, space: &str, form: Form) -> Result<Effect, AllocError>
@@ -78,7 +81,7 @@ fn sent_far(alloc: Global, space: &str, wish: &str) -> Result<Option<Effect>, Al
     Ok(Some(match wish {
         "[\"far\"]" => sent_to(alloc, "/admin", Form::Event { logged: true })?,
         "[\"nowhere\"]" => sent_to(alloc, "/none", Form::Event { logged: true })?,
-        "[\"heard\"]" => sent_to(alloc, space, Form::Event { logged: false })?,
+        HEARD => sent_to(alloc, space, Form::Event { logged: false })?,
         "[\"poll\"]" => sent_to(alloc, space, Form::Question(POLL))?,
         "[\"told\"]" => sent_to(alloc, space, Form::Answer(POLL))?,
         _ => return Ok(None),
@@ -99,6 +102,8 @@ fn last_effect(
         "[\"over\"]" => Ok(Some(Effect::AllEnd(everybody(alloc, space)?))),
         "[\"gone\"]" => Ok(Some(Effect::AllEnd(nobody(alloc, space)?))),
         "[\"own\"]" => Ok(Some(Effect::Leave(own))),
+        "[\"fine\"]" | "[\"report\"]" => Ok(Some(Effect::Report)),
+        "[\"list\"]" => Ok(Some(Effect::Fetch(everybody(alloc, space)?))),
         "[\"late\"]" | "{\"do\":\"late\"}" | "{\"do\":\"join\"}" => {
             Ok(Some(Effect::Join(Room::own(Sid::new(7)))))
         }
@@ -110,7 +115,7 @@ fn last_effect(
 }
 
 /// The effects that are wanted: that all are disconnected, twice, or to join a room after the
-/// disconnection, or one.
+/// disconnection, or a report of a room that can't be left, or one.
 fn effects_of(
     alloc: Global,
     space: &str,
@@ -127,6 +132,7 @@ fn effects_of(
             let first = Effect::AllEnd(everybody(alloc, space)?);
             Ok(Some(vec![in alloc; first, last]?))
         }
+        "[\"report\"]" => Ok(Some(vec![in alloc; Effect::Leave(own), last]?)),
         "[\"late\"]" | "{\"do\":\"late\"}" => Ok(Some(vec![in alloc; Effect::Disconnect, last]?)),
         _ => Ok(Some(vec![in alloc; last]?)),
     }
@@ -158,7 +164,9 @@ impl App for WildApp {
     fn decides(&self, alloc: Global, who: &Who, arrived: &Arrived) -> Wanted {
         let wish = match arrived {
             Arrived::Event(message) => message.payload.as_str(),
-            Arrived::Stray(stray) if stray.id == POLL => "[\"heard\"]",
+            Arrived::Stray(stray) if stray.id == POLL => HEARD,
+            Arrived::Connected(payload) if payload.as_str() == "{\"do\":\"greet\"}" => HEARD,
+            Arrived::Returned(back) if was_in(&back.rooms, b"back") => HEARD,
             _ => "",
         };
         let own = Room::own(who.sid);

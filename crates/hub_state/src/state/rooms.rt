@@ -1,7 +1,7 @@
 //! Sockets join and leave rooms, alone or all of a namespace that match (Socket.IO server
 //! documentation, "Rooms", and "Server API", `socketsJoin` and `socketsLeave`).
 
-ghost use Rattle.std.specs.Prelude.{◌≡◌, true, not, filter, IfOk, false, IfErr, Err};
+ghost use Rattle.std.specs.Prelude.{◌≡◌, not, filter, IfOk};
 ghost use Rattle.std.specs.Ordering.{nat_cmp};
 ghost use Rattle.std.specs.BTreeMap.{get};
 ghost use Rattle.room_maps.specs.Membership.{is_in};
@@ -12,7 +12,6 @@ ghost use Rattle.journal.specs.ManySockets.{RightJoining, RightLeaving};
 ghost use Rattle.journal.specs.Casting as casting;
 ghost use Rattle.journal.specs.declared.step.What.{What};
 ghost use Rattle.hub_state.specs.Changes.{refusal_now, Reports};
-ghost use Rattle.hub_state.specs.Words.{ListsMembers};
 
 use crate::state::{NONE, State};
 use hub_parts::Seats;
@@ -43,7 +42,7 @@ fn is_here(seats: &Seats, sid: Sid, space: u16) -> bool
 }
 
 /// Keeps the sockets that are in the namespace at a place.
-fn keep_here(sids: &mut Vec<Sid>, seats: &Seats, space: u16)
+pub(crate) fn keep_here(sids: &mut Vec<Sid>, seats: &Seats, space: u16)
     ensures { sids.new.items
         ≡ filter (λ s. casting.is_here space (get nat_cmp seats.now s)) sids.old.items }
 {
@@ -225,24 +224,5 @@ impl State {
         self.live.rooms.kept_facts();
         self.records.add(now, What::AllLeft(change), NONE);
         Ok(left)
-    }
-
-    /// The connected sockets of a namespace that are in a room, rising by their ids. Refused as
-    /// `UnknownNamespace`, then for `Memory`. It takes the logarithm of the namespaces, and
-    /// walks the room's members of all namespaces, each with the logarithm.
-    pub fn members(&self, alloc: Global, space: &str, room: Room) -> Result<Vec<Sid>, HubError>
-        ensures members { let place = place_of self.now.limits space.now
-            in IfOk result (λ sids. ListsMembers self.now place room sids.items) }
-        ensures refused { is_space self.now.limits (place_of self.now.limits space.now) ≡ false
-            → result ≡ Err HubError.UnknownNamespace }
-        ensures memory { is_space self.now.limits (place_of self.now.limits space.now) ≡ true
-            → IfErr result (λ e. e ≡ HubError.Memory) }
-    {
-        let place = self.place_of(space)?;
-        let Ok(mut sids) = self.live.rooms.members_of(alloc, room) else {
-            return Err(HubError::Memory);
-        };
-        keep_here(&mut sids, &self.live.seats, place);
-        Ok(sids)
     }
 }

@@ -13,7 +13,7 @@ returns c =
     let sid = c.args.who.now.sid in
     let client = c.args.who.now.client in
     let old = c.args.scene.now.tally.now in
-    let counted = told-is old c.count.new.self _ _ _ c.push.new.self.lists client c.in_ok-ended.field-0.told.items c.retain_others.new.ids.items c.tally.view_is c.count.ensures
+    let counted = told-is old c.count.new.self _ _ _ _ c.push.new.self.lists client c.in_ok-ended.field-0.told.items c.retain_others.new.ids.items c.tally.view_is c.count.ensures
     (c.push.ensures ∙ ap (λ (lists : List (List ℕ)). lists ++ c.retain_others.new.ids.items ∷ []) c.reserve.ensures.same)
     c.retain_others.ensures in
     let answered = rw (c.as_str-space.ensures ∙ ap (λ (m : PlainSelection). m.space) c.selection.view_is, ap (λ (m : PlainSelection). m.rooms) c.selection.view_is, ap (λ (m : PlainSelection). m.excepted) c.selection.view_is) at c.in_ok-ended.ensures in
