@@ -15,6 +15,8 @@ pub struct Options {
     pub settings: Settings,
     /// The token that clients need, if they need one. It stands in no output.
     pub token: Option<Text>,
+    /// The token by which backends join `/backend`, if they may. It stands in no output.
+    pub backend: Option<Text>,
     /// Whether the rooms of a socket that has ended are told so.
     pub tell_left: bool,
     /// Whether the server ends once standard input does.
@@ -51,7 +53,7 @@ macro_rules! options {
 }
 
 /// The options, in the order in which help tells them.
-static OPTIONS: [OptionRow; 27] = options! {
+static OPTIONS: [OptionRow; 28] = options! {
     "port" Set Unsigned(1, 65_535), [], "The port to listen at";
     "host" Set String, ["127.0.0.1"], "The address to listen at";
     "workers" Set Unsigned(1, 1_023), [],
@@ -83,6 +85,8 @@ static OPTIONS: [OptionRow; 27] = options! {
     "origin" Append String, [],
         "Serves only pages of this origin, * for any, and tells browsers so; may come again";
     "token-file" Set String, [], "A file with the token that clients need";
+    "backend-token" Set String, [],
+        "A file with the token by which backends join /backend, in place of the demonstration app";
     "page" Set String, [], "A folder whose files are served beside the socket's path";
     "metrics" Set String, [], "A path at which a GET is answered by the counts, for Prometheus";
     "tell-left" SetTrue Bool, [], "Tells the rooms of a socket that has ended that it left";
@@ -90,14 +94,22 @@ static OPTIONS: [OptionRow; 27] = options! {
     "verbose" SetTrue Bool, [], "Tells on standard error of each client that ends";
 };
 
-/// The command of this name that serves, with its options.
+/// The option of which servers of another app than that of backends know nothing.
+pub(crate) const BACKENDS: &str = "backend-token";
+
+/// The command of this name that serves, with its options, that of backends among them where it has
+/// some.
 pub(crate) fn server<'a>(
     alloc: Global,
     name: &'static str,
     about: &'static str,
+    has_backends: bool,
 ) -> Result<Command<'a>, AllocError> {
     let mut server = Command::new(alloc, name).about(about);
     for entry in OPTIONS.iter() {
+        if entry.name == BACKENDS && !has_backends {
+            continue;
+        }
         let option = Arg::new(alloc, entry.name)
             .long(entry.name)
             .help(entry.help)
@@ -156,12 +168,15 @@ pub(crate) fn read_settings(
     })
 }
 
-/// The namespaces, as they are named.
+/// The namespaces, as they are named, and that of the backends where there may be some.
 fn spaces(alloc: Global, matches: &ArgMatches<'_>) -> Result<Vec<Text>, AllocError> {
     let mut spaces = Vec::new(alloc);
     spaces.push(Text::copy_of(alloc, "/")?)?;
     for space in matches.get_strs("space").unwrap_or(&[]) {
         spaces.push(Text::copy_of(alloc, space)?)?;
+    }
+    if matches.get_str(BACKENDS).is_some() {
+        spaces.push(Text::copy_of(alloc, "/backend")?)?;
     }
     Ok(spaces)
 }

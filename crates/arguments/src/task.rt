@@ -1,6 +1,6 @@
 //! What a program is asked to do.
 
-use crate::options::{Options, read_settings, server};
+use crate::options::{BACKENDS, Options, read_settings, server};
 use crate::token::{TokenError, read_token};
 use clap::error::ErrorKind;
 use clap::{ArgMatches, Command, Error};
@@ -23,6 +23,13 @@ const WRONG_ORIGIN: &str =
 /// What is told of a path that is none.
 const WRONG_PATH: &str =
     "it begins without /, has a ?, a #, a blank or no ASCII, or is the socket's";
+
+/// What is told where clients are to have the token of backends.
+const ONE_TOKEN: &str = "it has the token of --token-file, by which clients would be backends";
+
+/// What is told where the demonstration app is to tell something that isn't there.
+const NO_APP: &str =
+    "--tell-left: with --backend-token there is no demonstration app that tells it";
 
 /// What is told of arguments that can't be read as text.
 const NOT_UTF8: &str = "invalid UTF-8 was detected in one or more arguments";
@@ -49,7 +56,7 @@ impl Program {
     fn command<'a>(self, alloc: Global) -> Result<Command<'a>, AllocError> {
         match self {
             Program::EventServer => event_server(alloc),
-            Program::Server(name, about) => server(alloc, name, about),
+            Program::Server(name, about) => server(alloc, name, about, false),
         }
     }
 
@@ -77,7 +84,7 @@ pub fn read_arguments<R: Env + Files + AllocGlobal + Clone + Drop>(
 }
 
 /// Reads the arguments of a program of this name that serves and does nothing else. Its options are
-/// those of `event_server serve`.
+/// those of `event_server serve`, but for that of backends.
 pub fn read_server_arguments<R: Env + Files + AllocGlobal + Clone + Drop>(
     rt: &R,
     name: &'static str,
@@ -113,6 +120,7 @@ fn right_options<R: Files + AllocGlobal + Clone + Drop>(
     let options = Options {
         settings: read_settings(alloc, matches, processors)?,
         token: None,
+        backend: None,
         tell_left: matches.get_flag("tell-left"),
         until_eof: matches.get_flag("until-eof"),
         verbose: matches.get_flag("verbose"),
@@ -128,7 +136,39 @@ fn right_options<R: Files + AllocGlobal + Clone + Drop>(
     }
 }
 
-/// Reads what the options name, the files of a folder and a token, and tells what can't be read.
+/// Reads the file with a token that an option names, if it names one, or tells why there is none.
+fn token_in<R: Files + AllocGlobal>(
+    rt: &R,
+    matches: &ArgMatches<'_>,
+    option: &str,
+) -> Result<Result<Option<Text>, String>, AllocError> {
+    let Some(file) = matches.get_str(option) else {
+        return Ok(Ok(None));
+    };
+    match read_token(rt, file) {
+        Ok(token) => Ok(Ok(Some(token))),
+        Err(TokenError::Memory(refused)) => Err(refused),
+        Err(fault) => Ok(Err(format!(in rt.alloc(); "--{option} {file}: {fault}")?)),
+    }
+}
+
+/// What is told of the tokens that clients and backends need, where something is wrong.
+fn wrong_backend(alloc: Global, options: &Options) -> Result<Option<String>, AllocError> {
+    if options.backend.is_none() {
+        return Ok(None);
+    }
+    if options.tell_left {
+        return Ok(Some(String::from_str(alloc, NO_APP)?));
+    }
+    match (&options.backend, &options.token) {
+        (Some(backend), Some(token)) if backend.as_str() == token.as_str() => {
+            Ok(Some(format!(in alloc; "--backend-token: {ONE_TOKEN}")?))
+        }
+        _ => Ok(None),
+    }
+}
+
+/// Reads what the options name, the files of a folder and tokens, and tells what can't be read.
 fn read_files<R: Files + AllocGlobal + Clone + Drop>(
     rt: &R,
     matches: &ArgMatches<'_>,
@@ -142,14 +182,15 @@ fn read_files<R: Files + AllocGlobal + Clone + Drop>(
             Err(fault) => return Ok(Some(format!(in alloc; "--page {folder}: {fault}")?)),
         }
     }
-    if let Some(file) = matches.get_str("token-file") {
-        match read_token(rt, file) {
-            Ok(token) => options.token = Some(token),
-            Err(TokenError::Memory(refused)) => return Err(refused),
-            Err(fault) => return Ok(Some(format!(in alloc; "--token-file {file}: {fault}")?)),
-        }
+    match token_in(rt, matches, "token-file")? {
+        Ok(token) => options.token = token,
+        Err(wrong) => return Ok(Some(wrong)),
     }
-    Ok(None)
+    match token_in(rt, matches, BACKENDS)? {
+        Ok(token) => options.backend = token,
+        Err(wrong) => return Ok(Some(wrong)),
+    }
+    wrong_backend(alloc, options)
 }
 
 /// What is told of the first option that is wrong, if one is.
@@ -221,5 +262,6 @@ fn event_server<'a>(alloc: Global) -> Result<Command<'a>, AllocError> {
         .about("A Socket.IO server")
         .subcommand_required(true)
         .subcommand(script)?;
-    program.subcommand(server(alloc, "serve", "Serves browsers and other clients over TCP")?)
+    let serve = "Serves browsers and other clients over TCP";
+    program.subcommand(server(alloc, "serve", serve, true)?)
 }

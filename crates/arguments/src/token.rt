@@ -1,4 +1,4 @@
-//! The file with the token that clients need.
+//! The files with the tokens that clients and backends need.
 
 use std::alloc::AllocError;
 use std::fs;

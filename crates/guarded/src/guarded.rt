@@ -3,6 +3,7 @@
 ghost use Rattle.std.specs.Prelude.{◌≡◌, IfOk};
 ghost use Rattle.guarded.specs.Guarded.{Admits, comes_in, has_token};
 
+use crate::secret::is_same;
 use events::{App, Arrived, Verdict, Wanted, Who};
 use journal::Ending;
 use serde_json::{Category, Value};
@@ -46,7 +47,7 @@ impl<A: App> App for Guarded<A> {
 }
 
 /// Whether a payload is an object whose `token` is this text.
-fn has_token(alloc: Global, token: &str, payload: &str) -> Result<bool, AllocError>
+pub fn has_token(alloc: Global, token: &str, payload: &str) -> Result<bool, AllocError>
     ensures { IfOk result (λ has. has ≡ has_token token.now payload.now) }
 {
     let value = match Value::from_str(alloc, payload) {
@@ -55,7 +56,7 @@ fn has_token(alloc: Global, token: &str, payload: &str) -> Result<bool, AllocErr
         Err(_) => return Ok(false),
     };
     match value.get("token").and_then(Value::as_str) {
-        Some(text) => Ok(text == token),
+        Some(text) => Ok(is_same(text.as_bytes(), token.as_bytes())),
         None => Ok(false),
     }
 }

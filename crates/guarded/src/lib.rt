@@ -2,5 +2,6 @@
 #![tactic(auto)]
 
 mod guarded;
+mod secret;
 
-pub use guarded::Guarded;
+pub use guarded::{Guarded, has_token};

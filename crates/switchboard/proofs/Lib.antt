@@ -1,0 +1,6 @@
+mod ArgumentsLemmas
+mod CleanLemmas
+mod FormLemmas
+mod PrintLemmas
+mod SocketsLemmas
+mod TellingLemmas

@@ -1,0 +1,11 @@
+pub mod Digits
+pub mod Telling
+pub mod Replies
+pub mod Options
+pub mod Sockets
+pub mod Form
+pub mod Arguments
+pub mod Emission
+pub mod Changes
+pub mod Command
+pub mod Switchboard
