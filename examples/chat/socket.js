@@ -109,11 +109,22 @@ function putBack(value, buffers) {
   return Object.fromEntries(Object.entries(value).map(([name, part]) => [name, putBack(part, buffers)]));
 }
 
+// An event (kind 2) or an acknowledgement (3) as packets; with binary data it is of kind 5 or 6.
+function packetsOf(kind, id, values) {
+  const buffers = [];
+  const payload = JSON.stringify(takeOut(values, buffers));
+  const head = buffers.length > 0 ? `4${Number(kind) + 3}${buffers.length}-` : "4" + kind;
+  return [head + id + payload, ...buffers];
+}
+
 export class Socket {
-  // `told` has `connected(again)`, `lost()` and `event(values)`.
-  constructor(url, told) {
+  // `told` has `connected(again)`, `lost()` and `event(values, answer)`, where `answer` sends the acknowledgement, if
+  // one is asked for; and `refused(reason)`, where the page wants to know. `auth` is what the server gets of the client.
+  constructor(url, told, auth = {}) {
     this.url = url;
     this.told = told;
+    this.auth = auth;
+    this.id = null;
     this.pid = null;
     this.offset = null;
     this.questions = new Map();
@@ -121,6 +132,7 @@ export class Socket {
     this.unsent = [];
     this.isOpen = false;
     this.byPolling = false;
+    this.hasOpened = false;
     this.pause = 250;
     this.connect();
   }
@@ -133,11 +145,12 @@ export class Socket {
     this.line = line;
   }
 
-  // The connection is gone, and another one is tried; by polling, where no WebSocket opened.
+  // The connection is gone, and another one is tried; by polling, where no WebSocket ever opened.
   lost(opened) {
     clearTimeout(this.alarm);
     this.line = null;
-    if (!opened) this.byPolling = true;
+    this.hasOpened ||= opened;
+    if (!this.hasOpened) this.byPolling = true;
     if (this.isOpen) this.told.lost();
     this.isOpen = false;
     setTimeout(() => this.connect(), this.pause);
@@ -166,8 +179,8 @@ export class Socket {
         const { pingInterval, pingTimeout } = JSON.parse(text);
         this.patience = pingInterval + pingTimeout;
         this.watch();
-        const session = this.pid && this.offset ? { pid: this.pid, offset: this.offset } : undefined;
-        return this.line.send(["40" + (session ? JSON.stringify(session) : "")]);
+        const session = this.pid && this.offset ? { pid: this.pid, offset: this.offset } : {};
+        return this.line.send(["40" + JSON.stringify({ ...this.auth, ...session })]);
       }
       case "1":
         return this.cut();
@@ -182,6 +195,8 @@ export class Socket {
   packet(text) {
     const [, kind, count, id, payload] = /^([0-6])(?:(\d+)-)?(\d*)(.*)$/s.exec(text);
     if (kind === "0") return this.connected(JSON.parse(payload));
+    if (kind === "1") return this.refused("the server has ended the session");
+    if (kind === "4") return this.refused(JSON.parse(payload).message);
     const packet = { kind, id, values: payload ? JSON.parse(payload) : null, buffers: [], count: Number(count ?? 0) };
     if (packet.count > 0) this.awaited = packet;
     else this.whole(packet);
@@ -203,12 +218,21 @@ export class Socket {
       // A logged event ends in its offset, by which the server knows what came.
       const last = values[values.length - 1];
       if (typeof last === "string" && /^[0-9a-f]{16}$/.test(last)) this.offset = values.pop();
-      this.told.event(values);
+      this.told.event(values, id ? this.answerTo(id) : undefined);
     }
   }
 
+  // The acknowledgement of an event. After another session has begun nobody waits for it.
+  answerTo(id) {
+    const session = this.id;
+    return (...values) => {
+      if (this.isOpen && this.id === session) this.line.send(packetsOf("3", id, values));
+    };
+  }
+
   connected({ sid, pid }) {
-    const again = this.pid === pid;
+    const again = pid !== undefined && this.pid === pid;
+    this.id = sid;
     this.pid = pid;
     if (!again) this.offset = null;
     this.isOpen = true;
@@ -217,15 +241,27 @@ export class Socket {
     for (const packets of this.unsent.splice(0)) this.line.send(packets);
   }
 
+  // The server doesn't let this client in, or sends it away. It isn't asked again: a page makes another socket.
+  refused(reason) {
+    clearTimeout(this.alarm);
+    const line = this.line;
+    this.line = null;
+    this.isOpen = false;
+    line.close();
+    this.told.refused?.(reason);
+  }
+
   // Sends an event. The promise is kept when the server acknowledges it.
   emit(...values) {
     const id = String(this.nextId++);
-    const buffers = [];
-    const payload = JSON.stringify(takeOut(values, buffers));
-    const head = buffers.length > 0 ? `45${buffers.length}-` : "42";
-    const packets = [head + id + payload, ...buffers];
+    const packets = packetsOf("2", id, values);
     if (this.isOpen) this.line.send(packets);
     else this.unsent.push(packets);
     return new Promise((kept) => this.questions.set(id, kept));
+  }
+
+  // Sends an event that nobody acknowledges. Where there is no connection it is dropped.
+  emitVolatile(...values) {
+    if (this.isOpen) this.line.send(packetsOf("2", "", values));
   }
 }

@@ -1,0 +1,158 @@
+"""Chromium, its pages, and a way to the server that can be cut: for scripts that try pages."""
+import base64
+import contextlib
+import json
+import pathlib
+import shutil
+import socket
+import subprocess
+import sys
+import tempfile
+import threading
+import time
+import urllib.parse
+import urllib.request
+
+try:
+    import websocket
+except ImportError:
+    sys.exit("the module websocket isn't there: Debian's python3-websocket")
+
+PATIENCE = 20
+LONGEST = 120
+
+
+class Browser:
+    """Chromium without a window, with a profile of its own; ended behind a `with`."""
+
+    def __enter__(self):
+        self.profile = tempfile.mkdtemp(prefix="browser-")
+        self.process = subprocess.Popen(
+            ["chromium", "--headless=new", "--no-sandbox", "--disable-gpu", "--remote-debugging-port=0",
+             "--remote-allow-origins=*", f"--user-data-dir={self.profile}", "about:blank"],
+            stdout=subprocess.DEVNULL,
+            stderr=subprocess.DEVNULL,
+        )
+        told = pathlib.Path(self.profile) / "DevToolsActivePort"
+        end = time.monotonic() + PATIENCE
+        while not (told.exists() and told.read_text()):
+            if self.process.poll() is not None or time.monotonic() > end:
+                self.__exit__()
+                sys.exit("chromium doesn't start")
+            time.sleep(0.1)
+        self.port = int(told.read_text().split()[0])
+        return self
+
+    def __exit__(self, *_):
+        self.process.terminate()
+        self.process.wait()
+        shutil.rmtree(self.profile, ignore_errors=True)
+
+
+class Page:
+    """One page of the browser, driven by the DevTools protocol."""
+
+    def __init__(self, browser, url, width):
+        request = urllib.request.Request(f"http://127.0.0.1:{browser.port}/json/new?{urllib.parse.quote(url)}", method="PUT")
+        target = json.load(urllib.request.urlopen(request))
+        self.id = target["id"]
+        self.line = websocket.create_connection(target["webSocketDebuggerUrl"], timeout=LONGEST, suppress_origin=True)
+        self.number = 0
+        self.told = None
+        self.call("Page.enable")
+        self.call("Emulation.setDeviceMetricsOverride", width=width, height=700, deviceScaleFactor=1, mobile=False)
+
+    def call(self, method, **values):
+        self.number += 1
+        self.line.send(json.dumps({"id": self.number, "method": method, "params": values}))
+        while True:
+            answer = json.loads(self.line.recv())
+            if answer.get("method") == "Runtime.bindingCalled":
+                self.told(answer["params"]["payload"])
+            if answer.get("id") == self.number:
+                return answer.get("result", {})
+
+    def listen(self, name, told):
+        """The page gets a function of this name; what it is called with is told."""
+        self.told = told
+        self.call("Runtime.enable")
+        self.call("Runtime.addBinding", name=name)
+
+    def run(self, text):
+        answer = self.call("Runtime.evaluate", expression=text, awaitPromise=True, returnByValue=True)
+        if "exceptionDetails" in answer:
+            raise RuntimeError(answer["exceptionDetails"]["exception"].get("description", text))
+        return answer["result"].get("value")
+
+    def becomes(self, text, seconds=PATIENCE):
+        """Whether an expression becomes true in time."""
+        end = time.monotonic() + seconds
+        while time.monotonic() < end:
+            if self.run(text):
+                return True
+            time.sleep(0.1)
+        return False
+
+    def close(self):
+        with contextlib.suppress(OSError, websocket.WebSocketException):
+            self.call("Target.closeTarget", targetId=self.id)
+
+    def picture(self, path):
+        path.parent.mkdir(parents=True, exist_ok=True)
+        path.write_bytes(base64.b64decode(self.call("Page.captureScreenshot")["data"]))
+
+
+class Front:
+    """Stands before the server at a port of its own: lends files, and passes on all else, over connections that can be cut."""
+
+    def __init__(self, server, files={}):
+        self.server, self.files = server, files
+        self.cut, self.ends = False, set()
+        self.listener = socket.create_server(("127.0.0.1", 0))
+        self.port = self.listener.getsockname()[1]
+        threading.Thread(target=self.accept, daemon=True).start()
+
+    def accept(self):
+        while True:
+            end = self.listener.accept()[0]
+            threading.Thread(target=self.serve, args=(end,), daemon=True).start()
+
+    def serve(self, browser):
+        with browser, contextlib.suppress(OSError):
+            words = browser.recv(4096, socket.MSG_PEEK).split(b" ")
+            name = words[1].split(b"?")[0].decode() if len(words) > 1 else ""
+            if name in self.files:
+                head = "HTTP/1.1 200 OK\r\nContent-Type: {}\r\nContent-Length: {}\r\nConnection: close\r\n\r\n"
+                kind, body = self.files[name]
+                browser.sendall(head.format(kind, len(body)).encode() + body)
+            elif not self.cut:
+                self.join(browser)
+
+    def join(self, browser):
+        with socket.create_connection(self.server) as server:
+            self.ends |= {browser, server}
+            if self.cut:
+                hang_up(browser, server)
+            other = threading.Thread(target=self.carry, args=(server, browser), daemon=True)
+            other.start()
+            self.carry(browser, server)
+            other.join()
+            self.ends -= {browser, server}
+
+    def carry(self, source, sink):
+        with contextlib.suppress(OSError):
+            while data := source.recv(65536):
+                sink.sendall(data)
+        hang_up(source, sink)
+
+    def turn(self, word):
+        """Cuts all connections, and those that come, until they are mended."""
+        self.cut = word == "cut"
+        if self.cut:
+            hang_up(*self.ends)
+
+
+def hang_up(*ends):
+    for end in ends:
+        with contextlib.suppress(OSError):
+            end.shutdown(socket.SHUT_RDWR)
