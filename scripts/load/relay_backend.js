@@ -1,0 +1,31 @@
+// The demonstration app's `join` and `say` as an app of the JavaScript library, to be measured beside it.
+//   relay_backend.js URL TOKEN_FILE CLIENT_BUILD      ends by SIGTERM, and tells then how busy it was
+import { readFileSync } from "node:fs";
+import { createRequire } from "node:module";
+import { connect } from "../../backends/javascript/index.js";
+
+const require = createRequire("/usr/share/nodejs/");
+globalThis.WebSocket = require("ws");
+const [url, tokenFile, build] = process.argv.slice(2);
+const client = createRequire(import.meta.url)(build).io;
+const io = connect(url, { token: readFileSync(tokenFile, "utf8").trim(), client });
+let heard = 0;
+
+io.on("connection", (socket) => {
+  socket.on("join", (room, done) => {
+    socket.join(room);
+    done?.();
+  });
+  socket.on("say", (room, ...message) => {
+    heard += 1;
+    const done = typeof message.at(-1) === "function" ? message.pop() : null;
+    socket.to(room).emit("say", room, ...message);
+    done?.();
+  });
+});
+
+process.on("SIGTERM", () => {
+  const { user, system } = process.cpuUsage();
+  console.error(JSON.stringify({ heard, backend_cpu_s: (user + system) / 1e6 }));
+  process.exit(0);
+});
