@@ -8,12 +8,9 @@ use arguments::task::{Task, read_arguments};
 use guarded::Guarded;
 use relay::{Presence, RelayApp};
 use script::play_script;
-use std::net::Net;
+use std::alloc::AllocError;
 use std::process::ExitCode;
-use std::random::RandomSource;
-use std::rt::Clock;
-use std::sync::Wait;
-use std::thread::{self, Threads};
+use std::thread;
 use switchboard::Switchboard;
 use tcp_server::{ServerFault, end_with, listen, processors, serve, wait_for_end};
 use terms::Text;
@@ -33,36 +30,46 @@ fn app(tells: bool, token: Option<Text>) -> Guarded<Presence<RelayApp>> {
     }
 }
 
-/// Serves what is asked for until the server is to end: by backends where there is a token for
-/// them, and else by the demonstration app.
-fn run<R>(rt: R, options: Options) -> Result<ExitCode, ServerFault>
-where
-    R: Net + Threads + Wait + Clock + RandomSource + Input + Print + Eprint + AllocGlobal,
-    R: Copy + Drop + Sync + Send + 'static,
-{
-    let spaces = options.settings.hub.spaces.clone()?;
-    let server = listen(&rt, options.settings, options.verbose)?;
-    if options.until_eof {
+/// The app that backends drive, with their token, and that of the other clients if there is one.
+fn switchboard(token: Text, clients: Option<Text>, spaces: Vec<Text>) -> Switchboard {
+    Switchboard {
+        token,
+        clients,
+        spaces,
+    }
+}
+
+fn main(rt: HostRuntime) -> ExitCode {
+    let options = match read_arguments(&rt, processors(&rt)) {
+        Ok(Task::Script) => return end_with(&rt, NAME, play_script(&rt, &app(false, None))),
+        Ok(Task::Serve(options)) => Box::into_inner(options),
+        Err(refused) => return end_with(&rt, NAME, print_refused(&rt, &refused)),
+    };
+    let Options {
+        settings,
+        token,
+        backend,
+        tell_left,
+        until_eof,
+        verbose,
+    } = options;
+    let Ok(spaces) = settings.hub.spaces.clone() else {
+        return end_with(&rt, NAME, Err(ServerFault::Memory(AllocError)));
+    };
+    let server = match listen(&rt, settings, verbose) {
+        Ok(server) => server,
+        Err(fault) => return end_with(&rt, NAME, Err(fault)),
+    };
+    if until_eof {
         if let Ok(shared) = server.shared() {
             // Where no thread can be made, the server ends by a kill alone.
             let _ = thread::spawn(&rt, move || wait_for_end(&rt, &shared));
         }
     }
-    let Some(token) = options.backend else {
-        return serve(&rt, server, &app(options.tell_left, options.token));
+    // Backends are the app where there is a token for them.
+    let served = match backend {
+        Some(backend) => serve(&rt, server, &switchboard(backend, token, spaces)),
+        None => serve(&rt, server, &app(tell_left, token)),
     };
-    let switchboard = Switchboard {
-        token,
-        clients: options.token,
-        spaces,
-    };
-    serve(&rt, server, &switchboard)
-}
-
-fn main(rt: HostRuntime) -> ExitCode {
-    match read_arguments(&rt, processors(&rt)) {
-        Ok(Task::Script) => end_with(&rt, NAME, play_script(&rt, &app(false, None))),
-        Ok(Task::Serve(options)) => end_with(&rt, NAME, run(rt, Box::into_inner(options))),
-        Err(refused) => end_with(&rt, NAME, print_refused(&rt, &refused)),
-    }
+    end_with(&rt, NAME, served)
 }
