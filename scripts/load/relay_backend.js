@@ -4,10 +4,10 @@ import { readFileSync } from "node:fs";
 import { createRequire } from "node:module";
 import { connect } from "../../backends/javascript/index.js";
 
-const require = createRequire("/usr/share/nodejs/");
+const require = createRequire(import.meta.url);
 globalThis.WebSocket = require("ws");
 const [url, tokenFile, build] = process.argv.slice(2);
-const client = createRequire(import.meta.url)(build).io;
+const client = require(build);
 const io = connect(url, { token: readFileSync(tokenFile, "utf8").trim(), client });
 let heard = 0;
 
