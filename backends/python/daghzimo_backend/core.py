@@ -57,7 +57,7 @@ class RoomQuestion:
 
 class Core:
     def __init__(self, digits: str, namespaces: Iterable[str], one_at_a_time: bool):
-        self.digits = digits
+        self.digits = digits    # what comes of others' sockets, while a question is open to them, is ignored
         self.namespaces = {"/", *namespaces}    # those in use; what happens in others is ignored
         self.one_at_a_time = one_at_a_time      # whether a socket's event waits until the one before it was handled
         self.sockets: Dict[Key, Socket] = {}
@@ -72,12 +72,12 @@ class Core:
             # Its session was lost and came back while this backend was away.
             socket.rooms.update(rooms or ())
             return []
-        if namespace not in self.namespaces:
+        if namespace not in self.namespaces or sid[0] not in self.digits:
             return []
         return self._arrive(namespace, sid, rooms or [sid], auth or None, {"recovered": True} if rooms else {})
 
     def event(self, namespace: str, sid: str, id: Optional[int], name: str, *arguments: Any) -> List[Job]:
-        if namespace not in self.namespaces or name in ("connect", "disconnect"):
+        if namespace not in self.namespaces or sid[0] not in self.digits or name in ("connect", "disconnect"):
             return []
         socket = self.sockets.get((namespace, sid))
         jobs = []

@@ -3,23 +3,30 @@ from __future__ import annotations
 
 import asyncio
 import logging
+import re
 from typing import Any, Callable, Iterable, List, Optional, Sequence, Union
 
 from socketio.exceptions import ConnectionRefusedError, TimeoutError
 
 from .commands import CommandError, elements, emission, listed, options
-from .core import Core, Job, Socket
+from .core import QUESTION_SECONDS, Core, Job, Socket
 from .handlers import Handlers
 from .link import NO_CONNECTION, Link, Reply
 
 Rooms = Union[None, str, Sequence[str]]
 CALL_SECONDS = 60
+DIGITS = "0123456789abcdef"
+SID = re.compile("[0-9a-f]{32}")
+
+
+def nothing() -> None:
+    """Is done where no digit is heard."""
 
 
 class Engine(Handlers):
     """See AsyncBackend."""
 
-    def __init__(self, url: str, token: str, *, digits: str = "0123456789abcdef", namespaces: Iterable[str] = (),
+    def __init__(self, url: str, token: str, *, digits: str = DIGITS, namespaces: Iterable[str] = (),
                  async_handlers: bool = True, transports: Sequence[str] = ("websocket",),
                  socketio_path: str = "socket.io", logger: Optional[logging.Logger] = None):
         super().__init__()
@@ -126,11 +133,29 @@ class Engine(Handlers):
             await self._emit(namespace, command)
             return
         chosen["ask"] = self.core.ask(callback, namespace, to)
+        unhear = self._hear(to)
         try:
             await self._question(namespace, command)
         except BaseException:
             self.core.unask(chosen["ask"], namespace, to)
+            unhear()
             raise
+        if unhear is not nothing:
+            asyncio.get_running_loop().call_later(QUESTION_SECONDS, unhear)
+
+    def _hear(self, to: List[str]) -> Callable[[], None]:
+        """Answers go to the backends with the digit of who answers. For the time of a question this one is in the rooms of
+        others' digits too. Gives what leaves them."""
+        heard = self._link.heard
+        foreign = set(to[0][0] if len(to) == 1 and SID.fullmatch(to[0]) else DIGITS) - set(self.core.digits)
+
+        def count(by: int, command: str) -> None:
+            for digit in foreign if self._link.connected and self._link.heard is heard else ():
+                heard[digit] += by
+                if heard[digit] == max(by, 0):  # the first question that needs it, or no more
+                    self._link.ask(command, self._link.own(), digit)
+        count(1, "socketsJoin")
+        return (lambda: count(-1, "socketsLeave")) if foreign else nothing
 
     async def _emit(self, namespace: str, command: tuple) -> Optional[Reply]:
         """Sends an event. It is acknowledged only until the namespace is known to be there, since that costs."""
@@ -159,6 +184,7 @@ class Engine(Handlers):
             raise ValueError("Cannot use call() to broadcast.")
         answer = asyncio.get_running_loop().create_future()
         chosen = options(namespace, to, ask=self.core.ask(answer, namespace, to))
+        unhear = self._hear(to)
         try:
             await self._question(namespace, emission(chosen, event, data))
             values = await asyncio.wait_for(answer, CALL_SECONDS if timeout is None else timeout)
@@ -166,6 +192,7 @@ class Engine(Handlers):
             raise TimeoutError() from None
         finally:
             self.core.unask(chosen["ask"], namespace, to)
+            unhear()
         return values if len(values) > 1 else values[0] if values else None
 
     # Rooms and sockets.

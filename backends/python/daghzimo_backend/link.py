@@ -4,7 +4,7 @@ from __future__ import annotations
 import asyncio
 import logging
 import random
-from collections import deque
+from collections import Counter, deque
 from contextlib import suppress
 from typing import Any, Callable, Dict, Generator, Optional, Sequence
 
@@ -51,6 +51,7 @@ class Link:
         self._url, self._auth, self._transports, self._path = url, auth, list(transports), path
         self._told, self._opened, self._logger = told, opened, logger
         self._client: Optional[socketio.AsyncClient] = None
+        self.heard: Counter = Counter()         # others' digits, and how many questions of this connection need them
         self._line: deque = deque()             # of commands
         self._replies: Dict[Reply, Optional[Callable]] = {}     # that are due, with what undoes their commands
         self._task: Optional[asyncio.Task] = None
@@ -61,6 +62,10 @@ class Link:
     @property
     def connected(self) -> bool:
         return self._client is not None
+
+    def own(self) -> dict:
+        """What addresses this backend itself."""
+        return {"in": BACKEND, "to": [self._client.get_sid(BACKEND)]}
 
     # Commands. A command is put in line at once, so that the order is that of the calls, also of those that aren't awaited.
 
@@ -134,7 +139,7 @@ class Link:
         """Leaves, after what was sent before was done."""
         self._stopping = True
         if self._client is not None:
-            leave = self.ask("disconnectSockets", {"in": BACKEND, "to": [self._client.get_sid(BACKEND)]})
+            leave = self.ask("disconnectSockets", self.own())
             with suppress(CommandError, asyncio.TimeoutError):
                 await asyncio.wait_for(leave, PATIENCE)
         if self._task is not None:
@@ -178,7 +183,7 @@ class Link:
         there = asyncio.get_running_loop().create_future()
 
         def connected() -> None:
-            self._client = client
+            self._client, self.heard = client, Counter()
             if not there.done():
                 there.set_result(None)
 

@@ -710,6 +710,14 @@ async def digits(form, transport):
         check("%sand speak to all" % low.name, await until(lambda: all(("news",) in one.got for one in clients)))
         mine = next(one for one in clients if one.id[0] in LOW)
         check("%sa question to one's own" % low.name, await low.do("call", "question", 4, to=mine.id, timeout=5), 4)
+        other = next(one for one in clients if one.id[0] in HIGH)
+        check("%sa question to another's" % low.name, await low.do("call", "question", 5, to=other.id, timeout=5), 5)
+        got = []
+        await low.do("emit", "question", 6, to=sids, callback=lambda *values: got.append(values))
+        check("%sa callback for all" % low.name, await until(lambda: len(got) == len(clients) and got), [(6,)] * len(clients))
+        late = await low.client()
+        await until(lambda: low.of(late, "connect") + high.of(late, "connect"))
+        check("%swho hears others' answers is told of its own still" % low.name, [one for one in low.log if one[1][0] in HIGH], [])
 
 
 class Proxy:
@@ -1026,6 +1034,9 @@ async def core_lists():
     check("core: other namespaces are left alone", names(it.connection("/x", "d4", None) + it.event("/x", "d4", None, "y")),
           [])
     check("core: a name may be a number", names(it.event("/", "b2", None, 5)), [("5", "b2")])
+    low = core.Core(LOW, (), False)
+    check("core: what others' sockets do is ignored",
+          names(low.connection("/", "b2", None) + low.event("/", "b2", None, "x") + low.disconnection("/", "b2", "left", [])), [])
     check("core: no event is taken for connect",
           names(it.event("/", "b2", None, "connect") + it.event("/", "b2", None, "disconnect")), [])
 
