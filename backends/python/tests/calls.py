@@ -661,7 +661,8 @@ async def refuses_away(form, transport):
             await until(lambda: world.sio.core.refused("/"))
             proxy.whole = True
             check(world.name + "refused while away: put out afterwards", await until(lambda: client.gone, 15))
-            check(world.name + "refused while away: told once, and never to go", world.log, [("connect", client.id)])
+            check(world.name + "refused while away: told once, and never to go",
+                  [one for one in world.log if one[1] == client.id], [("connect", client.id)])
 
 
 async def many_in_order(form, transport):
