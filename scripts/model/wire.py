@@ -159,9 +159,8 @@ def id_text(number):
 
 
 def with_offset(payload, offset):
-    """The payload with the offset as a new last element of its array."""
-    place = payload.rindex("]")
-    return f'{payload[:place]},"{offset:016x}"{payload[place:]}'
+    """The payload with the offset as a new last element of its array, with which it ends then."""
+    return f'{payload[:payload.rindex("]")]},"{offset:016x}"]'
 
 
 def start(space):
