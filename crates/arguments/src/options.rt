@@ -165,6 +165,7 @@ pub(crate) fn read_settings(
             .map(|path| String::from_str(alloc, path))
             .transpose()?,
         report: unless_0(matches.get_one("report").unwrap_or(0)),
+        backends: backend_space(alloc, matches)?,
     })
 }
 
@@ -175,10 +176,18 @@ fn spaces(alloc: Global, matches: &ArgMatches<'_>) -> Result<Vec<Text>, AllocErr
     for space in matches.get_strs("space").unwrap_or(&[]) {
         spaces.push(Text::copy_of(alloc, space)?)?;
     }
-    if matches.get_str(BACKENDS).is_some() {
-        spaces.push(Text::copy_of(alloc, "/backend")?)?;
+    if let Some(space) = backend_space(alloc, matches)? {
+        spaces.push(space)?;
     }
     Ok(spaces)
+}
+
+/// The namespace of the backends, where there may be some.
+fn backend_space(alloc: Global, matches: &ArgMatches<'_>) -> Result<Option<Text>, AllocError> {
+    match matches.get_str(BACKENDS) {
+        Some(_) => Ok(Some(Text::copy_of(alloc, "/backend")?)),
+        None => Ok(None),
+    }
 }
 
 /// A number of which 0 says never.

@@ -44,11 +44,16 @@ IsRefused workers old new refused.TooManyWorkers = (1024 < workers) × (new ≡ 
 IsRefused workers old new (refused.NotAll lack) = MayBe workers × IsLacking new lack
 IsRefused workers old new _ = MayBe workers × (new ≡ old)
 
--- no worker could be started: there is no memory, no thread or no pass
+-- what the workers need can't be made: there is no memory, or no pass
+abbrev pub IsFromMaking : ServeError → Type 0
+IsFromMaking refused.Memory = Unit {0}
+IsFromMaking refused.Spent = Unit {0}
+IsFromMaking _ = ⊥
+
+-- no worker could be started: there is no memory, or no thread
 abbrev pub IsFromStarting : ServeError → Type 0
 IsFromStarting refused.Memory = Unit {0}
 IsFromStarting refused.Spawn = Unit {0}
-IsFromStarting refused.Spent = Unit {0}
 IsFromStarting _ = ⊥
 
 -- the pass lacks this

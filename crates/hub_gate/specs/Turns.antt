@@ -1,5 +1,5 @@
 -- What a worker does with its pass, its ids and its peers.
-use Rattle.std.specs.Prelude.{◌≡◌, ◌⊎◌, ℕ, ◌≤◌, Bool, true, false, Option, Some, None, option_map, Result, Ok, Err, IfOk, is_ok, List, [], ◌∷◌, ◌++◌, length, map, min, sum_by, if◌then◌else◌}
+use Rattle.std.specs.Prelude.{◌≡◌, ◌⊎◌, ℕ, ◌≤◌, ◌&&◌, Bool, true, false, Option, Some, None, option_map, Result, Ok, Err, IfOk, is_ok, List, [], ◌∷◌, ◌++◌, length, map, min, sum_by, if◌then◌else◌}
 use Rattle.std.specs.Iterator.{Drains}
 use Rattle.std.specs.Option.{option_or}
 use Rattle.std.specs.List.{FoldsTo}
@@ -93,9 +93,14 @@ abbrev pub last_client : Option (ℕ × ℕ) → List Turn → Option (ℕ × �
 last_client known [] = known
 last_client known (r ∷ served) = last_client (option_map (λ c. (c, r.now)) (lost_by r.event r.got)) served
 
--- the answer of the last turn wasn't heard
+-- each answer was heard
+abbrev pub all_heard : List Turn → Bool
+all_heard [] = true
+all_heard (r ∷ served) = r.heard && all_heard served
+
+-- the answer of the last turn wasn't heard, and each before it was
 abbrev pub IsUnheard : List Turn → Type 0
-IsUnheard served = (before : List Turn) × (last : Turn) × (served ≡ before ++ last ∷ []) × (last.heard ≡ false)
+IsUnheard served = (before : List Turn) × (last : Turn) × (served ≡ before ++ last ∷ []) × (all_heard before ≡ true) × (last.heard ≡ false)
 
 -- how peers give their next event, and how they hear an answer
 abbrev pub Gives : Type 0 → Type 1
@@ -114,11 +119,12 @@ module _ {P : Type 0} (gives : Gives P) (hears : Hears P) (policy : Policy) wher
     pub heard_is : r.heard ≡ is_ok reply
     pub told : hears asking r.got reply new.0
 
-  -- how it ends with a peer: it has no more events, or it fails, by its own fault or since its turns are spent
+  -- how it ends with a peer: it heard each answer, and has no more events, or fails by its own fault or since its turns are
+  -- spent; or it didn't hear the last one
   abbrev pub Ends : (turns : ℕ) → List Turn → P → (failed : Bool) → P → Type 0
-  Ends turns served last false new = gives last (Ok None) new
-  Ends turns served last true new = ((fault : PeerFault) × gives last (Err fault) new)
-      ⊎ ((new ≡ last) × (IsUnheard served ⊎ (length served ≡ turns)))
+  Ends turns served last false new = (all_heard served ≡ true) × gives last (Ok None) new
+  Ends turns served last true new = ((all_heard served ≡ true) × (fault : PeerFault) × gives last (Err fault) new)
+      ⊎ ((new ≡ last) × (IsUnheard served ⊎ ((all_heard served ≡ true) × (length served ≡ turns))))
 
   -- the peer's events, and no others, were applied in turn, until it ended; so many of them at the most
   pub record Talks (turns : ℕ) (old : P × Desk) (failed : Bool) (lost : Option (ℕ × ℕ)) (new : P × Desk) : Type 0 where

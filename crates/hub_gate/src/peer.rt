@@ -3,14 +3,26 @@
 ghost use Rattle.std.specs.Prelude.{◌≡◌, ◌++◌, [], Option, IfNone, option_to_list};
 ghost use Rattle.std.specs.Vec.Iter.{into_iter_items};
 
+use dispatch::Core;
+use events::{Answered, Event};
 use std::alloc::Global;
+use std::sync::ledger::Ledger;
 use std::vec::IntoIter;
 
-/// What waits at the gate of each event, with the number of the worker and of its turn. Both calls
-/// may wait, and at both the worker holds no lock.
+/// What waits at the gate of each event, with the number of the worker and of its turn. Before and
+/// after it may wait, and the worker holds no lock then.
 pub trait Turnstile {
     /// The worker has an event, and has not taken the lock yet.
     fn before(&self, worker: usize, turn: u64);
+
+    /// The worker has applied the event, and still holds the lock.
+    fn applied<C: Ledger, T: Ledger>(
+        &self,
+        worker: usize,
+        core: &Core<C, T>,
+        event: &Event,
+        got: &Answered,
+    );
 
     /// The worker has applied the event, and has given the lock back.
     fn after(&self, worker: usize, turn: u64);
@@ -22,6 +34,14 @@ pub struct Open;
 
 impl Turnstile for Open {
     fn before(&self, _worker: usize, _turn: u64) {}
+
+    fn applied<C: Ledger, T: Ledger>(
+        &self,
+        _worker: usize,
+        _core: &Core<C, T>,
+        _event: &Event,
+        _got: &Answered,
+    ) {}
 
     fn after(&self, _worker: usize, _turn: u64) {}
 }

@@ -3,7 +3,7 @@
 ghost use Rattle.std.specs.Prelude.{◌≡◌, ◌+◌, ◌<◌, ◌≤◌, [], IfOk, IfErr, OnOk, MatchResult, vec_len, vec_capacity, map, sum_by};
 ghost use Rattle.std.specs.List.{AllZip};
 ghost use Rattle.std.specs.Vec.Iter.{into_iter_items};
-ghost use Rattle.hub_gate.specs.Serving.{AreCounted, AreDealt, AreServed, IsFromStarting, IsLackingFor, IsRefused, WorksAs};
+ghost use Rattle.hub_gate.specs.Serving.{AreCounted, AreDealt, AreServed, IsFromMaking, IsFromStarting, IsLackingFor, IsRefused, WorksAs};
 
 use crate::locked::Locked;
 use crate::peer::{Queue, Turnstile};
@@ -174,7 +174,7 @@ fn make_jobs<R: Wait, C: Ledger, T: Ledger, P: Drop, I: Drop>(
     ensures queues { IfOk result (λ v. map (λ j. into_iter_items j.queue.peers) v.items
         ≡ map (λ q. q.items) queues.items) }
     ensures ids { IfOk result (λ v. map (λ j. j.ids) v.items ≡ ids.items) }
-    ensures error { IfErr result IsFromStarting }
+    ensures error { IfErr result IsFromMaking }
 {
     let Ok(mut jobs) = Vec::with_capacity(alloc, queues.len()) else {
         return Err(ServeError::Memory);

@@ -51,9 +51,11 @@ pub struct Pool<'a, R, C: Ledger, T: Ledger, A, G> {
 }
 
 impl<R: Wait, C: Ledger, T: Ledger, A: App, G: Turnstile> Pool<'_, R, C, T, A, G> {
-    /// Applies one event to the core, under the lock. It may wait.
+    /// Applies one event to the core, under the lock, and has the gate look at what it did. It may
+    /// wait.
     fn apply<I: IdSource>(
         &self,
+        worker: usize,
         pass: &mut Pass<C, T>,
         event: &Event,
         now: u64,
@@ -67,6 +69,7 @@ impl<R: Wait, C: Ledger, T: Ledger, A: App, G: Turnstile> Pool<'_, R, C, T, A, G
         let core = &mut *guard;
         let before = Snapshot::of(core);
         let got = core.apply(self.alloc, pass, self.app, event, now, ids);
+        self.gate.applied(worker, core, event, &got);
         core.audit(pass);
         note_facts(core);
         let after = Snapshot::of(core);
@@ -74,13 +77,20 @@ impl<R: Wait, C: Ledger, T: Ledger, A: App, G: Turnstile> Pool<'_, R, C, T, A, G
     }
 
     /// Tells the core that a client is lost, up to three times until it accepts that.
-    fn lose<I: IdSource>(&self, pass: &mut Pass<C, T>, client: u128, now: u64, ids: &mut I)
+    fn lose<I: IdSource>(
+        &self,
+        worker: usize,
+        pass: &mut Pass<C, T>,
+        client: u128,
+        now: u64,
+        ids: &mut I,
+    )
         ensures { TellsLost (A.policy self.now.app.now) client now
             (desk pass.old (I.stream ids.old)) (desk pass.new (I.stream ids.new)) }
     {
         let mut loss = Loss::new(client);
         'tries: loop {
-            let told = self.apply(pass, &loss.event(), now, ids);
+            let told = self.apply(worker, pass, &loss.event(), now, ids);
             match loss.hears(&told.got) {
                 Retry::Again => {}
                 Retry::Over => return,
@@ -111,7 +121,7 @@ impl<R: Wait, C: Ledger, T: Ledger, A: App, G: Turnstile> Pool<'_, R, C, T, A, G
                 return (false, lost);
             };
             self.gate.before(worker, *turn);
-            let done = self.apply(pass, &event, now, ids);
+            let done = self.apply(worker, pass, &event, now, ids);
             self.gate.after(worker, *turn);
             *turn = turn.saturating_add(1);
             lost = lost_after(&event, &done.got, now);
@@ -138,7 +148,7 @@ impl<R: Wait, C: Ledger, T: Ledger, A: App, G: Turnstile> Pool<'_, R, C, T, A, G
     {
         let (failed, lost) = self.talk(pass, peer, worker, turn, ids);
         if failed && let Some((client, now)) = lost {
-            self.lose(pass, client, now, ids);
+            self.lose(worker, pass, client, now, ids);
         }
         failed
     }

@@ -6,6 +6,7 @@ pub mod Mailboxes
 pub mod Notes
 pub mod Owners
 pub mod Parts
+pub mod Pressures
 pub mod Receiving
 pub mod Rosters
 pub mod Rotas

@@ -6,6 +6,7 @@ mod deadlines;
 mod looks;
 mod mailbox;
 mod owners;
+mod pressure;
 mod receiving;
 mod roster;
 mod rota;
@@ -15,6 +16,7 @@ pub use deadlines::{Overdue, Period, find_overdue, has_had_its_turn, has_stopped
 pub use looks::{Decision, Found, LookState, Pause, Stint, left_after_message};
 pub use mailbox::{Mail, Mailbox};
 pub use owners::{LOOPS, dealt_to, loop_of, marked, owner_of};
+pub use pressure::{Backlog, Pressure};
 pub use receiving::{Receiving, Sender};
 pub use roster::{Notes, Roster, Takers};
 pub use rota::Rota;

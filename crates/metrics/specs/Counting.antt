@@ -14,6 +14,7 @@ one_more n = min (n + 1) 18446744073709551615
 abbrev pub nothing : CoreCounts
 nothing = record {
   totals = record { commands = 0; placed = 0; dropped = 0; taken = 0; discarded = 0; waiting = 0 };
+  unheard = 0;
   sizes = record { clients = 0; sockets = 0; rooms = 0; saved = 0; logged = 0 };
 }
 

@@ -43,6 +43,10 @@ totals_text t =
     (codes "Messages that waited when their client ended.") t.discarded
     ++ row (codes "socketio_messages_waiting") (codes "gauge") (codes "Messages that wait.") t.waiting
 
+abbrev pub unheard_text : ℕ → List ℕ
+unheard_text unheard =
+    row (codes "socketio_unheard_total") (codes "counter") (codes "Events of clients that went to no backend.") unheard
+
 abbrev pub sizes_text : Sizes → List ℕ
 sizes_text s =
     row (codes "socketio_clients") (codes "gauge") (codes "Clients that are open.") s.clients
@@ -81,6 +85,7 @@ refused_text refused =
 unfoldable pub text_of : CoreCounts → List LoopCounts → List Refusals → List ℕ
 text_of core loops refused =
     totals_text core.totals
+    ++ unheard_text core.unheard
     ++ sizes_text core.sizes
     ++ connections_text loops
     ++ requests_text loops

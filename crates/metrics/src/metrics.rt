@@ -28,6 +28,8 @@ pub struct Sizes {
 #[derive(Clone, Copy, Debug, Default, PartialEq, Eq)]
 pub struct CoreCounts {
     pub totals: Totals,
+    /// The events of clients that went to no backend.
+    pub unheard: u64,
     pub sizes: Sizes,
 }
 
@@ -66,6 +68,7 @@ impl Metrics {
             self.now.core self.now.loops.items self.now.refused.items) }
     {
         let mut text = totals_text(alloc, &self.core.totals)?;
+        text.push_str(unheard_text(alloc, self.core.unheard)?.as_str())?;
         text.push_str(sizes_text(alloc, &self.core.sizes)?.as_str())?;
         text.push_str(connections_text(alloc, self.loops.as_slice())?.as_str())?;
         text.push_str(requests_text(alloc, self.loops.as_slice())?.as_str())?;
@@ -95,6 +98,16 @@ fn totals_text(alloc: Global, totals: &Totals) -> Result<String, AllocError>
         "socketio_messages_discarded_total", "counter",
             "Messages that waited when their client ended.", totals.discarded;
         "socketio_messages_waiting", "gauge", "Messages that wait.", totals.waiting;
+    }
+    Ok(text)
+}
+
+fn unheard_text(alloc: Global, unheard: u64) -> Result<String, AllocError>
+    ensures { IfOk result (λ text. string_bytes text ≡ metrics.unheard_text unheard) }
+{
+    let mut text = String::new(alloc);
+    push_rows! { &mut text;
+        "socketio_unheard_total", "counter", "Events of clients that went to no backend.", unheard;
     }
     Ok(text)
 }

@@ -114,3 +114,8 @@ is_idle _ = false
 abbrev pub has_read_nothing : SocketStage → Bool
 has_read_nothing (stage.Taking c idle) = idle
 has_read_nothing _ = false
+
+-- a round that is to begin by a read of a client that speaks begins by a take
+abbrev pub without_read : SocketStage → SocketStage
+without_read (stage.Reads c phase.Speaks idle) = stage.Takes c
+without_read other = other

@@ -8,7 +8,7 @@ ghost use Rattle.events.specs.declared.peer.PeerFault.TheVariants.{Memory, Devic
 ghost use Rattle.peers.specs.Heard.{to_send};
 ghost use Rattle.peers.specs.Sent.{AddsFrame};
 ghost use Rattle.peers.specs.Spoken.{Sends};
-ghost use Rattle.peers.specs.Rounds.{client_of, first_stage, has_read_nothing, is_idle};
+ghost use Rattle.peers.specs.Rounds.{client_of, first_stage, has_read_nothing, is_idle, without_read};
 
 use crate::accept::renewed;
 use crate::incoming::{Incoming, read_incoming};
@@ -116,6 +116,17 @@ impl<S: Drop, M> SocketPeer<S, M> {
         ensures { result ≡ has_read_nothing self.now.stage }
     {
         matches!(self.stage, SocketStage::Taking { idle: true, .. })
+    }
+
+    /// The round that is to begin is one without a read, where the client speaks over the WebSocket.
+    pub fn skip_read(&mut self)
+        ensures { self.new ≡ record self.old { stage = without_read self.old.stage } }
+    {
+        if let SocketStage::Reads { client, at, .. } = self.stage {
+            if matches!(at, Phase::Speaks) {
+                self.stage = SocketStage::Takes { client };
+            }
+        }
     }
 
     /// The socket, whose stream a driver may send or poll.

@@ -27,7 +27,7 @@ hub =
 
 -- the settings of a server with so many loops at this port, where nothing else is said; the defaults
 -- of the options in `arguments` are to be these. It listens to the machine itself, ends after no
--- number of connections, serves all pages and has no files, and tells no counts and no totals
+-- number of connections, serves all pages and has no files, tells no counts and no totals, and has no backends
 pub record IsUsual (its_port loops : ℕ) (s : Settings) : Type 0 where
   pub host : string_bytes s.host ≡ codes "127.0.0.1"
   pub port : s.port ≡ its_port
@@ -43,3 +43,4 @@ pub record IsUsual (its_port loops : ℕ) (s : Settings) : Type 0 where
   pub page : s.page ≡ []
   pub metrics : s.metrics ≡ None
   pub report : s.report ≡ None
+  pub backends : s.backends ≡ None

@@ -136,6 +136,9 @@ pub struct Settings {
     pub metrics: Option<String>,
     /// Every how many seconds the log is told the totals, if it is.
     pub report: Option<u64>,
+    /// The namespace of the backends, if there may be some: while much waits for one, its clients
+    /// aren't read.
+    pub backends: Option<Text>,
 }
 
 impl Settings {
@@ -158,6 +161,7 @@ impl Settings {
             page: Page::new(alloc),
             metrics: None,
             report: None,
+            backends: None,
         })
     }
 

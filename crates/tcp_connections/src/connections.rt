@@ -2,7 +2,7 @@
 
 use crate::service::Service;
 use crate::tcp_connection::{Connection, Mode, Next};
-use loop_rules::{Overdue, Pause, Period, Receiving, Roster, Sender};
+use loop_rules::{Overdue, Pause, Period, Pressure, Receiving, Roster, Sender};
 use mio::event::Event;
 use mio::{Interest, Registry, Token};
 use slab::Slab;
@@ -19,6 +19,8 @@ pub struct Connections<'a, R> {
     pub roster: Roster,
     /// What of all that comes isn't whole, and who isn't read on.
     pub receiving: Receiving,
+    /// Whose clients aren't read, since much waits for their backend.
+    pub pressure: Pressure,
     /// Those that may have bytes to send, in the order in which they were noted. So a client that
     /// upgrades is told that its probe was heard before its GET ends, and sends no other one.
     unsent: VecDeque<usize>,
@@ -27,7 +29,7 @@ pub struct Connections<'a, R> {
 /// Written out, so that a crate above takes the drop of all that lies in it by this one call.
 impl<R: Drop> Drop for Connections<'_, R> {
     fn drop(self) {
-        let_go!(self; slots, roster, receiving, unsent);
+        let_go!(self; slots, roster, receiving, pressure, unsent);
     }
 }
 
@@ -71,12 +73,14 @@ fn forget(receiving: &mut Receiving, key: usize) {
 }
 
 impl<'a, R: Clock + Drop> Connections<'a, R> {
-    /// None yet. So many bytes that aren't whole are the loop's share.
-    pub fn new(alloc: Global, share: usize) -> Connections<'a, R> {
+    /// None yet. So many bytes that aren't whole are the loop's share, and for so long at a stretch
+    /// clients aren't read for whose backend much waits.
+    pub fn new(alloc: Global, share: usize, stretch: u64) -> Connections<'a, R> {
         Connections {
             slots: Slab::new(alloc),
             roster: Roster::new(alloc),
             receiving: Receiving::new(alloc, share),
+            pressure: Pressure::new(alloc, stretch),
             unsent: VecDeque::new(alloc),
         }
     }
@@ -137,22 +141,29 @@ impl<'a, R: Clock + Drop> Connections<'a, R> {
         let sender = self.sender(key);
         let attached = self.bytes_attached(sender);
         let limit = self.receiving.limit(sender).saturating_sub(attached);
+        let is_pressed = self.is_pressed(sender, now);
         let Some(connection) = self.slots.get_mut(key) else {
             forget(&mut self.receiving, key);
             return Next::Pauses(Pause::Done);
         };
+        connection.waits = is_pressed;
         connection.read_up_to(limit);
-        let waits = connection.posts && connection.bytes_unfinished() >= limit;
-        let next = if waits {
+        let is_long = connection.posts && connection.bytes_unfinished() >= limit;
+        let next = if is_long || (is_pressed && connection.posts) {
             Next::Pauses(Pause::Done)
         } else {
             connection.next(alloc, now)
         };
         self.settle(key, sender, attached, now);
-        if waits {
+        if is_long && !is_pressed {
             self.call_unless_held(key);
         }
         next
+    }
+
+    /// Whether much waits for a backend of a sender.
+    fn is_pressed(&self, sender: Sender, now: u64) -> bool {
+        matches!(sender, Sender::Client(client) if self.pressure.holds(client, now))
     }
 
     /// One that had to wait, and isn't held after all, is looked at again.
@@ -342,9 +353,16 @@ impl<'a, R: Clock + Drop> Connections<'a, R> {
     /// Does what is to be done with a connection that took too long, or one that is to end. Answers
     /// whether it is to be closed at once.
     pub fn keep_deadline(&mut self, key: usize, cutting: bool, now: u64) -> bool {
+        let is_pressed = self.is_pressed(self.sender(key), now);
         let Some(connection) = self.slots.get_mut(key) else {
             return false;
         };
+        if is_pressed && connection.posts {
+            connection.keep(now);
+        }
+        if connection.waits && !is_pressed {
+            self.roster.rota.call(key);
+        }
         let (service, takers) = (&connection.service, &self.roster.takers);
         let speaks = |client| !service.is_socket() || takers.is_taker(client, key);
         let period = match connection.mode {

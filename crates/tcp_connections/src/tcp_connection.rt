@@ -39,6 +39,8 @@ pub struct Connection<'a, R> {
     pub unsent: bool,
     /// It stands in the list of those that aren't read on.
     pub held: bool,
+    /// It brings nothing of its client, for which too much waits at a backend.
+    pub(crate) waits: bool,
     /// Its request has packets that it hasn't brought yet.
     pub posts: bool,
     /// It is a WebSocket over which its client speaks.
@@ -62,7 +64,7 @@ pub struct Connection<'a, R> {
 /// Written out, so that a crate above takes the drop of all that lies in it by this one call.
 impl<R: Drop> Drop for Connection<'_, R> {
     fn drop(self) {
-        let_go!(self; unsent, held, posts, speaks, counted, mode, told, since, moved, not_before, asked, service);
+        let_go!(self; unsent, held, waits, posts, speaks, counted, mode, told, since, moved, not_before, asked, service);
     }
 }
 
@@ -102,6 +104,7 @@ impl<'a, R: Clock + Drop> Connection<'a, R> {
         let connection = Connection {
             unsent: false,
             held: false,
+            waits: false,
             posts: false,
             speaks: false,
             counted: 0,
@@ -128,6 +131,11 @@ impl<'a, R: Clock + Drop> Connection<'a, R> {
         if gives_back && matches!(self.mode, Mode::Serves) {
             self.service.renew(alloc);
         }
+    }
+
+    /// What it is to bring has to wait until this moment at least: the request isn't late by that.
+    pub(crate) fn keep(&mut self, now: u64) {
+        self.since = now;
     }
 
     /// Whether so much is unsent that it is not to be served.
@@ -198,6 +206,9 @@ impl<'a, R: Clock + Drop> Connection<'a, R> {
             self.fail(now);
             return Next::Fails;
         }
+        if let (true, Service::Speaking(peer)) = (self.waits, &mut self.service) {
+            peer.skip_read();
+        }
         match of_peer!(&mut self.service, peer => peer.next(), Ok(None)) {
             Ok(Some((event, moment))) => self.bring(event, moment),
             Ok(None) => {
@@ -249,8 +260,8 @@ impl<'a, R: Clock + Drop> Connection<'a, R> {
 
     /// Hears the answer to its event, and tells what that says of its look. None where it fails.
     pub fn hear(&mut self, got: &Answered, now: u64) -> Option<Found> {
-        // All that was read was brought, and the stream has no more.
-        let has_brought_all = self.has_brought_all();
+        // All that was read was brought, and the stream has no more, or isn't read.
+        let has_brought_all = self.waits || self.has_brought_all();
         let dry = matches!(&self.service, Service::Speaking(peer)
             if has_brought_all || peer.has_read_nothing());
         if of_peer!(&mut self.service, peer => peer.answer(got).is_err(), false) {

@@ -94,6 +94,18 @@ impl<R: Wait + Clock + Copy + Drop, L: Log> EventLoop<'_, R, L> {
         }
     }
 
+    /// Heeds what an event of this client showed of the backends.
+    fn heed(&mut self, client: u128, now: u64) {
+        let Some(seen) = self.base.take_seen(self.number) else {
+            return;
+        };
+        let pressure = &mut self.connections.pressure;
+        pressure.press(seen.pressed, now);
+        if let Some(digits) = seen.digits {
+            let _ = pressure.note(client, digits);
+        }
+    }
+
     /// A connection's event was answered.
     pub(crate) fn hear(&mut self, got: &Answered) {
         let (base, now) = (self.base, self.watch.now());
@@ -135,6 +147,7 @@ impl<R: Wait + Clock + Copy + Drop, L: Log> EventLoop<'_, R, L> {
         let Some(client) = self.loses.take() else {
             return;
         };
+        self.heed(client, now);
         match got {
             Ok(Outcome::Lost { done, .. }) => {
                 self.wake_for(done);
@@ -160,6 +173,7 @@ impl<R: Wait + Clock + Copy + Drop, L: Log> EventLoop<'_, R, L> {
         let Some((is_socket, Some(client))) = service.map(|it| (it.is_socket(), it.client())) else {
             return;
         };
+        self.heed(client, now);
         if is_noop(got) {
             self.delays.note_noop(client, now);
         }
@@ -217,6 +231,7 @@ impl<R: Wait + Clock + Copy + Drop, L: Log> EventLoop<'_, R, L> {
     /// A client has ended, which its waiting GET is to be told.
     fn note_end(&mut self, client: u128, cause: Option<Cause>, now: u64) {
         self.connections.note_attached(client, 0, now);
+        self.connections.pressure.forget(client);
         self.connections.roster.wake(client);
         self.base.note_end(client, cause, now);
     }

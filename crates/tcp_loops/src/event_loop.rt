@@ -68,7 +68,7 @@ impl<'a, R: Wait + Clock + Copy + Drop, L: Log> EventLoop<'a, R, L> {
             watch: base.watch,
             ears,
             events: Events::with_capacity(alloc, EVENTS)?,
-            connections: Connections::new(alloc, base.rules.receiving / base.rules.loops),
+            connections: Connections::new(alloc, base.rules.share(), base.rules.stretch()),
             mail: Mail::new(alloc),
             notes: Notes::new(alloc, base.rules.loops)?,
             delays: Delays::new(alloc),
@@ -184,6 +184,9 @@ impl<'a, R: Wait + Clock + Copy + Drop, L: Log> EventLoop<'a, R, L> {
         }
         let everyone = mem::replace(&mut self.mail.everyone, false);
         if everyone {
+            // So it is where a backend is pressed no more; the next event shows which still are.
+            let now = self.watch.now();
+            self.connections.pressure.press(0, now);
             self.connections.roster.rota.call_all();
         }
         self.do_due(everyone);

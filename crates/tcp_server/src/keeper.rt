@@ -19,6 +19,9 @@ use tcp_streams::Log;
 /// How long a round is, in milliseconds: each client is asked once a round what is due to it.
 const ROUND: u64 = 1_000;
 
+/// How often the log is told at the most what reached no backend, in milliseconds.
+const MINUTE: u64 = 60_000;
+
 /// How often in a round the journal is looked at.
 const LOOKS: u64 = 10;
 
@@ -45,6 +48,10 @@ pub(crate) struct Keeper<'a, 'c, R, L, C: Ledger, T: Ledger> {
     notes: Notes,
     /// The moment at which the totals are told next.
     report: u64,
+    /// How many events of clients had gone to no backend when that was told last, and the moment
+    /// from which on it may be told again.
+    unheard: u64,
+    remark: u64,
 }
 
 impl<'a, 'c, R: Wait + Clock + Copy, L: Log, C: Ledger, T: Ledger> Keeper<'a, 'c, R, L, C, T> {
@@ -64,16 +71,20 @@ impl<'a, 'c, R: Wait + Clock + Copy, L: Log, C: Ledger, T: Ledger> Keeper<'a, 'c
             client: 0,
             notes: Notes::new(base.alloc, base.rules.loops)?,
             report: 0,
+            unheard: 0,
+            remark: 0,
         })
     }
 
     /// What the core has counted so far, and what it holds.
     fn counts(&mut self) -> CoreCounts {
+        let unheard = self.unheard();
         let core = self.locked.look(self.base.rt, &mut self.pass);
         let state = core.hub().state();
         let (sockets, rooms) = state.mirrors();
         CoreCounts {
             totals: state.totals(),
+            unheard,
             sizes: Sizes {
                 clients: core.clients_len() as u64,
                 sockets: sockets.len() as u64,
@@ -81,6 +92,22 @@ impl<'a, 'c, R: Wait + Clock + Copy, L: Log, C: Ledger, T: Ledger> Keeper<'a, 'c
                 saved: state.saved_len() as u64,
                 logged: state.log_len() as u64,
             },
+        }
+    }
+
+    /// How many events of clients have gone to no backend.
+    fn unheard(&self) -> u64 {
+        let backends = self.base.shared.backends.as_ref();
+        backends.map_or(0, |backends| backends.unheard(self.base.rt))
+    }
+
+    /// Tells the log once a minute how many more events of clients went to no backend.
+    fn note_unheard(&mut self) {
+        let (sum, now) = (self.unheard(), self.watch.now());
+        if sum > self.unheard && now >= self.remark {
+            self.base.log.unheard(sum - self.unheard);
+            self.unheard = sum;
+            self.remark = now.saturating_add(MINUTE);
         }
     }
 
@@ -113,6 +140,7 @@ impl<'a, 'c, R: Wait + Clock + Copy, L: Log, C: Ledger, T: Ledger> Keeper<'a, 'c
             let _ = self.locked.seal(base.rt, base.alloc, STEPS, BYTES);
         }
         self.note_counts();
+        self.note_unheard();
         // Where there is no memory for the list, they are asked about in the next round.
         let core = self.locked.look(base.rt, &mut self.pass);
         let clients = core.clients(base.alloc);
@@ -152,6 +180,7 @@ impl<R: Wait + Clock + Copy, L: Log, C: Ledger, T: Ledger> Peer for Keeper<'_, '
     }
 
     fn answer(&mut self, got: &Answered) -> Result<(), PeerFault> {
+        let _ = self.base.take_seen(self.base.rules.loops);
         match got {
             Ok(Outcome::Ticked { ping, done }) => {
                 let has_ended = done.closed.is_some();

@@ -3,6 +3,7 @@
 //! standard input.
 #![tactic(auto)]
 
+mod backend_gate;
 mod keeper;
 mod program;
 mod server;

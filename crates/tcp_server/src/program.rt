@@ -27,7 +27,7 @@ const MOST_WORKERS: usize = 8;
 #[derive(Drop)]
 pub struct ErrorLog<R> {
     pub rt: R,
-    /// Whether the end of each client is told.
+    /// Whether the end of each client is told, and what went to no backend.
     pub verbose: bool,
 }
 
@@ -48,6 +48,12 @@ impl<R: Eprint> Log for ErrorLog<R> {
             }
             None => eprintln!(self.rt; "client {id:032x}, {transport}, lost, after {lived} ms"),
         };
+    }
+
+    fn unheard(&self, count: u64) {
+        if self.verbose {
+            let _ = eprintln!(self.rt; "went to no backend: {count}");
+        }
     }
 
     fn totals(&self, totals: Totals) {

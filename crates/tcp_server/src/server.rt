@@ -5,10 +5,11 @@ ghost use Rattle.hub_totals.specs.Pass.{IsBlankOf};
 ghost use Rattle.settings.specs.Wrong.{wrong_setting};
 ghost use Rattle.tcp_streams.specs.declared.fault.ServerFault.TheVariants.{BadSetting};
 
+use crate::backend_gate::BackendGate;
 use crate::keeper::Keeper;
 use dispatch::Core;
 use events::{App, CoreFault, Peer};
-use hub_gate::{Locked, Open, Pool, Report, ServeError, serve_peers};
+use hub_gate::{Locked, Pool, Report, ServeError, serve_peers};
 use hub_totals::Pass;
 use journal::Config;
 use settings::{Setting, Settings};
@@ -23,7 +24,8 @@ use std::thread::Threads;
 use std::time::Instant;
 use tcp_loops::{Base, Watch, sources, start_accepting, workers_for};
 use tcp_streams::{
-    Acceptor, Ears, Log, Rules, ServerFault, Shared, acceptor_for, ears_for, rules_and_limits,
+    Acceptor, Ears, Log, Rules, ServerFault, Shared, acceptor_for, backends_for, ears_for,
+    rules_and_limits,
 };
 use terms::let_go;
 
@@ -64,7 +66,8 @@ impl<L: Log + Sync + Drop> Server<L> {
         }
         let (port, acceptor, bell) = acceptor_for(rt, alloc, &settings)?;
         let (ears, inboxes) = ears_for(rt, alloc, settings.workers)?;
-        let shared = Shared::new(alloc, inboxes, bell, log.hears_clients())?;
+        let backends = backends_for(alloc, &settings)?;
+        let shared = Shared::new(alloc, inboxes, bell, backends, log.hears_clients())?;
         let (rules, hub) = rules_and_limits(alloc, settings)?;
         Ok(Server {
             log,
@@ -175,12 +178,17 @@ fn serve_all<
     let number = workers.len();
     let ids = sources(base.rt, base.alloc, number)?;
     let accepting = start_accepting(base, acceptor)?;
+    let gate = BackendGate {
+        rt: base.rt,
+        alloc: base.alloc,
+        backends: base.shared.backends.as_ref(),
+    };
     let pool = Pool {
         rt: base.rt,
         alloc: base.alloc,
         locked,
         app,
-        gate: &Open,
+        gate: &gate,
         turns: u64::MAX,
     };
     let served = serve_peers(&pool, &mut pass, workers, number, ids);

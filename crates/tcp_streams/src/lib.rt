@@ -3,6 +3,7 @@
 #![tactic(auto)]
 
 mod acceptor;
+mod backends;
 mod buffered;
 mod fault;
 mod inbox;
@@ -11,6 +12,7 @@ mod rules;
 mod shared;
 
 pub use acceptor::{Acceptor, acceptor_for};
+pub use backends::{Backends, Pressed, Seen, backends_for};
 pub use buffered::{Buffered, Stream};
 pub use fault::ServerFault;
 pub use inbox::{Ears, Handed, Inbox, ears_for};

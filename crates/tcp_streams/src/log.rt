@@ -11,6 +11,9 @@ pub trait Log {
     /// A client has ended.
     fn client_ended(&self, ended: &Ended);
 
+    /// So many more events of clients went to no backend.
+    fn unheard(&self, count: u64);
+
     /// What the server has counted so far.
     fn totals(&self, totals: Totals);
 }

@@ -35,6 +35,17 @@ pub struct Rules {
 }
 
 impl Rules {
+    /// How many bytes all that one loop is receiving may have.
+    pub fn share(&self) -> usize {
+        self.receiving / self.loops
+    }
+
+    /// How long the clients of a backend for which much waits aren't read at a stretch, in milliseconds:
+    /// less than what they have for the answer to a ping.
+    pub fn stretch(&self) -> u64 {
+        self.timing.ping_timeout / 4 * 3
+    }
+
     /// Whether a request asks for the counts.
     pub fn asks_for_counts(&self, request: &Request) -> bool {
         let path = self.metrics.as_ref().map(String::as_str);

@@ -1,5 +1,6 @@
 //! What all threads of a server share, beside the core.
 
+use crate::backends::Backends;
 use crate::fault::ServerFault;
 use crate::inbox::Inbox;
 use metrics::Metrics;
@@ -21,6 +22,8 @@ pub struct Shared {
     pub lives: Option<Mutex<HashMap<u128, (u64, bool)>>>,
     /// What the threads count, and what the keeper last told of the core.
     pub counts: Mutex<Metrics>,
+    /// What is known of the backends, if there may be some.
+    pub backends: Option<Backends>,
     standing: Mutex<Standing>,
     /// The workers that have begun, the keeper among them.
     pub begun: Arrivals,
@@ -31,7 +34,7 @@ pub struct Shared {
 /// Written out, so that a crate above takes the drop of all that lies in it by this one call.
 impl Drop for Shared {
     fn drop(self) {
-        let_go!(self; inboxes, acceptor, lives, counts, standing, begun, ended);
+        let_go!(self; inboxes, acceptor, lives, counts, backends, standing, begun, ended);
     }
 }
 
@@ -83,12 +86,14 @@ impl Shared {
         alloc: Global,
         inboxes: Vec<Inbox>,
         acceptor: Waker,
+        backends: Option<Backends>,
         hears_clients: bool,
     ) -> Result<Arc<Shared>, ServerFault> {
         let shared = Shared {
             counts: Mutex::new(Metrics::new(alloc, inboxes.len())?),
             inboxes,
             acceptor,
+            backends,
             lives: hears_clients.then(|| Mutex::new(HashMap::new(alloc))),
             standing: Mutex::default(),
             begun: Arrivals::default(),

@@ -2,6 +2,8 @@
 
 use crate::cores::hall::{Hall, is_set};
 use crate::cores::talkers::{SAYS, talkers};
+use dispatch::Core;
+use events::{Answered, Event};
 use hub_gate::{Locked, Open, Report, Turnstile};
 use hub_totals::Pass;
 use journal::{Step, What};
@@ -153,6 +155,14 @@ impl<'a, C: Ledger, T: Ledger, R: Wait + Clock> Turnstile for Looking<'a, C, T, 
             self.look_at_room();
         }
     }
+
+    fn applied<A: Ledger, B: Ledger>(
+        &self,
+        _worker: usize,
+        _core: &Core<A, B>,
+        _event: &Event,
+        _got: &Answered,
+    ) {}
 
     fn after(&self, _worker: usize, _turn: u64) {}
 }

@@ -2,6 +2,8 @@
 
 use crate::cores::hall::{Hall, is_set};
 use crate::cores::talkers::talkers;
+use dispatch::Core;
+use events::{Answered, Event};
 use hub_gate::Turnstile;
 use std::sync::Wait;
 use std::sync::atomic::{AtomicU64, Ordering};
@@ -45,6 +47,14 @@ impl<'a, R: Clock> Turnstile for Meeting<'a, R> {
     fn before(&self, worker: usize, turn: u64) {
         self.meet(&self.before, worker, turn)
     }
+
+    fn applied<C: Ledger, T: Ledger>(
+        &self,
+        _worker: usize,
+        _core: &Core<C, T>,
+        _event: &Event,
+        _got: &Answered,
+    ) {}
 
     fn after(&self, worker: usize, turn: u64) {
         self.meet(&self.after, worker, turn)

@@ -40,6 +40,8 @@ impl Log for Deaf {
 
     fn client_ended(&self, _ended: &Ended) {}
 
+    fn unheard(&self, _count: u64) {}
+
     fn totals(&self, _totals: Totals) {}
 }
 

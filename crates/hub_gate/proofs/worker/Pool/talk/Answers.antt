@@ -1,7 +1,7 @@
 use Rattle.std.proofs.Common.{◌≡◌, [], ◌∷◌, ◌++◌, Result, Ok, Err, is_ok, is_err, None, true, false, arith, refl, inl, inr, length-append, sym, ◌∙◌}
 use Rattle.std.proofs.lemmas.Fn.{FoldsTo-push}
 use Rattle.hub_gate.specs.Turns.{Turn, Serves}
-use Rattle.hub_gate.proofs.TurnLemmas.{last_client-push}
+use Rattle.hub_gate.proofs.TurnLemmas.{last_client-push, all_heard-push}
 use Rattle.hub_gate.proofs.worker.Pool.talk.Goals as goal
 
 heard : {A E : Type 0} (reply : Result A E) → is_err reply ≡ false → true ≡ is_ok reply
@@ -13,7 +13,7 @@ unheard (Ok a) is = absurd (cc (is))
 unheard (Err e) is = refl
 
 pub turns-init : goal.turns-init
-turns-init g c = record { served = []; talks = refl; count = refl; lost_is = refl }
+turns-init g c = record { served = []; talks = refl; count = refl; heard = refl; lost_is = refl }
 
 pub turns-preserved : goal.turns-preserved
 turns-preserved g c =
@@ -31,6 +31,7 @@ turns-preserved g c =
         told = c.answer.ensures;
       });
       count = omega (arith, length-append before.served (r ∷ []), before.count);
+      heard = all_heard-push before.served r before.heard refl;
       lost_is = c.lost_after-lost.ensures ∙ sym (last_client-push None before.served r);
     }
 
@@ -42,7 +43,7 @@ returns-in_default g c =
       last = c.turns.peer;
       talks = before.talks;
       within = omega (arith, before.count);
-      ends = inl (c.in_default.field-0, c.in_default.ensures);
+      ends = inl (before.heard, c.in_default.field-0, c.in_default.ensures);
       lost_is = before.lost_is;
     }
 
@@ -54,7 +55,7 @@ returns-in_default-given g c =
       last = c.turns.peer;
       talks = before.talks;
       within = omega (arith, before.count);
-      ends = rw c.in_default-given.is at c.in-Ok.ensures;
+      ends = (before.heard, rw c.in_default-given.is at c.in-Ok.ensures);
       lost_is = before.lost_is;
     }
 
@@ -75,7 +76,7 @@ returns-then-is_err g c =
         told = c.answer.ensures;
       });
       within = omega (arith, length-append before.served (r ∷ []), before.count);
-      ends = inr (refl, inl (before.served, r, refl, refl));
+      ends = inr (refl, inl (before.served, r, refl, before.heard, refl));
       lost_is = c.lost_after-lost.ensures ∙ sym (last_client-push None before.served r);
     }
 
@@ -87,6 +88,6 @@ returns g c =
       last = c.turns.peer;
       talks = before.talks;
       within = omega (arith, before.count);
-      ends = inr (refl, inr (omega (arith, before.count)));
+      ends = inr (refl, inr (before.heard, omega (arith, before.count)));
       lost_is = before.lost_is;
     }

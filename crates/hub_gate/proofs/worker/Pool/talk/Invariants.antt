@@ -1,6 +1,6 @@
-use Rattle.std.proofs.Common.{◌≡◌, List, length, None}
+use Rattle.std.proofs.Common.{◌≡◌, List, length, None, true}
 use Rattle.std.specs.List.{FoldsTo}
-use Rattle.hub_gate.specs.Turns.{Turn, Serves, desk, last_client}
+use Rattle.hub_gate.specs.Turns.{Turn, Serves, desk, last_client, all_heard}
 use Rattle.hub_gate.proofs.worker.Pool.talk.Given as goal
 
 abbrev pub invariant-turns : goal.invariant-turns
@@ -8,5 +8,6 @@ invariant-turns g l = record {
   served : List Turn;
   talks : FoldsTo (Serves g.P.Peer.gives g.P.Peer.hears (g.A.App.policy l.self.app.now)) (l.fn.peer, desk l.fn.pass (g.I.IdSource.stream l.fn.ids)) served (l.peer, desk l.pass (g.I.IdSource.stream l.ids));
   count : length served ≡ l.counter;
+  heard : all_heard served ≡ true;
   lost_is : l.lost ≡ last_client None served;
 }
