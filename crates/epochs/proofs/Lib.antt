@@ -1,3 +1,5 @@
+mod BackendLemmas
+mod ConnectLemmas
 mod EpochAccounts
 mod EpochCasts
 mod EpochEnded
@@ -11,3 +13,8 @@ mod EpochRooms
 mod EpochSound
 mod EpochSteps
 mod EpochTakes
+mod LetInLaws
+mod LetInMachine
+mod LetInPackets
+mod QuietEffects
+mod ThereLemmas

@@ -1,1 +1,3 @@
+pub mod Backends
 pub mod Epochs
+pub mod LetIn

@@ -9,14 +9,16 @@ ghost use Rattle.journal.specs.declared.step.What.{What};
 ghost use Rattle.journal.specs.Journal.{History, with_step};
 ghost use Rattle.journal.specs.Membership.{is_open};
 ghost use Rattle.journal.specs.Outboxes.{begins};
+ghost use Rattle.journal.specs.Plain.{Limits};
 ghost use Rattle.journal.specs.Seal.{PlainEpoch, SealsAs, IsLegalAndSound};
 ghost use Rattle.effects.specs.Following.{is_turn, Follows, CastsNothing, Spares};
 ghost use Rattle.events.specs.declared.event.Event.{Event};
 ghost use Rattle.events.specs.Answer.{Answer};
 ghost use Rattle.epochs.specs.Epochs.{all_placements, BeginsAfter, HandedInAll, SparesInAll};
 ghost use Rattle.epochs.specs.Epochs.{AreAlike, in_one};
+ghost use Rattle.epochs.specs.LetIn.{IsLetInBy, IsLetIn, AttachesOnly, HaveHistories, Everyone, WasLetIn};
 ghost use Rattle.dispatch.specs.Machine.{Does, Machine};
-ghost use Rattle.dispatch.specs.Holding.{Holding, holding, Agree};
+ghost use Rattle.dispatch.specs.Holding.{Holding, holding, new_core, Agree};
 ghost use Rattle.dispatch.specs.Handed.{Turn, is_opened_in, Handed};
 
 use events::App;
@@ -94,4 +96,31 @@ pub fn does_in_all_epochs<A: App>(app: &A)
         → Machine (A.policy app.now) timing numbers
         (events ++ (event, now) ∷ []) (answers ++ answer ∷ [])
         s ids (holding (in_one sealed k) new) rest }
+{}
+
+/// Whoever is there was let in. An event attaches a socket only of its own client, by a CONNECT that
+/// it brings and that the app lets in, with the namespace and the payload that stand there. So who is
+/// connected after any number of events and seals, or may come back, was attached so: with a session
+/// its socket comes back that was attached before. It has no effect.
+pub fn everyone_was_let_in<A: App>(app: &A)
+    ensures event { (now : ℕ) (timing : Timing) (numbers : Numbers) (event : Event) (answer : Answer)
+        (s t : Holding) (ids left : ℕ → ℕ) → HaveHistories s
+        → Does (A.policy app.now) now timing numbers event s ids answer t left
+        → AttachesOnly (IsLetInBy (A.policy app.now) s.history.limits event) s.history t.history
+        × HaveHistories t }
+    ensures events { (timing : Timing) (numbers : Numbers) (events : List (Event × ℕ))
+        (answers : List Answer) (s t : Holding) (ids left : ℕ → ℕ) → HaveHistories s
+        → Machine (A.policy app.now) timing numbers events answers s ids t left
+        → AttachesOnly (IsLetIn (A.policy app.now) s.history.limits events) s.history t.history
+        × HaveHistories t }
+
+    // from a new core on, over all epochs
+    ensures everyone { (config : Limits) (timing : Timing) (numbers : Numbers)
+        (events : List (Event × ℕ)) (answers : List Answer) (sealed : List History) (h : History)
+        (lines : List (ℕ × PlainLine)) (ids left : ℕ → ℕ)
+        → Machine (A.policy app.now) timing numbers events answers
+        (holding (new_core config timing numbers).hub.history []) ids
+        (holding (in_one sealed h) lines) left
+        → AreAlike h (in_one sealed h)
+        → Everyone (WasLetIn (A.policy app.now) config events (in_one sealed h).journal) h }
 {}

@@ -1,0 +1,138 @@
+-- Who is there was let in.
+use Rattle.std.proofs.Common.{◌≡◌, ℕ, List, [], ◌∷◌, ◌++◌, refl, sym, ◌∙◌, ap, subst, append_assoc, append-nil, Contains, None, Some}
+use Rattle.std.specs.List.{AllByRecursion}
+use Rattle.std.proofs.lemmas.List.Elements.{All-weaker, All-contains_itself, All-contains, All-from_recursion, recursion_from_All, Contains-append_left, Contains-append_right, Contains-push}
+use Rattle.eio_wire.specs.declared.handshake.Numbers.{Numbers}
+use Rattle.connection.specs.declared.timing.Timing.{Timing}
+use Rattle.connection.specs.Line.{PlainLine}
+use Rattle.journal.specs.declared.socket.Socket.{Socket}
+use Rattle.journal.specs.declared.step.Step.{Step}
+use Rattle.journal.specs.declared.step.What.{What}
+use Rattle.journal.specs.declared.step.What.TheVariants.{Attached}
+use Rattle.journal.specs.Config.{empty_base}
+use Rattle.journal.specs.Plain.{Limits, PlainBase}
+use Rattle.journal.proofs.SealListsLemmas.{all-append, all-to}
+use Rattle.journal.specs.Journal.{History, history, moment_at, with_step}
+use Rattle.journal.specs.Membership.{place_of, sockets}
+use Rattle.events.specs.declared.event.Event.{Event}
+use Rattle.events.specs.Answer.{Answer}
+use Rattle.events.specs.App.{Policy}
+use Rattle.effects.specs.Commands.{seat}
+use Rattle.dispatch.specs.Machine.{Does, Machine}
+use Rattle.dispatch.specs.Holding.{Holding, holding, new_core}
+use Rattle.dispatch.specs.Packets.{socket_in}
+use Rattle.epochs.specs.Epochs.{AreAlike, in_one, with_steps}
+use Rattle.epochs.specs.LetIn.{Brings, IsLetInBy, IsLetIn, attaches, attached, AttachesOnly, HaveHistories, Everyone, WasLetIn}
+use Rattle.epochs.proofs.ThereLemmas.{Connected, Saved, all-there, alike-there}
+use Rattle.epochs.proofs.LetInMachine.{does-keeps}
+use Rattle.epochs.proofs.LetInPackets.{KeptWhenLetIn}
+
+-- ---- steps that attach such sockets alone
+
+pub attaches-none : (Is : Socket → Type 0) (h : History) → AttachesOnly Is h h
+attaches-none Is h = record { steps = []; goes = refl; each = tt }
+
+-- one step more
+attaches-step : (Is : Socket → Type 0) (f h k : History) (now : ℕ) (w : What) → AllByRecursion Is (attaches w) → k ≡ with_step h now w → AttachesOnly Is f h → AttachesOnly Is f k
+attaches-step Is f h k now w new is was =
+    let step : Step = record { at = moment_at h now; what = w } in
+    record {
+      steps = step ∷ was.steps;
+      goes = is ∙ ap (λ (g : History). history g.base g.limits (step ∷ g.journal)) was.goes;
+      each = all-append Is (attaches w) (attached was.steps) new was.each;
+    }
+
+attached-append : (later earlier : List Step) → attached (later ++ earlier) ≡ attached later ++ attached earlier
+attached-append [] earlier = refl
+attached-append (step ∷ later) earlier = ap (λ ks. attaches step.what ++ ks) (attached-append later earlier) ∙ sym (append_assoc (attaches step.what) (attached later) (attached earlier))
+
+-- these steps after those
+attaches-on : (Is : Socket → Type 0) (f g h : History) → AttachesOnly Is f g → AttachesOnly Is g h → AttachesOnly Is f h
+attaches-on Is f g h first next = record {
+  steps = next.steps ++ first.steps;
+  goes = next.goes ∙ ap (with_steps next.steps) first.goes ∙ ap (λ (steps : List Step). history f.base f.limits steps) (sym (append_assoc next.steps first.steps f.journal));
+  each = subst (AllByRecursion Is) (sym (attached-append next.steps first.steps)) (all-append Is (attached next.steps) (attached first.steps) next.each first.each);
+}
+
+attaches-weaker : (Is These : Socket → Type 0) → ((k : Socket) → Is k → These k) → (h k : History) → AttachesOnly Is h k → AttachesOnly These h k
+attaches-weaker Is These each h k was = record { steps = was.steps; goes = was.goes; each = all-to Is These each (attached was.steps) was.each }
+
+-- ---- an event
+
+module _ (policy : Policy) (timing : Timing) (numbers : Numbers) where
+  pub event-lets : (now : ℕ) (happened : Event) (answer : Answer) (s t : Holding) (ids left : ℕ → ℕ) → HaveHistories s → Does policy now timing numbers happened s ids answer t left
+      → AttachesOnly (IsLetInBy policy s.history.limits happened) s.history t.history × HaveHistories t
+  event-lets now happened answer s t ids left lines does =
+      does-keeps Goes (λ h k at w none is was. attaches-step Only f h k at w (subst (AllByRecursion Only) (sym none) tt) is was) policy happened now lets s t (attaches-none Only f, lines) timing numbers answer ids left does
+    where
+      f : History
+      f = s.history
+
+      Only : Socket → Type 0
+      Only = IsLetInBy policy f.limits happened
+
+      Goes : History → Type 0
+      Goes h = AttachesOnly Only f h
+
+      lets : (c : ℕ) → KeptWhenLetIn Goes policy c now (Brings happened c)
+      lets c h k space payload effects sid pid brings allowed is was =
+          let place : place_of f.limits space ≡ place_of h.limits space = ap (λ (g : History). place_of g.limits space) (sym was.goes) in
+          attaches-step Only f h k now (Attached (seat (socket_in c space sid) pid h)) ((space, payload, brings, place, effects, allowed), tt) is was
+
+  -- ---- all events
+
+  sooner : (limits : Limits) (turn : Event × ℕ) (turns : List (Event × ℕ)) (k : Socket) → IsLetInBy policy limits turn.0 k → IsLetIn policy limits (turn ∷ turns) k
+  sooner limits turn turns k is = (turn, Contains-append_left (turn ∷ []) turns turn (Contains-push [] turn), is)
+
+  later : (limits : Limits) (turn : Event × ℕ) (turns : List (Event × ℕ)) (k : Socket) → IsLetIn policy limits turns k → IsLetIn policy limits (turn ∷ turns) k
+  later limits turn turns k (other, inside, is) = (other, Contains-append_right (turn ∷ []) turns other inside, is)
+
+  pub run-lets : (events : List (Event × ℕ)) (answers : List Answer) (s t : Holding) (ids left : ℕ → ℕ) → HaveHistories s → Machine policy timing numbers events answers s ids t left
+      → AttachesOnly (IsLetIn policy s.history.limits events) s.history t.history × HaveHistories t
+  unfolding Machine
+  run-lets [] [] s t ids left lines (same, drawn) =
+      subst (λ (u : Holding). AttachesOnly (IsLetIn policy s.history.limits []) s.history u.history × HaveHistories u) (sym same) (attaches-none _ s.history, lines)
+  run-lets [] (answer ∷ answers) s t ids left lines none = absurd none
+  run-lets (turn ∷ turns) [] s t ids left lines none = absurd none
+  run-lets (turn ∷ turns) (answer ∷ answers) s t ids left lines (m, drawn, does, run) =
+      let limits = s.history.limits in
+      let first = event-lets turn.1 turn.0 answer s m ids drawn lines does in
+      let rest = run-lets turns answers m t drawn left first.1 run in
+      let same : m.history.limits ≡ limits = ap (λ (h : History). h.limits) first.0.goes in (
+        attaches-on (IsLetIn policy limits (turn ∷ turns)) s.history m.history t.history
+            (attaches-weaker (IsLetInBy policy limits turn.0) (IsLetIn policy limits (turn ∷ turns)) (sooner limits turn turns) s.history m.history first.0)
+            (attaches-weaker (IsLetIn policy m.history.limits turns) (IsLetIn policy limits (turn ∷ turns))
+            (λ k is. later limits turn turns k (subst (λ (l : Limits). IsLetIn policy l turns k) same is)) m.history t.history rest.0),
+        rest.1,
+      )
+
+  -- ---- everyone
+
+  -- where those who were attached were let in, each of them was attached and let in
+  each-let-in : (config : Limits) (events : List (Event × ℕ)) (journal : List Step) → AllByRecursion (IsLetIn policy config events) (attached journal)
+      → AllByRecursion (λ (k : Socket). WasLetIn policy config events journal k.sid k.space) (attached journal)
+  each-let-in config events journal all =
+      let ks = attached journal in
+      let Is = IsLetIn policy config events in
+      recursion_from_All (λ (k : Socket). WasLetIn policy config events journal k.sid k.space) ks
+      (All-weaker (Contains ks) (λ (k : Socket). WasLetIn policy config events journal k.sid k.space) (λ k inside. (k, inside, refl, refl, All-contains Is ks k (All-from_recursion Is ks all) inside)) ks
+      (All-contains_itself ks))
+
+  pub everyone-let-in : (config : Limits) (events : List (Event × ℕ)) (answers : List Answer) (sealed : List History) (h : History) (lines : List (ℕ × PlainLine)) (ids left : ℕ → ℕ)
+      → Machine policy timing numbers events answers (holding (new_core config timing numbers).hub.history []) ids (holding (in_one sealed h) lines) left → AreAlike h (in_one sealed h)
+      → Everyone (WasLetIn policy config events (in_one sealed h).journal) h
+  unfolding sockets
+  everyone-let-in config events answers sealed h lines ids left run alike =
+      let whole = in_one sealed h in
+      let Is = WasLetIn policy config events whole.journal in
+      let were = (run-lets events answers (holding (new_core config timing numbers).hub.history []) (holding whole lines) ids left (λ c line is. absurd (none line is)) run).0 in
+      let journal : were.steps ≡ whole.journal = sym (append-nil were.steps) ∙ ap (λ (g : History). g.journal) (sym were.goes) in
+      let base : empty_base config.first_offset ≡ whole.base = ap (λ (g : History). g.base) (sym were.goes) in
+      alike-there Is h whole alike
+      (all-there Is whole.base whole.limits whole.journal alike.second.0
+      (each-let-in config events whole.journal (subst (λ (steps : List Step). AllByRecursion (IsLetIn policy config events) (attached steps)) journal were.each))
+      (subst (λ (b : PlainBase). Connected Is (sockets b [])) base tt)
+      (subst (λ (b : PlainBase). Saved Is b.saved) base tt))
+    where
+      none : (line : PlainLine) → None ≡ Some line → ⊥
+      none line e = absurd (cc e)
