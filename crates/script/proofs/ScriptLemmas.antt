@@ -6,7 +6,7 @@ use Rattle.std.proofs.lemmas.List.Splits.{slice_split_at, slice_split_none}
 use Rattle.std.specs.Result.{OnOk}
 use Rattle.std.specs.Io.KnownBytes.{Appends, Consumes, Keeps, IsAtEnd}
 use Rattle.events.specs.App.{Policy}
-use Rattle.script.specs.Setup.{USUAL}
+use Rattle.journal.specs.Plain.{Limits}
 use Rattle.script.specs.Script.{PlainRun, Setting, AnswersBytes, IsAnswered, IsUnended, Continues, WritesOn, WritesLine, Script, LF, lines_of, printed}
 
 -- ---- lines
@@ -126,11 +126,11 @@ module _ (policy : Policy) where
       subst (λ x. WritesOn policy a b s line (x ∷ []) [] n) (sym ends) (writes_line a a b s s n line [] line (writes_nothing a s line) unended answered)
 
   -- the whole input was read, and the last line is answered
-  pub writes_all : (input left_over a b c d : Option (List ℕ)) (s m n : PlainRun) (read left : List ℕ) → s ≡ Setting USUAL → Consumes input left_over read → IsAtEnd left_over
-      → WritesOn policy a b s [] read left m → IsUnended left → WritesLine policy b c left m n → Keeps c d → IsAnswered policy input a d
-  writes_all input left_over a b c d s m n read left start consumed end before unended line kept =
+  pub writes_all : (limits : Limits) (input left_over a b c d : Option (List ℕ)) (s m n : PlainRun) (read left : List ℕ) → s ≡ Setting limits → Consumes input left_over read → IsAtEnd left_over
+      → WritesOn policy a b s [] read left m → IsUnended left → WritesLine policy b c left m n → Keeps c d → IsAnswered policy limits input a d
+  writes_all limits input left_over a b c d s m n read left start consumed end before unended line kept =
       let output = before.0 ++ printed line.0 in
       let appended : Appends a c output = Appends-trans a b c before.0 (printed line.0) before.1 line.1 in
       let whole : Script policy (lines_of read) s output n = continues_to_end s m n read before.0 left line.0 before.2 unended line.2 in
-      Consumes-whole input left_over read (λ text. (out : List ℕ) × (last : PlainRun) × Script policy (lines_of text) (Setting USUAL) out last × Appends a d out) consumed end
+      Consumes-whole input left_over read (λ text. (out : List ℕ) × (last : PlainRun) × Script policy (lines_of text) (Setting limits) out last × Appends a d out) consumed end
       (output, n, subst (λ x. Script policy (lines_of read) x output n) start whole, Appends-kept a c d output appended kept)

@@ -16,7 +16,7 @@ use Rattle.script.specs.declared.run.Run.{Run}
 use Rattle.script.specs.declared.run.Run.TheVariants as run
 use Rattle.script.specs.Printing.{fault_name}
 use Rattle.script.specs.ScriptLine.{IsReadAs}
-use Rattle.script.specs.Setup.{USUAL, with_limit, new_core}
+use Rattle.script.specs.Setup.{with_limit, new_core}
 use Rattle.script.specs.Playing.{PlainPlay, new_play, play_of, Plays}
 
 -- how far a script has come: limits may be set, or the server is there, or there is none and nothing is answered any more
@@ -103,9 +103,9 @@ module _ (policy : Policy) where
       (said : Option (List ℕ)) × (m : PlainRun) × (rest : List ℕ)
       × AnswersBytes line s said m × (output ≡ printed said ++ rest) × Script lines m rest t
 
-  -- the writer got the answers to the lines of the input, from a stage where nothing is set, and nothing else
-  abbrev pub IsAnswered : (input : Option (List ℕ)) → (before after : Option (List ℕ)) → Type 0
-  IsAnswered input before after = IfSome input (λ text. (output : List ℕ) × (last : PlainRun) × Script (lines_of text) (Setting USUAL) output last × Appends before after output)
+  -- the writer got the answers to the lines of the input, from a stage where these limits stand, and nothing else
+  abbrev pub IsAnswered : Limits → (input : Option (List ℕ)) → (before after : Option (List ℕ)) → Type 0
+  IsAnswered limits input before after = IfSome input (λ text. (output : List ℕ) × (last : PlainRun) × Script (lines_of text) (Setting limits) output last × Appends before after output)
 
   -- ---- a script of which a part was read
 

@@ -12,5 +12,5 @@ mod setup;
 
 pub use faults::RunError;
 pub use printing::Answer;
-pub use run::{play_script, run_script};
+pub use run::{play_script, run_script, run_script_within, usual_limits};
 pub use script_line::{Key, Notice, ScriptLine, read_line};

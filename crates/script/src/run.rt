@@ -4,6 +4,7 @@ ghost use Rattle.std.specs.Prelude.{◌≡◌, ◌≢◌, ◌<◌, [], ◌∷◌
 ghost use Rattle.std.specs.Io.KnownBytes.{Appends, Keeps, IsAtEnd};
 ghost use Rattle.script.specs.declared.faults.RunError.TheVariants.{Memory, Reading, Writing};
 ghost use Rattle.script.specs.Printing.{answer_text};
+ghost use Rattle.script.specs.Setup.{USUAL};
 ghost use Rattle.script.specs.Script.{plain_run, Sets, Begins, PlaysOn, Answers, printed, IsAnswered, IsUnended, WritesLine, WritesOn, Gives};
 
 use crate::faults::RunError;
@@ -15,7 +16,7 @@ use dispatch::Core;
 use events::{App, CoreFault};
 use journal::Config;
 use settings::{NUMBERS, TIMING, usual_hub};
-use std::alloc::Global;
+use std::alloc::{AllocError, Global};
 use std::io;
 use std::io::{BufWriter, ErrorKind, Read, Write};
 use std::marker::{Brand, PhantomData};
@@ -41,6 +42,17 @@ pub fn play_script<R: Input + Print + AllocGlobal, A: App>(
     Ok(ExitCode::SUCCESS)
 }
 
+/// The limits of a script's server where it sets none: the usual ones, for fewer clients and with
+/// fewer entries for each.
+pub fn usual_limits(alloc: Global) -> Result<Config, AllocError>
+    ensures { IfOk result (λ limits. limits ≡ USUAL) }
+{
+    let mut limits = usual_hub(alloc)?;
+    limits.clients = 1024;
+    limits.capacity = 64;
+    Ok(limits)
+}
+
 /// Reads script lines to the end of the input, plays them to a server with this app, and writes
 /// the answers. What was answered is flushed before each read and at the end. The last line may
 /// lack its LF. Where the limits allow no server, that is the last answer, and the lines after it
@@ -52,11 +64,28 @@ pub fn run_script<A: App, R: Read, W: Write>(
     writer: &mut W,
 ) -> Result<(), RunError>
     ensures end { OnOk result (IsAtEnd (R.remaining reader.new)) }
-    ensures answered { OnOk result (IsAnswered (A.policy app.now)
+    ensures answered { OnOk result (IsAnswered (A.policy app.now) USUAL
+        (R.remaining reader.old) (W.contents writer.old) (W.contents writer.new)) }
+{
+    run_script_within(alloc, app, usual_limits(alloc)?, reader, writer)
+}
+
+/// The same with a server of these limits, where the script sets none.
+pub fn run_script_within<A: App, R: Read, W: Write>(
+    alloc: Global,
+    app: &A,
+    limits: Config,
+    reader: &mut R,
+    writer: &mut W,
+) -> Result<(), RunError>
+    ensures end { OnOk result (IsAtEnd (R.remaining reader.new)) }
+    ensures answered { OnOk result (IsAnswered (A.policy app.now) limits
         (R.remaining reader.old) (W.contents writer.old) (W.contents writer.new)) }
 {
     let (commands, taken) = (Blank::new(PARTS), Blank::new(PARTS));
-    let served = serve::<Brand, Brand, A, R, W>(alloc, app, reader, writer, commands, taken);
+    let served = serve::<Brand, Brand, A, R, W>(
+        alloc, app, limits, reader, writer, commands, taken,
+    );
     if served.is_err() {
         // The fault that ended the run is told, and not one more.
         let _ = flush(writer);
@@ -68,6 +97,7 @@ pub fn run_script<A: App, R: Read, W: Write>(
 fn serve<C: Ledger, T: Ledger, A: App, R: Read, W: Write>(
     alloc: Global,
     app: &A,
+    limits: Config,
     reader: &mut R,
     writer: &mut W,
     commands: Blank,
@@ -77,7 +107,7 @@ fn serve<C: Ledger, T: Ledger, A: App, R: Read, W: Write>(
         × (commands.parts ≡ C.parts) × (commands.parts ≡ 65536) }
     requires taken { (taken.name ≡ T.name) × (taken.parts ≡ T.parts) × (taken.parts ≡ 65536) }
     ensures end { OnOk result (IsAtEnd (R.remaining reader.new)) }
-    ensures answered { OnOk result (IsAnswered (A.policy app.now)
+    ensures answered { OnOk result (IsAnswered (A.policy app.now) limits
         (R.remaining reader.old) (W.contents writer.old) (W.contents writer.new)) }
 {
     let ledgers = Ledgers {
@@ -86,10 +116,6 @@ fn serve<C: Ledger, T: Ledger, A: App, R: Read, W: Write>(
         taken,
         of: PhantomData,
     };
-    // A server's usual limits, for fewer clients and with fewer entries for each.
-    let mut limits = usual_hub(alloc)?;
-    limits.clients = 1024;
-    limits.capacity = 64;
     let mut run: Run<C, T> = Run::Setting(limits, ledgers);
     let mut line = Vec::new(alloc);
     let mut buffer = [0u8; READ_SIZE];

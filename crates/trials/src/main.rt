@@ -5,9 +5,9 @@
 //! prints what is counted a second.
 //!
 //! A script is played to a server of the demonstration app, which here wants what can't be done of
-//! some events, or of the quiz where its name begins with `quiz: `, three times: as it stands,
-//! without its last LF, and with a seal after each line from its first `open` on, unless it seals
-//! itself. The first line of a chat has the limits of its
+//! some events, or of the quiz where its name begins with `quiz: `, or of backends where it begins
+//! with `backend: `, three times: as it stands, without its last LF, and with a seal after each line
+//! from its first `open` on, unless it seals itself. The first line of a chat has the limits of its
 //! hub, and each other one a command or what is asked of the hub, which is printed with its answer
 //! behind ` = `. A chat that neither seals nor asks for what a seal changes is played once more,
 //! with a seal after each line. Where that prints otherwise, but for the lines of the seals, it is

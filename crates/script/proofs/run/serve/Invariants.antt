@@ -1,6 +1,5 @@
 use Rattle.std.proofs.Common.{ℕ, [], List}
 use Rattle.std.specs.Io.KnownBytes.{Consumes}
-use Rattle.script.specs.Setup.{USUAL}
 use Rattle.script.specs.Script.{IsUnended, Setting, WritesOn, plain_run}
 use Rattle.script.proofs.run.serve.Given as goal
 
@@ -12,5 +11,5 @@ invariant-loop g l =
       read : List ℕ;
       consumed : Consumes (g.R.Read.remaining l.fn.reader) (g.R.Read.remaining l.reader) read;
       unended : IsUnended l.line.items;
-      written : WritesOn (g.A.App.policy l.app) (contents l.fn.writer) (contents l.writer) (Setting USUAL) [] read l.line.items (plain_run l.run);
+      written : WritesOn (g.A.App.policy l.app) (contents l.fn.writer) (contents l.writer) (Setting l.fn.limits) [] read l.line.items (plain_run l.run);
     }

@@ -1,5 +1,5 @@
 -- Each blank's own name and parts are those of its ledger.
-use Rattle.script.proofs.run.run_script.Given as goal
+use Rattle.script.proofs.run.run_script_within.Given as goal
 
 abbrev pub ghosts-serve-C-Ledger : goal.ghosts-serve-C-Ledger
 ghosts-serve-C-Ledger g a = record { name = a.commands.name; parts = a.commands.parts }
