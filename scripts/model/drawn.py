@@ -1,11 +1,16 @@
 """Scripts that are drawn: lines that look random, each fit for what the model knows of the server by then."""
 import random
 
-from apps import POLL
+from apps import POLL, Wild
 from script import Script
 from wire import SEPARATOR, id_text, write_base64
 
 LETTERS = "ABCDEF"
+LIMITS = {
+    "capacity": (2, 3, 5, 64), "bytes": (120, 200, 400, 8_388_608), "log": (1, 3, 5, 1024),
+    "log-bytes": (100, 200, 400, 800, 67_108_864), "saved": (0, 1, 2, 4096), "keep": (0, 20_000, 80_000), "clients": (2, 4, 6),
+    "first-offset": (1, 1, 1, 2**64 - 3),
+}
 SPACES = ("/", "/", "/", "/admin", "/admin", "/none")
 WORDS = ("join", "join", "join", "leave", "say", "say", "say", "two", "but", "quiet", "all", "all", "ask", "pull", "push",
          "kick", "x")
@@ -34,37 +39,35 @@ MARKS = '[]{}",:0123456789-+.eE \\u/bftrn\ttruefalsn_é€😀\x7f'
 class Drawer:
     """Draws the lines of one script, and plays them to the model as it goes."""
 
-    def __init__(self, seed):
-        self.random, self.script, self.now = random.Random(seed), Script(), 0
-        self.lines, self.printed, self.joined = [], [], []
-        self.limit("capacity", (2, 3, 5, 64))
-        self.limit("bytes", (120, 200, 400, 8_388_608))
-        self.limit("log", (1, 3, 5, 1024))
-        self.limit("log-bytes", (100, 200, 400, 800, 67_108_864))
-        self.limit("saved", (0, 1, 2, 4096))
-        self.limit("keep", (0, 20_000, 80_000))
-        self.limit("clients", (2, 4, 6))
-        self.limit("first-offset", (1, 1, 1, 2**64 - 3))
+    app, spaces, letters, limits = Wild, SPACES, LETTERS, LIMITS
+    # How many attachments a packet lacks, and how often it is for a namespace that its client has joined.
+    missing, joined_share = (0, 0, 0, 0, 0, 1, -1), 0.97
 
-    def limit(self, key, numbers):
-        if self.random.random() < 0.7:
-            self.play(f"config {key} {self.random.choice(numbers)}")
+    def __init__(self, seed):
+        self.random, self.script, self.now = random.Random(seed), Script(self.app()), 0
+        self.lines, self.joined, self.speaker = [], [], ""
+        for key, numbers in self.limits.items():
+            if self.random.random() < 0.7:
+                self.play(f"config {key} {self.random.choice(numbers)}")
 
     def play(self, line):
         self.lines.append(line)
-        self.printed += self.script.play(line.encode())
+        self.script.play(line.encode())
 
     def chance(self, share):
         return self.random.random() < share
 
     def draw(self, count):
-        for name in LETTERS[:2]:
-            self.play(f"open {name}")
-            self.play(f"text {name} 40")
+        self.begin()
         while len(self.lines) < count:
             self.turn()
         for line in ("totals", "members / r", "members /admin r", "seal", "totals"):
             self.play(line)
+
+    def begin(self):
+        for name in self.letters[:2]:
+            self.play(f"open {name}")
+            self.play(f"text {name} 40")
 
     def turn(self):
         if len(self.open_names()) < 2 and self.chance(0.9):
@@ -90,21 +93,25 @@ class Drawer:
         elif kind < 37:
             self.play(f"lost {name}")
         else:
-            self.play(self.random.choice(("sweep", "totals", "seal", f"members {self.random.choice(SPACES)} {self.room()}")))
+            self.play(self.random.choice(("sweep", "totals", "seal", f"members {self.random.choice(self.spaces)} {self.room()}")))
         return None
 
     def come(self):
         """A client comes, joins a namespace and a room, or brings a session back."""
-        others = [name for name in LETTERS if name not in self.open_names()]
-        name, is_socket = self.random.choice(others if others and self.chance(0.95) else LETTERS), self.chance(0.4)
+        others = [name for name in self.letters if name not in self.open_names()]
+        name, is_socket = self.random.choice(others if others and self.chance(0.95) else self.letters), self.chance(0.4)
         self.play(f"open {name}" + " socket" * is_socket)
-        word = "frame" if is_socket else "text"
+        self.speaker, word = name, "frame" if is_socket else "text"
         self.play(f"{word} {name} {self.connect()}")
         client = self.script.names.get(name)
         if self.line(client):
             self.joined = list(self.script.server.hub.clients[client].sockets)
             if self.joined:
-                self.play(f'{word} {name} {self.start("2")}["join","{self.room()}"]')
+                self.play(f'{word} {name} {self.greeting()}')
+
+    def greeting(self):
+        """What a client says first that has joined a namespace."""
+        return f'{self.start("2")}["join","{self.room()}"]'
 
     def open_names(self):
         return [name for name, client in self.script.names.items() if self.line(client)]
@@ -112,7 +119,7 @@ class Drawer:
     def name(self):
         """A name, mostly one of an open client."""
         names = self.open_names()
-        return self.random.choice(names) if names and self.chance(0.97) else self.random.choice(LETTERS)
+        return self.random.choice(names) if names and self.chance(0.97) else self.random.choice(self.letters)
 
     def line(self, client):
         return self.script.server.lines.get(client) if self.script.server else None
@@ -136,7 +143,7 @@ class Drawer:
 
     def packets(self, name, count):
         """So many packets of a client, each with its attachments, and what it owes of them first."""
-        client = self.script.names.get(name)
+        client, self.speaker = self.script.names.get(name), name
         line, found = self.line(client), []
         if line and line.awaited and self.chance(0.9):
             found.append(self.attachment())
@@ -165,7 +172,7 @@ class Drawer:
         if self.chance(0.03):
             return [self.start("1")]
         if self.chance(0.12):
-            return [self.start("3") + f'{self.random.choice((0, 1, 2, POLL))}["yes"]']
+            return [self.answer()]
         if self.chance(0.02):
             return [self.start("4") + '{"message":"x"}']
         if self.chance(0.12):
@@ -174,7 +181,7 @@ class Drawer:
 
     def start(self, kind):
         """How a packet begins, mostly one for a namespace that its client has joined."""
-        space = self.random.choice(self.joined if self.joined and self.chance(0.97) else SPACES)
+        space = self.random.choice(self.joined if self.joined and self.chance(self.joined_share) else self.spaces)
         return f"4{kind}" + ("" if space == "/" else f"{space},")
 
     def connect(self):
@@ -183,10 +190,16 @@ class Drawer:
             saved = self.random.choice(list(hub.saved.values()))
             offsets = [it.offset for it in hub.log] + [0, 1, max(0, (hub.next or 0) - self.random.randrange(1, 9))]
             named = f'{{"pid":"{id_text(saved.pid + self.chance(0.1))}","offset":"{self.random.choice(offsets):016x}"}}'
-            space = saved.space if self.chance(0.9) else self.random.choice(SPACES)
+            space = saved.space if self.chance(0.9) else self.random.choice(self.spaces)
             return "40" + ("" if space == "/" else f"{space},") + named
         self.joined = []
+        return self.connect_anew()
+
+    def connect_anew(self):
         return self.start("0") + self.random.choice(CONNECTS)
+
+    def answer(self):
+        return self.start("3") + f'{self.random.choice((0, 1, 2, POLL))}["yes"]'
 
     def event(self, kind="2", parts=""):
         word = self.random.choice(WORDS) if self.chance(0.97) else "bye"
@@ -201,7 +214,7 @@ class Drawer:
         parts = "".join(f',{{"_placeholder":true,"num":{it}}}' for it in range(count))
         text = self.event("2", parts) if self.chance(0.9) else self.start("3") + f'{self.random.randrange(3)}[1{parts}]'
         kind = {"2": "5", "3": "6"}[text[1]]
-        missing = self.random.choice((0, 0, 0, 0, 0, 1, -1))
+        missing = self.random.choice(self.missing)
         return [f"4{kind}{count}-{text[2:]}"] + [self.attachment() for _ in range(max(0, count - missing))]
 
     def mutated(self, text):
@@ -213,8 +226,8 @@ class Drawer:
         return "".join(letters)
 
 
-def drawn(seed, count=120):
-    """The lines of a seed's script, and what they have to print."""
-    drawer = Drawer(seed)
+def drawn(seed, kind=Drawer, count=120):
+    """The text of a seed's script."""
+    drawer = kind(seed)
     drawer.draw(count)
-    return drawer.lines, drawer.printed
+    return "".join(f"{line}\n" for line in drawer.lines).encode()

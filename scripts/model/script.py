@@ -5,7 +5,6 @@ from apps import Wild
 from hub import Refused
 from server import Server
 
-SPACES = ("/", "/admin")
 USUAL = dict(capacity=64, clients=1024, bytes=8_388_608, log=1024, log_bytes=67_108_864, saved=4096, keep=120_000, first_offset=1)
 NAME = "([A-Za-z]{1,16})"
 NUMBER = "([0-9]+)"
@@ -50,7 +49,7 @@ class Script:
     def begin(self):
         if self.server is None:
             try:
-                self.server = Server(self.app, spaces=SPACES, **self.limits)
+                self.server = Server(self.app, spaces=self.app.spaces, **self.limits)
             except Refused:
                 self.is_over = True
                 raise

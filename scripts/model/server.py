@@ -11,7 +11,8 @@ GREATEST = 2**64 - 1
 PING_INTERVAL, PING_TIMEOUT, CONNECT_TIMEOUT = 25_000, 20_000, 45_000
 LONGEST_FRAME = 1_000_000
 MOST_TAKEN = 262_144
-WAIT = 10_000
+# Effects that name the sockets that are meant.
+TO_MANY = ("emit", "pull", "push", "end", "fetch")
 # Why a room couldn't be joined or left, as a report says it.
 REFUSALS = {"AlreadyIn": "already in", "NotIn": "not in", "OwnRoom": "own room", "TooManyRooms": "too many rooms"}
 
@@ -56,27 +57,28 @@ class Line:
     def __init__(self, now, is_socket):
         self.transport = "socket" if is_socket else "polling"
         self.clock, self.is_getting, self.has_ping = Clock(now), False, False
-        self.awaited, self.parts, self.questions = None, [], {}
+        self.awaited, self.questions = None, {}
 
     def text(self, text):
-        """The packet that is whole with this text, with its attachments, if one is."""
+        """The packet that is whole with this text, if one is."""
         if self.awaited:
             raise Fault("TextAwaitingBinary")
         header = Header(text)
         if not header.count:
-            return header, []
-        self.awaited, self.parts = header, []
+            return header
+        self.awaited = header
         return None
 
     def binary(self, part, most):
         if not self.awaited:
             raise Fault("BinaryUnawaited")
-        if sum(map(len, self.parts)) + len(part) > most:
+        packet = self.awaited
+        if sum(map(len, packet.parts)) + len(part) > most:
             raise Fault("TooLong")
-        self.parts.append(part)
-        if len(self.parts) < self.awaited.count:
+        packet.parts.append(part)
+        if len(packet.parts) < packet.count:
             return None
-        packet, self.awaited, self.parts = (self.awaited, self.parts), None, []
+        self.awaited = None
         return packet
 
     def enter(self, sid):
@@ -155,10 +157,10 @@ class Server:
 
     def hear_of(self, ended, now):
         for sid, socket, rooms, ending in ended:
-            for name, *words in self.app.left(sid, sorted(rooms), ending):
+            for name, *words in self.app.left(sid, socket.space, sorted(rooms), ending):
                 if name != "emit":
                     raise Refused("BadEffect")
-                self.hub.cast(socket.space, *words, [], now)
+                self.emit(*words, now)
 
     # The events.
 
@@ -279,7 +281,7 @@ class Server:
         elif kind in ("4", "b"):
             packet = line.text(data) if kind == "4" else line.binary(data, self.hub.limits["bytes"])
             if packet:
-                self.serve(client, *packet, done, now)
+                self.serve(client, packet, done, now)
 
     def tell(self, client, text, now, parts=()):
         try:
@@ -287,7 +289,7 @@ class Server:
         except Refused:
             raise Closed("OutboxFull") from None
 
-    def serve(self, client, header, parts, done, now):
+    def serve(self, client, header, done, now):
         line, sid = self.lines[client], self.hub.socket_of(client, header.space)
         if header.kind == "0":
             return self.connect(client, header, done, now)
@@ -297,14 +299,13 @@ class Server:
             self.hub.end(sid, now, "Client")
             del line.questions[sid]
         elif header.kind in "25":
-            effects = self.app.decides(sid, header)
-            self.act(client, sid, header, parts, effects, done, now)
+            self.act(client, sid, header, self.app.decides(sid, header), done, now)
         elif header.kind in "36":
             if line.questions[sid][1].pop(header.id, None) is None:
                 done.is_ignored = True
-                self.act(client, sid, header, parts, self.app.strays(header), done, now)
+                self.act(client, sid, header, self.app.strays(sid, header), done, now)
             else:
-                self.act(client, sid, header, parts, self.app.answers(header), done, now)
+                self.act(client, sid, header, self.app.answers(sid, header), done, now)
         return None
 
     def connect(self, client, header, done, now):
@@ -321,10 +322,10 @@ class Server:
                 pass
             else:
                 self.lines[client].enter(sid)
-                return self.act(client, sid, header, [], self.app.returned(self.hub.rooms[sid]), done, now)
-        effects = self.app.connects(header.payload)
-        if effects is None:
-            return self.tell(client, f'4{start(space)}{{"message":"Not allowed"}}', now)
+                return self.act(client, sid, header, self.app.returned(sid, header, sorted(self.hub.rooms[sid])), done, now)
+        effects = self.app.connects(header)
+        if isinstance(effects, str):
+            return self.tell(client, f'4{start(space)}{{"message":"{effects}"}}', now)
         sid, pid = self.draw(), self.draw()
         try:
             self.hub.attach(client, space, sid, pid, now)
@@ -333,9 +334,9 @@ class Server:
                 raise Closed("OutboxFull") from None
             raise
         self.lines[client].enter(sid)
-        return self.act(client, sid, header, [], effects + self.app.connected(header.payload), done, now)
+        return self.act(client, sid, header, effects + self.app.connected(sid, header), done, now)
 
-    def act(self, client, sid, header, parts, effects, done, now):
+    def act(self, client, sid, header, effects, done, now):
         """Does what the app wants. A room that can't be joined or left is skipped, and the first reason told."""
         refused_here = None
         for effect in effects:
@@ -343,8 +344,8 @@ class Server:
                 raise Refused("BadEffect")
             try:
                 if effect == ("report",):
-                    effect = ("say", ["error", REFUSALS[refused_here]] if refused_here else ["ok"])
-                self.do(client, sid, header, parts, effect, now)
+                    effect = ("reply", ["error", REFUSALS[refused_here]] if refused_here else ["ok"])
+                self.do(client, sid, header, effect, now)
             except Refused as refused:
                 room, _, reason = str(refused).partition("(")
                 if room != "RoomRefused":
@@ -352,47 +353,46 @@ class Server:
                 done.skipped = done.skipped or reason[:-1]
                 refused_here = refused_here or reason[:-1]
 
-    def do(self, client, sid, header, parts, effect, now):
+    def do(self, client, sid, header, effect, now):
         hub, line, (name, *words), space = self.hub, self.lines[client], effect, header.space
+        if name in TO_MANY and words[0][0] not in hub.limits["spaces"]:
+            raise Refused("BadEffect")
         if name == "join":
             hub.join(sid, *words, now)
         elif name == "leave":
             hub.leave(sid, *words, now)
         elif name == "emit":
-            own = words[3:]
-            hub.cast(space, *words[:3], *own or [header.payload], [] if own else parts, now)
-        elif name == "send":
-            other = words[0] or space
-            if other not in hub.limits["spaces"]:
-                raise Refused("BadEffect")
-            hub.cast(other, [], [], words[1], '["far"]', [], now)
+            self.emit(*words, now)
         elif name == "pull":
-            hub.join_all(space, words[0], [], words[1], now)
+            hub.join_all(*words[0], words[1], now)
         elif name == "push":
-            hub.leave_all(space, words[0], [], words[1], now)
+            hub.leave_all(*words[0], words[1], now)
         elif name == "end":
-            for ended in hub.end_all(space, *words, now)[0]:
+            for ended in hub.end_all(*words[0], now)[0]:
                 for other in self.lines.values():
                     other.questions.pop(ended, None)
         elif name == "no array":
             raise Refused("BadEffect")
         elif name == "ask":
-            self.ask(client, line.questions[sid], space, *words or (header.payload, WAIT), [] if words else parts, now)
-        elif name == "reply":
-            self.tell(client, f"3{start(space)}{header.id}[]", now)
+            self.ask(client, line.questions[sid], space, *words, now)
         elif name == "fetch":
-            sids = sorted(sid for sid, it in hub.sockets.items() if it.space == space)
-            self.do(client, sid, header, parts, ("say", ["ok", [id_text(it) for it in sids]]), now)
-        elif name == "say":
-            if header.id is None:
-                raise Refused("BadEffect")
-            self.tell(client, f"3{start(space)}{header.id}{json.dumps(words[0], separators=(',', ':'))}", now)
+            self.reply(client, header, ["ok", [id_text(it) for it in hub.addressed(*words[0])]], now)
+        elif name == "reply":
+            self.reply(client, header, *words, now)
         elif name == "bye":
             farewell = Entry(f"1{start(space)}")
             if hub.has_space(client, [farewell]):
                 hub.tell(client, farewell, now)
             hub.end(sid, now)
             del line.questions[sid]
+
+    def emit(self, to, form, payload, parts, now):
+        self.hub.cast(*to, form, payload, parts, now)
+
+    def reply(self, client, header, values, now):
+        if header.id is None:
+            raise Refused("BadEffect")
+        self.tell(client, f"3{start(header.space)}{header.id}{json.dumps(values, separators=(',', ':'))}", now)
 
     def ask(self, client, book, space, payload, wait, parts, now):
         number, book[0] = book[0], book[0] + 1

@@ -75,12 +75,13 @@ def read_json(text):
 
 
 class Header:
-    """A packet's text: its kind, namespace, acknowledgement id, payload and how many attachments follow it."""
+    """A packet's text: its kind, namespace, acknowledgement id, payload and how many attachments follow it. `parts` are those
+    that have come."""
 
     def __init__(self, text):
         if text[:1] not in tuple("0123456"):
             raise Fault("BadKind")
-        self.kind, rest = text[0], text[1:]
+        self.kind, self.parts, rest = text[0], [], text[1:]
         self.count, rest = self.read_count(rest) if self.kind in "56" else (0, rest)
         self.space, rest = self.read_space(rest)
         digits = re.match("[0-9]*", rest)[0]
