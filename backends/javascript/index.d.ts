@@ -11,8 +11,8 @@ export interface Options {
 }
 
 interface Sending {
-  emit(name: string, ...args: any[]): boolean;
-  emitWithAck(name: string, ...args: any[]): Promise<any>;
+  emit(name: string | number, ...args: any[]): boolean;
+  emitWithAck(name: string | number, ...args: any[]): Promise<any>;
   timeout(milliseconds: number): Sending;
 }
 
@@ -81,4 +81,4 @@ export interface Backend extends Emitter, Target {
   close(callback?: () => void): Promise<void>;
 }
 
-export function connect(url: string, options: Options): Backend;
+export function connect(urls: string | string[], options: Options): Backend;

@@ -1,7 +1,7 @@
 // The server side of Socket.IO, where Daghzimo does the serving. `connect` makes what is called `io` elsewhere.
 import { EventEmitter } from "node:events";
-import { Link } from "./link.js";
 import { GETTERS, METHODS, Namespace } from "./namespace.js";
+import { Nodes } from "./nodes.js";
 import { delegate, guarded, lacks, tell, warnOnce } from "./parts.js";
 import { Questions } from "./question.js";
 
@@ -9,23 +9,25 @@ export { Namespace } from "./namespace.js";
 export { RemoteSocket, Socket } from "./socket.js";
 
 class Backend {
+  questions = new Questions();
   #spaces = new Map();
-  #wasJoined = false;
+  #caughtUp = new Set(); // links to nodes whose sockets are known
+  #isReady = false;
   #settle;
 
-  constructor(url, options) {
-    this.sockets = this.of("/");
+  constructor(urls, options) {
     this.ready = new Promise((resolve, reject) => {
       this.#settle = { resolve, reject };
     });
-    this.link = new Link(url, options, {
-      joined: () => this.#joined(),
-      lost: () => this.#lost(),
+    this.nodes = new Nodes(urls, options, {
+      joined: (link) => this.#joined(link),
+      lost: (link) => this.#lost(link),
+      missed: () => this.#sort(),
       failed: (error) => this.#failed(error),
       refused: (error) => this.refused(error),
       happened: (...args) => this.#happened(...args),
     });
-    this.questions = new Questions(this.link);
+    this.sockets = this.of("/");
   }
 
   of(name, listener) {
@@ -35,7 +37,7 @@ class Backend {
     if (!this.#spaces.has(path)) {
       const space = new Namespace(this, path);
       this.#spaces.set(path, space);
-      if (this.link?.connected) space._catchUp(() => {});
+      for (const link of this.nodes.links) if (link.connected) space._catchUp(link, () => {});
     }
     const space = this.#spaces.get(path);
     if (listener) space.on("connection", listener);
@@ -43,49 +45,68 @@ class Backend {
   }
 
   async close(callback) {
-    await this.link.close();
-    this.questions.lost();
+    await this.nodes.close();
+    for (const link of this.nodes.links) this.questions.lost(link);
     for (const space of this.#spaces.values()) space._close();
     if (callback) guarded(callback);
   }
 
-  #joined() {
+  #joined(link) {
+    this.#sort();
     let open = this.#spaces.size;
     for (const space of this.#spaces.values()) {
-      space._catchUp(() => {
+      space._catchUp(link, () => {
         open -= 1;
-        if (!open) this.#caughtUp();
+        if (open) return;
+        this.#caughtUp.add(link);
+        this.#look();
       });
     }
   }
 
-  #caughtUp() {
-    this.#wasJoined = true;
+  #lost(link) {
+    this.#caughtUp.delete(link);
+    this.questions.lost(link);
+    for (const space of this.#spaces.values()) space._lost(link);
+    this.#sort();
+  }
+
+  #sort() {
+    for (const link of this.nodes.sort()) {
+      if (!link.hasEnded) process.emitWarning(`${link.url} can't be reached: it is left out until it can`);
+      for (const space of this.#spaces.values()) space._leaveOut(link);
+    }
+    this.#look();
+  }
+
+  #look() {
+    if (!this.nodes.inUse.every((link) => this.#caughtUp.has(link))) return;
+    this.#isReady = true;
     this.#settle.resolve(this);
   }
 
-  #lost() {
-    this.questions.lost();
-    for (const space of this.#spaces.values()) space._lost();
-  }
-
-  // Nobody who listens to `error` or waits for `ready` overhears it, and where nobody does the process ends by it.
+  // Nobody who listens to `error` or waits for `ready` overhears it, and where nobody does the process ends by it, if there is no
+  // other node.
   #failed(error) {
     const heard = this.sockets.listenerCount("error") > 0;
-    if (heard) this.ready.catch(() => {});
-    this.#settle.reject(error);
-    if (heard || this.#wasJoined) tell(this.sockets, "error", error);
+    const isLast = this.nodes.links.every(({ hasEnded }) => hasEnded);
+    if (isLast && heard) this.ready.catch(() => {});
+    if (isLast) this.#settle.reject(error);
+    if (heard || (isLast && this.#isReady)) tell(this.sockets, "error", error);
+    else if (!isLast) console.error(`daghzimo-backend: ${error.message}`);
+    this.#sort();
   }
 
   // The server refused a command, or it couldn't be sent, and the program doesn't wait for its outcome.
   refused(error) {
+    const where = error.node && this.nodes.links.length > 1 ? ` (${error.node})` : "";
     if (this.sockets.listenerCount("command_error")) tell(this.sockets, "command_error", error);
-    else console.error(`daghzimo-backend: ${error.command}: ${error.message}`);
+    else console.error(`daghzimo-backend: ${error.command}: ${error.message}${where}`);
   }
 
-  #happened(kind, name, ...rest) {
+  #happened(link, kind, name, ...rest) {
     const space = this.#spaces.get(name);
-    if (space) space._happened(kind, ...rest);
+    if (space) space._happened(link, kind, ...rest);
     else if (name !== "/backend") warnOnce(`what happens in ${name} is ignored until io.of("${name}") is called`);
   }
 }
@@ -96,9 +117,9 @@ delegate(Backend, (io) => io.sockets, [...LISTENING, "use", ...METHODS], GETTERS
 lacks(Backend, "io", ["listen", "attach", "attachApp", "bind", "onconnection", "engine", "httpServer", "path", "serveClient",
   "adapter", "serverSideEmit", "serverSideEmitWithAck"]);
 
-// Joins the server at `url` as a backend. Options: token, digits, client, transports.
-export function connect(url, options = {}) {
-  return new Backend(url, options);
+// Joins the server at `urls`, or several servers where that is a list, as a backend. Options: token, digits, client, transports.
+export function connect(urls, options = {}) {
+  return new Backend(urls, options);
 }
 
 export class Server {

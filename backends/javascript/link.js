@@ -1,10 +1,11 @@
-// The connection to the server: commands go up, and events come down.
-import { LOST, fault } from "./parts.js";
+// The connection to a node, which is a server: commands go up, and events come down.
+import { LOST, commandError, fault } from "./parts.js";
 
 export const DIGITS = "0123456789abcdef";
 const SPACE = "/backend";
 const MOST_WAITING = 10_000; // commands
 const PAUSE = 1000; // milliseconds
+const PATIENCE = 5000; // milliseconds for a connection to be made, where there are other nodes
 
 async function installedClient() {
   try {
@@ -14,45 +15,50 @@ async function installedClient() {
   }
 }
 
-function commandError(name, why) {
-  return Object.assign(new Error(why), { command: name });
-}
-
 export class Link {
   connected = false;
+  isAway = false; // it couldn't be reached since it was connected, or has refused this backend
+  isOut = false; // it takes no commands until it is back
   #client = null;
   #ended = null; // why no command is taken any more
   #waiting = []; // commands that were given while it is away
   #flying = new Set(); // those that were sent and have to be answered
   #heard = new Map(); // digit -> questions that need it
 
-  // `told` has a function for each thing that happens: joined, lost, failed, refused, happened.
-  constructor(url, options, told) {
+  // `hasPeers`: there are other nodes. `told` has a function for each thing that happens: joined, lost, missed, failed, refused,
+  // happened.
+  constructor(url, hasPeers, options, told) {
+    this.url = url;
+    this.hasPeers = hasPeers;
     this.digits = options.digits ?? DIGITS;
     this.told = told;
-    this.#open(url, options).catch((error) => this.#fail(error));
+    this.#open(options).catch((error) => this.#fail(error));
   }
 
-  async #open(url, { token, client, transports = ["websocket"] }) {
+  get hasEnded() { return this.#ended !== null; }
+
+  async #open({ token, client, transports = ["websocket"] }) {
     if (typeof token !== "string" || token === "") throw new Error("the option `token` is missing");
     if (!/^[0-9a-f]+$/.test(this.digits)) throw new Error("the option `digits` has to be a text of hexadecimal digits, 0 to f");
     const io = client ?? (await installedClient());
     if (this.#ended) return;
     const auth = { token, digits: this.digits };
-    this.#client = io(url.replace(/\/+$/, "") + SPACE, { auth, transports, forceNew: true });
+    this.#client = io(this.url + SPACE, { auth, transports, forceNew: true, ...(this.hasPeers && { timeout: PATIENCE }) });
     this.#client.on("connect", () => this.#joined());
     this.#client.on("disconnect", (reason) => this.#lost(reason));
     this.#client.on("connect_error", (error) => {
       // While it is active, the client tries again by itself: the server isn't up yet.
-      if (!this.#client.active) this.#fail(new Error(`the server refused this backend: ${error.message}`));
+      if (this.#client.active) this.#missed();
+      else this.#fail(new Error(`the server${this.hasPeers ? ` at ${this.url}` : ""} refused this backend: ${error.message}`));
     });
     for (const kind of ["connection", "event", "answer", "disconnection"]) {
-      this.#client.on(kind, (...args) => this.#ended || this.told.happened(kind, ...args));
+      this.#client.on(kind, (...args) => this.#ended || this.told.happened(this, kind, ...args));
     }
   }
 
   #joined() {
     this.connected = true;
+    this.isAway = false;
     const waiting = this.#waiting;
     this.#waiting = [];
     for (const command of waiting) {
@@ -62,7 +68,13 @@ export class Link {
         this.#refuse(command, error);
       }
     }
-    this.told.joined();
+    this.told.joined(this);
+  }
+
+  #missed() {
+    if (this.isAway || this.#ended) return;
+    this.isAway = true;
+    this.told.missed(this);
   }
 
   #lost(reason) {
@@ -70,19 +82,20 @@ export class Link {
     this.#heard.clear();
     this.#drop([...this.#flying], LOST);
     if (this.#ended) return;
-    this.told.lost();
+    this.told.lost(this);
     // The client doesn't come back by itself where it was sent away.
     if (reason === "io server disconnect") setTimeout(() => this.#ended || this.#client.connect(), PAUSE);
   }
 
   #fail(error) {
     this.#end(error.message);
-    this.told.failed(error);
+    this.told.failed(Object.assign(error, { node: this.url }));
   }
 
   #end(why) {
     this.#ended = why;
     this.connected = false;
+    this.isAway = true;
     this.#drop([...this.#waiting.splice(0), ...this.#flying], why);
   }
 
@@ -92,8 +105,18 @@ export class Link {
 
   #refuse(command, error) {
     this.#flying.delete(command);
+    error.node = this.url;
     if (command.done) command.done(error);
     else this.told.refused(error);
+  }
+
+  // While it is out it takes no commands, and what waited for it isn't done. An event that went to others too is told to nobody.
+  // Returns whether it is out from now on.
+  leaveOut(isOut) {
+    if (this.isOut === isOut) return false;
+    this.isOut = isOut;
+    if (isOut) this.#drop(this.#waiting.splice(0).filter(({ isShared }) => !isShared), LOST);
+    return isOut;
   }
 
   // Commands are done in the order of these calls. `done(error, value)` is called at once when the acknowledgement comes, before
@@ -101,11 +124,18 @@ export class Link {
   // a function, for what is known only when it is sent.
   command(name, options, args, done) {
     const command = { name, options, args, done };
-    const why = this.#ended ?? fault(name, options, args);
-    if (why) return this.#refuse(command, commandError(name, why));
+    const why = fault(name, options, args);
+    if (why) this.#refuse(command, commandError(name, why));
+    else this.take(command);
+  }
+
+  // A command that has no fault.
+  take(command) {
+    const why = this.#ended ?? (this.isOut ? LOST : null);
+    if (why) return this.#refuse(command, commandError(command.name, why));
     if (this.connected) return this.#send(command);
     if (this.#waiting.length < MOST_WAITING) return this.#waiting.push(command);
-    return this.#refuse(command, commandError(name, "too many commands while the server is away"));
+    return this.#refuse(command, commandError(command.name, "too many commands while the server is away"));
   }
 
   #send(command) {
@@ -119,12 +149,6 @@ export class Link {
       done(null, value);
     });
     this.#flying.add(command);
-  }
-
-  ask(name, options, ...args) {
-    return new Promise((resolve, reject) => {
-      this.command(name, options, args, (error, value) => (error ? reject(error) : resolve(value)));
-    });
   }
 
   isOwn(id) { return this.digits.includes(id[0]); }

@@ -18,22 +18,23 @@ export class Namespace extends EventEmitter {
   #arriving = new Map(); // those that middleware looks at
   #saved = new Saved();
   #middleware = [];
-  #held = []; // what the server has told since the connection to it was lost; null while the sockets are known
+  #held = new Map(); // link -> what its node has told since the connection was lost; null while its sockets are known
 
   constructor(server, name) {
     super();
     this.server = server;
     this.name = name;
+    for (const link of server.nodes.links) this.#held.set(link, []);
   }
 
   use(middleware) { this.#middleware.push(middleware); return this; }
   find(id) { return this.sockets.get(id) ?? this.#arriving.get(id); }
-  get isKnown() { return !this.#held; }
+  knows(link) { return !this.#held.get(link); }
 
   // Of its own sockets those that the program was told of, and of other backends' all.
-  fetched(ids) {
-    const told = ids.filter((id) => this.sockets.has(id) || !this.server.link.isOwn(id));
-    return told.map((id) => this.sockets.get(id) ?? new RemoteSocket(this, id));
+  fetched(link, ids) {
+    const told = ids.filter((id) => this.sockets.has(id) || !link.isOwn(id));
+    return told.map((id) => this.sockets.get(id) ?? new RemoteSocket(this, id, link));
   }
 
   // All sockets that are known here, or the one of this id.
@@ -42,57 +43,67 @@ export class Namespace extends EventEmitter {
     return [...this.sockets.values(), ...this.#arriving.values()];
   }
 
-  _lost() { this.#held ??= []; }
+  at(link) { return this.known().filter((socket) => socket._link === link); }
 
-  // Asks who is there. All that the server tells before its answer happened before it: that is handled first, and then those
+  _lost(link) { if (this.knows(link)) this.#held.set(link, []); }
+
+  // The node can't be reached, and others can: its sockets are told to have gone. Those to which only the way was lost come back.
+  _leaveOut(link) {
+    for (const socket of this.at(link)) {
+      this.#saved.keep(socket, [...socket.rooms], this.sockets.has(socket.id));
+      this.#gone(socket, "transport close", null);
+    }
+  }
+
+  // Asks who is there. All that the node tells before its answer happened before it: that is handled first, and then those
   // that came or went while nobody listened are told.
-  _catchUp(done) {
-    this.server.link.command("fetchSockets", { in: this.name }, [], (error, ids) => {
-      if (error && !this.server.link.connected) return;
-      const held = this.#held;
-      this.#held = null;
-      for (const happening of held) this._happened(...happening);
+  _catchUp(link, done) {
+    link.command("fetchSockets", { in: this.name }, [], (error, ids) => {
+      if (error && !link.connected) return;
+      const held = this.#held.get(link);
+      this.#held.set(link, null);
+      for (const happening of held) this._happened(link, ...happening);
       if (error) this.server.refused(Object.assign(error, { message: `${error.message}: ${this.name}` }));
-      else this.#compare(ids);
+      else this.#compare(link, ids);
       done();
     });
   }
 
-  #compare(ids) {
+  #compare(link, ids) {
     const there = new Set(ids);
-    for (const socket of this.known()) {
+    for (const socket of this.at(link)) {
       if (!there.has(socket.id)) this.#gone(socket, "transport close", null);
       else if (!socket.connected) this.in(socket.id).disconnectSockets(); // that command was lost
     }
-    for (const id of ids) if (this.server.link.isOwn(id) && !this.find(id)) this.#arrive(id, null);
+    for (const id of ids) if (link.isOwn(id) && !this.find(id)) this.#arrive(link, id, null);
   }
 
-  _happened(kind, id, ...rest) {
-    if (this.#held) this.#held.push([kind, id, ...rest]);
-    else if (kind === "answer") this.server.questions.answer(this, id, rest[0], withBuffers(rest.slice(1)));
-    else if (kind === "disconnection") this.#left(id, ...rest);
-    else if (!this.server.link.isOwn(id)) return;
-    else if (kind === "connection") this.#came(id, ...rest);
-    else (this.find(id) ?? this.#arrive(id, null))._receive(rest[0], withBuffers(rest.slice(1)));
+  _happened(link, kind, id, ...rest) {
+    if (!this.knows(link)) this.#held.get(link).push([kind, id, ...rest]);
+    else if (kind === "answer") this.server.questions.answer(this, link, id, rest[0], withBuffers(rest.slice(1)));
+    else if (kind === "disconnection") this.#left(link, id, ...rest);
+    else if (!link.isOwn(id)) return;
+    else if (kind === "connection") this.#came(link, id, ...rest);
+    else (this.find(id) ?? this.#arrive(link, id, null))._receive(rest[0], withBuffers(rest.slice(1)));
   }
 
-  #came(id, rooms, auth) {
+  #came(link, id, rooms, auth) {
     const before = this.find(id);
     if (before) this.#gone(before, "transport close", null);
-    this.#arrive(id, rooms, auth);
+    this.#arrive(link, id, rooms, auth);
   }
 
-  #left(id, how, rooms) {
+  #left(link, id, how, rooms) {
     const socket = this.find(id);
-    if (!socket) return this.server.questions.gone(this, id);
+    if (!socket) return this.server.questions.gone(this, link, id);
     if (how === "saved") this.#saved.keep(socket, rooms, this.sockets.has(id));
     this.#gone(socket, REASONS[how] ?? how, rooms);
   }
 
   // A socket that came unheard has no `auth`, and no rooms but its own, except where it was saved in the sight of this process.
-  #arrive(id, rooms, auth) {
+  #arrive(link, id, rooms, auth) {
     const kept = this.#saved.take(id);
-    const socket = new Socket(this, id, rooms ?? kept?.rooms ?? [], kept?.auth ?? auth);
+    const socket = new Socket(this, link, id, rooms ?? kept?.rooms ?? [], kept?.auth ?? auth);
     socket.recovered = Boolean(rooms ?? kept);
     if (kept) socket.data = kept.data;
     this.#arriving.set(id, socket);
@@ -118,7 +129,7 @@ export class Namespace extends EventEmitter {
   }
 
   #gone(socket, reason, rooms) {
-    this.server.questions.gone(this, socket.id);
+    this.server.questions.gone(this, socket._link, socket.id);
     this.#arriving.delete(socket.id);
     if (!this.sockets.has(socket.id)) return;
     socket._end(reason, rooms);

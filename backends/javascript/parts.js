@@ -8,6 +8,10 @@ const MOST_ATTACHMENTS = 32;
 
 export const LOST = "the connection to the server was lost";
 
+export function commandError(name, why) {
+  return Object.assign(new Error(why), { command: name });
+}
+
 export const list = (value) => (Array.isArray(value) ? value : [value]);
 
 // An exception of the program's own code comes out as an uncaught one. It does so later, since here it would stop what follows:
@@ -50,7 +54,7 @@ export function run(middleware, subject, done) {
 }
 
 export function checkName(name) {
-  if (typeof name !== "string") throw new TypeError("an event's name is a text");
+  if (typeof name !== "string" && !Number.isFinite(name)) throw new TypeError("an event's name is a text or a number");
   if (RESERVED.has(name)) throw new Error(`"${name}" is a reserved event name`);
 }
 

@@ -17,9 +17,11 @@ export class Socket extends EventEmitter {
   #held = []; // what came before the program was told of this socket
   #changes = new Map(); // room -> commands on it that the server hasn't answered
 
-  constructor(space, id, rooms, auth = {}) {
+  // `link` is to the node that has it.
+  constructor(space, link, id, rooms, auth = {}) {
     super();
     this.nsp = space;
+    this._link = link;
     this.id = id;
     this.rooms = new Set([id, ...rooms]);
     this.handshake = new Handshake(auth);
@@ -93,7 +95,7 @@ export class Socket extends EventEmitter {
     return (...values) => {
       if (answered) return;
       answered = true;
-      this.server.link.command("emit", { in: this.nsp.name, to: [this.id], answer: id }, values);
+      this._link.command("emit", { in: this.nsp.name, to: [this.id], answer: id }, values);
     };
   }
 
@@ -109,9 +111,10 @@ export class Socket extends EventEmitter {
 
 // One that this process wasn't told of: it may be another backend's.
 export class RemoteSocket {
-  constructor(space, id) {
+  constructor(space, id, link) {
     this.nsp = space;
     this.id = id;
+    this._link = link;
   }
 
   disconnect(close = false) {

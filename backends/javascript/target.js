@@ -1,14 +1,13 @@
 // Whom something is for: what `to`, `except`, `volatile` and the like make, each a new one.
-import { LOST, Outcome, checkName, list, warnOnce } from "./parts.js";
+import { LOST, Outcome, checkName, commandError, fault, list, warnOnce } from "./parts.js";
 
 const first = (values) => values[0];
 
 export class Target {
-  // `aim`: to, except (lists of rooms), volatile, timeout, and `one`, the id where it is a single socket.
+  // `aim`: to, except (lists of rooms), volatile, timeout, and where it is a single socket `one`, its id, and `link`.
   constructor(space, aim = {}) {
     this.space = space;
     this.aim = aim;
-    this.link = space.server.link;
   }
 
   with(change) { return new this.constructor(this.space, { ...this.aim, ...change }); }
@@ -18,9 +17,15 @@ export class Target {
   timeout(milliseconds) { return this.with({ timeout: milliseconds }); }
   get volatile() { return this.with({ volatile: true }); }
 
-  // There is one server, which compresses nothing.
+  // A backend is at no node more than at others, and they compress nothing.
   get local() { return this; }
   compress() { return this; }
+
+  // The links to the nodes that it is about.
+  links() {
+    const { to = [] } = this.aim;
+    return this.space.server.nodes.of(to.map((room) => this.space.find(room)));
+  }
 
   options(more) {
     const { to, except } = this.aim;
@@ -31,9 +36,19 @@ export class Target {
     checkName(name);
     const callback = typeof args.at(-1) === "function" ? args.pop() : null;
     if (callback) this.ask([name, ...args], this.forCallback(callback));
-    else if (!this.aim.volatile) this.link.command("emit", this.options(), [name, ...args]);
-    else if (this.link.connected) this.link.command("emit", this.options({ volatile: true }), [name, ...args]);
+    else this.tell([name, ...args]);
     return true;
+  }
+
+  // A fault is told once, and not for each node.
+  tell(elements) {
+    const { volatile } = this.aim;
+    const options = this.options(volatile && { volatile });
+    const why = fault("emit", options, elements);
+    if (why) return this.space.server.refused(commandError("emit", why));
+    const links = this.links();
+    const command = { name: "emit", options, args: elements, isShared: links.length > 1 };
+    for (const link of links) if (link.connected || !volatile) link.take(command);
   }
 
   emitWithAck(name, ...args) {
@@ -58,40 +73,49 @@ export class Target {
   socketsLeave(rooms) { return this.change("socketsLeave", rooms); }
 
   // The rooms of the sockets that are known here change at once, and back where the server refuses.
-  change(command, rooms) {
-    const changes = list(rooms).map((room) => {
-      const settles = this.members().map((socket) => socket._change(room, command === "socketsJoin"));
-      return new Promise((resolve, reject) => {
-        this.link.command(command, this.options(), [room], (error) => {
-          for (const settle of settles) settle(!error);
-          if (error) reject(error);
-          else resolve();
-        });
-      });
-    });
-    return this.outcome(Promise.all(changes).then(() => {}));
+  change(name, rooms) {
+    const changes = (room) => (link) => this.members(link).map((socket) => socket._change(room, name === "socketsJoin"));
+    return this.outcome(list(rooms).flatMap((room) => this.commands(name, [room], changes(room))));
   }
 
-  members() {
+  // A promise for each node that is to do it. One that is left out meanwhile needn't, if there are others.
+  commands(name, args, changes = () => []) {
+    const links = this.links();
+    return links.map((link) => new Promise((resolve, reject) => {
+      const settles = changes(link);
+      link.command(name, this.options(), args, (error) => {
+        for (const settle of settles) settle(!error);
+        if (error && !(link.isOut && links.length > 1)) reject(error);
+        else resolve();
+      });
+    }));
+  }
+
+  members(link) {
     const { to = [], except = [] } = this.aim;
     const isIn = (socket) => (room) => socket.rooms.has(room);
-    return this.space.known().filter((socket) => (!to.length || to.some(isIn(socket))) && !except.some(isIn(socket)));
+    return this.space.at(link).filter((socket) => (!to.length || to.some(isIn(socket))) && !except.some(isIn(socket)));
   }
 
   disconnectSockets(close = false) {
     if (close) warnOnce("disconnect(true) leaves the namespace only: a backend can't close a client's connection");
-    return this.outcome(this.link.ask("disconnectSockets", this.options()));
+    return this.outcome(this.commands("disconnectSockets", []));
   }
 
-  outcome(promise) { return Outcome.of(promise, (error) => this.space.server.refused(error)); }
+  outcome(promises) { return Outcome.of(Promise.all(promises).then(() => {}), (error) => this.space.server.refused(error)); }
+
+  async fetchSockets() {
+    return (await Promise.all(this.links().map((link) => this.fetchAt(link)))).flat();
+  }
 
   // Asked again where the connection is lost meanwhile, or where it wasn't known yet who is there: nothing is half done by it.
-  fetchSockets() {
+  fetchAt(link) {
     return new Promise((resolve, reject) => {
-      const ask = () => this.link.command("fetchSockets", this.options(), [], (error, ids) => {
-        if (error ? error.message === LOST : !this.space.isKnown) ask();
+      const ask = () => link.command("fetchSockets", this.options(), [], (error, ids) => {
+        if (link.isOut) resolve([]);
+        else if (error ? error.message === LOST : !this.space.knows(link)) ask();
         else if (error) reject(error);
-        else resolve(this.space.fetched(ids));
+        else resolve(this.space.fetched(link, ids));
       });
       ask();
     });
@@ -100,7 +124,7 @@ export class Target {
 
 // A single socket. Its `to` and the like mean others than it, and its answer is one, not a list.
 export class One extends Target {
-  static of({ nsp, id }) { return new One(nsp, { to: [id], one: id }); }
+  static of({ nsp, id, _link }) { return new One(nsp, { to: [id], one: id, link: _link }); }
 
   get broadcast() {
     const { volatile, timeout, one } = this.aim;
@@ -109,6 +133,7 @@ export class One extends Target {
 
   to(rooms) { return this.broadcast.to(rooms); }
   except(rooms) { return this.broadcast.except(rooms); }
+  links() { return [this.aim.link]; }
   members() { return this.space.known(this.aim.one); }
   value(answers) { return answers[0][0]; }
   blamed(error) { return error; }

@@ -190,7 +190,8 @@ const COMMANDS = [
 const THROWS = [
   [/reserved/, ({ io }) => io.emit("connect")],
   [/reserved/, ({ socket }) => socket.emit("disconnecting")],
-  [/text/, ({ socket }) => socket.emit(5)],
+  [/text/, ({ socket }) => socket.emit(NaN)],
+  [/text/, ({ io }) => io.emit(null)],
   [/dynamic/, ({ io }) => io.of(/x/)],
   [/\/backend/, ({ io }) => io.of("backend")],
   [/new Server/, () => new Server(3000)],
@@ -461,6 +462,14 @@ const CHECKS = {
       assert(onlyBuffers(answer), what);
       same(plain(answer), plain([value, 1, value]), what);
     }
+  },
+
+  async "names that are numbers"(scene) {
+    const { client, socket } = await scene.pair();
+    socket.on(5, (value, answer) => answer(value, typeof value));
+    client.on(6.5, (value, answer) => answer(value + 1));
+    same(await called((done) => client.emit(5, "five", done)), ["five", "string"]);
+    same(await socket.emitWithAck(6.5, 1), 2);
   },
 
   async "thousands in order"(scene) {

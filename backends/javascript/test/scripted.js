@@ -1,71 +1,21 @@
 // Plays what a server tells, in orders that a real one rarely has, and looks at what the program is told. No server is needed.
 //   node test/scripted.js [WORD]
 import assert from "node:assert";
-import { EventEmitter } from "node:events";
 import { connect, RemoteSocket } from "../index.js";
 import { next, pause, play, rejected, same } from "./checks.js";
+import { Fake, back, came, gone, note } from "./fakes.js";
 
 const [word] = process.argv.slice(2);
 const [A, B, C] = ["a", "b", "c"].map((letter) => letter.repeat(32));
 
-// A client that is told by hand. Commands are kept, and answered when the check says so.
-class Scene extends EventEmitter {
-  active = true;
-  id = "f".repeat(32);
-  commands = [];
+class Scene extends Fake {
   told = [];
 
   constructor(options) {
     super();
-    this.io = connect("http://nowhere", { token: "t", client: (...args) => this.fake(...args), ...options });
-    this.io.on("command_error", (error) => this.told.push(["command_error", error.message]));
-    this.io.on("connection", (socket) => {
-      this.told.push(["connection", socket.id, socket.recovered, [...socket.rooms].slice(1), socket.handshake.auth]);
-      socket.onAny((...event) => this.told.push([socket.id, ...event]));
-      for (const name of ["disconnecting", "disconnect"]) {
-        socket.on(name, (reason) => this.told.push([name, socket.id, reason]));
-      }
-    });
-  }
-
-  fake(...args) {
-    this.opened = args;
-    return {
-      on: (name, listener) => this.on(name, listener),
-      emit: (...command) => this.commands.push(command),
-      connect: () => this.told.push(["connect"]),
-      disconnect: () => {},
-      scene: this,
-      get active() {
-        return this.scene.active;
-      },
-      get id() {
-        return this.scene.id;
-      },
-    };
-  }
-
-  // The last such command is acknowledged.
-  answer(name, ...values) {
-    const command = this.commands.findLast(([called]) => called === name);
-    command.at(-1)(...values);
-  }
-
-  tell(kind, ...rest) {
-    this.emit(kind, "/", ...rest);
-  }
-
-  joined(ids = []) {
-    this.emit("connect");
-    this.answer("fetchSockets", "ok", ids);
-  }
-
-  lost() {
-    this.emit("disconnect", "transport close");
-  }
-
-  names() {
-    return this.commands.map(([name]) => name);
+    this.io = connect("http://nowhere", { token: "t", client: (...args) => this.open(...args), ...options });
+    note(this.io, this.told);
+    this.on("connects", () => this.told.push(["connect"]));
   }
 
   // What was told since the last call.
@@ -78,9 +28,6 @@ class Scene extends EventEmitter {
   }
 }
 
-const came = (id, auth = {}) => ["connection", id, false, [], auth];
-const back = (id, rooms, auth = {}) => ["connection", id, true, rooms, auth];
-const gone = (id, reason) => ["disconnecting", "disconnect"].map((name) => [name, id, reason]);
 const LOST = "transport close";
 
 // What is told while it asks who is there, who is there then, and what the program is to be told. A was known before, with data.

@@ -1,6 +1,7 @@
 """Commands for the server, and what is refused before they are sent since the server would tell nobody."""
 from __future__ import annotations
 
+import math
 from typing import Any, List, Optional, Union
 
 import socketio
@@ -63,8 +64,12 @@ def options(namespace: str, to: List[str], exclude: Optional[List[str]] = None, 
     return chosen
 
 
+def is_number(value: Any) -> bool:
+    return isinstance(value, (int, float)) and not isinstance(value, bool) and math.isfinite(value)
+
+
 def emission(chosen: dict, event: Any, data: Any) -> tuple:
-    if not isinstance(event, str):
+    if not isinstance(event, str) and not is_number(event):
         raise CommandError("malformed command")
     if event in RESERVED:
         raise CommandError("reserved name")

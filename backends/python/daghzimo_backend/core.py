@@ -1,10 +1,11 @@
-"""What a backend knows and decides, without input and output.
+"""What a backend knows of a server's sockets and decides, without input and output.
 
 It is given what the server tells, and gives back jobs: calls of the program's handlers that are to begin now. Each socket
 has a line of jobs, so that its `connect` has ended before its first event begins, and `disconnect` begins after the last.
 """
 from __future__ import annotations
 
+import re
 import secrets
 import time
 from collections import OrderedDict, deque
@@ -18,6 +19,9 @@ SESSION_SECONDS = 130       # the server keeps a lost client's session for two m
 SESSIONS_AT_MOST = 10_000
 QUESTION_SECONDS = 60       # for questions to rooms; one to a socket is forgotten with the socket
 QUESTIONS_AT_MOST = 10_000  # of one socket, and of all rooms
+
+DIGITS = "0123456789abcdef"
+SID = re.compile("[0-9a-f]{32}")
 
 Key = Tuple[str, str]       # a namespace and a sid
 
@@ -56,9 +60,9 @@ class RoomQuestion:
 
 
 class Core:
-    def __init__(self, digits: str, namespaces: Iterable[str], one_at_a_time: bool):
+    def __init__(self, digits: str, namespaces: Set[str], one_at_a_time: bool):
         self.digits = digits    # what comes of others' sockets, while a question is open to them, is ignored
-        self.namespaces = {"/", *namespaces}    # those in use; what happens in others is ignored
+        self.namespaces = namespaces            # of the program, which adds to them
         self.one_at_a_time = one_at_a_time      # whether a socket's event waits until the one before it was handled
         self.sockets: Dict[Key, Socket] = {}
         self.sessions: OrderedDict[Key, Tuple[float, dict]] = OrderedDict()   # of sockets that may come back
@@ -106,6 +110,10 @@ class Core:
             if socket is None or not socket.present:
                 jobs += self._arrive_late(namespace, sid)
         return jobs
+
+    def left_out(self) -> List[Job]:
+        """The server can't be reached: its sockets are told to have gone."""
+        return [job for namespace in self.namespaces for job in self.listed(namespace, [])]
 
     def _arrive_late(self, namespace: str, sid: str) -> List[Job]:
         """A socket is there whose coming wasn't told to this backend."""
@@ -198,6 +206,14 @@ class Core:
                 (socket.rooms.add if where else socket.rooms.discard)(room)
         put(inside)
         return lambda: put(not inside)
+
+    def leave(self, namespace: str, sid: str) -> Callable[[], None]:
+        """Notes that the program disconnects a socket. Gives what undoes it."""
+        def put(leaving: bool) -> None:
+            if (namespace, sid) in self.sockets:
+                self.sockets[namespace, sid].leaving = leaving
+        put(True)
+        return lambda: put(False)
 
     def ask(self, callback: Any, namespace: str, to: List[str]) -> int:
         """The id of a new question, at random since other backends choose ids too, and so that nobody can guess it."""

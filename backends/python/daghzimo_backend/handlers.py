@@ -2,9 +2,9 @@
 from __future__ import annotations
 
 import inspect
-from typing import Any, Callable, Dict, Optional, Tuple
+from typing import Any, Callable, Dict, Iterable, Optional, Tuple
 
-from .core import Core, Job
+from .core import Job
 
 # What python-socketio's servers have and this can't do, with the reason that a program is told.
 MISSING = {
@@ -37,9 +37,9 @@ def fitting(function: Callable, arguments: tuple) -> tuple:
 class Handlers:
     reserved_events = ["connect", "disconnect"]
     not_handled = object()      # newer namespace classes give it back for events without a method
-    core: Core
 
-    def __init__(self) -> None:
+    def __init__(self, namespaces: Iterable[str]) -> None:
+        self.namespaces = {"/", *namespaces}    # those in use; what happens in others is ignored
         self.handlers: Dict[str, Dict[str, Callable]] = {}
         self.namespace_handlers: Dict[str, Any] = {}
 
@@ -57,7 +57,7 @@ class Handlers:
             raise Missing("namespace='*': a backend has to know the names of its namespaces")
 
         def register(function: Callable) -> Callable:
-            self.core.namespaces.add(namespace)
+            self.namespaces.add(namespace)
             self.handlers.setdefault(namespace, {})[event] = function
             return function
         return register if handler is None else register(handler)
@@ -73,7 +73,7 @@ class Handlers:
         if self.is_asyncio_based() != handler.is_asyncio_based():
             raise ValueError("Not a valid namespace class for this server")
         handler._set_server(self)
-        self.core.namespaces.add(handler.namespace)
+        self.namespaces.add(handler.namespace)
         self.namespace_handlers[handler.namespace] = handler
 
     def _find(self, job: Job) -> Optional[Tuple[Callable, tuple]]:

@@ -1,4 +1,4 @@
-"""The connection with the server, which comes back by itself, and the commands that go over it in order."""
+"""The connection with a server, which comes back by itself, and the commands that go over it in order."""
 from __future__ import annotations
 
 import asyncio
@@ -6,6 +6,7 @@ import logging
 import random
 from collections import Counter, deque
 from contextlib import suppress
+from dataclasses import dataclass
 from typing import Any, Callable, Dict, Generator, Optional, Sequence
 
 import aiohttp
@@ -20,22 +21,26 @@ PATIENCE = 10.0                         # seconds for a connection to be made
 
 
 class Reply:
-    """What a command comes to. It may be awaited; where nobody does, an error is logged."""
+    """What a command comes to: the values of all nodes that have it. It may be awaited; where nobody does, an error is logged."""
 
-    def __init__(self, logger: logging.Logger, command: str):
+    def __init__(self, logger: logging.Logger, command: str, nodes: int = 1):
         self._future = asyncio.get_running_loop().create_future()
         self._awaited = False
         self._logger, self._command = logger, command
+        self._nodes, self._values = nodes, []
 
     def __await__(self) -> Generator[Any, None, Any]:
         self._awaited = True
         return (yield from asyncio.shield(self._future))
 
     def settle(self, status: str = "error", value: Any = None) -> None:
+        """What one node says."""
         if self._future.done():
             return
         if status == "ok":
-            self._future.set_result(value)
+            self._values.append(value)
+            if len(self._values) == self._nodes:
+                self._future.set_result(self._values)
             return
         self._future.set_exception(CommandError(value))
         self._future.exception()    # so that asyncio doesn't log it as well
@@ -43,19 +48,32 @@ class Reply:
             self._logger.error("%s: %s", self._command, value)
 
 
-class Link:
-    """`told` has a function for each event of the server; `opened` is called when a connection is there, and awaited."""
+@dataclass
+class Address:
+    """Where a server is, and how it is spoken to."""
+    url: str
+    auth: dict
+    transports: Sequence[str]
+    path: str
+    name: str       # as messages call it
 
-    def __init__(self, url: str, auth: dict, transports: Sequence[str], path: str, told: Dict[str, Callable],
-                 opened: Callable, logger: logging.Logger):
-        self._url, self._auth, self._transports, self._path = url, auth, list(transports), path
-        self._told, self._opened, self._logger = told, opened, logger
+
+class Link:
+    """`told` has a function for each event of the server; `opened` is called when a connection is there, and awaited, and
+    `missed` when one couldn't be made."""
+
+    def __init__(self, address: Address, told: Dict[str, Callable], opened: Callable, missed: Callable,
+                 logger: logging.Logger):
+        self.name, self._address, self._told = address.name, address, told
+        self._opened, self._missed, self._logger = opened, missed, logger
         self._client: Optional[socketio.AsyncClient] = None
+        self.away = False                       # it couldn't be reached since it was connected
         self.heard: Counter = Counter()         # others' digits, and how many questions of this connection need them
         self._line: deque = deque()             # of commands
         self._replies: Dict[Reply, Optional[Callable]] = {}     # that are due, with what undoes their commands
-        self._task: Optional[asyncio.Task] = None
-        self._first: Optional[asyncio.Future] = None
+        self.task: Optional[asyncio.Task] = None
+        self.tried: Optional[asyncio.Future] = None     # is done when the first attempt to connect has come to an end
+        self.first: Optional[asyncio.Future] = None     # when there is a connection, or with the error that ended the link
         self._lost = 0                          # commands, since the connection is away
         self._stopping = False
 
@@ -74,15 +92,16 @@ class Link:
         if self._client is None:
             self._lost += 1
             if self._lost == 1:
-                self._logger.warning("no connection with the server: what is sent now is lost")
+                self._logger.warning("no connection with %s: what is sent now is lost", self.name)
             return
         self._line.append((self._client, command, None))
         await self._flush()
 
-    def ask(self, *command: Any, undo: Optional[Callable] = None, then: Optional[Callable] = None) -> Reply:
+    def ask(self, *command: Any, undo: Optional[Callable] = None, then: Optional[Callable] = None,
+            reply: Optional[Reply] = None) -> Reply:
         """A command that is acknowledged. `undo` is called where it fails; `then` gets the value before anything that
-        the server told later."""
-        reply = Reply(self._logger, command[0])
+        the server told later. `reply` is that of several nodes."""
+        reply = reply or Reply(self._logger, command[0])
         self._replies[reply] = undo
 
         def acknowledged(status: str = "error", value: Any = None) -> None:
@@ -116,24 +135,20 @@ class Link:
 
     # The connection.
 
-    async def start(self) -> None:
-        """Connects, and tries until it can. It raises an error where the server refuses."""
-        if self._task is None or self._task.done():
-            self._stopping = False
-            self._first = asyncio.get_running_loop().create_future()
-            self._task = asyncio.ensure_future(self._stay())
-        await asyncio.wait({self._first, self._task}, return_when=asyncio.FIRST_COMPLETED)
-        if self._task.done():
-            await self.wait()
+    def start(self) -> bool:
+        """Connects, and tries until it can. Tells whether it did nothing of that yet."""
+        if self.task is not None and not self.task.done():
+            return False
+        self._stopping = False
+        self.tried, self.first = (asyncio.get_running_loop().create_future() for _ in range(2))
+        self.task = asyncio.ensure_future(self._stay())
+        self.task.add_done_callback(self._ended)
+        return True
 
-    async def wait(self) -> None:
-        """Until it is stopped."""
-        task = self._task
-        try:
-            await asyncio.shield(task)
-        except asyncio.CancelledError:
-            if not task.cancelled():
-                raise
+    def _ended(self, task: asyncio.Task) -> None:
+        """An error that nobody expects is that of whoever waits for the first connection, too."""
+        if not task.cancelled() and task.exception() is not None and not self.first.done():
+            self._end(task.exception())
 
     async def stop(self) -> None:
         """Leaves, after what was sent before was done."""
@@ -142,10 +157,10 @@ class Link:
             leave = self.ask("disconnectSockets", self.own())
             with suppress(CommandError, asyncio.TimeoutError):
                 await asyncio.wait_for(leave, PATIENCE)
-        if self._task is not None:
-            self._task.cancel()
-            await asyncio.wait({self._task})
-            self._task = None
+        if self.task is not None:
+            for work in (self.task, self.tried, self.first):
+                work.cancel()
+            await asyncio.wait({self.task})
 
     async def _stay(self) -> None:
         pause = FIRST_PAUSE
@@ -155,14 +170,28 @@ class Link:
                 if self._stopping:
                     return
                 pause = FIRST_PAUSE
-                self._logger.warning("the connection with the server is lost")
+                self._logger.warning("the connection with %s is lost", self.name)
             except (socketio.exceptions.ConnectionError, CommandError, asyncio.TimeoutError, aiohttp.ClientError) as error:
                 refused = isinstance(error, (ConnectionRefusedError, CommandError)) and str(error) != NO_CONNECTION
-                if refused and not self._first.done():
-                    raise
-                self._logger.warning("no connection with the server: %s", str(error) or type(error).__name__)
+                if refused and not self.first.done():
+                    return self._end(error)
+                self._logger.warning("no connection with %s: %s", self.name, str(error) or type(error).__name__)
+                self._miss()
             await asyncio.sleep(pause * random.uniform(0.5, 1.0))
             pause = min(2 * pause, LAST_PAUSE)
+
+    def _end(self, error: Exception) -> None:
+        self.first.set_exception(error)
+        self._try()
+
+    def _miss(self) -> None:
+        self.away = True
+        self._try()
+        self._missed()
+
+    def _try(self) -> None:
+        if not self.tried.done():
+            self.tried.set_result(None)
 
     async def _connect(self) -> None:
         """One connection, until it ends. Each has a new client, so that nothing of an old one is left."""
@@ -171,19 +200,23 @@ class Link:
                                           http_session=session)
             there = self._listen(client)
             try:
-                await client.connect(self._url, auth=self._auth, namespaces=[BACKEND], transports=self._transports,
-                                     socketio_path=self._path, wait=False)
-                await asyncio.wait_for(there, PATIENCE)
+                await asyncio.wait_for(self._open(client, there), PATIENCE)
                 await self._until_lost(client)
             finally:
                 self._close(client)
                 await client.disconnect()
 
+    async def _open(self, client: socketio.AsyncClient, there: asyncio.Future) -> None:
+        address = self._address
+        await client.connect(address.url, auth=address.auth, namespaces=[BACKEND], transports=list(address.transports),
+                             socketio_path=address.path, wait=False)
+        await there
+
     def _listen(self, client: socketio.AsyncClient) -> asyncio.Future:
         there = asyncio.get_running_loop().create_future()
 
         def connected() -> None:
-            self._client, self.heard = client, Counter()
+            self._client, self.heard, self.away = client, Counter(), False
             if not there.done():
                 there.set_result(None)
 
@@ -203,8 +236,9 @@ class Link:
         if self._lost:
             self._logger.warning("%d commands were lost", self._lost)
             self._lost = 0
-        if not self._first.done():
-            self._first.set_result(None)
+        self._try()
+        if not self.first.done():
+            self.first.set_result(None)
         await asyncio.shield(lost)
 
     def _close(self, client: socketio.AsyncClient) -> None:

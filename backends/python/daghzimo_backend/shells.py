@@ -32,7 +32,7 @@ class AsyncBackend(Engine):
         """Serves until `stop()` is called."""
         try:
             await self.start()
-            await self._link.wait()
+            await self._nodes.wait()
         finally:
             await self.stop()
 

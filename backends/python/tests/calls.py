@@ -12,6 +12,7 @@ import re
 import sys
 import threading
 import time
+import types
 import urllib.parse
 
 sys.path.insert(0, os.path.join(os.path.dirname(os.path.abspath(__file__)), ".."))
@@ -21,7 +22,7 @@ import engineio.payload
 import socketio
 from socketio import packet
 
-from daghzimo_backend import AsyncBackend, Backend, CommandError, Missing, core
+from daghzimo_backend import AsyncBackend, Backend, CommandError, Missing, core, nodes
 from daghzimo_backend.commands import BACKEND
 
 URL, TOKEN = sys.argv[1:3]
@@ -93,12 +94,13 @@ class World:
     def __init__(self, form, transport, url=URL, **options):
         self.form, self.transport = form, transport
         self.name = f"{form}, {transport}: "
-        self.sio = FORMS[form](url, token=TOKEN, **options)
+        self.lines = Handler()
+        logger = logging.Logger("checks")
+        logger.addHandler(self.lines)
+        self.sio = FORMS[form](url, token=TOKEN, logger=logger, **options)
+        self.node = self.sio._nodes.all[0]
         self.log = []       # of connect, disconnect and what checks add: (event, sid, ..)
         self.clients = []
-        self.lines = Handler()
-        self.sio.logger = self.sio._link._logger = logging.Logger("checks")
-        self.sio.logger.addHandler(self.lines)
         for namespace in ("/", "/admin"):
             self.sio.on("connect", lambda sid, environ, auth: self.log.append(("connect", sid, environ, auth)), namespace)
             self.sio.on("disconnect", lambda sid, reason: self.log.append(("disconnect", sid, reason)), namespace)
@@ -213,6 +215,10 @@ async def receives_and_emits(world):
         await until(lambda: client.got)
         check(world.name + f"emit of {name}", client.got, [("given", *values)])
         client.got.clear()
+    world.sio.on("5", lambda sid, value: value)
+    check(world.name + "an event whose name is a number", await client.call(5, "five", timeout=5), "five")
+    await world.do("emit", 6.5, "six", to=client.id)
+    check(world.name + "emit of one", await until(lambda: client.got), [(6.5, "six")])
 
 
 async def addresses(world):
@@ -292,7 +298,7 @@ async def questions(world):
     check(world.name + "call with none", await world.do("call", "question", to=ann.id), None)
     error = await error_of(world.do("call", "question", to="nobody", timeout=0.2))
     check(world.name + "call of nobody", type(error), socketio.exceptions.TimeoutError)
-    check(world.name + "it is forgotten", world.sio.core.room_questions, {})
+    check(world.name + "it is forgotten", world.node.core.room_questions, {})
     check(world.name + "call of all", type(await error_of(world.do("call", "question"))), ValueError)
     got = []
     await world.do("emit", "question", 7, to=ann.id, callback=lambda *values: got.append(values))
@@ -305,14 +311,14 @@ async def questions(world):
                    callback=handler_for(world, lambda *values: got.append(values), later))
     check(world.name + "a callback for a room, once for each", await until(lambda: got[1:] == [(8,), (8,)]))
     check(world.name + "no question to a socket is left",
-          [len(one.questions) for one in world.sio.core.sockets.values() if one.questions], [])
+          [len(one.questions) for one in world.node.core.sockets.values() if one.questions], [])
     async def silent():
         await asyncio.sleep(30)
     ann.on("silent", silent)
     await world.do("emit", "silent", to=ann.id, callback=got.append)
-    check(world.name + "a question is kept", len(world.sio.core.socket(ann.id, "/").questions), 1)
+    check(world.name + "a question is kept", len(world.node.core.socket(ann.id, "/").questions), 1)
     await leave(ann)
-    check(world.name + "until its socket is gone", await until(lambda: ("/", ann.id) not in world.sio.core.sockets))
+    check(world.name + "until its socket is gone", await until(lambda: ("/", ann.id) not in world.node.core.sockets))
 
 
 COMMANDS = {
@@ -323,7 +329,7 @@ COMMANDS = {
 
 async def commands(world):
     """What is sent, for what no client sees."""
-    sent, link = [], world.sio._link
+    sent, link = [], world.node.link
     send = link.send
 
     async def record(*command):
@@ -395,6 +401,8 @@ async def catches_all(world):
 async def refuses_locally(world):
     cases = {
         "a reserved name": ("reserved name", "disconnect", {}),
+        "no name": ("malformed command", None, {}),
+        "a name that JSON doesn't have": ("malformed command", float("nan"), {}),
         "a room that is no text": ("bad room", "x", {"to": 5}),
         "a long room": ("bad room", "x", {"room": "€" * 22}),
         "an excluded room": ("bad room", "x", {"skip_sid": "x" * 65}),
@@ -569,7 +577,7 @@ async def refuses(form, transport):
 
     def decide(sid, auth):
         world.log.append(("connect", sid))
-        world.sio.core.sockets["/", sid].session["x"] = 1
+        world.node.core.sockets["/", sid].session["x"] = 1
         if auth == {"how": "false"}:
             return False
         if auth == {"how": "raise"}:
@@ -600,7 +608,7 @@ async def refuses(form, transport):
             check(world.name + f"refused by {how}: no events, no disconnect",
                   [one for one in world.log if one[1] == client.id], [("connect", client.id)])
             check(world.name + f"refused by {how}: forgotten",
-                  await until(lambda: ("/", client.id) not in world.sio.core.sockets))
+                  await until(lambda: ("/", client.id) not in world.node.core.sockets))
         client = await world.told_client()
         await client.emit("take")
         check(world.name + "others are let in", await until(lambda: world.of(client, "take")), [("take", client.id)])
@@ -656,9 +664,9 @@ async def refuses_away(form, transport):
         async with world:
             client = await world.told_client()
             proxy.cut()
-            await until(lambda: not world.sio._link.connected)
+            await until(lambda: not world.node.link.connected)
             release.set()
-            await until(lambda: world.sio.core.refused("/"))
+            await until(lambda: world.node.core.refused("/"))
             proxy.whole = True
             check(world.name + "refused while away: put out afterwards", await until(lambda: client.gone, 15))
             check(world.name + "refused while away: told once, and never to go",
@@ -777,7 +785,7 @@ async def comes_back(form, transport):
             proxy.held = False
             error = await asyncio.wait_for(waiting, 5)
             check(world.name + "lost: a call that waits raises", (type(error), str(error)), (CommandError, "no connection"))
-            await until(lambda: not world.sio._link.connected)
+            await until(lambda: not world.node.link.connected)
             error = await error_of(world.do("enter_room", stays.id, "blue"))
             check(world.name + "away: a call raises", (type(error), str(error)), (CommandError, "no connection"))
             error = await error_of(world.do("call", "question", to=stays.id, timeout=5))
@@ -852,7 +860,7 @@ async def stops(form, transport):
 async def runs(form, transport):
     world = World(form, transport)
     running = asyncio.ensure_future(asyncio.to_thread(world.sio.run) if form == "threads" else world.sio.run())
-    await until(lambda: world.sio._link.connected)
+    await until(lambda: world.node.link.connected)
     client = await world.told_client()
     check(world.name + "run serves", len(world.of(client, "connect")), 1)
     await world.do("stop")
@@ -966,7 +974,7 @@ async def strangers(world, transport):
 async def recovers(world, transport):
     """A client that is lost and comes back, by hand: python-socketio's clients can't."""
     url = URL.replace("http", "ws", 1) + "/socket.io/?EIO=4&transport=websocket"
-    world.sio.on("name", lambda sid, name: world.sio.core.socket(sid, "/").session.update(name=name))
+    world.sio.on("name", lambda sid, name: world.node.core.socket(sid, "/").session.update(name=name))
     async with aiohttp.ClientSession() as session:
         first = await session.ws_connect(url)
         await first.receive_str()
@@ -975,7 +983,7 @@ async def recovers(world, transport):
         if "pid" not in opened:
             return print("        sessions that come back: left out, since this server has none")
         await first.send_str('42["name","Ann"]')
-        await until(lambda: world.sio.core.sockets.get(("/", opened["sid"])) and world.sio.core.sockets["/",
+        await until(lambda: world.node.core.sockets.get(("/", opened["sid"])) and world.node.core.sockets["/",
                                                                                                         opened["sid"]].session)
         await world.do("enter_room", opened["sid"], "red")
         await world.do("emit", "offset", to=opened["sid"])
@@ -1015,13 +1023,13 @@ ALL = LOW + HIGH
 
 
 def with_socket(sid):
-    it = core.Core(ALL, (), False)
+    it = core.Core(ALL, {"/"}, False)
     finish(it, it.connection("/", sid, None))
     return it
 
 
 async def core_lists():
-    it = core.Core(ALL, (), False)
+    it = core.Core(ALL, {"/"}, False)
     check("core: an event while the backend asks comes after connect", names(finish(it, it.event("/", "a1", None, "x"))),
           [("connect", "a1"), ("x", "a1")])
     check("core: and the list tells it no more", names(it.listed("/", ["a1"])), [])
@@ -1029,13 +1037,13 @@ async def core_lists():
           [("disconnect", "a1"), ("connect", "b2")])
     check("core: a session that came back unseen is told no more", names(it.connection("/", "b2", ["b2", "r"])), [])
     check("core: but its rooms are noted", it.socket("b2", "/").rooms, {"b2", "r"})
-    check("core: a list with sockets of others' digits", names(core.Core("0", (), False).listed("/", ["b2", "0b"])),
+    check("core: a list with sockets of others' digits", names(core.Core("0", {"/"}, False).listed("/", ["b2", "0b"])),
           [("connect", "0b")])
     check("core: who wasn't told to come isn't told to go", names(it.disconnection("/", "c3", "left", ["c3"])), [])
     check("core: other namespaces are left alone", names(it.connection("/x", "d4", None) + it.event("/x", "d4", None, "y")),
           [])
     check("core: a name may be a number", names(it.event("/", "b2", None, 5)), [("5", "b2")])
-    low = core.Core(LOW, (), False)
+    low = core.Core(LOW, {"/"}, False)
     check("core: what others' sockets do is ignored",
           names(low.connection("/", "b2", None) + low.event("/", "b2", None, "x") + low.disconnection("/", "b2", "left", [])), [])
     check("core: no event is taken for connect",
@@ -1043,7 +1051,7 @@ async def core_lists():
 
 
 async def core_lines():
-    it = core.Core(ALL, (), False)
+    it = core.Core(ALL, {"/"}, False)
     first = it.connection("/", "e5", None, {"a": 1})
     waiting = it.event("/", "e5", None, "x") + it.event("/", "e5", None, "y") + it.disconnection("/", "e5", "saved",
                                                                                                  ["e5", "r"])
@@ -1060,14 +1068,14 @@ async def core_lines():
     check("core: who left has no session when it comes again", it.socket("e5", "/").session, {})
     it.socket("e5", "/").leaving = True
     check("core: who is being put out is heard no more", names(it.event("/", "e5", None, "x")), [])
-    serial = core.Core(ALL, (), True)
+    serial = core.Core(ALL, {"/"}, True)
     finish(serial, serial.connection("/", "f6", None))
     x, y = serial.event("/", "f6", None, "x"), serial.event("/", "f6", None, "y")
     check("core: one at a time", (names(x), names(y), names(serial.ended(x[0]))), ([("x", "f6")], [], [("y", "f6")]))
 
 
 async def core_sessions():
-    keeper = core.Core(ALL, (), False)
+    keeper = core.Core(ALL, {"/"}, False)
     for number in range(core.SESSIONS_AT_MOST + 5):
         sid = str(number)
         finish(keeper, keeper.connection("/", sid, None))
@@ -1076,7 +1084,14 @@ async def core_sessions():
     keeper.sessions["/", "9"] = (time.monotonic() - core.SESSION_SECONDS - 1, {"old": 1})
     finish(keeper, keeper.connection("/", "9", ["9"]))
     check("core: an old session isn't given back", keeper.socket("9", "/").session, {})
-    it = core.Core(ALL, (), False)
+    lost = with_socket("a1")
+    lost.socket("a1", "/").session["name"] = "Ann"
+    finish(lost, lost.left_out())
+    check("core: the sockets of a server that can't be reached are gone", lost.sockets, {})
+    finish(lost, lost.listed("/", ["a1"]))
+    check("core: and have their sessions where only the way was lost",
+          (lost.socket("a1", "/").session, lost.socket("a1", "/").environ), ({"name": "Ann"}, {"namespace": "/", "late": True}))
+    it = core.Core(ALL, {"/"}, False)
     it.ended(it.connection("/", "a1", None)[0], refused=True)
     check("core: who was refused, and isn't out yet", [one.sid for one in it.refused("/")], ["a1"])
 
@@ -1102,7 +1117,20 @@ async def core_questions():
     check("core: and forgotten when the socket goes", socket.questions, {})
 
 
-CORES = [core_lists, core_lines, core_sessions, core_questions]
+async def core_nodes():
+    """Which nodes something goes to: `c3` is at one whose connection is away."""
+    there = [types.SimpleNamespace(core=with_socket(sid), link=types.SimpleNamespace(connected=sid != "c3"))
+             for sid in ("a1", "b2", "c3")]
+    it = nodes.Nodes(there, logging.getLogger())
+    wanted = {(): ("abc", "ab"), ("room",): ("abc", "ab"), ("a1",): ("a", "a"), ("a1", "b2"): ("ab", "ab"),
+              ("a1", "room"): ("abc", "ab"), ("a1", "c3"): ("ac", "a"), ("c3",): ("c", "c")}
+    letters = ["".join("abc"[there.index(node)] for node in chosen) for to in wanted
+               for chosen in (it.of("/", list(to)), it.up("/", list(to)))]
+    check("core: nodes, and those that are up", letters, [one for pair in wanted.values() for one in pair])
+    check("core: no node has it in another namespace", it.of("/admin", ["a1"]), there)
+
+
+CORES = [core_lists, core_lines, core_sessions, core_questions, core_nodes]
 
 
 def chosen(name):
