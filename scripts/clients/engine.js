@@ -3,6 +3,7 @@
 'use strict';
 process.env.NODE_PATH = '/usr/share/nodejs';
 require('module').Module._initPaths();
+const fs = require('fs');
 const http = require('http');
 const WebSocket = require('ws');
 const { Encoder, Decoder, PacketType } = require('socket.io-parser');
@@ -306,9 +307,20 @@ class Client {
   }
 }
 
+// What a program of checks is started with: PORT [WORD]. `--help` tells what stands at its head.
+function given() {
+  const [port, word = ''] = process.argv.slice(2);
+  if (/^\d+$/.test(port)) return { port: Number(port), word };
+  const [, head] = fs.readFileSync(require.main.filename, 'utf8').match(/^#!.*\n((?:\/\/.*\n)+)/);
+  console.log(head.replaceAll(/^\/\/ ?/gm, ''));
+  process.exit(port === '--help' ? 0 : 2);
+}
+
+const { port, word } = given();
+
 // Runs the checks whose names hold the word, one after the other: each is a name and a function
 // of `open`, which makes clients that are closed behind it. Ends the process.
-async function run(checks, word = '') {
+async function run(checks) {
   let failed = 0;
   for (const [name, check] of checks) {
     if (!name.includes(word)) continue;
@@ -326,4 +338,4 @@ async function run(checks, word = '') {
   process.exit(failed ? 1 : 0);
 }
 
-module.exports = { Client, PacketType, WebSocket, request, run, within, pause, SEPARATOR };
+module.exports = { Client, PacketType, pause, port, request, run };

@@ -3,16 +3,15 @@
 
     guarded.py PORT [WORD]     WORD: only the checks whose names hold it
 """
-import asyncio
 import os
-import sys
 
 from python_client import brief, ensure, main, soon
 
-TOKEN = os.environ.get('TOKEN') or sys.exit('TOKEN is not set')
+TOKEN = os.environ.get('TOKEN', '')
 
 
 async def lets_in(room):
+    ensure(TOKEN, 'TOKEN is not set')
     client = await room.client().connect(('/', '/admin'), auth={'name': 'Ada', 'token': TOKEN})
     await client.expect_nothing()
     await client.expect_nothing('/admin')
@@ -40,4 +39,4 @@ CHECKS = {
 }
 
 if __name__ == '__main__':
-    sys.exit(asyncio.run(main(int(sys.argv[1]), sys.argv[2] if len(sys.argv) > 2 else '', CHECKS)))
+    main(CHECKS, __doc__)

@@ -4,9 +4,8 @@
 //   heartbeat.js PORT [WORD]     WORD: only the checks whose names hold it
 'use strict';
 const assert = require('assert');
-const { Client, run, pause } = require('./engine.js');
+const { Client, pause, port, run } = require('./engine.js');
 
-const port = Number(process.argv[2]);
 const SPARE = 10000;
 
 // Silent for two pings, then still a member.
@@ -56,4 +55,4 @@ async function together(keep) {
   assert.deepStrictEqual(failures, []);
 }
 
-run([['at rest, mute, and without a namespace', together]], process.argv[3]);
+run([['at rest, mute, and without a namespace', together]]);

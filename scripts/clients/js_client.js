@@ -3,9 +3,8 @@
 //   js_client.js PORT [WORD]     WORD: only the checks whose names hold it
 'use strict';
 const assert = require('assert');
-const { Client, PacketType, request, run, pause } = require('./engine.js');
+const { Client, PacketType, pause, port, request, run } = require('./engine.js');
 
-const port = Number(process.argv[2]);
 const OFFSET = /^[0-9a-f]{16}$/;
 const LARGE = 300000;
 
@@ -341,4 +340,4 @@ run([
   ['all transports in one room', mixes],
   ['requests that are refused', refusesRequests],
   ['faults close the client', closesOverFaults],
-], process.argv[3]);
+]);

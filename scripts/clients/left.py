@@ -3,8 +3,6 @@
 
     left.py PORT [WORD]     WORD: only the checks whose names hold it
 """
-import asyncio
-import sys
 
 from socketio.packet import DISCONNECT, Packet
 
@@ -61,4 +59,4 @@ CHECKS = {
 }
 
 if __name__ == '__main__':
-    sys.exit(asyncio.run(main(int(sys.argv[1]), sys.argv[2] if len(sys.argv) > 2 else '', CHECKS)))
+    main(CHECKS, __doc__)

@@ -4,7 +4,6 @@
     metrics.py PORT [WORD]     WORD: only the checks whose names hold it
 """
 import asyncio
-import sys
 import urllib.request
 
 from prometheus_client.parser import text_string_to_metric_families
@@ -60,4 +59,4 @@ async def follows(room):
 CHECKS = {'reads the counts': reads, 'they follow what clients do': follows}
 
 if __name__ == '__main__':
-    sys.exit(asyncio.run(main(int(sys.argv[1]), sys.argv[2] if len(sys.argv) > 2 else '', CHECKS)))
+    main(CHECKS, __doc__)

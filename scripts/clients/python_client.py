@@ -3,6 +3,7 @@
 
     python_client.py PORT [WORD]     WORD: only the checks whose names hold it
 """
+import argparse
 import asyncio
 import logging
 import re
@@ -305,14 +306,15 @@ CHECKS = {
 }
 
 
-async def main(port, word, checks=CHECKS):
+async def played(given, checks):
+    """The status, after the checks were run whose names hold the word."""
     failed = 0
     for transport in TRANSPORTS:
         for name, check in checks.items():
             name = f'{transport}: {name}'
-            if word not in name:
+            if given.word not in name:
                 continue
-            room = Room(port, transport)
+            room = Room(given.port, transport)
             try:
                 await asyncio.wait_for(check(room), 60)
                 print(f'ok      {name}', flush=True)
@@ -323,5 +325,13 @@ async def main(port, word, checks=CHECKS):
     return 1 if failed else 0
 
 
+def main(checks, text):
+    """A program of checks, with its usage."""
+    parser = argparse.ArgumentParser(description=text, formatter_class=argparse.RawDescriptionHelpFormatter)
+    parser.add_argument('port', metavar='PORT', type=int)
+    parser.add_argument('word', metavar='WORD', nargs='?', default='')
+    sys.exit(asyncio.run(played(parser.parse_args(), checks)))
+
+
 if __name__ == '__main__':
-    sys.exit(asyncio.run(main(int(sys.argv[1]), sys.argv[2] if len(sys.argv) > 2 else '')))
+    main(CHECKS, __doc__)

@@ -3,9 +3,8 @@
 //   quiz.js PORT [WORD]     WORD: only the checks whose names hold it
 'use strict';
 const assert = require('assert');
-const { Client, run } = require('./engine.js');
+const { Client, port, run } = require('./engine.js');
 
-const port = Number(process.argv[2]);
 const QUESTION = ['question', 'How much is six times seven?'];
 const OFFSET = /^[0-9a-f]{16}$/;
 
@@ -49,4 +48,4 @@ function checksOver(transport) {
   ];
 }
 
-run(['websocket', 'polling', 'upgrade'].flatMap(checksOver), process.argv[3]);
+run(['websocket', 'polling', 'upgrade'].flatMap(checksOver));

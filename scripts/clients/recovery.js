@@ -4,9 +4,8 @@
 //   recovery.js PORT [WORD]     WORD: only the checks whose names hold it
 'use strict';
 const assert = require('assert');
-const { Client, run, pause } = require('./engine.js');
+const { Client, pause, port, run } = require('./engine.js');
 
-const port = Number(process.argv[2]);
 const NOTICED = 300;
 
 // A member whose connection can be cut: what came, and where it stands.
@@ -214,4 +213,4 @@ run([
   ['in another namespace', namespaces],
   ['what can\'t come back is a new session', fresh],
   ['not after a disconnection', ended],
-], process.argv[3]);
+]);

@@ -26,6 +26,8 @@ class Browser:
     """Chromium without a window, with a profile of its own; ended behind a `with`."""
 
     def __enter__(self):
+        if not shutil.which("chromium"):
+            sys.exit("chromium isn't there: Debian's package chromium")
         self.profile = tempfile.mkdtemp(prefix="browser-")
         self.process = subprocess.Popen(
             ["chromium", "--headless=new", "--no-sandbox", "--disable-gpu", "--remote-debugging-port=0",
@@ -103,10 +105,11 @@ class Page:
 
 
 class Front:
-    """Stands before the server at a port of its own: lends files, and passes on all else, over connections that can be cut."""
+    """Stands before the server at a port of its own: lends files, and passes on all else, over connections that can be cut.
+    What the server answers at the paths in `heard` is kept there, each with its moment."""
 
     def __init__(self, server, files={}):
-        self.server, self.files = server, files
+        self.server, self.files, self.heard = server, files, {}
         self.cut, self.ends = False, set()
         self.listener = socket.create_server(("127.0.0.1", 0))
         self.port = self.listener.getsockname()[1]
@@ -126,23 +129,28 @@ class Front:
                 kind, body = self.files[name]
                 browser.sendall(head.format(kind, len(body)).encode() + body)
             elif not self.cut:
-                self.join(browser)
+                came = []
+                self.join(browser, came)
+                if came and name in self.heard:
+                    self.heard[name].append((came[-1][0], b"".join(data for _, data in came)))
 
-    def join(self, browser):
+    def join(self, browser, came):
         with socket.create_connection(self.server) as server:
             self.ends |= {browser, server}
             if self.cut:
                 hang_up(browser, server)
-            other = threading.Thread(target=self.carry, args=(server, browser), daemon=True)
+            other = threading.Thread(target=self.carry, args=(server, browser, came), daemon=True)
             other.start()
-            self.carry(browser, server)
+            self.carry(browser, server, [])
             other.join()
             self.ends -= {browser, server}
 
-    def carry(self, source, sink):
+    def carry(self, source, sink, came):
         with contextlib.suppress(OSError):
             while data := source.recv(65536):
                 sink.sendall(data)
+                if self.heard:
+                    came.append((time.monotonic(), data))
         hang_up(source, sink)
 
     def turn(self, word):

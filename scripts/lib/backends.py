@@ -1,0 +1,215 @@
+"""What scripts/try_backends has its parts play with: servers, backends, and clients."""
+import asyncio
+import collections
+import json
+import os
+import pathlib
+import secrets
+import signal
+import socket
+import subprocess
+import sys
+import tempfile
+import time
+
+import aiohttp
+
+TOP = pathlib.Path(__file__).resolve().parent.parent.parent
+CLIENTS = TOP / "scripts" / "clients"
+NODE, PYTHON = ["/usr/bin/node"], ["/usr/bin/python3", "-B"]
+LONGEST = 900       # seconds, for the program's start (it may be built first)
+PATIENCE = 20
+ALL, LOW, HIGH = "0123456789abcdef", "01234567", "89abcdef"
+
+
+class Checks:
+    def __init__(self):
+        self.passed = self.failed = 0
+        self.part = ""
+
+    def __call__(self, text, holds, fault=""):
+        self.passed, self.failed = self.passed + bool(holds), self.failed + (not holds)
+        fault = f": {str(fault)[:600]}" if fault and not holds else ""
+        print(f"{'ok' if holds else 'FAILED'}: {self.part}: {text}{fault}", flush=True)
+
+    def same(self, text, got, wanted):
+        self(text, got == wanted, f"{str(got)[:280]} instead of {str(wanted)[:280]}")
+
+
+async def until(condition, seconds=PATIENCE):
+    """What the condition gives, as soon as it is true, or at the end of the time."""
+    end = time.monotonic() + seconds
+    while not condition() and time.monotonic() < end:
+        await asyncio.sleep(0.02)
+    return condition()
+
+
+def free_port():
+    with socket.socket() as it:
+        it.bind(("127.0.0.1", 0))
+        return it.getsockname()[1]
+
+
+class Server:
+    """PROGRAM on a port of its own, with a token of its own if it is given none. It may be started again."""
+
+    def __init__(self, program, folder, library, token=None):
+        self.port, self.token, self.library = free_port(), token or secrets.token_hex(16), library
+        self.url = f"http://127.0.0.1:{self.port}"
+        self.program, self.folder, self.process = program, folder, None
+        folder.mkdir(exist_ok=True)
+        (folder / "token.txt").write_text(self.token + "\n")
+
+    def start(self):
+        words = [self.program, "serve", "--port", str(self.port), "--backend-token", self.folder / "token.txt", "--space", "/admin"]
+        self.process = subprocess.Popen(words, stdin=subprocess.DEVNULL, stdout=subprocess.DEVNULL)
+        end = time.monotonic() + LONGEST
+        while True:
+            if self.process.poll() is not None or time.monotonic() > end:
+                sys.exit(f"the server doesn't listen: status {self.process.poll()}")
+            try:
+                socket.create_connection(("127.0.0.1", self.port), 1).close()
+                return
+            except OSError:
+                time.sleep(0.05)
+
+    def end(self, by=signal.SIGTERM):
+        self.process.send_signal(by)
+        self.process.wait()
+
+    def memory(self):
+        """In MB, the most so far."""
+        status = pathlib.Path(f"/proc/{self.process.pid}/status").read_text()
+        return int(next(line.split()[1] for line in status.splitlines() if line.startswith("VmHWM"))) // 1024
+
+
+class Backend:
+    """A process of scripts/clients/backend.* for these servers, and what it was told."""
+
+    def __init__(self, servers, language, digits=ALL):
+        self.log = tempfile.TemporaryFile("w+")
+        words = {"javascript": [*NODE, CLIENTS / "backend.mjs"], "python": [*PYTHON, CLIENTS / "backend.py"]}[language]
+        urls = ",".join(server.url for server in servers)
+        self.process = subprocess.Popen([*words, urls, servers[0].token, digits, servers[0].library], stdin=subprocess.PIPE,
+                                        stdout=self.log, stderr=sys.stderr, text=True)
+        self.digits, self.calls = digits, 0
+
+    def told(self, kind=None, sid=None):
+        at = os.pread(self.log.fileno(), os.fstat(self.log.fileno()).st_size, 0).decode()
+        lines = [json.loads(line) for line in at.split("\n")[:-1]]      # the last one isn't whole
+        return [it for it in lines if kind in (None, it[0]) and sid in (None, it[1])]
+
+    def begin(self, *call):
+        """Has it call the library. Gives the number of the call."""
+        self.calls += 1
+        self.process.stdin.write(json.dumps([self.calls, *call]) + "\n")
+        self.process.stdin.flush()
+        return self.calls
+
+    async def outcome(self, number):
+        """The message of the error, and the value."""
+        await until(lambda: self.told("done", number))
+        return tuple(self.told("done", number)[0][2:])
+
+    async def do(self, *call):
+        return await self.outcome(self.begin(*call))
+
+    def present(self):
+        """Of whom it was told last that they came, and not that they went."""
+        last = {it[1]: it[0] for it in self.told() if it[0] in ("connection", "disconnection")}
+        return {sid for sid, kind in last.items() if kind == "connection"}
+
+    def is_ready(self):
+        return self.process.poll() is None and self.told("ready")
+
+    async def __aenter__(self):
+        if not await until(self.is_ready):
+            raise RuntimeError("the backend isn't ready")
+        return self
+
+    async def __aexit__(self, *_):
+        self.process.kill()
+        self.process.wait()
+
+
+class Client:
+    """A client by WebSocket."""
+
+    def __init__(self, server, session):
+        self.server, self.session = server, session
+        self.sid, self.got, self.ended, self.refused = None, [], False, None
+
+    async def open(self, connect="40"):
+        self.ws = await self.session.ws_connect(self.server.url + "/socket.io/?EIO=4&transport=websocket", max_msg_size=0)
+        await self.ws.receive_str()
+        self.reading = asyncio.ensure_future(self.read())
+        await self.ws.send_str(connect)
+        await until(lambda: self.sid)
+        return self
+
+    async def read(self):
+        async for message in self.ws:
+            text = message.data
+            if text == "2":
+                await self.ws.send_str("3")
+            elif text.startswith("40{"):
+                self.sid = json.loads(text[2:])["sid"]
+            elif text.startswith("42["):
+                # What is logged has its offset behind it.
+                self.got.append(tuple(json.loads(text[2:])[:-1]))
+            elif text.startswith("44"):
+                self.refused = text
+        self.ended = True
+
+    async def send(self, *event):
+        await self.ws.send_str("42" + json.dumps(event))
+
+    async def close(self):
+        await self.ws.close()
+        await self.reading
+
+
+class Crowd:
+    """Clients of one scene."""
+
+    def __init__(self, server):
+        self.server, self.clients = server, []
+
+    async def __aenter__(self):
+        self.session = aiohttp.ClientSession(connector=aiohttp.TCPConnector(limit=0))
+        return self
+
+    async def __aexit__(self, *_):
+        for client in self.clients:
+            await client.close()
+        await self.session.close()
+
+    async def more(self, count=1):
+        made = [await Client(self.server, self.session).open() for _ in range(count)]
+        self.clients += made
+        return made
+
+    async def leave(self, clients):
+        for client in clients:
+            self.clients.remove(client)
+            await client.close()
+
+    def sids(self):
+        return {client.sid for client in self.clients}
+
+
+def twice(values):
+    """Those that are there more than once."""
+    return [value for value, count in collections.Counter(values).items() if count > 1]
+
+
+def is_rising(events):
+    """Whether each socket's numbers rise."""
+    last = {}
+    return all(last.get(sid, -1) < number and last.update({sid: number}) is None for _, sid, number in events)
+
+
+def early(told):
+    """Sockets that an event was told of before they were."""
+    begun = set()
+    return [sid for kind, sid, *_ in told if kind == "event" and sid not in begun or begun.add(sid)]
