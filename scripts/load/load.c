@@ -13,6 +13,12 @@ static long pid;
 static void ws_close(Ws *w) { if (w->fd >= 0) close(w->fd); free(w->buf); }
 
 /* ---- polling: one connection for each request, since each answer closes its connection */
+/* Puts the chunks of a body together, where they stand, and says how long it is. */
+static size_t join_chunks(char *body, size_t n) {
+    char *to = body, *from = body, *end = body + n; size_t size;
+    while (from < end && (size = strtoul(from, &from, 16)) && size + 4 <= (size_t)(end - from)) { memmove(to, from + 2, size); to += size; from += size + 4; }
+    return to - body;
+}
 static int http(const char *method, const char *sid, const char *body, size_t blen, char *out, size_t cap) {
     char req[8192]; int fd = dial();
     if (fd < 0) return -1;
@@ -21,7 +27,7 @@ static int http(const char *method, const char *sid, const char *body, size_t bl
     k += snprintf(req + k, sizeof req - k, "\r\n");
     if (body && blen + k < sizeof req) { memcpy(req + k, body, blen); k += blen; body = 0; }
     if (put(fd, req, k) || (body && put(fd, body, blen))) { close(fd); return -1; }
-    size_t n = 0; char *e = 0; long want = -1;
+    size_t n = 0; char *e = 0; long want = -1; int chunked = 0;
     for (;;) {
         ssize_t r = recv(fd, out + n, cap - 1 - n, 0);
         if (r <= 0) break;
@@ -29,6 +35,8 @@ static int http(const char *method, const char *sid, const char *body, size_t bl
         if (!e && (e = strstr(out, "\r\n\r\n"))) {
             char *c = strcasestr(out, "content-length:");
             want = c && c < e ? e + 4 - out + atol(c + 15) : -1;
+            c = strcasestr(out, "transfer-encoding: chunked");
+            chunked = c && c < e;
         }
         if (want >= 0 && (long)n >= want) break;
     }
@@ -36,6 +44,7 @@ static int http(const char *method, const char *sid, const char *body, size_t bl
     if (!e || memcmp(out, "HTTP/1.1 200", 12)) return -1;
     size_t len = out + n - (e + 4);
     memmove(out, e + 4, len);
+    if (chunked) len = join_chunks(out, len);
     out[len] = 0;
     return (int)len;
 }
@@ -152,6 +161,7 @@ static void broadcast(void) {
             for (int i = 1; i < members; i++) if (rx[i].got < least) least = rx[i].got;
         }
         long total = -base; for (int i = 0; i < members; i++) total += rx[i].got;
+        if (!total) die("none");
         printf("{\"test\":\"broadcast\",\"transport\":\"ws\",\"members\":%d,\"window\":%d,\"delivered\":%ld,\"delivered_per_second\":%.0f,\"sent_per_second\":%.0f}\n",
                members, window, total, total / (t - from), total / (t - from) / members);
     } else {
@@ -169,6 +179,7 @@ static void broadcast(void) {
             else usleep(50);
         }
         long total = 0; for (int i = 0; i < members; i++) total += rx[i].got;
+        if (!total) die("none");
         go = 0;
         printf("{\"test\":\"broadcast\",\"transport\":\"polling\",\"members\":%d,\"window\":%d,\"delivered\":%ld,\"delivered_per_second\":%.0f,\"sent_per_second\":%.0f}\n",
                members, window, total, total / (t - start), sent / (t - start));
@@ -191,7 +202,8 @@ static void setup(void) {
     pthread_t th[64]; double start = now(); deadline = start + seconds;
     for (int i = 0; i < threads; i++) pthread_create(&th[i], 0, setter, 0);
     for (int i = 0; i < threads; i++) pthread_join(th[i], 0);
-    printf("{\"test\":\"setup\",\"transport\":\"%s\",\"threads\":%d,\"connected\":%ld,\"failed\":%ld,\"per_second\":%.0f}\n", transport, threads, done_all, failed_all, done_all / (now() - start));
+    if (failed_all) die("some set-ups failed");
+    printf("{\"test\":\"setup\",\"transport\":\"%s\",\"threads\":%d,\"connected\":%ld,\"per_second\":%.0f}\n", transport, threads, done_all, done_all / (now() - start));
 }
 
 static long rss(void) {

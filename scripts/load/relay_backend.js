@@ -1,14 +1,25 @@
 // The demonstration app's `join` and `say` as an app of the JavaScript library, to be measured beside it.
-//   relay_backend.js URL TOKEN_FILE CLIENT_BUILD      ends by SIGTERM, and tells then how busy it was
+//   relay_backend.js URL,URL.. TOKEN_FILE CLIENT_BUILD      ends by SIGTERM, and tells then how busy it was
+import { randomFillSync } from "node:crypto";
 import { readFileSync } from "node:fs";
 import { createRequire } from "node:module";
 import { connect } from "../../backends/javascript/index.js";
 
 const require = createRequire(import.meta.url);
-globalThis.WebSocket = require("ws");
-const [url, tokenFile, build] = process.argv.slice(2);
+const WebSocket = require("ws");
+// Debian's `ws` asks the system for each mask. Its later versions draw many at once, as here.
+const masks = Buffer.alloc(8192);
+let drawn = masks.length;
+function generateMask(mask) {
+  if (drawn === masks.length) drawn = randomFillSync(masks) && 0;
+  masks.copy(mask, 0, drawn, (drawn += 4));
+}
+globalThis.WebSocket = class extends WebSocket {
+  constructor(url, protocols) { super(url, protocols, { generateMask }); }
+};
+const [urls, tokenFile, build] = process.argv.slice(2);
 const client = require(build);
-const io = connect(url, { token: readFileSync(tokenFile, "utf8").trim(), client });
+const io = connect(urls.split(","), { token: readFileSync(tokenFile, "utf8").trim(), client });
 let heard = 0;
 
 io.on("connection", (socket) => {
