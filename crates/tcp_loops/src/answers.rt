@@ -99,6 +99,7 @@ impl<R: Wait + Clock + Copy + Drop, L: Log> EventLoop<'_, R, L> {
         let Some(seen) = self.base.take_seen(self.number) else {
             return;
         };
+        self.is_pressed = seen.pressed != 0;
         let pressure = &mut self.connections.pressure;
         pressure.press(seen.pressed, now);
         if let Some(digits) = seen.digits {

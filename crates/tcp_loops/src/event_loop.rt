@@ -2,7 +2,7 @@
 
 use crate::base::Base;
 use events::{Done, Event, Loss, Outcome};
-use loop_rules::{LookState, Mail, Notes, Pause, Stint};
+use loop_rules::{LookState, Mail, Notes, Pause, Pressure, Stint};
 use mio::Events;
 use peers::Moments;
 use std::alloc::{AllocError, Global};
@@ -25,6 +25,9 @@ const MUCH_UNSENT: usize = 32_768;
 
 /// The most stints of connections in one round of the loop.
 const STINTS: usize = 1_024;
+
+/// For how long the digits of clients are kept, in milliseconds: a loop isn't told of all that end.
+const KEPT: u64 = 60_000;
 
 /// How long a loop sleeps at the most, in milliseconds.
 const BEAT: u64 = 1_000;
@@ -56,6 +59,10 @@ pub struct EventLoop<'a, R, L> {
     stints_left: usize,
     /// The moment of the next beat, 0 until the loop has begun.
     beat: u64,
+    /// Some backend is pressed, as far as the loop knows.
+    pub(crate) is_pressed: bool,
+    /// The moment from which on the digits of clients are forgotten, where no backend is pressed.
+    forgets: u64,
 }
 
 impl<'a, R: Wait + Clock + Copy + Drop, L: Log> EventLoop<'a, R, L> {
@@ -79,6 +86,8 @@ impl<'a, R: Wait + Clock + Copy + Drop, L: Log> EventLoop<'a, R, L> {
             stint: Stint::begin(),
             stints_left: 0,
             beat: 0,
+            is_pressed: false,
+            forgets: KEPT,
         })
     }
 
@@ -187,6 +196,7 @@ impl<'a, R: Wait + Clock + Copy + Drop, L: Log> EventLoop<'a, R, L> {
             // So it is where a backend is pressed no more; the next event shows which still are.
             let now = self.watch.now();
             self.connections.pressure.press(0, now);
+            self.is_pressed = false;
             self.connections.roster.rota.call_all();
         }
         self.do_due(everyone);
@@ -207,6 +217,7 @@ impl<'a, R: Wait + Clock + Copy + Drop, L: Log> EventLoop<'a, R, L> {
         self.beat = now.saturating_add(BEAT);
         self.gives_up = true;
         self.delays.forget_old(now);
+        self.forget_digits(now);
         let cutting = self.base.shared.standing(self.base.rt).cutting;
         for key in 0..self.connections.keys_below() {
             self.connections.give_back(key, self.base.alloc);
@@ -214,6 +225,17 @@ impl<'a, R: Wait + Clock + Copy + Drop, L: Log> EventLoop<'a, R, L> {
                 self.close(key);
             }
         }
+    }
+
+    /// Once a minute the digits of clients are forgotten. Those that are still there are known again by
+    /// their next events.
+    fn forget_digits(&mut self, now: u64) {
+        if self.is_pressed || now < self.forgets {
+            return;
+        }
+        let base = self.base;
+        self.forgets = now.saturating_add(KEPT);
+        self.connections.pressure = Pressure::new(base.alloc, base.rules.stretch());
     }
 
     /// Adds the new connections, and takes over the requests that other loops handed on.
