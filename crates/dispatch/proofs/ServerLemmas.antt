@@ -22,7 +22,7 @@ use Rattle.journal.specs.Seal.{PlainEpoch, base_client, client_of, IsSealed, Say
 use Rattle.journal.proofs.EntriesLemmas.{what-waits}
 use Rattle.journal.proofs.SealListsLemmas.{all-append}
 use Rattle.journal.specs.Totals.{commands, handed_out}
-use Rattle.hub_totals.specs.Pass.{PlainHub, PlainBooks, PlainPass}
+use Rattle.hub_totals.specs.Pass.{PlainHub, PlainBooks, PlainPass, Rises}
 use Rattle.hub_totals.proofs.CountingLemmas.{commands-grow, handed_out-grows}
 use Rattle.events.specs.App.{Policy}
 use Rattle.effects.specs.Following.{is_clean, is_turn, Follows}
@@ -132,6 +132,18 @@ of-some (event.ProbeLost c) ids = (c, refl)
 of-some (event.TransportLost c) ids = (c, refl)
 of-some (event.Tick c) ids = (c, refl)
 of-some event.Sweep ids = (0, tt)
+
+-- nothing was counted
+pub rises-none : (h : PlainHub) (p : PlainPass) → Rises h h p p
+rises-none h p = record { commands = refl; taken = refl; parts = refl }
+
+-- one turn more was
+pub rises-more : (h m g : PlainHub) (p q r : PlainPass) → Rises h m p q → Rises m g q r → Rises h g p r
+rises-more h m g p q r first next = record {
+  commands = omega (arith, first.commands, next.commands);
+  taken = omega (arith, first.taken, next.taken);
+  parts = next.parts ∙ first.parts;
+}
 
 -- ---- a seal
 

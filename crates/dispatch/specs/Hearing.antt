@@ -4,6 +4,7 @@ use Rattle.std.specs.Prelude.{◌≡◌, ℕ, List, Option, None, Some, Result, 
 use Rattle.journal.specs.Journal.{History}
 use Rattle.hub_state.specs.EndedSockets.{PlainEnded}
 use Rattle.events.specs.declared.fault.CoreFault.{CoreFault}
+use Rattle.events.specs.declared.fault.CoreFault.TheVariants.{Memory}
 use Rattle.events.specs.declared.outcome.Outcome.{Outcome}
 use Rattle.events.specs.declared.outcome.Outcome.TheVariants.{Done, Lost, Ticked}
 use Rattle.events.specs.Answer.{Answer}
@@ -26,11 +27,16 @@ with_done (Lost saved before) done = Lost saved done
 with_done (Ticked ping before) done = Ticked ping done
 with_done o done = o
 
--- the answer tells what was done at the end, after all that the app wanted or until a fault; an error of the event stays
+-- an error of the event stays, but want of memory to hear stands in its place
+abbrev pub fault_after : CoreFault → Result (Unit {0}) CoreFault → CoreFault
+fault_after fault (Err Memory) = Memory
+fault_after fault _ = fault
+
+-- the answer tells what was done at the end, after all that the app wanted or until a fault
 abbrev pub answer_after : Answer → Result (Unit {0}) CoreFault → PlainDone → Answer
 answer_after (Ok o) (Ok x) done = Ok (with_done o done)
 answer_after (Ok o) (Err fault) done = Err (record { fault = fault; packets = done.packets; effects = done.effects })
-answer_after (Err e) r done = Err (record e { effects = done.effects })
+answer_after (Err e) r done = Err (record e { fault = fault_after e.fault r; effects = done.effects })
 
 -- what was done before the app hears
 abbrev pub done_before : Answer → Option PlainDone

@@ -28,6 +28,7 @@ use Rattle.journal.specs.declared.step.What.TheVariants as what
 use Rattle.journal.specs.Membership.{place_of, is_space, socket_of}
 use Rattle.journal.specs.Sessions.{rooms_rising}
 use Rattle.hub_state.specs.Words.{rooms_now}
+use Rattle.events.specs.declared.app.Newcomer.{Newcomer}
 use Rattle.events.specs.declared.app.Arrived.{Arrived}
 use Rattle.events.specs.declared.app.Arrived.TheVariants as arrived
 use Rattle.events.specs.declared.app.Effect.{Effect}
@@ -213,10 +214,14 @@ ConnectsAs who pid effects now s result t = let attached = what.Attached (seat w
 abbrev pub socket_in : ℕ → (space : List ℕ) → (sid : ℕ) → Who
 socket_in c space sid = record { client = c; space = space; sid = sid }
 
+-- the socket comes with this payload, of which nothing is verified
+abbrev pub newcomer : (payload : List ℕ) → Newcomer
+newcomer payload = record { payload = payload; claims = [] }
+
 module _ (policy : Policy) where
   -- what the app wants where it lets a socket in, and then what it wants where that has connected
   abbrev pub Greets : Who → (payload : List ℕ) → List Effect → List Effect → Type 0
-  Greets who payload effects all = (more : List Effect) × policy.decides who (arrived.Connected payload) more
+  Greets who payload effects all = (more : List Effect) × policy.decides who (arrived.Connected (newcomer payload)) more
       × (IsWhole payload → AllClean more) × (all ≡ effects ++ more)
 
   -- it has the next two ids, and the app decides what is done where it has connected
@@ -236,9 +241,9 @@ module _ (policy : Policy) where
   -- the app says whether the socket is connected; U+001E comes into no effect where none stands in the payload
   abbrev pub AsksApp : ℕ → (space payload : List ℕ) → ℕ → Course → Upshot → Course → Type 0
   AsksApp c space payload now s result t = DrawsNone IsShort s result t
-      ⊎ ((effects : List Effect) × policy.allows space payload (Accepted effects) × (IsWhole payload → AllClean effects)
+      ⊎ ((effects : List Effect) × policy.allows now space payload (Accepted effects) × (IsWhole payload → AllClean effects)
       × Connects c space payload effects now s result t)
-      ⊎ ((message : List ℕ) × policy.allows space payload (Refused message) × DrawsNone (Refuses c now space message) s result t)
+      ⊎ ((message : List ℕ) × policy.allows now space payload (Refused message) × DrawsNone (Refuses c now space message) s result t)
 
   -- the session that the payload names comes back; where it can't come back, the app is asked
   abbrev pub AsksToRecover : ℕ → (space payload : List ℕ) → (pid offset : ℕ) → ℕ → Course → Upshot → Course → Type 0

@@ -13,8 +13,8 @@ use crate::joined::decide;
 use crate::packets::close_for;
 use effects::{Scene, act_all, commands};
 use events::{
-    App, Arrived, Cause, CoreFault, Effect, IdSource, Returned, Stopped, Verdict, Wanted, Who,
-    Worked,
+    App, Arrived, Cause, CoreFault, Effect, IdSource, Newcomer, Returned, Stopped, Verdict, Wanted,
+    Who, Worked,
 };
 use recovery::Pid;
 use sio_wire::{Header, SioError, read_offset, refused_text, resume_of};
@@ -50,7 +50,12 @@ fn ask_app<A: App, I: IdSource>(scene: &mut Scene, app: &A, ids: &mut I, header:
         scene.old (I.stream ids.old) result scene.new (I.stream ids.new) }
 {
     let Header { space, payload, .. } = header;
-    match app.connects(scene.visit.alloc, space.as_str(), payload.as_str()) {
+    match app.connects(
+        scene.visit.alloc,
+        scene.visit.moment,
+        space.as_str(),
+        payload.as_str(),
+    ) {
         Ok(Verdict::Accept(wanted)) => { accept(scene, app, ids, space, payload, wanted) }
         Ok(Verdict::Refuse(message)) => { refuse(scene, space.as_str(), message.as_str()) }
         Err(_) => Err(CoreFault::Memory.into()),
@@ -64,7 +69,9 @@ fn greet<A: App>(alloc: Global, app: &A, who: &Who, payload: Text, wanted: Vec<E
         Greets (A.policy app.now) who.now payload wanted.items all.items) }
 {
     let mut all = wanted;
-    let mut more = app.decides(alloc, who, &Arrived::Connected(payload))?;
+    let claims = Text::from_string(String::new(alloc));
+    let newcomer = Newcomer { payload, claims };
+    let mut more = app.decides(alloc, who, &Arrived::Connected(newcomer))?;
     all.append(&mut more)?;
     Ok(all)
 }

@@ -6,7 +6,7 @@ ghost use Rattle.terms.specs.Listing.{ListsRising};
 ghost use Rattle.journal.specs.Config.{config_refusal};
 ghost use Rattle.journal.specs.Membership.{is_open};
 ghost use Rattle.journal.specs.Seal.{Seals};
-ghost use Rattle.hub_totals.specs.Pass.{AtLeast, GivesPass, IsBlankOf, Settles};
+ghost use Rattle.hub_totals.specs.Pass.{AtLeast, GivesPass, IsBlankOf, Rises, Settles};
 ghost use Rattle.effects.specs.Following.{Spares};
 ghost use Rattle.connection.specs.Line.{PlainLine};
 ghost use Rattle.dispatch.specs.Holding.{line_of, holding, Agree, IsClean, IsNew};
@@ -91,7 +91,8 @@ impl<C: Ledger, T: Ledger> Core<C, T> {
     }
 
     /// Does what an event does. Then the app hears of the sockets that it ended, and what the app
-    /// wants then is done, until a fault. An error of the event itself stays.
+    /// wants then is done, until a fault. An error of the event itself stays, but for want of memory
+    /// to hear.
     pub fn apply<A: App, I: IdSource>(
         &mut self,
         alloc: Global,
@@ -124,8 +125,8 @@ impl<C: Ledger, T: Ledger> Core<C, T> {
         answer
     }
 
-    /// What each of these events in turn is answered with. Where there is no memory for so many
-    /// answers nothing is done.
+    /// What each of these events in turn is answered with, each counted in the pass. Where there is
+    /// no memory for so many answers nothing is done.
     pub fn apply_all<A: App, I: IdSource>(
         &mut self,
         alloc: Global,
@@ -142,6 +143,10 @@ impl<C: Ledger, T: Ledger> Core<C, T> {
         ensures handed { IfOk result (λ answers. (c : ℕ) (turns : List Turn)
             → Handed c turns self.old.hub.history
             → Handed c (turns_after turns events.now answers.items) self.new.hub.history) }
+        ensures rises { Rises self.old.hub self.new.hub pass.old pass.new }
+        ensures rest { self.new.hub.rest ≡ self.old.hub.rest }
+        ensures settings { (self.new.timing ≡ self.old.timing)
+            × (self.new.numbers ≡ self.old.numbers) }
         ensures unchanged { OnErr result
             ((self.new ≡ self.old) × (pass.new ≡ pass.old) × (ids.new ≡ ids.old)) }
     {

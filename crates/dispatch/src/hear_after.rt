@@ -6,10 +6,10 @@ ghost use Rattle.hub_state.specs.EndedSockets.{ended_sockets};
 ghost use Rattle.events.specs.Plain.{PlainDone};
 ghost use Rattle.effects.specs.Hearing.{HearsOfAll};
 ghost use Rattle.effects.specs.Broadcasting.{work};
-ghost use Rattle.dispatch.specs.Hearing.{HearsAfter};
+ghost use Rattle.dispatch.specs.Hearing.{HearsAfter, fault_after};
 
-use effects::{Call, Visit, hear_all};
-use events::{Answered, App, CoreError, Done, Outcome};
+use effects::{Acted, Call, Visit, hear_all};
+use events::{Answered, App, CoreError, CoreFault, Done, Outcome};
 use hub_state::State;
 
 /// The app hears of the sockets that ended, and what it wants then is done, too.
@@ -40,8 +40,19 @@ fn hear<A: App>(
     }
 }
 
+/// The fault of an event that ended with one, once the app has heard. Want of memory is told even
+/// then: the app may not have heard of a socket.
+fn fault_after(fault: CoreFault, heard: Acted) -> CoreFault
+    ensures { result ≡ fault_after fault heard }
+{
+    match heard {
+        Err(CoreFault::Memory) => CoreFault::Memory,
+        _ => fault,
+    }
+}
+
 /// The app hears of the sockets that an event of a client ended, those from an index on. The event
-/// was answered so; an error of it stays.
+/// was answered so; an error of it stays, but for want of memory to hear.
 pub(crate) fn hear_after<A: App>(
     call: Call,
     state: &mut State,
@@ -72,7 +83,8 @@ pub(crate) fn hear_after<A: App>(
             let mut done = Done::nothing(visit.alloc);
             done.packets = error.packets;
             done.effects = error.effects;
-            let _heard = hear_all(visit, state, app, &mut done, from);
+            let heard = hear_all(visit, state, app, &mut done, from);
+            error.fault = fault_after(error.fault, heard);
             error.effects = done.effects;
             Err(error)
         }

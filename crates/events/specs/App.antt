@@ -16,9 +16,9 @@ pub data PlainVerdict : Type 0 where
   Accepted : List Effect → PlainVerdict
   Refused : List ℕ → PlainVerdict
 
--- what an app may answer: to a CONNECT, to what arrived from a socket, and where a socket has ended that was in these rooms
+-- what an app may answer: to a CONNECT at a moment, to what arrived from a socket, and where a socket has ended that was in these rooms
 pub record Policy : Type 1 where
-  pub allows : (space payload : List ℕ) → PlainVerdict → Type 0
+  pub allows : (moment : ℕ) → (space payload : List ℕ) → PlainVerdict → Type 0
   pub decides : Who → Arrived → List Effect → Type 0
   pub ends : Who → (rooms : List (List ℕ)) → Ending → List Effect → Type 0
 
@@ -28,7 +28,7 @@ plain_verdict (Refuse message) = Refused message
 
 -- what arrived holds no U+001E, which separates the packets of a payload; rooms may
 abbrev pub IsCleanArrival : Arrived → Type 0
-IsCleanArrival (Connected payload) = IsWhole payload
+IsCleanArrival (Connected newcomer) = IsWhole newcomer.payload × IsWhole newcomer.claims
 IsCleanArrival (Returned rooms) = Unit {0}
 IsCleanArrival (Event message) = IsWhole message.payload
 IsCleanArrival (Answer answer) = IsWhole answer.payload

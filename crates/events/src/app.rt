@@ -31,8 +31,8 @@ pub enum Verdict {
 /// What arrived from a socket, or became of it.
 #[derive(Debug, Drop)]
 pub enum Arrived {
-    /// It has connected, with this payload of its CONNECT. This comes first.
-    Connected(Text),
+    /// It has connected. This comes first.
+    Connected(Newcomer),
     /// Its session has come back.
     Returned(Returned),
     /// An event.
@@ -41,6 +41,16 @@ pub enum Arrived {
     Answer(Answer),
     /// An answer to no question of this socket: to one that was asked of a room, or that ran out.
     Stray(Stray),
+}
+
+/// What is known of a socket that has connected.
+#[derive(Debug, Drop)]
+pub struct Newcomer {
+    /// The payload of its CONNECT, which the client says of itself. Empty where there is none.
+    pub payload: Text,
+    /// What was verified of it, as a JSON object, by an app that stands before this one. Empty where
+    /// nothing was.
+    pub claims: Text,
 }
 
 /// A session that came back. In a contract it is the rooms that it is in.
@@ -206,10 +216,17 @@ pub struct Reply {
 pub trait App {
     ghost policy: { Self → Policy };
 
-    /// Whether a client may connect to a namespace, with the payload that it sent.
-    fn connects(&self, alloc: Global, space: &str, payload: &str) -> Result<Verdict, AllocError>
+    /// Whether a client may connect to a namespace at this moment, in milliseconds, with the payload
+    /// that it sent.
+    fn connects(
+        &self,
+        alloc: Global,
+        moment: u64,
+        space: &str,
+        payload: &str,
+    ) -> Result<Verdict, AllocError>
         ensures allowed { IfOk result (λ verdict.
-            (policy self.now).allows space.now payload.now (plain_verdict verdict)) }
+            (policy self.now).allows moment space.now payload.now (plain_verdict verdict)) }
         ensures clean { IfOk result (λ v. IsCleanVerdict payload.now (plain_verdict v)) };
 
     /// What is done where something arrived from a socket, or where it has connected or come back.

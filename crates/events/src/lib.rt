@@ -12,8 +12,8 @@ mod outcome;
 mod peer;
 
 pub use app::{
-    Answer, App, Arrived, Effect, Emission, IdSource, Inquiry, Message, Reply, Returned, Selection,
-    Stray, Verdict, Wanted, Who,
+    Answer, App, Arrived, Effect, Emission, IdSource, Inquiry, Message, Newcomer, Reply, Returned,
+    Selection, Stray, Verdict, Wanted, Who,
 };
 pub use cause::Cause;
 pub use ending::ending_word;

@@ -1,13 +1,15 @@
 use Rattle.std.proofs.Common.{refl, arith, ◌∙◌, ◌∷◌, [], ap, length, length-append}
 use Rattle.dispatch.specs.Holding.{holding}
 use Rattle.dispatch.proofs.HandedLemmas.{hands-start, hands-next, hands-whole}
-use Rattle.dispatch.proofs.ServerLemmas.{machine-start, machine-next, machine-whole}
+use Rattle.dispatch.proofs.ServerLemmas.{of-some, rises-none, rises-more, machine-start, machine-next, machine-whole}
 use Rattle.dispatch.proofs.event_core.Core.apply_all.Goals as goal
 
 pub loop-event-init : goal.loop-event-init
 loop-event-init g c = record {
   run = machine-start (g.A.App.policy c.args.app.now) c.args.self.now.timing c.args.self.now.numbers c.in_ok-answers.answers.items (holding c.args.self.now.hub.history c.args.self.now.lines) (g.I.IdSource.stream c.args.ids.now) c.in_ok-answers.ensures.items;
   handed = hands-start c.in_ok-answers.answers.items c.args.self.now.hub.history c.in_ok-answers.ensures.items;
+  rises = rises-none c.args.self.now.hub c.args.pass.now;
+  rest = refl;
   said = ap length c.in_ok-answers.ensures.items;
   timing = refl;
   numbers = refl;
@@ -19,6 +21,8 @@ pub loop-event-preserved : goal.loop-event-preserved
 loop-event-preserved g c =
     let before = c.loop-event.invariant in
     let said = c.apply-answer.ensures in
+    let some = of-some c.loop-event-item.result.0 (g.I.IdSource.stream c.loop-event.ids) in
+    let counted = said.turns some.0 some.1 in
     record {
       run = machine-next (g.A.App.policy c.args.app.now) c.args.self.now.timing c.args.self.now.numbers c.args.events.now c.loop-event.event-index c.loop-event-item.result
           c.loop-event.answers.items c.push_reserved.new.self.items c.apply-answer.result c.loop-event.self.timing c.loop-event.self.numbers
@@ -28,6 +32,8 @@ loop-event-preserved g c =
       handed = hands-next c.args.events.now c.loop-event.event-index c.loop-event-item.result c.loop-event.answers.items c.push_reserved.new.self.items c.apply-answer.result
           c.args.self.now.hub.history c.loop-event.self.hub.history c.apply-answer.new.self.hub.history
           c.loop-event-test.true c.loop-event-item.is c.push_reserved.ensures.items before.said before.handed said.handed;
+      rises = rises-more c.args.self.now.hub c.loop-event.self.hub c.apply-answer.new.self.hub c.args.pass.now c.loop-event.pass c.apply-answer.new.pass before.rises counted.rises;
+      rest = counted.rest ∙ before.rest;
       said = ap length c.push_reserved.ensures.items ∙ omega (arith, before.said, length-append c.loop-event.answers.items (c.apply-answer.result ∷ []));
       timing = said.settings.0 ∙ before.timing;
       numbers = said.settings.1 ∙ before.numbers;
