@@ -17,8 +17,8 @@ use Rattle.journal.proofs.SealListsLemmas.{all-to}
 use Rattle.events.specs.declared.app.Effect.{Effect}
 use Rattle.events.specs.declared.event.Event.{Event}
 use Rattle.events.specs.Answer.{Answer}
-use Rattle.events.specs.App.{Policy, PlainVerdict, Accepted, Refused}
-use Rattle.guarded.specs.Guarded.{has_token}
+use Rattle.events.specs.App.{Policy, Accepted, Refused}
+use Rattle.guarded.specs.Entrance.{has_token}
 use Rattle.switchboard.specs.Digits.{digits_verdict}
 use Rattle.switchboard.specs.Switchboard.{verdict_of}
 use Rattle.switchboard.specs.Telling.{BACKENDS}
@@ -48,8 +48,8 @@ place-once limits space other same is =
 -- ---- the verdict
 
 -- a backend is let in with the token alone
-token-needed : (token : List ℕ) (clients : Option (List ℕ)) (payload : List ℕ) (effects : List Effect) → Accepted effects ≡ verdict_of token clients BACKENDS payload → has_token token payload ≡ true
-token-needed token clients payload effects is = on (has_token token payload) refl is
+token-needed : (token payload : List ℕ) (effects : List Effect) → Accepted effects ≡ verdict_of token BACKENDS payload → has_token token payload ≡ true
+token-needed token payload effects is = on (has_token token payload) refl is
   where
     on : (b : Bool) → has_token token payload ≡ b → Accepted effects ≡ (if b then digits_verdict payload else Refused (codes "Not allowed")) → has_token token payload ≡ true
     on true has allowed = has
@@ -57,14 +57,14 @@ token-needed token clients payload effects is = on (has_token token payload) ref
 
 -- ---- everyone
 
-everyone-weaker : (Is These : (sid space : ℕ) → Type 0) → ((sid space : ℕ) → Is sid space → These sid space) → (h : History) → Everyone Is h → Everyone These h
+pub everyone-weaker : (Is These : (sid space : ℕ) → Type 0) → ((sid space : ℕ) → Is sid space → These sid space) → (h : History) → Everyone Is h → Everyone These h
 everyone-weaker Is These each h was = record {
   connected = all-to (λ (k : Socket). Is k.sid k.space) (λ (k : Socket). These k.sid k.space) (λ k is. each k.sid k.space is) (sockets h.base h.journal) was.connected;
   saved = all-to (λ (s : PlainSaved). Is s.sid s.space) (λ (s : PlainSaved). These s.sid s.space) (λ s is. each s.sid s.space is) (sessions h.base h.limits h.journal) was.saved;
 }
 
-module _ (token : List ℕ) (clients : Option (List ℕ)) (policy : Policy) (timing : Timing) (numbers : Numbers) (config : Limits) (there : is_space config (place_of config BACKENDS) ≡ true)
-    (allows : (space payload : List ℕ) (verdict : PlainVerdict) → policy.allows space payload verdict → verdict ≡ verdict_of token clients space payload) where
+module _ (token : List ℕ) (policy : Policy) (timing : Timing) (numbers : Numbers) (config : Limits) (there : is_space config (place_of config BACKENDS) ≡ true)
+    (allows : (moment : ℕ) (space payload : List ℕ) (effects : List Effect) → policy.allows moment space payload (Accepted effects) → Accepted effects ≡ verdict_of token space payload) where
   pub backends-came : (events : List (Event × ℕ)) (answers : List Answer) (sealed : List History) (h : History) (lines : List (ℕ × PlainLine)) (ids left : ℕ → ℕ)
       → Machine policy timing numbers events answers (holding (new_core config timing numbers).hub.history []) ids (holding (in_one sealed h) lines) left → AreAlike h (in_one sealed h)
       → Everyone (λ sid space. space ≡ place_of config BACKENDS → CameByToken token events (in_one sealed h).journal sid space) h
@@ -83,5 +83,5 @@ module _ (token : List ℕ) (clients : Option (List ℕ)) (policy : Policy) (tim
             seen,
             payload,
             subst (λ (n : List ℕ). Brings turn.0 k.client n payload) same brings,
-            token-needed token clients payload effects (subst (λ (n : List ℕ). Accepted effects ≡ verdict_of token clients n payload) same (allows name payload (Accepted effects) allowed)),
+            token-needed token payload effects (subst (λ (n : List ℕ). Accepted effects ≡ verdict_of token n payload) same (allows turn.1 name payload effects allowed)),
           )

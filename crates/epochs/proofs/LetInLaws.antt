@@ -61,7 +61,7 @@ attaches-weaker Is These each h k was = record { steps = was.steps; goes = was.g
 
 module _ (policy : Policy) (timing : Timing) (numbers : Numbers) where
   pub event-lets : (now : ℕ) (happened : Event) (answer : Answer) (s t : Holding) (ids left : ℕ → ℕ) → HaveHistories s → Does policy now timing numbers happened s ids answer t left
-      → AttachesOnly (IsLetInBy policy s.history.limits happened) s.history t.history × HaveHistories t
+      → AttachesOnly (IsLetInBy policy s.history.limits (happened, now)) s.history t.history × HaveHistories t
   event-lets now happened answer s t ids left lines does =
       does-keeps Goes (λ h k at w none is was. attaches-step Only f h k at w (subst (AllByRecursion Only) (sym none) tt) is was) policy happened now lets s t (attaches-none Only f, lines) timing numbers answer ids left does
     where
@@ -69,7 +69,7 @@ module _ (policy : Policy) (timing : Timing) (numbers : Numbers) where
       f = s.history
 
       Only : Socket → Type 0
-      Only = IsLetInBy policy f.limits happened
+      Only = IsLetInBy policy f.limits (happened, now)
 
       Goes : History → Type 0
       Goes h = AttachesOnly Only f h
@@ -81,7 +81,7 @@ module _ (policy : Policy) (timing : Timing) (numbers : Numbers) where
 
   -- ---- all events
 
-  sooner : (limits : Limits) (turn : Event × ℕ) (turns : List (Event × ℕ)) (k : Socket) → IsLetInBy policy limits turn.0 k → IsLetIn policy limits (turn ∷ turns) k
+  sooner : (limits : Limits) (turn : Event × ℕ) (turns : List (Event × ℕ)) (k : Socket) → IsLetInBy policy limits turn k → IsLetIn policy limits (turn ∷ turns) k
   sooner limits turn turns k is = (turn, Contains-append_left (turn ∷ []) turns turn (Contains-push [] turn), is)
 
   later : (limits : Limits) (turn : Event × ℕ) (turns : List (Event × ℕ)) (k : Socket) → IsLetIn policy limits turns k → IsLetIn policy limits (turn ∷ turns) k
@@ -100,7 +100,7 @@ module _ (policy : Policy) (timing : Timing) (numbers : Numbers) where
       let rest = run-lets turns answers m t drawn left first.1 run in
       let same : m.history.limits ≡ limits = ap (λ (h : History). h.limits) first.0.goes in (
         attaches-on (IsLetIn policy limits (turn ∷ turns)) s.history m.history t.history
-            (attaches-weaker (IsLetInBy policy limits turn.0) (IsLetIn policy limits (turn ∷ turns)) (sooner limits turn turns) s.history m.history first.0)
+            (attaches-weaker (IsLetInBy policy limits turn) (IsLetIn policy limits (turn ∷ turns)) (sooner limits turn turns) s.history m.history first.0)
             (attaches-weaker (IsLetIn policy m.history.limits turns) (IsLetIn policy limits (turn ∷ turns))
             (λ k is. later limits turn turns k (subst (λ (l : Limits). IsLetIn policy l turns k) same is)) m.history t.history rest.0),
         rest.1,

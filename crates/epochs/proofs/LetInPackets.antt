@@ -39,7 +39,7 @@ use Rattle.epochs.proofs.QuietEffects.{KeptWhileQuiet, Has, same-has}
 -- this is so of a history after a socket of the client was attached that the app lets in, by a CONNECT that came, where it was
 -- before
 abbrev pub KeptWhenLetIn : (History → Type 0) → Policy → (c now : ℕ) → ((space payload : List ℕ) → Type 0) → Type 0
-KeptWhenLetIn Is policy c now Came = (h k : History) (space payload : List ℕ) (effects : List Effect) (sid pid : ℕ) → Came space payload → policy.allows space payload (Accepted effects)
+KeptWhenLetIn Is policy c now Came = (h k : History) (space payload : List ℕ) (effects : List Effect) (sid pid : ℕ) → Came space payload → policy.allows now space payload (Accepted effects)
     → k ≡ with_step h now (what.Attached (seat (socket_in c space sid) pid h)) → Is h → Is k
 
 -- each CONNECT that the packet holds came
@@ -121,7 +121,7 @@ module _ (Is : History → Type 0) (quiet : KeptWhileQuiet Is) (policy : Policy)
 
   -- ---- a CONNECT
 
-  connects-as : (space payload : List ℕ) (effects all : List Effect) (sid pid : ℕ) (s : Scene) (result : Upshot) (t : Scene) → Came space payload → policy.allows space payload (Accepted effects)
+  connects-as : (space payload : List ℕ) (effects all : List Effect) (sid pid : ℕ) (s : Scene) (result : Upshot) (t : Scene) → Came space payload → policy.allows now space payload (Accepted effects)
       → ConnectsAs (socket_in c space sid) pid all now s result t → Has Is s → Has Is t
   connects-as space payload effects all sid pid s result t came allowed (inl (between, makes, advances, is, does)) was =
       does-all (socket_in c space sid) 1 all between result t does (subst (Has Is) (sym is) (

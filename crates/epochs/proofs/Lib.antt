@@ -1,9 +1,10 @@
 mod BackendLemmas
 mod ConnectLemmas
+mod EntranceLemmas
 mod EpochAccounts
 mod EpochCasts
-mod EpochEnded
 mod EpochEffects
+mod EpochEnded
 mod EpochHearing
 mod EpochLaws
 mod EpochLists
@@ -18,3 +19,4 @@ mod LetInMachine
 mod LetInPackets
 mod QuietEffects
 mod ThereLemmas
+mod WardenLemmas

@@ -3,7 +3,7 @@ use Rattle.std.specs.Prelude.{◌≡◌, ℕ, true, List, Contains}
 use Rattle.journal.specs.declared.socket.Socket.{Socket}
 use Rattle.journal.specs.declared.step.Step.{Step}
 use Rattle.events.specs.declared.event.Event.{Event}
-use Rattle.guarded.specs.Guarded.{has_token}
+use Rattle.guarded.specs.Entrance.{has_token}
 use Rattle.switchboard.specs.Telling.{BACKENDS}
 use Rattle.epochs.specs.LetIn.{Brings, attached}
 

@@ -45,14 +45,14 @@ Brings _ client space payload = ⊥
 
 -- ---- who was let in
 
--- the event brings a CONNECT of the socket's client to its namespace, and the app lets in who has that payload
-abbrev pub IsLetInBy : Policy → Limits → Event → Socket → Type 0
-IsLetInBy policy limits happened k = (space payload : List ℕ) × Brings happened k.client space payload × (place_of limits space ≡ k.space)
-    × (effects : List Effect) × policy.allows space payload (Accepted effects)
+-- the event brings a CONNECT of the socket's client to its namespace, and the app lets in who has that payload at its moment
+abbrev pub IsLetInBy : Policy → Limits → (Event × ℕ) → Socket → Type 0
+IsLetInBy policy limits turn k = (space payload : List ℕ) × Brings turn.0 k.client space payload × (place_of limits space ≡ k.space)
+    × (effects : List Effect) × policy.allows turn.1 space payload (Accepted effects)
 
 -- one of these events does
 abbrev pub IsLetIn : Policy → Limits → List (Event × ℕ) → Socket → Type 0
-IsLetIn policy limits events k = (turn : Event × ℕ) × Contains events turn × IsLetInBy policy limits turn.0 k
+IsLetIn policy limits events k = (turn : Event × ℕ) × Contains events turn × IsLetInBy policy limits turn k
 
 -- the sockets that a step attaches; one that comes back was attached before
 abbrev pub attaches : What → List Socket

@@ -1,3 +1,4 @@
 pub mod Backends
+pub mod Entrances
 pub mod Epochs
 pub mod LetIn

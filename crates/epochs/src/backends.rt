@@ -1,4 +1,5 @@
-//! A law about all epochs of a core whose app is the switchboard.
+//! A law about all epochs of a core whose app is the switchboard behind an entrance, with a warden or
+//! without.
 
 ghost use Rattle.std.specs.Prelude.{◌≡◌, ℕ, true, List, []};
 ghost use Rattle.eio_wire.specs.declared.handshake.Numbers.{Numbers};
@@ -17,20 +18,22 @@ ghost use Rattle.epochs.specs.LetIn.{Everyone};
 ghost use Rattle.epochs.specs.Backends.{CameByToken};
 
 use events::App;
+use expiry::Expiring;
+use guarded::Guarded;
 use switchboard::Switchboard;
 
 /// Whoever is in `/backend` came by the token: its client sent a CONNECT to `/backend` whose payload
 /// has the token, or its session came back, and then the client that first had the session did. It
 /// has no effect.
-pub fn backends_came_by_token(app: &Switchboard)
+pub fn backends_came_by_token(app: &Guarded<Expiring<Switchboard>>)
     ensures { (config : Limits) (timing : Timing) (numbers : Numbers)
         (events : List (Event × ℕ)) (answers : List Answer) (sealed : List History) (h : History)
         (lines : List (ℕ × PlainLine)) (ids left : ℕ → ℕ)
         → is_space config (place_of config BACKENDS) ≡ true
-        → Machine (⟦<Switchboard as App>⟧.policy app.now) timing numbers events answers
+        → Machine (⟦<Guarded<Expiring<Switchboard>> as App>⟧.policy app.now) timing numbers events answers
         (holding (new_core config timing numbers).hub.history []) ids
         (holding (in_one sealed h) lines) left
         → AreAlike h (in_one sealed h)
         → Everyone (λ sid space. space ≡ place_of config BACKENDS
-        → CameByToken app.now.token events (in_one sealed h).journal sid space) h }
+        → CameByToken app.now.app.app.token events (in_one sealed h).journal sid space) h }
 {}

@@ -106,7 +106,7 @@ pub fn everyone_was_let_in<A: App>(app: &A)
     ensures event { (now : ℕ) (timing : Timing) (numbers : Numbers) (event : Event) (answer : Answer)
         (s t : Holding) (ids left : ℕ → ℕ) → HaveHistories s
         → Does (A.policy app.now) now timing numbers event s ids answer t left
-        → AttachesOnly (IsLetInBy (A.policy app.now) s.history.limits event) s.history t.history
+        → AttachesOnly (IsLetInBy (A.policy app.now) s.history.limits (event, now)) s.history t.history
         × HaveHistories t }
     ensures events { (timing : Timing) (numbers : Numbers) (events : List (Event × ℕ))
         (answers : List Answer) (s t : Holding) (ids left : ℕ → ℕ) → HaveHistories s

@@ -3,9 +3,11 @@
 #![tactic(auto)]
 
 mod backends;
+mod entrances;
 mod laws;
 
 pub use backends::backends_came_by_token;
+pub use entrances::everyone_came_in;
 pub use laws::{
     does_in_all_epochs, everyone_was_let_in, handed_in_all_epochs, others_are_spared_in_all_epochs,
 };

@@ -1,1 +1,2 @@
-mod SecretLemmas
+mod IntroducedLemmas
+pub mod PrintLemmas

@@ -1,24 +1,29 @@
--- Whom an app behind a token lets in (Socket.IO protocol 5, "Connection to a namespace").
-use Rattle.std.specs.Prelude.{◌≡◌, ℕ, Bool, true, false, List, Option, Some, None, option_and_then, bytes_eq, codes}
-use Rattle.serde_json.specs.Read.{read}
-use Rattle.sio_wire.specs.JsonFields.{text_at}
+-- Whom an app behind an entrance lets in, and what it is told (Socket.IO protocol 5, "Connection to a namespace").
+use Rattle.std.specs.Prelude.{◌≡◌, ℕ, Bool, List, bytes_eq, codes, if◌then◌else◌}
+use Rattle.std.specs.List.{list_any}
 use Rattle.events.specs.App.{PlainVerdict, Refused}
+use Rattle.events.specs.declared.app.Arrived.{Arrived}
+use Rattle.events.specs.declared.app.Arrived.TheVariants.{Connected}
+use Rattle.guarded.specs.declared.entrance.Entrance.{Entrance}
+use Rattle.guarded.specs.declared.entrance.Pass.{Pass}
+use Rattle.guarded.specs.declared.entrance.Pass.TheVariants.{Granted, NotAllowed, Expired}
+use Rattle.guarded.specs.Entrance.{pass_of, introduced}
 
--- a text is there, and is the token
-abbrev pub is_token : List ℕ → Option (List ℕ) → Bool
-is_token token None = false
-is_token token (Some text) = bytes_eq text token
+-- this is one of the namespaces that the app guards itself
+abbrev pub is_apart : List (List ℕ) → (space : List ℕ) → Bool
+is_apart apart space = list_any (λ name. bytes_eq name space) apart
 
--- the payload is an object whose `token` is this text
-abbrev pub has_token : List ℕ → (payload : List ℕ) → Bool
-has_token token payload = is_token token (option_and_then (text_at (codes "token")) (read payload))
-
--- a client comes in where no token is asked for, or where its payload has it
-abbrev pub comes_in : Option (List ℕ) → (payload : List ℕ) → Bool
-comes_in None payload = true
-comes_in (Some token) payload = has_token token payload
+-- who comes into a namespace at a moment, as far as the entrance is asked
+abbrev pub pass_into : Entrance → (apart : List (List ℕ)) → (moment : ℕ) → (space payload : List ℕ) → Pass
+pass_into entrance apart moment space payload = if is_apart apart space then Granted else pass_of entrance moment payload
 
 -- who comes in is answered by the app, and everybody else is refused
-abbrev pub Admits : Bool → (allows : PlainVerdict → Type 0) → PlainVerdict → Type 0
-Admits true allows verdict = allows verdict
-Admits false allows verdict = verdict ≡ Refused (codes "Not allowed")
+abbrev pub Admits : Pass → (allows : PlainVerdict → Type 0) → PlainVerdict → Type 0
+Admits Granted allows verdict = allows verdict
+Admits NotAllowed allows verdict = verdict ≡ Refused (codes "Not allowed")
+Admits Expired allows verdict = verdict ≡ Refused (codes "Token expired")
+
+-- what the app is told of what arrived in a namespace
+abbrev pub told_as : Entrance → (apart : List (List ℕ)) → (space : List ℕ) → Arrived → Arrived
+told_as entrance apart space (Connected n) = if is_apart apart space then Connected n else Connected (introduced entrance.signed n)
+told_as entrance apart space arrived = arrived

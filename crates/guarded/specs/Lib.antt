@@ -1,1 +1,2 @@
+pub mod Entrance
 pub mod Guarded

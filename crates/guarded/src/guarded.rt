@@ -1,44 +1,66 @@
-//! An app behind a token.
+//! An app behind an entrance.
 
 ghost use Rattle.std.specs.Prelude.{◌≡◌, IfOk};
-ghost use Rattle.guarded.specs.Guarded.{Admits, comes_in, has_token};
+ghost use Rattle.guarded.specs.Guarded.{Admits, is_apart, pass_into, told_as};
 
-use crate::secret::is_same;
+use crate::entrance::{Entrance, Pass};
 use events::{App, Arrived, Verdict, Wanted, Who};
 use journal::Ending;
-use serde_json::{Category, Value};
 use std::alloc::{AllocError, Global};
 use terms::{Room, Text};
 
-/// What a client without the token is told.
+/// What a client is told that has no token, or one that isn't taken.
 const NOT_ALLOWED: &str = "Not allowed";
 
-/// An app, and the token without which it is asked nothing, if there is one. `Debug` doesn't show
-/// it, since the token is a secret.
+/// What a client is told whose token has expired.
+const EXPIRED: &str = "Token expired";
+
+/// An app, and what clients must have before it is asked about them.
 #[derive(Drop)]
 pub struct Guarded<A> {
     pub app: A,
-    /// What stands as `token` in the payload of a CONNECT, an object.
-    pub token: Option<Text>,
+    pub entrance: Entrance,
+    /// The names of the namespaces that the app guards itself.
+    pub apart: Vec<Text>,
 }
 
 impl<A: App> App for Guarded<A> {
     ghost policy = { λ guarded. record (A.policy guarded.app) {
-      allows = λ space payload. Admits (comes_in guarded.token payload)
-          ((A.policy guarded.app).allows space payload);
+      allows = λ moment space payload. Admits
+          (pass_into guarded.entrance guarded.apart.items moment space payload)
+          ((A.policy guarded.app).allows moment space payload);
+      decides = λ who arrived. (A.policy guarded.app).decides who
+          (told_as guarded.entrance guarded.apart.items who.space arrived);
     } };
 
-    fn connects(&self, alloc: Global, space: &str, payload: &str) -> Result<Verdict, AllocError> {
-        if let Some(token) = &self.token {
-            if !has_token(alloc, token.as_str(), payload)? {
-                return Ok(Verdict::Refuse(Text::copy_of(alloc, NOT_ALLOWED)?));
-            }
+    fn connects(
+        &self,
+        alloc: Global,
+        moment: u64,
+        space: &str,
+        payload: &str,
+    ) -> Result<Verdict, AllocError> {
+        let pass = if is_apart(self.apart.as_slice(), space) {
+            Pass::Granted
+        } else {
+            self.entrance.pass(alloc, moment, payload)?
+        };
+        match pass {
+            Pass::Granted => self.app.connects(alloc, moment, space, payload),
+            Pass::NotAllowed => Ok(Verdict::Refuse(Text::copy_of(alloc, NOT_ALLOWED)?)),
+            Pass::Expired => Ok(Verdict::Refuse(Text::copy_of(alloc, EXPIRED)?)),
         }
-        self.app.connects(alloc, space, payload)
     }
 
     fn decides(&self, alloc: Global, who: &Who, arrived: &Arrived) -> Wanted {
-        self.app.decides(alloc, who, arrived)
+        match arrived {
+            Arrived::Connected(newcomer) if !is_apart(self.apart.as_slice(), who.space.as_str()) =>
+                {
+                    let told = self.entrance.introduce(alloc, newcomer)?;
+                    self.app.decides(alloc, who, &Arrived::Connected(told))
+                }
+            _ => self.app.decides(alloc, who, arrived),
+        }
     }
 
     fn ended(&self, alloc: Global, who: &Who, rooms: &[Room], ending: Ending) -> Wanted {
@@ -46,17 +68,9 @@ impl<A: App> App for Guarded<A> {
     }
 }
 
-/// Whether a payload is an object whose `token` is this text.
-pub fn has_token(alloc: Global, token: &str, payload: &str) -> Result<bool, AllocError>
-    ensures { IfOk result (λ has. has ≡ has_token token.now payload.now) }
+/// Whether this is one of the namespaces that the app guards itself.
+fn is_apart(apart: &[Text], space: &str) -> bool
+    ensures { result ≡ is_apart apart.now space.now }
 {
-    let value = match Value::from_str(alloc, payload) {
-        Ok(value) => value,
-        Err(error) if error.classify() == Category::Memory => return Err(AllocError),
-        Err(_) => return Ok(false),
-    };
-    match value.get("token").and_then(Value::as_str) {
-        Some(text) => Ok(is_same(text.as_bytes(), token.as_bytes())),
-        None => Ok(false),
-    }
+    apart.iter().any(|name| name.as_str() == space)
 }

@@ -1,7 +1,8 @@
-//! An app behind a token: who comes without it is let into no namespace.
+//! An app behind an entrance: who comes without a token that is taken is let into no namespace.
 #![tactic(auto)]
 
+mod entrance;
 mod guarded;
-mod secret;
 
-pub use guarded::{Guarded, has_token};
+pub use entrance::{Entrance, Pass, has_token};
+pub use guarded::Guarded;

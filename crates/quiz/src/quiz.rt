@@ -21,12 +21,18 @@ pub struct Quiz;
 
 impl App for Quiz {
     ghost policy = { λ app. record {
-      allows = λ space payload verdict. Allows verdict;
+      allows = λ moment space payload verdict. Allows verdict;
       decides = λ who arrived effects. effects ≡ decided who arrived;
       ends = λ who rooms ending effects. effects ≡ [];
     } };
 
-    fn connects(&self, alloc: Global, _space: &str, _payload: &str) -> Result<Verdict, AllocError> {
+    fn connects(
+        &self,
+        alloc: Global,
+        _moment: u64,
+        _space: &str,
+        _payload: &str,
+    ) -> Result<Verdict, AllocError> {
         Ok(Verdict::Accept(Vec::new(alloc)))
     }
 

@@ -24,8 +24,14 @@ impl<A: App> App for Presence<A> {
           (told presence.tells who rooms ending);
     } };
 
-    fn connects(&self, alloc: Global, space: &str, payload: &str) -> Result<Verdict, AllocError> {
-        self.app.connects(alloc, space, payload)
+    fn connects(
+        &self,
+        alloc: Global,
+        moment: u64,
+        space: &str,
+        payload: &str,
+    ) -> Result<Verdict, AllocError> {
+        self.app.connects(alloc, moment, space, payload)
     }
 
     fn decides(&self, alloc: Global, who: &Who, arrived: &Arrived) -> Wanted {

@@ -24,12 +24,18 @@ pub struct RelayApp;
 
 impl App for RelayApp {
     ghost policy = { λ app. record {
-      allows = λ space payload verdict. Allows payload verdict;
+      allows = λ moment space payload verdict. Allows payload verdict;
       decides = λ who arrived effects. effects ≡ decided who arrived;
       ends = λ who rooms ending effects. effects ≡ [];
     } };
 
-    fn connects(&self, alloc: Global, _space: &str, payload: &str) -> Result<Verdict, AllocError> {
+    fn connects(
+        &self,
+        alloc: Global,
+        _moment: u64,
+        _space: &str,
+        payload: &str,
+    ) -> Result<Verdict, AllocError> {
         if payload == NO_TOKEN {
             return Ok(Verdict::Refuse(Text::copy_of(alloc, NOT_ALLOWED)?));
         }

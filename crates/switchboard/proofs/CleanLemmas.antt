@@ -39,7 +39,7 @@ use Rattle.switchboard.specs.Emission.{has_event, is_reserved, sent, sent_to, em
 use Rattle.switchboard.specs.Changes.{move_of, then_join, then_leave, then_end, then_fetch}
 use Rattle.switchboard.specs.Command.{name_in, done, done_with, done_by, wanted_by, wanted, or_told, commanded}
 use Rattle.switchboard.proofs.ArgumentsLemmas.{numbers-arguments}
-use Rattle.switchboard.proofs.PrintLemmas.{AreWhole, AreWhole-printable, AreWhole-strings, whole-print, whole-decimal, whole-token_text}
+use Rattle.guarded.proofs.PrintLemmas.{AreWhole, AreWhole-printable, AreWhole-strings, whole-print, whole-decimal, whole-token_text}
 use Rattle.switchboard.proofs.TellingLemmas.{whole-with_elements, whole-with_element}
 
 all_append : {A : Type 0} (P : A → Type 0) (xs ys : List A) → AllByRecursion P xs → AllByRecursion P ys → AllByRecursion P (xs ++ ys)
@@ -72,11 +72,11 @@ AreWhole-list_of rooms =
 whole-begun : (name : List ℕ) (who : Who) (ts : List Token) → AreWhole ts → IsWhole (print (head name who ++ ts))
 whole-begun name who ts are = whole-print (head name who ++ ts) (AreWhole-append (head name who) ts (AreWhole-head name who) are)
 
-whole-connection : (who : Who) (payload : List ℕ) → IsWhole payload → IsWhole (connection_text who payload)
+whole-connection : (who : Who) (payload claims : List ℕ) → IsWhole payload → IsWhole claims → IsWhole (connection_text who payload claims)
 unfolding holds_none
-whole-connection who payload clean =
+whole-connection who payload claims clean also =
     let begun = whole-begun (codes "connection") who (null ∷ []) (whole-token_text null tt, tt) in
-    both _ (codes "]") (whole-with_element _ payload begun clean) (whole (codes "]") refl)
+    both _ (codes "]") (whole-with_element _ claims (whole-with_element _ payload begun clean) also) (whole (codes "]") refl)
 
 whole-return : (who : Who) (rooms : List (List ℕ)) → IsWhole (return_text who rooms)
 whole-return who rooms =
@@ -103,7 +103,7 @@ whole-end who rooms ending =
     (whole-token_text end_array tt, tt))
 
 pub clean-told : (who : Who) (arrived : Arrived) → IsCleanArrival arrived → AllClean (told who arrived)
-clean-told who (Connected payload) clean = (whole-connection who payload clean, tt)
+clean-told who (Connected n) clean = (whole-connection who n.payload n.claims clean.0 clean.1, tt)
 clean-told who (Returned rooms) clean = (whole-return who rooms, tt)
 clean-told who (Event m) clean = (whole-event who m.id m.payload clean, tt)
 clean-told who (Stray s) clean = (whole-answer who s.id s.payload clean, tt)

@@ -1,6 +1,5 @@
 mod ArgumentsLemmas
 mod CleanLemmas
 mod FormLemmas
-mod PrintLemmas
 mod SocketsLemmas
 mod TellingLemmas

@@ -59,8 +59,9 @@ with_element text [] = text
 with_element text (b ∷ bs) = text ++ codes "," ++ (b ∷ bs)
 
 -- a socket has connected
-abbrev pub connection_text : Who → (payload : List ℕ) → List ℕ
-connection_text who payload = with_element (print (head (codes "connection") who ++ null ∷ [])) payload ++ codes "]"
+abbrev pub connection_text : Who → (payload claims : List ℕ) → List ℕ
+connection_text who payload claims =
+    with_element (with_element (print (head (codes "connection") who ++ null ∷ [])) payload) claims ++ codes "]"
 
 -- a session has come back
 abbrev pub return_text : Who → (rooms : List (List ℕ)) → List ℕ
@@ -99,7 +100,7 @@ tell who payload attachments =
 
 -- what arrived is told by one event. An answer to the app's own question can't come, since it asks none
 abbrev pub told : Who → Arrived → List Effect
-told who (Connected payload) = tell who (connection_text who payload) [] ∷ []
+told who (Connected n) = tell who (connection_text who n.payload n.claims) [] ∷ []
 told who (Returned rooms) = tell who (return_text who rooms) [] ∷ []
 told who (Event m) = tell who (event_text who m.id m.payload) m.attachments ∷ []
 told who (Stray s) = tell who (answer_text who s.id s.payload) s.attachments ∷ []

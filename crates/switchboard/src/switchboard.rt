@@ -14,43 +14,40 @@ use journal::Ending;
 use std::alloc::{AllocError, Global};
 use terms::{Room, Text};
 
-/// What a client without the token is told.
+/// What a client is told that would be a backend and hasn't the token.
 const NOT_ALLOWED: &str = "Not allowed";
 
 /// The app by which backends are told what clients do, and command the server. `Debug` doesn't
-/// show it, since the tokens are secrets.
+/// show it, since the token is a secret.
 #[derive(Drop)]
 pub struct Switchboard {
     /// What stands as `token` in the payload of a backend's CONNECT.
     pub token: Text,
-    /// What stands there in those of the other clients, where they need one.
-    pub clients: Option<Text>,
     /// The namespaces that the server has, that of the backends among them.
     pub spaces: Vec<Text>,
 }
 
 impl App for Switchboard {
     ghost policy = { λ app. record {
-      allows = λ space payload verdict. verdict ≡ verdict_of app.token app.clients space payload;
+      allows = λ moment space payload verdict. verdict ≡ verdict_of app.token space payload;
       decides = λ who arrived effects. effects ≡ decided app.spaces.items who arrived;
       ends = λ who rooms ending effects. effects ≡ told_of_end who rooms ending;
     } };
 
-    fn connects(&self, alloc: Global, space: &str, payload: &str) -> Result<Verdict, AllocError> {
-        let token = if space == BACKENDS {
-            Some(&self.token)
-        } else {
-            self.clients.as_ref()
-        };
-        if let Some(token) = token {
-            if !has_token(alloc, token.as_str(), payload)? {
-                return Ok(Verdict::Refuse(Text::copy_of(alloc, NOT_ALLOWED)?));
-            }
+    fn connects(
+        &self,
+        alloc: Global,
+        _moment: u64,
+        space: &str,
+        payload: &str,
+    ) -> Result<Verdict, AllocError> {
+        if space != BACKENDS {
+            return Ok(Verdict::Accept(Vec::new(alloc)));
         }
-        if space == BACKENDS {
-            return admit(alloc, payload);
+        if !has_token(alloc, self.token.as_str(), payload)? {
+            return Ok(Verdict::Refuse(Text::copy_of(alloc, NOT_ALLOWED)?));
         }
-        Ok(Verdict::Accept(Vec::new(alloc)))
+        admit(alloc, payload)
     }
 
     fn decides(&self, alloc: Global, who: &Who, arrived: &Arrived) -> Wanted {

@@ -19,8 +19,9 @@ pub(crate) fn tell(alloc: Global, who: &Who, arrived: &Arrived) -> Wanted
     ensures { IfOk result (λ effects. effects.items ≡ table.told who.now arrived.now) }
 {
     match arrived {
-        Arrived::Connected(payload) => {
-            let text = connection_text(alloc, who, payload.as_str())?;
+        Arrived::Connected(newcomer) => {
+            let (payload, claims) = (newcomer.payload.as_str(), newcomer.claims.as_str());
+            let text = connection_text(alloc, who, payload, claims)?;
             emit(alloc, who, text, Attachments::new(alloc))
         }
         Arrived::Returned(returned) => {
@@ -77,14 +78,21 @@ fn first_digit_room(who: &Who) -> Room
     }
 }
 
-/// That a socket has connected, with the payload of its CONNECT.
-fn connection_text(alloc: Global, who: &Who, payload: &str) -> Result<Text, AllocError>
-    ensures { IfOk result (λ text. text ≡ table.connection_text who.now payload.now) }
+/// That a socket has connected, with the payload of its CONNECT and what was verified of it.
+fn connection_text(
+    alloc: Global,
+    who: &Who,
+    payload: &str,
+    claims: &str,
+) -> Result<Text, AllocError>
+    ensures { IfOk result (λ text.
+        text ≡ table.connection_text who.now payload.now claims.now) }
 {
     let mut writer = begin(alloc, "connection", who)?;
     writer.null()?;
     let mut text = text_of(writer);
     push_element(&mut text, payload)?;
+    push_element(&mut text, claims)?;
     text.push_str("]")?;
     Ok(Text::from_string(text))
 }

@@ -112,7 +112,6 @@ fn run_with_backends(
     limits.spaces.push(Text::copy_of(alloc, BACKENDS)?)?;
     let app = Switchboard {
         token: Text::copy_of(alloc, TOKEN)?,
-        clients: None,
         spaces: limits.spaces.clone()?,
     };
     run_script_within(alloc, &app, limits, reader, printed)

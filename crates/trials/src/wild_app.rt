@@ -149,15 +149,21 @@ pub struct WildApp;
 
 impl App for WildApp {
     ghost policy = { λ app. record {
-      allows = λ space payload verdict. Unit {0};
+      allows = λ moment space payload verdict. Unit {0};
       decides = λ who arrived effects. Unit {0};
       ends = λ who rooms ending effects. Unit {0};
     } };
 
-    fn connects(&self, alloc: Global, space: &str, payload: &str) -> Result<Verdict, AllocError> {
+    fn connects(
+        &self,
+        alloc: Global,
+        moment: u64,
+        space: &str,
+        payload: &str,
+    ) -> Result<Verdict, AllocError> {
         match effects_of(alloc, space, Room::own(Sid::new(7)), payload)? {
             Some(effects) => Ok(Verdict::Accept(effects)),
-            None => RelayApp.connects(alloc, space, payload),
+            None => RelayApp.connects(alloc, moment, space, payload),
         }
     }
 
@@ -165,7 +171,8 @@ impl App for WildApp {
         let wish = match arrived {
             Arrived::Event(message) => message.payload.as_str(),
             Arrived::Stray(stray) if stray.id == POLL => HEARD,
-            Arrived::Connected(payload) if payload.as_str() == "{\"do\":\"greet\"}" => HEARD,
+            Arrived::Connected(newcomer) if newcomer.payload.as_str() == "{\"do\":\"greet\"}" =>
+                HEARD,
             Arrived::Returned(back) if was_in(&back.rooms, b"back") => HEARD,
             _ => "",
         };

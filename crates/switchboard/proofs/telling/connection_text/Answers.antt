@@ -7,8 +7,7 @@ use Rattle.switchboard.proofs.telling.connection_text.Goals as goal
 
 pub returns : goal.returns
 returns c =
-    let payload = c.args.payload.now in
-    c.from_string.ensures
-    ∙ c.in_ok-push_str.ensures.bytes
-    ∙ ap (λ t. t ++ codes "]") (c.in_ok-push_element.ensures ∙ ap (λ t. with_element t payload) (c.text_of-text.ensures
-    ∙ ap print (c.in_ok-null.ensures.ok ∙ ap (λ ts. ts ++ null ∷ []) c.in_ok-writer.ensures.tokens)))
+    let begun = c.text_of-text.ensures ∙ ap print (c.in_ok-null.ensures.ok ∙ ap (λ ts. ts ++ null ∷ []) c.in_ok-writer.ensures.tokens) in
+    let said = c.in_ok-push_element.ensures ∙ ap (λ t. with_element t c.args.payload.now) begun in
+    let verified = c.in_ok-push_element-2.ensures ∙ ap (λ t. with_element t c.args.claims.now) said in
+    c.from_string.ensures ∙ c.in_ok-push_str.ensures.bytes ∙ ap (λ t. t ++ codes "]") verified

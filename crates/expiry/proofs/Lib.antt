@@ -1,0 +1,2 @@
+mod CleanLemmas
+mod DeadlinesLemmas

@@ -1,0 +1,5 @@
+pub mod Telling
+pub mod Commands
+pub mod Reading
+pub mod Expiring
+pub mod Deadlines

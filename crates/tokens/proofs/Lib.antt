@@ -1,0 +1,5 @@
+mod DatesLemmas
+mod FormLemmas
+mod HmacLemmas
+mod ObjectLemmas
+mod SecretLemmas

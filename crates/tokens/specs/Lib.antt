@@ -1,0 +1,12 @@
+pub mod Hmac
+pub mod Steps
+pub mod Form
+pub mod Object
+pub mod Keys
+pub mod Header
+pub mod Dates
+pub mod Claims
+pub mod Verified
+pub mod Payload
+pub mod Signed
+pub mod Expires

@@ -1,0 +1,122 @@
+//! The compact form of a token: three texts of base64url between dots (RFC 7515, section 7.1).
+
+ghost use Rattle.std.specs.Prelude.{◌≡◌, ◌∷◌, ◌++◌, IfOk};
+ghost use Rattle.tokens.specs.Steps.{seen_by};
+ghost use Rattle.tokens.specs.Form as table;
+
+use crate::verifier::Flaw;
+use base64::DecodeAllocError;
+use base64::engine::general_purpose::URL_SAFE_NO_PAD;
+use std::alloc::{AllocError, Global};
+use std::str;
+use terms::Text;
+
+/// The three parts of a token, as they stand there.
+#[derive(Drop)]
+pub(crate) struct Parts<'t> {
+    /// The part before the first dot.
+    pub header: &'t str,
+    /// The part between the dots.
+    pub claims: &'t str,
+    /// The part behind the second dot.
+    pub signature: &'t str,
+    /// What is signed: all before the second dot.
+    pub signed: &'t [u8],
+}
+
+/// What the three parts of a token say.
+#[derive(Drop)]
+pub(crate) struct Opened<'t> {
+    pub header: Text,
+    pub claims: Text,
+    pub signature: Vec<u8>,
+    /// What is signed, as it stands in the token.
+    pub signed: &'t [u8],
+}
+
+/// What the parts of a token say, or `Form`.
+#[tactic(auto, unfolding(crate::specs::Form::opened))]
+pub(crate) fn read_parts<'t>(
+    alloc: Global,
+    token: &'t str,
+) -> Result<Result<Opened<'t>, Flaw>, AllocError>
+    ensures { IfOk result (λ opened. seen_by table.opened_view opened
+        ≡ table.opened token.now) }
+{
+    let parts = match parts_of(token) {
+        Ok(parts) => parts,
+        Err(flaw) => return Ok(Err(flaw)),
+    };
+    let header = match text_in(alloc, parts.header)? {
+        Ok(header) => header,
+        Err(flaw) => return Ok(Err(flaw)),
+    };
+    let claims = match text_in(alloc, parts.claims)? {
+        Ok(claims) => claims,
+        Err(flaw) => return Ok(Err(flaw)),
+    };
+    match bytes_in(alloc, parts.signature)? {
+        Ok(signature) => Ok(Ok(Opened {
+            header,
+            claims,
+            signature,
+            signed: parts.signed,
+        })),
+        Err(flaw) => Ok(Err(flaw)),
+    }
+}
+
+/// The parts of a token, where there are two dots.
+#[tactic(auto, unfolding(crate::specs::Form::parts_of))]
+fn parts_of(token: &str) -> Result<Parts<'_>, Flaw>
+    ensures { seen_by table.parts_view result ≡ table.parts_of token.now }
+{
+    let (header, rest) = cut(token)?;
+    let (claims, signature) = cut(rest)?;
+    let signed = &token.as_bytes()[..header.len() + 1 + claims.len()];
+    Ok(Parts {
+        header,
+        claims,
+        signature,
+        signed,
+    })
+}
+
+/// What stands before the first dot, and behind it.
+#[tactic(auto, using(crate::proofs::FormLemmas::not_cut, crate::proofs::FormLemmas::cut_in_two, crate::proofs::FormLemmas::round_dot))]
+fn cut(text: &str) -> Result<(&str, &str), Flaw>
+    ensures value { seen_by (λ x. (x.0.now, x.1.now)) result ≡ table.cut text.now }
+    ensures whole { IfOk result (λ x. text.now ≡ x.0.now ++ 46 ∷ x.1.now) }
+{
+    match text.split_once('.') {
+        Some((front, back)) => Ok((front, back)),
+        None => Err(Flaw::Form),
+    }
+}
+
+/// The text that a part says, where it is base64url of one.
+#[tactic(auto, unfolding(crate::specs::Form::text_in))]
+fn text_in(alloc: Global, part: &str) -> Result<Result<Text, Flaw>, AllocError>
+    ensures { IfOk result (λ text. text ≡ table.text_in part.now) }
+{
+    match bytes_in(alloc, part)? {
+        Ok(bytes) => match String::from_utf8(bytes) {
+            Ok(text) => Ok(Ok(Text::from_string(text))),
+            Err(_) => Ok(Err(Flaw::Form)),
+        },
+        Err(flaw) => Ok(Err(flaw)),
+    }
+}
+
+/// The bytes that a part says, where it is base64url without padding (RFC 7515, section 2), with
+/// no bit to spare.
+#[tactic(auto, unfolding(crate::specs::Form::bytes_in))]
+fn bytes_in(alloc: Global, part: &str) -> Result<Result<Vec<u8>, Flaw>, AllocError>
+    ensures { IfOk result (λ bytes. seen_by (λ v. v.items) bytes ≡ table.bytes_in part.now) }
+{
+    match URL_SAFE_NO_PAD.decode(alloc, part.as_bytes()) {
+        Ok(bytes) => Ok(Ok(bytes)),
+        Err(DecodeAllocError::OutOfMemory) => Err(AllocError),
+        Err(DecodeAllocError::DecodeError(_)) => Ok(Err(Flaw::Form)),
+    }
+}
