@@ -14,7 +14,7 @@ use tungstenite::{NoCallback, NoMask, Role, WebSocket, WebSocketConfig};
 
 /// The longest message and the longest frame that are read, in bytes: longer than what the core
 /// refuses by itself.
-const LONGEST: usize = 1_048_576;
+pub(crate) const LONGEST: usize = 1_048_576;
 
 /// How many bytes one read asks for. Two such buffers are kept for each socket.
 const READ_SIZE: usize = 1_024;

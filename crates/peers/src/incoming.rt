@@ -1,12 +1,18 @@
 //! What comes over a WebSocket.
 
-ghost use Rattle.peers.specs.Incoming.{Brings, IsHeardAs, FlushesAtClose};
+ghost use Rattle.std.specs.Prelude.{◌≡◌, ◌⊎◌, [], Some, OnOk, IfErr};
+ghost use Rattle.tungstenite.specs.Connection.{close_step};
+ghost use Rattle.tungstenite.specs.Socket.{Writes};
+ghost use Rattle.websocket.specs.declared.protocol.frame.coding.CloseCode.TheVariants.{Size};
+ghost use Rattle.events.specs.declared.peer.PeerFault.TheVariants.{Memory, Device};
+ghost use Rattle.peers.specs.Incoming.{Brings, IsHeardAs, IsTooLong, SaysEnd};
 
+use crate::accept::LONGEST;
 use events::{PeerFault, WsFrame};
 use std::alloc::Global;
 use std::io::{ErrorKind, Read, Write};
 use terms::{Bytes, Text};
-use tungstenite::{Error, MaskKeys, Message, WebSocket};
+use tungstenite::{CloseCode, CloseFrame, Error, MaskKeys, Message, Utf8Bytes, WebSocket};
 use websocket::error::ProtocolError;
 
 /// What a read of a WebSocket brought.
@@ -22,6 +28,16 @@ pub(crate) enum Incoming {
     Gone(PeerFault),
 }
 
+/// A message of as many bytes as are read, in place of one that has more: the core refuses it, too.
+fn too_long(alloc: Global) -> Incoming
+    ensures { IsTooLong result }
+{
+    match vec![in alloc; 0u8; LONGEST] {
+        Ok(zeros) => Incoming::Frame(WsFrame::Bytes(Bytes::from_vec(zeros))),
+        Err(_) => Incoming::Gone(PeerFault::Memory),
+    }
+}
+
 /// What a read is worked on as.
 fn heard(alloc: Global, gave: &Result<Message, Error>) -> Incoming
     ensures { IsHeardAs gave.now result }
@@ -34,6 +50,7 @@ fn heard(alloc: Global, gave: &Result<Message, Error>) -> Incoming
         Err(Error::Io(cause)) if matches!(cause.kind(), ErrorKind::WouldBlock) => {
             return Incoming::Nothing;
         }
+        Err(Error::Capacity(_)) => return too_long(alloc),
         Err(Error::OutOfMemory) => return Incoming::Gone(PeerFault::Memory),
         Err(
             Error::ConnectionClosed
@@ -45,15 +62,40 @@ fn heard(alloc: Global, gave: &Result<Message, Error>) -> Incoming
     frame.map_or(Incoming::Gone(PeerFault::Memory), Incoming::Frame)
 }
 
-/// At a close the reply that waits is flushed once, as far as the stream takes it.
-fn flush_at_close<S: Read + Write + Drop, K: MaskKeys + Drop>(
+/// Closes a WebSocket of which a message is too long to be read (RFC 6455, section 7.4.1: 1009). What
+/// its stream doesn't take now waits.
+fn close_as_too_long<S: Read + Write + Drop, K: MaskKeys + Drop>(
+    socket: &mut WebSocket<S, K>,
+) -> Result<(), PeerFault>
+    ensures said { OnOk result (Writes S.contents socket.old socket.new
+        (close_step socket.old.conn (Some (Size, [])))) }
+    ensures kinds { IfErr result (λ e. (e ≡ Memory) ⊎ (e ≡ Device)) }
+    ensures unsaid { IfErr result (λ e. e ≡ Memory → socket.new ≡ socket.old) }
+{
+    let code = CloseCode::Size;
+    let reason = Utf8Bytes::new();
+    match socket.close(Some(CloseFrame { code, reason })) {
+        Ok(()) | Err(Error::Io(_)) => Ok(()),
+        Err(Error::OutOfMemory) => Err(PeerFault::Memory),
+        Err(_) => Err(PeerFault::Device),
+    }
+}
+
+/// Says what a read has to be followed by: at a close the reply that waits is flushed once, as far as
+/// the stream takes it, and after a message that is too long the WebSocket is closed.
+fn say_end<S: Read + Write + Drop, K: MaskKeys + Drop>(
     socket: &mut WebSocket<S, K>,
     gave: &Result<Message, Error>,
-)
-    ensures { FlushesAtClose S.contents gave.now socket.old socket.new }
+) -> Result<(), PeerFault>
+    ensures { SaysEnd S.contents gave.now socket.old result socket.new }
 {
-    if let Ok(Message::Close(_)) = gave {
-        let _ = socket.flush();
+    match gave {
+        Ok(Message::Close(_)) => {
+            let _ = socket.flush();
+            Ok(())
+        }
+        Err(Error::Capacity(_)) => close_as_too_long(socket),
+        _ => Ok(()),
     }
 }
 
@@ -65,6 +107,8 @@ pub(crate) fn read_incoming<S: Read + Write + Drop, K: MaskKeys + Drop>(
     ensures { Brings S.remaining S.contents socket.old result socket.new }
 {
     let gave = socket.read();
-    flush_at_close(socket, &gave);
-    heard(alloc, &gave)
+    match say_end(socket, &gave) {
+        Ok(()) => heard(alloc, &gave),
+        Err(fault) => Incoming::Gone(fault),
+    }
 }

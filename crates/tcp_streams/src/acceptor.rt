@@ -1,7 +1,7 @@
 //! Who accepts connections.
 
 use crate::fault::ServerFault;
-use crate::inbox::BELL;
+use crate::inbox::{Accepted, BELL};
 use crate::shared::Shared;
 use http_edge::{OnStream, Status, write_response};
 use loop_rules::dealt_to;
@@ -13,7 +13,7 @@ use std::alloc::Global;
 use std::collections::VecDeque;
 use std::io;
 use std::io::ErrorKind;
-use std::net::{Net, Shutdown, ToSocketAddrs};
+use std::net::{IpAddr, Net, Shutdown, ToSocketAddrs};
 use std::rt::Clock;
 use std::sync::Wait;
 use std::time::Duration;
@@ -55,14 +55,16 @@ pub struct Acceptor {
     /// Those that had no space and were told so. They are closed a little later, since a stream
     /// that is closed with bytes unread takes back what was sent.
     refused: VecDeque<TcpStream>,
-    /// How many were given so far.
+    /// How many were given so far. It stays at the greatest u64.
     given: u64,
+    /// How many workers there are: it accepts once all have begun.
+    workers: usize,
 }
 
 /// Written out, so that a crate above takes the drop of all that lies in it by this one call.
 impl Drop for Acceptor {
     fn drop(self) {
-        let_go!(self; poll, listener, events, left, most, together, refused, given);
+        let_go!(self; poll, listener, events, left, most, together, refused, given, workers);
     }
 }
 
@@ -92,6 +94,7 @@ pub fn acceptor_for<R: Net>(
         together: settings.together,
         refused: VecDeque::new(alloc),
         given: 0,
+        workers: settings.workers.saturating_add(settings.aides()),
     };
     Ok((port, Box::new(alloc, acceptor)?, bell))
 }
@@ -110,18 +113,28 @@ fn listen_at<R: Net>(rt: &R, host: &str, port: u16) -> io::Result<(TcpListener, 
     Ok((listener, port))
 }
 
+/// An address as a number, that of IPv4 as IPv6 has it (RFC 4291, section 2.5.5.2).
+fn number_of(address: IpAddr) -> u128 {
+    match address {
+        IpAddr::V4(address) => 0xffff_0000_0000 | u128::from(address.to_bits()),
+        IpAddr::V6(address) => address.to_bits(),
+    }
+}
+
 impl Acceptor {
     /// Accepts connections until the server is to end, or had as many as it was to have.
     pub fn accept_all<R: Wait + Clock>(&mut self, rt: &R, shared: &Shared) {
-        let workers = shared.inboxes.len().saturating_add(1);
         let most = Duration::from_millis(START);
-        if shared.begun.wait_for(rt, workers, most) {
+        if shared.begun.wait_for(rt, self.workers, most) {
             for _ in 0..u64::MAX {
                 if self.left == Some(0) || shared.standing(rt).closing {
                     break;
                 }
                 match self.listener.accept() {
-                    Ok((stream, _)) => self.give(rt, shared, stream),
+                    Ok((stream, address)) => {
+                        let from = number_of(address.ip());
+                        self.give(rt, shared, Accepted { stream, from });
+                    }
                     Err(error) => self.wait(error.kind()),
                 }
             }
@@ -160,19 +173,24 @@ impl Acceptor {
     }
 
     /// Gives a connection to the loop whose turn it is.
-    fn give<R: Wait + Clock>(&mut self, rt: &R, shared: &Shared, stream: TcpStream) {
+    fn give<R: Wait + Clock>(&mut self, rt: &R, shared: &Shared, accepted: Accepted) {
         self.left = self.left.map(|left| left.saturating_sub(1));
         // Without it a small answer may wait for the acknowledgement of the one before.
-        let _ = stream.set_nodelay(true);
-        if !shared.note_accepted(rt, self.most) {
-            shared.counts.lock(rt).note_refused(Reason::NoPlace);
-            return self.turn_away(stream);
+        let _ = accepted.stream.set_nodelay(true);
+        let from = accepted.from;
+        if let Err(reason) = shared.note_accepted(rt, self.most, from) {
+            shared.counts.lock(rt).note_refused(reason);
+            // Who has many isn't answered.
+            if reason == Reason::NoPlace {
+                self.turn_away(accepted.stream);
+            }
+            return;
         }
         let index = dealt_to(self.given, self.together, shared.inboxes.len());
-        self.given = self.given.wrapping_add(1);
+        self.given = self.given.saturating_add(1);
         let inbox = shared.inboxes.get(index);
-        if !inbox.is_some_and(|inbox| inbox.give(rt, stream)) {
-            shared.note_closed(rt);
+        if !inbox.is_some_and(|inbox| inbox.give(rt, accepted)) {
+            shared.note_closed(rt, from);
         }
     }
 }

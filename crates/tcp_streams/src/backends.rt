@@ -1,5 +1,5 @@
-//! What the threads of a server know of its backends: whose outboxes are nearly full, and what went to
-//! none.
+//! What the threads of a server tell one another of its backends: whose outboxes are nearly full, and
+//! what went to none.
 
 use settings::Settings;
 use std::alloc::{AllocError, Global};
@@ -18,27 +18,30 @@ pub struct Seen {
     pub relieved: bool,
 }
 
-/// A backend that is pressed, as a client, with its digits.
-#[derive(Clone, Copy)]
-pub struct Pressed {
-    pub client: u128,
-    pub digits: u16,
-}
-
 /// What the threads of a server know of its backends.
 #[derive(Drop)]
 pub struct Backends {
-    /// The namespace that they join.
+    /// The namespace that they join, and the names of the others.
     pub space: Text,
+    pub others: Vec<Text>,
     /// How many entries and bytes an outbox may have.
     pub capacity: usize,
     pub bytes: usize,
-    /// Those that are pressed. It is taken under the core's lock.
-    pub pressed: Mutex<Vec<Pressed>>,
     /// What the last event of each worker showed, until the worker heeds it.
     seen: Vec<Mutex<Option<Seen>>>,
     /// How many events of clients went to no backend.
     unheard: Mutex<u64>,
+}
+
+/// Copies of these names but for one.
+fn others_than(alloc: Global, space: &str, names: &[Text]) -> Result<Vec<Text>, AllocError> {
+    let mut others = Vec::new(alloc);
+    for name in names {
+        if name.as_str() != space {
+            others.push(Text::copy_of(alloc, name.as_str())?)?;
+        }
+    }
+    Ok(others)
 }
 
 /// What is known of the backends before one has come, if there may be some. The keeper is a worker, too.
@@ -52,9 +55,9 @@ pub fn backends_for(alloc: Global, settings: &Settings) -> Result<Option<Backend
     }
     Ok(Some(Backends {
         space: Text::copy_of(alloc, space.as_str())?,
+        others: others_than(alloc, space.as_str(), &settings.hub.spaces)?,
         capacity: settings.hub.capacity,
         bytes: settings.hub.bytes,
-        pressed: Mutex::new(Vec::new(alloc)),
         seen,
         unheard: Mutex::default(),
     }))

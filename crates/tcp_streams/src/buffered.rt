@@ -1,6 +1,6 @@
 //! A stream that never waits, and sends what was written at one call.
 
-ghost use Rattle.std.specs.Prelude.{◌≤◌, length};
+ghost use Rattle.std.specs.Prelude.{◌≡◌, ◌≤◌, [], true, length};
 
 use mio::net::TcpStream;
 use std::alloc::Global;
@@ -12,12 +12,12 @@ use std::{io, mem};
 const KEPT: usize = 32_768;
 
 /// What a connection reads and writes.
-pub type Stream = Box<Buffered>;
+pub type Stream = Box<Buffered<TcpStream>>;
 
 /// Reads from a stream whose reads do not wait, and keeps what is written until `send`.
 #[derive(Drop)]
-pub struct Buffered {
-    pub inner: TcpStream,
+pub struct Buffered<S> {
+    pub inner: S,
     /// The stream has no byte until it is reported ready again.
     pub drained: bool,
     // The other side has sent its last byte, so that a short read is no sign of a drained stream.
@@ -35,11 +35,19 @@ pub struct Buffered {
     // So it was since buffers were given back.
     kept: bool,
     ghost in_output: { sent ≤ length output.items },
+    ghost emptied: { cut ≡ true → length output.items ≡ 0 },
 }
 
-impl Buffered {
+impl<S> Buffered<S> {
+    ghost use Rattle.std.specs.Prelude.{false};
+    ghost use Rattle.tcp_streams.specs.Outputs.{HasGone, is_cut, reads_by, rests, waiting};
+
     /// Nothing was read or written yet.
-    pub fn new(alloc: Global, inner: TcpStream) -> Buffered {
+    pub fn new(alloc: Global, inner: S) -> Buffered<S>
+        ensures stream { result.inner ≡ inner }
+        ensures whole { is_cut result ≡ false }
+        ensures since { HasGone [] 0 (waiting result) }
+    {
         Buffered {
             inner,
             drained: false,
@@ -55,28 +63,46 @@ impl Buffered {
     }
 
     /// The stream was reported readable, and whether its other side has sent its last byte.
-    pub fn note_readable(&mut self, ended: bool) {
+    pub fn note_readable(&mut self, ended: bool)
+        ensures waits { waiting self.new ≡ waiting self.old }
+        ensures stream { self.new.inner ≡ self.old.inner }
+        ensures cut { is_cut self.new ≡ is_cut self.old }
+        ensures readable { self.new.drained ≡ false }
+    {
         self.drained = false;
         self.ended |= ended;
     }
 
     /// From now on each read tells the end of the stream, and nothing is sent.
-    pub fn cut(&mut self) {
-        self.cut = true;
+    pub fn cut(&mut self)
+        ensures cut { is_cut self.new ≡ true }
+        ensures nothing { waiting self.new ≡ [] }
+        ensures stream { self.new.inner ≡ self.old.inner }
+    {
         self.forget();
+        self.cut = true;
     }
 
     /// How many bytes wait to be sent.
-    pub fn unsent(&self) -> usize {
+    pub fn unsent(&self) -> usize
+        ensures { result ≡ length (waiting self.now) }
+    {
         self.output.len() - self.sent
     }
 
     // What came before the last byte is little, and its reader is done then.
-    fn is_held(&self) -> bool {
-        self.unbrought >= self.most && !self.ended
+    fn rests(&self) -> bool
+        ensures { result ≡ rests self.now }
+    {
+        self.drained || (self.unbrought >= self.most && !self.ended)
     }
 
-    fn forget(&mut self) {
+    fn forget(&mut self)
+        ensures nothing { waiting self.new ≡ [] }
+        ensures empty { length self.new.output.items ≡ 0 }
+        ensures stream { self.new.inner ≡ self.old.inner }
+        ensures reads { reads_by self.new ≡ reads_by self.old }
+    {
         self.sent = 0;
         if self.output.capacity() > KEPT {
             self.output = Vec::new(*self.output.allocator());
@@ -88,7 +114,11 @@ impl Buffered {
     /// A beat has come: where nothing was read or written since the last one, and nothing waits, the
     /// output buffer is given back. Until then it stays, since who sends in one round sends in the next.
     /// Answers whether the buffers of who reads and writes are to be given back too.
-    pub fn give_back(&mut self) -> bool {
+    pub fn give_back(&mut self) -> bool
+        ensures waits { waiting self.new ≡ waiting self.old }
+        ensures stream { self.new.inner ≡ self.old.inner }
+        ensures reads { reads_by self.new ≡ reads_by self.old }
+    {
         let was_used = mem::replace(&mut self.used, false);
         if was_used || self.unsent() > 0 || self.unbrought > 0 {
             return false;
@@ -97,32 +127,79 @@ impl Buffered {
         self.output = Vec::new(*self.output.allocator());
         mem::replace(&mut self.kept, false)
     }
+}
 
-    /// Sends what waits, as far as the stream takes it, and tells how many bytes that were.
-    pub fn send(&mut self) -> io::Result<usize> {
+impl<S: Write> Buffered<S> {
+    ghost use Rattle.std.specs.Prelude.{ℕ, List, ◌+◌, ◌≢◌, IfOk, IfErr};
+    ghost use Rattle.std.specs.IoError.{error_kind};
+    ghost use Rattle.tcp_streams.specs.Outputs.{HandsFirst, HasGone, reads_by, waiting};
+
+    /// Sends what waits, as far as the stream takes it, and tells how many bytes that were. Where it
+    /// fails, some may have gone, and the others wait on.
+    pub fn send(&mut self) -> io::Result<usize>
+        ensures first { HandsFirst (S.contents self.old.inner) (S.contents self.new.inner)
+            (waiting self.old) (waiting self.new) }
+        ensures count { IfOk result (λ n.
+            length (waiting self.old) ≡ n + length (waiting self.new)) }
+        ensures since { IfOk result (λ n. (written : List ℕ) → (gone : ℕ)
+            → HasGone written gone (waiting self.old)
+            → HasGone written (gone + n) (waiting self.new)) }
+        ensures reads { reads_by self.new ≡ reads_by self.old }
+
+        // A stream that takes no more for now is no failure.
+        ensures fault { IfErr result (λ e. error_kind e ≢ ErrorKind.WouldBlock) }
+    {
         let before = self.unsent();
+        self.hand_on()?;
+        Ok(before - self.unsent())
+    }
+
+    // Hands the stream what waits, until it takes no more.
+    fn hand_on(&mut self) -> io::Result<()>
+        ensures first { HandsFirst (S.contents self.old.inner) (S.contents self.new.inner)
+            (waiting self.old) (waiting self.new) }
+        ensures reads { reads_by self.new ≡ reads_by self.old }
+        ensures fault { IfErr result (λ e. error_kind e ≢ ErrorKind.WouldBlock) }
+    {
         while self.unsent() > 0 {
             match self.inner.write(&self.output[self.sent..]) {
                 Ok(0) => return Err(io::Error::from(ErrorKind::WriteZero)),
                 Ok(count) => self.sent += count,
-                Err(error) if error.kind() == ErrorKind::WouldBlock => {
-                    return Ok(before.saturating_sub(self.unsent()));
-                }
+                Err(error) if error.kind() == ErrorKind::WouldBlock => return Ok(()),
                 Err(error) => return Err(error),
             }
         }
         self.forget();
-        Ok(before)
+        Ok(())
     }
 }
 
-impl Read for Buffered {
-    fn read(&mut self, buf: &mut [u8]) -> io::Result<usize> {
+impl<S: Read> Read for Buffered<S> {
+    ghost use Rattle.std.specs.Prelude.{◌+◌, ◌-◌, ◌^◌, min, false, Ok, IfOk};
+    ghost use Rattle.std.specs.Io.{ReadsAtMost};
+    ghost use Rattle.std.specs.Io.KnownBytes.{ReadConsumes};
+    ghost use Rattle.tcp_streams.specs.Outputs.{is_cut, left, rests, waiting};
+
+    ghost remaining = { left S.remaining };
+
+    fn read(&mut self, buf: &mut [u8]) -> io::Result<usize>
+        ensures bound { ReadsAtMost result buf.new }
+        ensures bytes { ReadConsumes (left S.remaining self.old) (left S.remaining self.new)
+            result buf.new }
+        ensures ended { is_cut self.old ≡ true → result ≡ Ok 0 }
+
+        // Where it rests its stream isn't asked.
+        ensures unasked { rests self.old ≡ true → self.new.inner ≡ self.old.inner }
+        ensures unbrought { IfOk result (λ n. is_cut self.old ≡ false
+            → self.new.unbrought ≡ min (self.old.unbrought + n) (2 ^ 64 - 1)) }
+        ensures stays { (waiting self.new ≡ waiting self.old)
+            × (is_cut self.new ≡ is_cut self.old) }
+    {
         self.kept = true;
         if self.cut {
             return Ok(0);
         }
-        if self.drained || self.is_held() {
+        if self.rests() {
             return Err(io::Error::from(ErrorKind::WouldBlock));
         }
         let read = self.inner.read(buf);
@@ -138,8 +215,25 @@ impl Read for Buffered {
     }
 }
 
-impl Write for Buffered {
-    fn write(&mut self, buf: &[u8]) -> io::Result<usize> {
+impl<S> Write for Buffered<S> {
+    ghost use Rattle.std.specs.Prelude.{ℕ, List, ◌++◌, false, IfOk};
+    ghost use Rattle.std.specs.Io.{WritesAtMost};
+    ghost use Rattle.std.specs.Io.KnownBytes.{Keeps, WriteAppends};
+    ghost use Rattle.tcp_streams.specs.Outputs.{HasGone, held, is_cut, reads_by, waiting};
+
+    ghost contents = { held };
+
+    fn write(&mut self, buf: &[u8]) -> io::Result<usize>
+        ensures bound { WritesAtMost result buf.now }
+        ensures bytes { WriteAppends (held self.old) (held self.new) result buf.now }
+        ensures whole { IfOk result (λ n. n ≡ length buf.now) }
+        ensures since { IfOk result (λ _. is_cut self.old ≡ false
+            → (written : List ℕ) → (gone : ℕ) → HasGone written gone (waiting self.old)
+            → HasGone (written ++ buf.now) gone (waiting self.new)) }
+        ensures cut { is_cut self.old ≡ true → waiting self.new ≡ waiting self.old }
+        ensures stays { (self.new.inner ≡ self.old.inner)
+            × (reads_by self.new ≡ reads_by self.old) }
+    {
         if !self.cut {
             self.used = true;
             self.kept = true;
@@ -148,7 +242,10 @@ impl Write for Buffered {
         Ok(buf.len())
     }
 
-    fn flush(&mut self) -> io::Result<()> {
+    fn flush(&mut self) -> io::Result<()>
+        ensures bytes { Keeps (held self.old) (held self.new) }
+        ensures same { self.new ≡ self.old }
+    {
         Ok(())
     }
 }

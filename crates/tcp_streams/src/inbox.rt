@@ -22,10 +22,19 @@ const STREAMS: usize = 256;
 /// How long a new connection waits for space among these, in milliseconds.
 const PATIENCE: u64 = 1_000;
 
+/// A connection that was accepted.
+#[derive(Drop)]
+pub struct Accepted {
+    pub stream: TcpStream,
+    /// The number of the address from which it comes.
+    pub from: u128,
+}
+
 /// A connection whose request is of a client of another loop.
 #[derive(Drop)]
 pub struct Handed {
     pub stream: Stream,
+    pub from: u128,
     pub request: Box<Request>,
     pub target: Target,
 }
@@ -34,7 +43,7 @@ pub struct Handed {
 #[derive(Drop)]
 pub struct Inbox {
     /// Where new connections are sent.
-    streams: Sender<TcpStream>,
+    streams: Sender<Accepted>,
     mailbox: Mutex<Mailbox<Handed>>,
     waker: Waker,
 }
@@ -44,7 +53,7 @@ pub struct Inbox {
 pub struct Ears {
     pub poll: Poll,
     /// The new connections.
-    pub streams: Receiver<TcpStream>,
+    pub streams: Receiver<Accepted>,
 }
 
 /// What each loop waits with, and its inbox, into which nothing was handed yet.
@@ -88,9 +97,9 @@ impl Inbox {
     /// Hands a new connection in, and tells whether there was space for it within that time; else it is
     /// closed. It is sent before the bell is rung, and a loop that falls asleep looks for it under
     /// the lock that the bell's ringer takes.
-    pub fn give<R: Wait + Clock>(&self, rt: &R, stream: TcpStream) -> bool {
+    pub fn give<R: Wait + Clock>(&self, rt: &R, accepted: Accepted) -> bool {
         let most = Duration::from_millis(PATIENCE);
-        let given = self.streams.send_timeout(rt, stream, most).is_ok();
+        let given = self.streams.send_timeout(rt, accepted, most).is_ok();
         self.put(rt, |_| {});
         given
     }

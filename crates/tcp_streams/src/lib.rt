@@ -12,10 +12,10 @@ mod rules;
 mod shared;
 
 pub use acceptor::{Acceptor, acceptor_for};
-pub use backends::{Backends, Pressed, Seen, backends_for};
+pub use backends::{Backends, Seen, backends_for};
 pub use buffered::{Buffered, Stream};
 pub use fault::ServerFault;
-pub use inbox::{Ears, Handed, Inbox, ears_for};
-pub use log::{Ended, Log};
+pub use inbox::{Accepted, Ears, Handed, Inbox, ears_for};
+pub use log::{Ended, Ending, Log};
 pub use rules::{Rules, rules_and_limits};
 pub use shared::Shared;

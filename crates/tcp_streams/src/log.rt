@@ -1,6 +1,9 @@
 //! What a server tells of itself while it runs.
 
-use events::Cause;
+ghost use Rattle.std.specs.Prelude.{◌≡◌};
+ghost use Rattle.tcp_streams.specs.Ending.{ending_of};
+
+use events::{Answered, Cause, CoreFault, Outcome};
 use journal::Totals;
 
 /// Who hears what a server tells of itself. Its calls may wait.
@@ -14,8 +17,44 @@ pub trait Log {
     /// So many more events of clients went to no backend.
     fn unheard(&self, count: u64);
 
+    /// So many more connections were refused, since their addresses had as many as one may have.
+    fn crowded(&self, count: u64);
+
+    /// The warden has lost its client, and what it would have been told meanwhile.
+    fn warden_lost(&self);
+
     /// What the server has counted so far.
     fn totals(&self, totals: Totals);
+}
+
+/// How a client ended.
+#[derive(Clone, Copy, Debug, PartialEq, Eq)]
+pub enum Ending {
+    /// It was closed for this cause.
+    Closed(Cause),
+    /// Its connection was lost, and the sessions that it had are saved.
+    Saved,
+    /// Its connection was lost, and its sessions are gone, since they had no space.
+    Unsaved,
+    /// It was gone before its event came.
+    Gone,
+}
+
+impl Ending {
+    /// How its client ended, as the answer to an event says, if it did.
+    pub fn of(got: &Answered) -> Option<Ending>
+        ensures { result ≡ ending_of got.now }
+    {
+        match got {
+            Ok(Outcome::Lost { saved: true, .. }) => Some(Ending::Saved),
+            Ok(Outcome::Lost { saved: false, .. }) => Some(Ending::Unsaved),
+            Ok(Outcome::Done(done) | Outcome::Ticked { done, .. }) => {
+                done.closed.map(Ending::Closed)
+            }
+            Err(error) if matches!(error.fault, CoreFault::UnknownClient) => Some(Ending::Gone),
+            _ => None,
+        }
+    }
 }
 
 /// A client that has ended.
@@ -24,8 +63,7 @@ pub struct Ended {
     pub client: u128,
     /// It spoke over a WebSocket.
     pub socket: bool,
-    /// Why it was closed; none where its connection was lost.
-    pub cause: Option<Cause>,
+    pub ending: Ending,
     /// How long it was there, in milliseconds.
     pub lived: u64,
 }

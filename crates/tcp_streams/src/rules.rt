@@ -6,9 +6,13 @@ use connection::Timing;
 use eio_wire::Numbers;
 use http_edge::Request;
 use journal::Config;
+use loop_rules::Pace;
 use page::{File, Page};
-use settings::Settings;
+use settings::{Settings, Warding};
 use std::alloc::{AllocError, Global};
+
+/// A second, in milliseconds.
+const SECOND: u64 = 1_000;
 
 /// The settings by which a loop goes, and a core pings its clients.
 #[derive(Drop)]
@@ -31,6 +35,12 @@ pub struct Rules {
     pub timing: Timing,
     /// What clients are told of that, in milliseconds, and of their payloads, in bytes.
     pub numbers: Numbers,
+    /// How fast one client may send, if that is bounded.
+    pub pace: Option<Pace>,
+    /// By what the sockets of tokens that have expired are ended, if they are.
+    pub warding: Option<Warding>,
+    /// How long a session is saved, in milliseconds.
+    pub keep: u64,
     ghost some: { 0 < loops },
 }
 
@@ -61,6 +71,19 @@ impl Rules {
     }
 }
 
+/// How fast one client may send. It waits for no longer than three eighths of the time that it has for
+/// the answer to a ping, so that what it sends now and the answer behind it come in time; but for a second
+/// where that is longer.
+fn pace_of(settings: &Settings) -> Option<Pace> {
+    let pace = settings.pace?;
+    let stretch = settings.timing.ping_timeout / 8 * 3;
+    Some(Pace {
+        rate: pace.rate,
+        burst: pace.burst,
+        stretch: stretch.max(SECOND),
+    })
+}
+
 /// What the loops go by, and the limits of the hub.
 pub fn rules_and_limits(
     alloc: Global,
@@ -68,7 +91,9 @@ pub fn rules_and_limits(
 ) -> Result<(Box<Rules>, Box<Config>), AllocError>
     requires { 0 < settings.workers }
 {
+    let pace = pace_of(&settings);
     let rules = Rules {
+        pace,
         numbers: settings.numbers(),
         timing: settings.timing,
         loops: settings.workers,
@@ -78,6 +103,8 @@ pub fn rules_and_limits(
         page: settings.page,
         metrics: settings.metrics,
         report: settings.report,
+        warding: settings.warding,
+        keep: settings.hub.keep,
     };
     Ok((Box::new(alloc, rules)?, Box::new(alloc, settings.hub)?))
 }

@@ -3,7 +3,8 @@
 use crate::backends::Backends;
 use crate::fault::ServerFault;
 use crate::inbox::Inbox;
-use metrics::Metrics;
+use loop_rules::Addresses;
+use metrics::{Metrics, Reason};
 use mio::Waker;
 use std::alloc::Global;
 use std::collections::HashMap;
@@ -25,7 +26,9 @@ pub struct Shared {
     /// What is known of the backends, if there may be some.
     pub backends: Option<Backends>,
     standing: Mutex<Standing>,
-    /// The workers that have begun, the keeper among them.
+    /// How many connections are open from each address, if that is bounded.
+    addresses: Option<Mutex<Addresses>>,
+    /// The workers that have begun, the keeper among them, and the warden, if there is one.
     pub begun: Arrivals,
     /// The loops that have ended.
     pub ended: Arrivals,
@@ -34,7 +37,7 @@ pub struct Shared {
 /// Written out, so that a crate above takes the drop of all that lies in it by this one call.
 impl Drop for Shared {
     fn drop(self) {
-        let_go!(self; inboxes, acceptor, lives, counts, backends, standing, begun, ended);
+        let_go!(self; inboxes, acceptor, lives, counts, backends, standing, addresses, begun, ended);
     }
 }
 
@@ -81,13 +84,15 @@ impl Arrivals {
 }
 
 impl Shared {
-    /// Nothing is open yet, and each loop is at work. Somebody hears of clients, or not.
+    /// Nothing is open yet, and each loop is at work. Somebody hears of clients, or not. From one address
+    /// so many connections may be open, if that is bounded.
     pub fn new(
         alloc: Global,
         inboxes: Vec<Inbox>,
         acceptor: Waker,
         backends: Option<Backends>,
         hears_clients: bool,
+        connections_from: Option<u64>,
     ) -> Result<Arc<Shared>, ServerFault> {
         let shared = Shared {
             counts: Mutex::new(Metrics::new(alloc, inboxes.len())?),
@@ -96,24 +101,34 @@ impl Shared {
             backends,
             lives: hears_clients.then(|| Mutex::new(HashMap::new(alloc))),
             standing: Mutex::default(),
+            addresses: connections_from.map(|most| Mutex::new(Addresses::new(alloc, most))),
             begun: Arrivals::default(),
             ended: Arrivals::default(),
         };
         Ok(Arc::new(alloc, shared)?)
     }
 
-    /// A connection was accepted. Answers whether it has space among so many.
-    pub fn note_accepted(&self, rt: &impl Wait, most: u64) -> bool {
-        let mut standing = self.standing.lock(rt);
-        let has_space = standing.open < most;
-        if has_space {
-            standing.open = standing.open.saturating_add(1);
+    /// A connection was accepted from an address. Answers why it has no space, among so many or among
+    /// those of its address, if it has none.
+    pub fn note_accepted(&self, rt: &impl Wait, most: u64, from: u128) -> Result<(), Reason> {
+        if self.standing.lock(rt).open >= most {
+            return Err(Reason::NoPlace);
         }
-        has_space
+        let addresses = self.addresses.as_ref();
+        if addresses.is_some_and(|addresses| !addresses.lock(rt).admit(from)) {
+            return Err(Reason::ManyFromAddress);
+        }
+        // One thread accepts, so there is still space.
+        let mut standing = self.standing.lock(rt);
+        standing.open = standing.open.saturating_add(1);
+        Ok(())
     }
 
-    /// A connection was closed.
-    pub fn note_closed(&self, rt: &impl Wait) {
+    /// A connection from an address was closed.
+    pub fn note_closed(&self, rt: &impl Wait, from: u128) {
+        if let Some(addresses) = &self.addresses {
+            addresses.lock(rt).release(from);
+        }
         let mut standing = self.standing.lock(rt);
         standing.open = standing.open.saturating_sub(1);
         let is_over = standing.is_over();
