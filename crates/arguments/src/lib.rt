@@ -1,7 +1,8 @@
-//! The arguments of `event_server` and of other programs that serve: what they ask for, the token in the
-//! file that they name, and what is told where they are refused.
+//! The arguments of `event_server` and of other programs that serve: what they ask for, the tokens and
+//! keys in the files that they name, and what is told where they are refused.
 #![tactic(auto)]
 
+mod keys;
 pub mod options;
 pub mod refused;
 pub mod task;

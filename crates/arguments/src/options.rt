@@ -3,18 +3,24 @@
 use clap::builder::ValueParser;
 use clap::{Arg, ArgAction, ArgMatches, Command};
 use connection::Timing;
+use expiry::EXPIRY;
 use journal::Config;
 use page::Page;
-use settings::{LEAST_RECEIVING, MOST_BYTES, Settings};
+use settings::{LEAST_RECEIVING, MOST_BYTES, MOST_RATE, Pace, Settings};
 use std::alloc::{AllocError, Global};
 use terms::Text;
+use tokens::Verifier;
 
 /// What a program that serves is asked for.
 #[derive(Drop)]
 pub struct Options {
     pub settings: Settings,
-    /// The token that clients need, if they need one. It stands in no output.
+    /// The token that clients may come in with, if there is one. It stands in no output.
     pub token: Option<Text>,
+    /// What the signed tokens of clients are verified by, if they are taken.
+    pub signed: Option<Verifier>,
+    /// Whether the sockets of tokens that have expired are ended.
+    pub end_expired: bool,
     /// The token by which backends join `/backend`, if they may. It stands in no output.
     pub backend: Option<Text>,
     /// Whether the rooms of a socket that has ended are told so.
@@ -53,7 +59,7 @@ macro_rules! options {
 }
 
 /// The options, in the order in which help tells them.
-static OPTIONS: [OptionRow; 28] = options! {
+static OPTIONS: [OptionRow; 34] = options! {
     "port" Set Unsigned(1, 65_535), [], "The port to listen at";
     "host" Set String, ["127.0.0.1"], "The address to listen at";
     "workers" Set Unsigned(1, 1_023), [],
@@ -80,11 +86,20 @@ static OPTIONS: [OptionRow; 28] = options! {
         "How many bytes clients are told that a payload may have";
     "receiving" Set Unsigned(LEAST_RECEIVING, MANY), ["268435456"],
         "The most bytes of all that is being received, together";
+    "pace" Set Unsigned(1, MOST_RATE), [],
+        "The most events of one client a second; beyond it the client isn't read";
+    "burst" Set Unsigned(1, MANY), [], "How many of them at once [default: as --pace]";
+    "connections-from" Set Unsigned(1, MANY), [],
+        "The most connections at a time from one address";
     "report" Set Unsigned(0, MANY), ["0"],
         "Tells the totals on standard error every so many seconds; 0: never";
     "origin" Append String, [],
         "Serves only pages of this origin, * for any, and tells browsers so; may come again";
     "token-file" Set String, [], "A file with the token that clients need";
+    "jwt-key" Append String, [],
+        "A file with a key that the tokens of clients are signed with, by HS256; may come again";
+    "jwt-audience" Set String, [], "For whom these tokens have to be made";
+    "end-expired" SetTrue Bool, [], "Ends the sockets of such tokens once these have expired";
     "backend-token" Set String, [],
         "A file with the token by which backends join /backend, in place of the demonstration app";
     "page" Set String, [], "A folder whose files are served beside the socket's path";
@@ -97,6 +112,9 @@ static OPTIONS: [OptionRow; 28] = options! {
 /// The option of which servers of another app than that of backends know nothing.
 pub(crate) const BACKENDS: &str = "backend-token";
 
+/// Another one.
+pub(crate) const END_EXPIRED: &str = "end-expired";
+
 /// The command of this name that serves, with its options, that of backends among them where it has
 /// some.
 pub(crate) fn server<'a>(
@@ -107,7 +125,7 @@ pub(crate) fn server<'a>(
 ) -> Result<Command<'a>, AllocError> {
     let mut server = Command::new(alloc, name).about(about);
     for entry in OPTIONS.iter() {
-        if entry.name == BACKENDS && !has_backends {
+        if matches!(entry.name, BACKENDS | END_EXPIRED) && !has_backends {
             continue;
         }
         let option = Arg::new(alloc, entry.name)
@@ -137,7 +155,7 @@ pub(crate) fn read_settings(
         workers: matches.get_one("workers").unwrap_or(processors),
         connections: unless_0(matches.get_one("connections").unwrap_or(0)),
         hub: Config {
-            clients: matches.get_one("clients").unwrap_or(1),
+            clients: clients(matches),
             capacity: matches.get_one("capacity").unwrap_or(1),
             bytes: matches.get_one("bytes").unwrap_or(1),
             log: matches.get_one("log").unwrap_or(1),
@@ -166,10 +184,36 @@ pub(crate) fn read_settings(
             .transpose()?,
         report: unless_0(matches.get_one("report").unwrap_or(0)),
         backends: backend_space(alloc, matches)?,
+        pace: pace(matches),
+        connections_from: matches.get_one("connections-from"),
+        warding: None,
     })
 }
 
-/// The namespaces, as they are named, and that of the backends where there may be some.
+/// How fast one client may send, if that is bounded.
+fn pace(matches: &ArgMatches<'_>) -> Option<Pace> {
+    let rate = matches.get_one("pace")?;
+    let burst = matches.get_one("burst").unwrap_or(rate);
+    Some(Pace { rate, burst })
+}
+
+/// Whether it is said how many events may come at once, and not how many a second.
+pub(crate) fn has_burst_alone(matches: &ArgMatches<'_>) -> bool {
+    let (pace, burst): (Option<u64>, Option<u64>) = (
+        matches.get_one("pace"),
+        matches.get_one("burst"),
+    );
+    pace.is_none() && burst.is_some()
+}
+
+/// How many clients there may be at a time: the warden has one more.
+fn clients(matches: &ArgMatches<'_>) -> usize {
+    let clients: usize = matches.get_one("clients").unwrap_or(1);
+    clients.saturating_add(usize::from(matches.get_flag(END_EXPIRED)))
+}
+
+/// The namespaces, as they are named, that of the backends where there may be some, and that of the
+/// warden where there is one.
 fn spaces(alloc: Global, matches: &ArgMatches<'_>) -> Result<Vec<Text>, AllocError> {
     let mut spaces = Vec::new(alloc);
     spaces.push(Text::copy_of(alloc, "/")?)?;
@@ -178,6 +222,9 @@ fn spaces(alloc: Global, matches: &ArgMatches<'_>) -> Result<Vec<Text>, AllocErr
     }
     if let Some(space) = backend_space(alloc, matches)? {
         spaces.push(space)?;
+    }
+    if matches.get_flag(END_EXPIRED) {
+        spaces.push(Text::copy_of(alloc, EXPIRY)?)?;
     }
     Ok(spaces)
 }

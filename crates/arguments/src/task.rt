@@ -1,6 +1,7 @@
 //! What a program is asked to do.
 
-use crate::options::{BACKENDS, Options, read_settings, server};
+use crate::keys::verifier_in;
+use crate::options::{BACKENDS, END_EXPIRED, Options, has_burst_alone, read_settings, server};
 use crate::token::{TokenError, read_token};
 use clap::error::ErrorKind;
 use clap::{ArgMatches, Command, Error};
@@ -30,6 +31,12 @@ const ONE_TOKEN: &str = "it has the token of --token-file, by which clients woul
 /// What is told where the demonstration app is to tell something that isn't there.
 const NO_APP: &str =
     "--tell-left: with --backend-token there is no demonstration app that tells it";
+
+/// What is told where it isn't said how many events a second may come, of which some come at once.
+const NO_PACE: &str = "--burst: without --pace nothing is bounded";
+
+/// What is told where the sockets of tokens are to be ended and no token is verified.
+const NO_TOKENS: &str = "--end-expired: without --jwt-key no token expires";
 
 /// What is told of arguments that can't be read as text.
 const NOT_UTF8: &str = "invalid UTF-8 was detected in one or more arguments";
@@ -120,6 +127,8 @@ fn right_options<R: Files + AllocGlobal + Clone + Drop>(
     let options = Options {
         settings: read_settings(alloc, matches, processors)?,
         token: None,
+        signed: None,
+        end_expired: matches.get_flag(END_EXPIRED),
         backend: None,
         tell_left: matches.get_flag("tell-left"),
         until_eof: matches.get_flag("until-eof"),
@@ -127,6 +136,9 @@ fn right_options<R: Files + AllocGlobal + Clone + Drop>(
     };
     let mut options = Box::new(alloc, options)?;
     let mut wrong = wrong_option(alloc, &mut options.settings)?;
+    if wrong.is_none() && has_burst_alone(matches) {
+        wrong = Some(String::from_str(alloc, NO_PACE)?);
+    }
     if wrong.is_none() {
         wrong = read_files(rt, matches, &mut options)?;
     }
@@ -168,7 +180,7 @@ fn wrong_backend(alloc: Global, options: &Options) -> Result<Option<String>, All
     }
 }
 
-/// Reads what the options name, the files of a folder and tokens, and tells what can't be read.
+/// Reads what the options name, the files of a folder, tokens and keys, and tells what can't be read.
 fn read_files<R: Files + AllocGlobal + Clone + Drop>(
     rt: &R,
     matches: &ArgMatches<'_>,
@@ -185,6 +197,13 @@ fn read_files<R: Files + AllocGlobal + Clone + Drop>(
     match token_in(rt, matches, "token-file")? {
         Ok(token) => options.token = token,
         Err(wrong) => return Ok(Some(wrong)),
+    }
+    match verifier_in(rt, matches)? {
+        Ok(signed) => options.signed = signed,
+        Err(wrong) => return Ok(Some(wrong)),
+    }
+    if options.end_expired && options.signed.is_none() {
+        return Ok(Some(String::from_str(alloc, NO_TOKENS)?));
     }
     match token_in(rt, matches, BACKENDS)? {
         Ok(token) => options.backend = token,

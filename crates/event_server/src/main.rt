@@ -5,59 +5,89 @@
 use arguments::options::Options;
 use arguments::refused::print_refused;
 use arguments::task::{Task, read_arguments};
-use guarded::Guarded;
+use expiry::{EXPIRY, Expiring};
+use guarded::{Entrance, Guarded};
 use relay::{Presence, RelayApp};
-use script::play_script;
-use std::alloc::AllocError;
+use script::{RunError, play_script};
+use settings::Warding;
+use std::alloc::{AllocError, Global};
+use std::net::Net;
 use std::process::ExitCode;
+use std::random::RandomSource;
+use std::rt::Clock;
 use std::thread;
 use switchboard::Switchboard;
-use tcp_server::{ServerFault, end_with, listen, processors, serve, wait_for_end};
+use tcp_server::{
+    ErrorLog, Server, ServerFault, draw_secret, end_with, listen, processors, seconds_now, serve,
+    wait_for_end,
+};
 use terms::Text;
 
 /// The program's name.
 const NAME: &str = "event_server";
 
-/// The demonstration app, which tells of sockets that have ended or doesn't, behind this token if
-/// there is one.
-fn app(tells: bool, token: Option<Text>) -> Guarded<Presence<RelayApp>> {
-    Guarded {
-        app: Presence {
-            app: RelayApp,
-            tells,
-        },
-        token,
-    }
+/// The namespace that backends join by a token of their own.
+const BACKENDS: &str = "/backend";
+
+/// The demonstration app, which tells of sockets that have ended or doesn't, behind this entrance. A
+/// warden with this token ends sockets, if there is one.
+fn app(
+    alloc: Global,
+    tells: bool,
+    entrance: Entrance,
+    warden: Option<Text>,
+) -> Result<Guarded<Expiring<Presence<RelayApp>>>, AllocError> {
+    let app = Presence {
+        app: RelayApp,
+        tells,
+    };
+    Ok(Guarded {
+        apart: apart(alloc, None, &warden)?,
+        app: Expiring { app, token: warden },
+        entrance,
+    })
 }
 
-/// The app that backends drive, with their token, and that of the other clients if there is one.
-fn switchboard(token: Text, clients: Option<Text>, spaces: Vec<Text>) -> Switchboard {
-    Switchboard {
-        token,
-        clients,
-        spaces,
+/// The app that backends drive, who come in with this token and others by this entrance. A warden
+/// with a token of its own ends sockets, if there is one.
+fn switchboard(
+    alloc: Global,
+    app: Switchboard,
+    entrance: Entrance,
+    warden: Option<Text>,
+) -> Result<Guarded<Expiring<Switchboard>>, AllocError> {
+    Ok(Guarded {
+        apart: apart(alloc, Some(BACKENDS), &warden)?,
+        app: Expiring { app, token: warden },
+        entrance,
+    })
+}
+
+/// The namespaces that the app guards itself: that of the backends, and that of the warden.
+fn apart(
+    alloc: Global,
+    backends: Option<&str>,
+    warden: &Option<Text>,
+) -> Result<Vec<Text>, AllocError> {
+    let mut apart = Vec::new(alloc);
+    if let Some(space) = backends {
+        apart.push(Text::copy_of(alloc, space)?)?;
     }
+    if warden.is_some() {
+        apart.push(Text::copy_of(alloc, EXPIRY)?)?;
+    }
+    Ok(apart)
 }
 
 fn main(rt: HostRuntime) -> ExitCode {
     let options = match read_arguments(&rt, processors(&rt)) {
-        Ok(Task::Script) => return end_with(&rt, NAME, play_script(&rt, &app(false, None))),
+        Ok(Task::Script) => return end_with(&rt, NAME, serve_script(&rt)),
         Ok(Task::Serve(options)) => Box::into_inner(options),
         Err(refused) => return end_with(&rt, NAME, print_refused(&rt, &refused)),
     };
-    let Options {
-        settings,
-        token,
-        backend,
-        tell_left,
-        until_eof,
-        verbose,
-    } = options;
-    let Ok(spaces) = settings.hub.spaces.clone() else {
-        return end_with(&rt, NAME, Err(ServerFault::Memory(AllocError)));
-    };
-    let server = match listen(&rt, settings, verbose) {
-        Ok(server) => server,
+    let until_eof = options.until_eof;
+    let (server, app) = match begin(&rt, options) {
+        Ok(begun) => begun,
         Err(fault) => return end_with(&rt, NAME, Err(fault)),
     };
     if until_eof {
@@ -66,10 +96,81 @@ fn main(rt: HostRuntime) -> ExitCode {
             let _ = thread::spawn(&rt, move || wait_for_end(&rt, &shared));
         }
     }
-    // Backends are the app where there is a token for them.
-    let served = match backend {
-        Some(backend) => serve(&rt, server, &switchboard(backend, token, spaces)),
-        None => serve(&rt, server, &app(tell_left, token)),
+    let served = match &app {
+        Served::Demonstration(app) => serve(&rt, server, app),
+        Served::Backends(app) => serve(&rt, server, app),
     };
     end_with(&rt, NAME, served)
+}
+
+/// Serves the clients of a script.
+fn serve_script<R: Input + Print + AllocGlobal>(rt: &R) -> Result<ExitCode, RunError> {
+    match app(rt.alloc(), false, Entrance::open(), None) {
+        Ok(app) => play_script(rt, &app),
+        Err(_) => Err(RunError::Memory),
+    }
+}
+
+/// By what a warden ends the sockets of tokens that have expired, where they are to be ended.
+fn warding<R: RandomSource + AllocGlobal>(
+    rt: &R,
+    is_asked: bool,
+    began: u32,
+) -> Result<Option<Warding>, ServerFault> {
+    if !is_asked {
+        return Ok(None);
+    }
+    let token = draw_secret(rt, rt.alloc())?;
+    Ok(Some(Warding { token, began }))
+}
+
+/// The namespaces that backends may speak of: all but that of the warden.
+fn spaces_for(options: &Options) -> Result<Vec<Text>, AllocError> {
+    let mut spaces = options.settings.hub.spaces.clone()?;
+    if options.end_expired {
+        spaces.retain(|space| space.as_str() != EXPIRY);
+    }
+    Ok(spaces)
+}
+
+/// The app that is served.
+#[derive(Drop)]
+enum Served {
+    Demonstration(Guarded<Expiring<Presence<RelayApp>>>),
+    Backends(Guarded<Expiring<Switchboard>>),
+}
+
+/// Listens as these options say, and makes the app. Backends are it where there is a token for them.
+fn begin<R>(rt: &R, options: Options) -> Result<(Server<ErrorLog<R>>, Served), ServerFault>
+where
+    R: Net + Clock + RandomSource + Print + Eprint + AllocGlobal + Copy + Drop + Sync,
+{
+    let (alloc, spaces) = (rt.alloc(), spaces_for(&options)?);
+    let Options {
+        mut settings,
+        token,
+        signed,
+        end_expired,
+        backend,
+        tell_left,
+        until_eof: _,
+        verbose,
+    } = options;
+    let began = seconds_now(rt)?;
+    let warding = warding(rt, end_expired, began)?;
+    let warden = warding.as_ref().map(|it| it.token.clone()).transpose()?;
+    settings.warding = warding;
+    let entrance = Entrance {
+        token,
+        signed,
+        began,
+    };
+    let app = match backend {
+        Some(token) => {
+            let app = Switchboard { token, spaces };
+            Served::Backends(switchboard(alloc, app, entrance, warden)?)
+        }
+        None => Served::Demonstration(app(alloc, tell_left, entrance, warden)?),
+    };
+    Ok((listen(rt, settings, verbose)?, app))
 }

@@ -1,5 +1,6 @@
 mod LookLemmas
 mod NotesLemmas
+mod PaceLemmas
 mod PartLemmas
 mod ReceivingLemmas
 mod RosterLemmas

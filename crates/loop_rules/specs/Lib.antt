@@ -1,3 +1,4 @@
+pub mod Addresses
 pub mod Deadlines
 pub mod Frames
 pub mod Ids
@@ -5,6 +6,8 @@ pub mod Looks
 pub mod Mailboxes
 pub mod Notes
 pub mod Owners
+pub mod Paces
+pub mod Packets
 pub mod Parts
 pub mod Pressures
 pub mod Receiving

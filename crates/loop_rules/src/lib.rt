@@ -2,20 +2,26 @@
 //! what a connection does next, and what is done with one that takes too long.
 #![tactic(auto)]
 
+mod addresses;
 mod deadlines;
 mod looks;
 mod mailbox;
 mod owners;
+mod paces;
+mod packets;
 mod pressure;
 mod receiving;
 mod roster;
 mod rota;
 mod unfinished;
 
+pub use addresses::Addresses;
 pub use deadlines::{Overdue, Period, find_overdue, has_had_its_turn, has_stopped};
 pub use looks::{Decision, Found, LookState, Pause, Stint, left_after_message};
 pub use mailbox::{Mail, Mailbox};
 pub use owners::{LOOPS, dealt_to, loop_of, marked, owner_of};
+pub use paces::{Pace, Paces};
+pub use packets::{carried, carries};
 pub use pressure::{Backlog, Pressure};
 pub use receiving::{Receiving, Sender};
 pub use roster::{Notes, Roster, Takers};

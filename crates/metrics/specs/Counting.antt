@@ -6,9 +6,12 @@ use Rattle.metrics.specs.declared.metrics.Refusals.{Refusals}
 use Rattle.metrics.specs.declared.reason.Reason.{Reason}
 use Rattle.metrics.specs.Reason.{number_of}
 
--- one more, as far as a u64 counts
+-- one more, and so many, as far as a u64 counts
 abbrev pub one_more : ℕ → ℕ
 one_more n = min (n + 1) 18446744073709551615
+
+abbrev pub so_many_more : (more n : ℕ) → ℕ
+so_many_more more n = min (n + more) 18446744073709551615
 
 -- nothing was counted yet: of the core, of a loop, of so many in the order of their numbers, and for a reason
 abbrev pub nothing : CoreCounts

@@ -82,11 +82,16 @@ refused_text refused =
     head (codes "socketio_refused_total") (codes "counter") (codes "What was refused, by reason.")
     ++ flat_map refused_of refused
 
-unfoldable pub text_of : CoreCounts → List LoopCounts → List Refusals → List ℕ
-text_of core loops refused =
+abbrev pub paced_text : ℕ → List ℕ
+paced_text paced =
+    row (codes "socketio_paced_total") (codes "counter") (codes "Times that a client sent too fast and wasn't read.") paced
+
+unfoldable pub text_of : CoreCounts → List LoopCounts → List Refusals → (paced : ℕ) → List ℕ
+text_of core loops refused paced =
     totals_text core.totals
     ++ unheard_text core.unheard
     ++ sizes_text core.sizes
     ++ connections_text loops
     ++ requests_text loops
     ++ refused_text refused
+    ++ paced_text paced

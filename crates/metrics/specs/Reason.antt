@@ -8,7 +8,7 @@ use Rattle.http_edge.specs.declared.routes.Target.TheVariants as target
 use Rattle.events.specs.declared.fault.CoreFault.{CoreFault}
 use Rattle.events.specs.declared.fault.CoreFault.TheVariants as fault
 use Rattle.metrics.specs.declared.reason.Reason.{Reason}
-use Rattle.metrics.specs.declared.reason.Reason.TheVariants.{NoPlace, Unreadable, NotFound, NotAllowed, UnknownClient, OutOfTurn, TooManyClients, OutOfMemory, BadEffect, Spent}
+use Rattle.metrics.specs.declared.reason.Reason.TheVariants.{NoPlace, Unreadable, NotFound, NotAllowed, UnknownClient, OutOfTurn, TooManyClients, OutOfMemory, BadEffect, Spent, ManyFromAddress}
 
 abbrev pub label : Reason → List ℕ
 label NoPlace = codes "no_place"
@@ -21,6 +21,7 @@ label TooManyClients = codes "too_many_clients"
 label OutOfMemory = codes "out_of_memory"
 label BadEffect = codes "bad_effect"
 label Spent = codes "spent"
+label ManyFromAddress = codes "many_from_address"
 
 -- where no request was read, and somebody is there to be answered
 abbrev pub of_edge : EdgeError → Option Reason
@@ -53,7 +54,7 @@ of_core fault.BadConfig = BadEffect
 
 -- all of them, and the number of each
 abbrev pub reasons : List Reason
-reasons = NoPlace ∷ Unreadable ∷ NotFound ∷ NotAllowed ∷ UnknownClient ∷ OutOfTurn ∷ TooManyClients ∷ OutOfMemory ∷ BadEffect ∷ Spent ∷ []
+reasons = NoPlace ∷ Unreadable ∷ NotFound ∷ NotAllowed ∷ UnknownClient ∷ OutOfTurn ∷ TooManyClients ∷ OutOfMemory ∷ BadEffect ∷ Spent ∷ ManyFromAddress ∷ []
 
 abbrev pub number_of : Reason → ℕ
 number_of NoPlace = 0
@@ -66,3 +67,4 @@ number_of TooManyClients = 6
 number_of OutOfMemory = 7
 number_of BadEffect = 8
 number_of Spent = 9
+number_of ManyFromAddress = 10

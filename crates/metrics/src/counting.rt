@@ -14,11 +14,13 @@ impl Metrics {
         ensures core { IfOk result (λ m. m.core ≡ counting.nothing) }
         ensures loops { IfOk result (λ m. m.loops.items ≡ counting.nothing_of loops) }
         ensures refused { IfOk result (λ m. m.refused.items ≡ map counting.nothing_for reasons) }
+        ensures paced { IfOk result (λ m. m.paced ≡ 0) }
     {
         let mut counts = Metrics {
             core: CoreCounts::default(),
             loops: Vec::new(alloc),
             refused: Vec::new(alloc),
+            paced: 0,
         };
         for number in 0..loops {
             counts.loops.push(LoopCounts {
@@ -39,6 +41,7 @@ impl Metrics {
             ≡ counting.in_loop counting.with_connection number self.old.loops.items }
         ensures core { self.new.core ≡ self.old.core }
         ensures refused { self.new.refused ≡ self.old.refused }
+        ensures paced { self.new.paced ≡ self.old.paced }
     {
         if let Some(it) = self.loops.get_mut(number) {
             it.connections = it.connections.saturating_add(1);
@@ -51,6 +54,7 @@ impl Metrics {
             ≡ counting.in_loop counting.with_request number self.old.loops.items }
         ensures core { self.new.core ≡ self.old.core }
         ensures refused { self.new.refused ≡ self.old.refused }
+        ensures paced { self.new.paced ≡ self.old.paced }
     {
         if let Some(it) = self.loops.get_mut(number) {
             it.requests = it.requests.saturating_add(1);
@@ -63,9 +67,20 @@ impl Metrics {
             ≡ counting.with_refused reason self.old.refused.items }
         ensures core { self.new.core ≡ self.old.core }
         ensures loops { self.new.loops ≡ self.old.loops }
+        ensures paced { self.new.paced ≡ self.old.paced }
     {
         if let Some(it) = self.refused.get_mut(reason as usize) {
             it.count = it.count.saturating_add(1);
         }
+    }
+
+    /// So many times more a client sent too fast.
+    pub fn note_paced(&mut self, times: u64)
+        ensures counted { self.new.paced ≡ counting.so_many_more times self.old.paced }
+        ensures core { self.new.core ≡ self.old.core }
+        ensures loops { self.new.loops ≡ self.old.loops }
+        ensures refused { self.new.refused ≡ self.old.refused }
+    {
+        self.paced = self.paced.saturating_add(times);
     }
 }

@@ -58,6 +58,8 @@ pub struct Metrics {
     /// In the order of their numbers.
     pub loops: Vec<LoopCounts>,
     pub refused: Vec<Refusals>,
+    /// How often a client's connection wasn't read, since the client sent too fast.
+    pub paced: u64,
 }
 
 impl Metrics {
@@ -65,7 +67,7 @@ impl Metrics {
     #[tactic(auto, unfolding(crate::specs::Metrics::text_of))]
     pub fn text(&self, alloc: Global) -> Result<String, AllocError>
         ensures { IfOk result (λ text. string_bytes text ≡ metrics.text_of
-            self.now.core self.now.loops.items self.now.refused.items) }
+            self.now.core self.now.loops.items self.now.refused.items self.now.paced) }
     {
         let mut text = totals_text(alloc, &self.core.totals)?;
         text.push_str(unheard_text(alloc, self.core.unheard)?.as_str())?;
@@ -73,6 +75,7 @@ impl Metrics {
         text.push_str(connections_text(alloc, self.loops.as_slice())?.as_str())?;
         text.push_str(requests_text(alloc, self.loops.as_slice())?.as_str())?;
         text.push_str(refused_text(alloc, self.refused.as_slice())?.as_str())?;
+        text.push_str(paced_text(alloc, self.paced)?.as_str())?;
         Ok(text)
     }
 }
@@ -108,6 +111,16 @@ fn unheard_text(alloc: Global, unheard: u64) -> Result<String, AllocError>
     let mut text = String::new(alloc);
     push_rows! { &mut text;
         "socketio_unheard_total", "counter", "Events of clients that went to no backend.", unheard;
+    }
+    Ok(text)
+}
+
+fn paced_text(alloc: Global, paced: u64) -> Result<String, AllocError>
+    ensures { IfOk result (λ text. string_bytes text ≡ metrics.paced_text paced) }
+{
+    let mut text = String::new(alloc);
+    push_rows! { &mut text;
+        "socketio_paced_total", "counter", "Times that a client sent too fast and wasn't read.", paced;
     }
     Ok(text)
 }

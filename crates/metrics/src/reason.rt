@@ -29,10 +29,12 @@ pub enum Reason {
     BadEffect,
     /// A number of the server has come to its end, or an id was drawn twice.
     Spent,
+    /// A connection more than may be open from one address.
+    ManyFromAddress,
 }
 
 /// All of them.
-pub(crate) static REASONS: [Reason; 10] = [
+pub(crate) static REASONS: [Reason; 11] = [
     Reason::NoPlace,
     Reason::Unreadable,
     Reason::NotFound,
@@ -43,6 +45,7 @@ pub(crate) static REASONS: [Reason; 10] = [
     Reason::OutOfMemory,
     Reason::BadEffect,
     Reason::Spent,
+    Reason::ManyFromAddress,
 ];
 
 impl Reason {
@@ -61,6 +64,7 @@ impl Reason {
             Reason::OutOfMemory => "out_of_memory",
             Reason::BadEffect => "bad_effect",
             Reason::Spent => "spent",
+            Reason::ManyFromAddress => "many_from_address",
         }
     }
 

@@ -2,6 +2,7 @@
 //! and what it answers.
 
 mod engine_io;
+mod hashes;
 mod lines;
 mod outboxes;
 mod play;

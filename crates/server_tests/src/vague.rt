@@ -12,12 +12,18 @@ pub struct Vague;
 
 impl App for Vague {
     ghost policy = { λ app. record {
-      allows = λ space payload verdict. Unit {0};
+      allows = λ moment space payload verdict. Unit {0};
       decides = λ who arrived effects. Unit {0};
       ends = λ who rooms ending effects. Unit {0};
     } };
 
-    fn connects(&self, alloc: Global, _space: &str, _payload: &str) -> Result<Verdict, AllocError> {
+    fn connects(
+        &self,
+        alloc: Global,
+        _moment: u64,
+        _space: &str,
+        _payload: &str,
+    ) -> Result<Verdict, AllocError> {
         Ok(Verdict::Accept(Vec::new(alloc)))
     }
 

@@ -27,7 +27,8 @@ hub =
 
 -- the settings of a server with so many loops at this port, where nothing else is said; the defaults
 -- of the options in `arguments` are to be these. It listens to the machine itself, ends after no
--- number of connections, serves all pages and has no files, tells no counts and no totals, and has no backends
+-- number of connections, serves all pages and has no files, tells no counts and no totals, has no backends and no warden, and
+-- bounds neither how fast a client sends nor how many connections an address has
 pub record IsUsual (its_port loops : ℕ) (s : Settings) : Type 0 where
   pub host : string_bytes s.host ≡ codes "127.0.0.1"
   pub port : s.port ≡ its_port
@@ -44,3 +45,6 @@ pub record IsUsual (its_port loops : ℕ) (s : Settings) : Type 0 where
   pub metrics : s.metrics ≡ None
   pub report : s.report ≡ None
   pub backends : s.backends ≡ None
+  pub pace : s.pace ≡ None
+  pub connections_from : s.connections_from ≡ None
+  pub warding : s.warding ≡ None

@@ -3,4 +3,7 @@
 
 mod settings;
 
-pub use settings::{LEAST_RECEIVING, MOST_BYTES, NUMBERS, Setting, Settings, TIMING, usual_hub};
+pub use settings::{
+    LEAST_RECEIVING, MOST_BYTES, MOST_RATE, NUMBERS, Pace, Setting, Settings, TIMING, Warding,
+    usual_hub,
+};

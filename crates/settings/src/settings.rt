@@ -1,6 +1,6 @@
 //! The settings of a server: which are usual, and which allow no server.
 
-ghost use Rattle.std.specs.Prelude.{◌≡◌, ◌<◌, None, Some, IfOk};
+ghost use Rattle.std.specs.Prelude.{◌≡◌, ◌<◌, ◌≤◌, None, Some, IfOk};
 ghost use Rattle.settings.specs.Usual as usual;
 ghost use Rattle.settings.specs.Usual.{IsUsual};
 ghost use Rattle.settings.specs.Wrong as rules;
@@ -14,8 +14,8 @@ use std::alloc::{AllocError, Global};
 use std::fmt;
 use terms::Text;
 
-/// The most loops: with the keeper as many workers as an id can tell.
-const MOST_WORKERS: usize = 1_023;
+/// The most workers: as many as an id can tell.
+const MOST_WORKERS: usize = 1_024;
 
 /// The most bytes of a request's body, and of a frame.
 pub const MOST_BYTES: u64 = 1_000_000;
@@ -61,7 +61,7 @@ pub fn usual_hub(alloc: Global) -> Result<Config, AllocError>
 /// A setting that can be wrong.
 #[derive(Clone, Copy, Debug, PartialEq, Eq)]
 pub enum Setting {
-    /// No loop, or more than 1,023.
+    /// No loop, or more than 1,023, or 1,022 where there is a warden.
     Workers,
     /// No connection together.
     Together,
@@ -73,6 +73,10 @@ pub enum Setting {
     MaxPayload,
     /// Too few bytes for what is being received.
     Receiving,
+    /// No event a second or more than 1,000,000, or none at once.
+    Pace,
+    /// No connection from an address.
+    ConnectionsFrom,
     /// The hub allows no such limits or namespaces.
     Limits,
 }
@@ -88,8 +92,31 @@ impl fmt::Display for Setting {
             Setting::Timing => "timing",
             Setting::MaxPayload => "size of payloads",
             Setting::Receiving => "bound of what is received",
+            Setting::Pace => "pace",
+            Setting::ConnectionsFrom => "number of connections from an address",
             Setting::Limits => "limits",
         })
+    }
+}
+
+/// The most events a second of one client that may be said.
+pub const MOST_RATE: u64 = 1_000_000;
+
+/// How fast one client may send.
+#[derive(Clone, Copy, Debug, PartialEq, Eq)]
+pub struct Pace {
+    /// How many events a second, 1 to 1,000,000.
+    pub rate: u64,
+    /// How many at once, at least 1.
+    pub burst: u64,
+}
+
+impl Pace {
+    /// Whether it lets nothing through, or has more events than may be said.
+    fn is_bad(self) -> bool
+        ensures { result ≡ rules.is_bad_pace self }
+    {
+        self.rate == 0 || self.rate > MOST_RATE || self.burst == 0
     }
 }
 
@@ -100,13 +127,23 @@ fn has_no_time(timing: &Timing) -> bool
     timing.ping_interval == 0 || timing.ping_timeout == 0 || timing.connect_timeout == 0
 }
 
+/// By what the sockets of tokens that have expired are ended.
+#[derive(Drop)]
+pub struct Warding {
+    /// The token by which the warden joins its namespace. It stands in no output.
+    pub token: Text,
+    /// The wall clock at moment 0, in seconds since 1970.
+    pub began: u32,
+}
+
 /// What a server is started with.
 #[derive(Drop)]
 pub struct Settings {
     /// The host's name or address, and the port; where it is 0, the system chooses one.
     pub host: String,
     pub port: u16,
-    /// How many loops serve, 1 to 1,023, since the keeper of time is a worker too.
+    /// How many loops serve, 1 to 1,023, since the keeper of time is a worker too, and so is the
+    /// warden, if there is one.
     pub workers: usize,
     /// After how many connections the server ends, if it does.
     pub connections: Option<u64>,
@@ -139,6 +176,12 @@ pub struct Settings {
     /// The namespace of the backends, if there may be some: while much waits for one, its clients
     /// aren't read.
     pub backends: Option<Text>,
+    /// How fast one client may send, if that is bounded: beyond it its connection isn't read.
+    pub pace: Option<Pace>,
+    /// How many connections may be open from one address, at least 1, if that is bounded.
+    pub connections_from: Option<u64>,
+    /// By what the sockets of tokens that have expired are ended, if they are.
+    pub warding: Option<Warding>,
 }
 
 impl Settings {
@@ -162,6 +205,9 @@ impl Settings {
             metrics: None,
             report: None,
             backends: None,
+            pace: None,
+            connections_from: None,
+            warding: None,
         })
     }
 
@@ -180,12 +226,24 @@ impl Settings {
         }
     }
 
+    /// How many workers there are beside the loops: the keeper of time, and the warden, if there is
+    /// one.
+    pub fn aides(&self) -> usize
+        ensures number { result ≡ rules.aides self.now.warding }
+        ensures few { result ≤ 2 }
+    {
+        match self.warding {
+            Some(_) => 2,
+            None => 1,
+        }
+    }
+
     /// The first setting that is wrong, if one is.
     pub fn wrong(&self) -> Option<Setting>
         ensures first { result ≡ wrong_setting self.now }
         ensures some { result ≡ None → 0 < self.now.workers }
     {
-        if self.workers == 0 || self.workers > MOST_WORKERS {
+        if self.workers == 0 || self.workers > MOST_WORKERS - self.aides() {
             Some(Setting::Workers)
         } else if self.together == 0 {
             Some(Setting::Together)
@@ -197,6 +255,10 @@ impl Settings {
             Some(Setting::MaxPayload)
         } else if (self.receiving as u64) < LEAST_RECEIVING {
             Some(Setting::Receiving)
+        } else if self.pace.is_some_and(Pace::is_bad) {
+            Some(Setting::Pace)
+        } else if self.connections_from == Some(0) {
+            Some(Setting::ConnectionsFrom)
         } else if self.hub.is_bad() {
             Some(Setting::Limits)
         } else {

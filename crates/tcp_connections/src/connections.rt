@@ -1,8 +1,9 @@
 //! The connections of a loop, and which of them have something to do.
 
+use crate::pacing::Pacing;
 use crate::service::Service;
 use crate::tcp_connection::{Connection, Mode, Next};
-use loop_rules::{Overdue, Pause, Period, Pressure, Receiving, Roster, Sender};
+use loop_rules::{Overdue, Pace, Pause, Period, Pressure, Receiving, Roster, Sender};
 use mio::event::Event;
 use mio::{Interest, Registry, Token};
 use slab::Slab;
@@ -21,6 +22,8 @@ pub struct Connections<'a, R> {
     pub receiving: Receiving,
     /// Whose clients aren't read, since much waits for their backend.
     pub pressure: Pressure,
+    /// Whose clients send too fast, where that is bounded.
+    pacing: Option<Pacing>,
     /// Those that may have bytes to send, in the order in which they were noted. So a client that
     /// upgrades is told that its probe was heard before its GET ends, and sends no other one.
     unsent: VecDeque<usize>,
@@ -29,7 +32,7 @@ pub struct Connections<'a, R> {
 /// Written out, so that a crate above takes the drop of all that lies in it by this one call.
 impl<R: Drop> Drop for Connections<'_, R> {
     fn drop(self) {
-        let_go!(self; slots, roster, receiving, pressure, unsent);
+        let_go!(self; slots, roster, receiving, pressure, pacing, unsent);
     }
 }
 
@@ -74,13 +77,19 @@ fn forget(receiving: &mut Receiving, key: usize) {
 
 impl<'a, R: Clock + Drop> Connections<'a, R> {
     /// None yet. So many bytes that aren't whole are the loop's share, and for so long at a stretch
-    /// clients aren't read for whose backend much waits.
-    pub fn new(alloc: Global, share: usize, stretch: u64) -> Connections<'a, R> {
+    /// clients aren't read for whose backend much waits. So fast one client may send, if that is bounded.
+    pub fn new(
+        alloc: Global,
+        share: usize,
+        stretch: u64,
+        pace: Option<Pace>,
+    ) -> Connections<'a, R> {
         Connections {
             slots: Slab::new(alloc),
             roster: Roster::new(alloc),
             receiving: Receiving::new(alloc, share),
             pressure: Pressure::new(alloc, stretch),
+            pacing: pace.map(|pace| Pacing::new(alloc, pace)),
             unsent: VecDeque::new(alloc),
         }
     }
@@ -102,12 +111,13 @@ impl<'a, R: Clock + Drop> Connections<'a, R> {
         alloc: Global,
         registry: &Registry,
         mut stream: Stream,
+        from: u128,
         now: u64,
     ) -> Option<usize> {
         let key = self.slots.vacant_key();
         let (token, interests) = (Token(key), Interest::READABLE | Interest::WRITABLE);
         registry.register(&mut stream.inner, token, interests).ok()?;
-        let connection = Connection::new(alloc, stream, now)?;
+        let connection = Connection::new(alloc, stream, from, now)?;
         if !self.roster.rota.admit(key) {
             return None;
         }
@@ -141,24 +151,95 @@ impl<'a, R: Clock + Drop> Connections<'a, R> {
         let sender = self.sender(key);
         let attached = self.bytes_attached(sender);
         let limit = self.receiving.limit(sender).saturating_sub(attached);
-        let is_pressed = self.is_pressed(sender, now);
+        let waits = self.is_pressed(sender, now) || self.is_paced(key, sender, now);
         let Some(connection) = self.slots.get_mut(key) else {
             forget(&mut self.receiving, key);
             return Next::Pauses(Pause::Done);
         };
-        connection.waits = is_pressed;
+        connection.waits = waits;
         connection.read_up_to(limit);
         let is_long = connection.posts && connection.bytes_unfinished() >= limit;
-        let next = if is_long || (is_pressed && connection.posts) {
+        let next = if is_long || (waits && connection.posts) || !self.counts(key, sender, now) {
             Next::Pauses(Pause::Done)
         } else {
-            connection.next(alloc, now)
+            self.next_counted(key, sender, alloc, now)
         };
         self.settle(key, sender, attached, now);
-        if is_long && !is_pressed {
+        if is_long && !waits {
             self.call_unless_held(key);
         }
         next
+    }
+
+    /// Whether a connection waits, since its sender sent too fast. It is looked at again at its moment.
+    fn is_paced(&mut self, key: usize, sender: Sender, now: u64) -> bool {
+        let (Some(pacing), Sender::Client(client)) = (&mut self.pacing, sender) else {
+            return false;
+        };
+        let Some(connection) = self.slots.get_mut(key) else {
+            return false;
+        };
+        let (count, before) = (connection.events_next(), connection.paced);
+        connection.paced = pacing.wait(key, client, count, before, now);
+        connection.paced > 0
+    }
+
+    /// Counts the events of a request that are brought now. Answers whether they may be: where there is no
+    /// memory to count them, they wait for the next beat.
+    fn counts(&mut self, key: usize, sender: Sender, now: u64) -> bool {
+        let (Some(pacing), Sender::Client(client)) = (&mut self.pacing, sender) else {
+            return true;
+        };
+        let Some(connection) = self.slots.get_mut(key) else {
+            return true;
+        };
+        if !connection.posts {
+            return true;
+        }
+        connection.waits = !pacing.bring(client, connection.events, now);
+        !connection.waits
+    }
+
+    /// What a connection does next that needn't wait. A message of a WebSocket is counted; where there is
+    /// no memory for that, it isn't.
+    fn next_counted(&mut self, key: usize, sender: Sender, alloc: Global, now: u64) -> Next {
+        let Some(connection) = self.slots.get_mut(key) else {
+            return Next::Pauses(Pause::Done);
+        };
+        let next = connection.next(alloc, now);
+        if let (Some(pacing), Sender::Client(client)) = (&mut self.pacing, sender) {
+            if next.brings_message() {
+                let _ = pacing.bring(client, 1, now);
+            }
+        }
+        next
+    }
+
+    /// The first moment at which one is to be looked at that waits, since its client sent too fast.
+    pub fn first_paced(&self) -> Option<u64> {
+        self.pacing.as_ref()?.first()
+    }
+
+    /// Calls those of them whose moment has come.
+    pub fn call_paced(&mut self, now: u64) {
+        let Some(pacing) = &mut self.pacing else {
+            return;
+        };
+        for _ in 0..usize::MAX {
+            let Some(key) = pacing.pop_due(now) else {
+                break;
+            };
+            self.roster.rota.call(key);
+        }
+    }
+
+    /// Who sent nothing lately is forgotten. Answers how often one has begun to wait since the last time.
+    pub fn settle_paces(&mut self, now: u64) -> u64 {
+        let Some(pacing) = &mut self.pacing else {
+            return 0;
+        };
+        pacing.forget_full(now);
+        pacing.take_times()
     }
 
     /// Whether much waits for a backend of a sender.
@@ -353,14 +434,17 @@ impl<'a, R: Clock + Drop> Connections<'a, R> {
     /// Does what is to be done with a connection that took too long, or one that is to end. Answers
     /// whether it is to be closed at once.
     pub fn keep_deadline(&mut self, key: usize, cutting: bool, now: u64) -> bool {
-        let is_pressed = self.is_pressed(self.sender(key), now);
+        let sender = self.sender(key);
+        let is_pressed = self.is_pressed(sender, now);
         let Some(connection) = self.slots.get_mut(key) else {
             return false;
         };
-        if is_pressed && connection.posts {
+        let is_paced = connection.paced > now;
+        if (is_pressed || is_paced) && connection.posts {
             connection.keep(now);
+            keep(&mut self.receiving, key, sender, now);
         }
-        if connection.waits && !is_pressed {
+        if connection.waits && !is_pressed && !is_paced {
             self.roster.rota.call(key);
         }
         let (service, takers) = (&connection.service, &self.roster.takers);

@@ -4,6 +4,7 @@
 
 mod connections;
 mod delays;
+mod pacing;
 mod service;
 mod tcp_connection;
 mod watch;

@@ -3,7 +3,7 @@
 use crate::service::{READ, Service, of_peer};
 use events::{Answered, Event, Loss, Outcome, Peer, Retry, WsFrame};
 use http_edge::{EdgeError, Gathered, Request};
-use loop_rules::{Found, Overdue, Pause, Period, find_overdue, left_after_message};
+use loop_rules::{Found, Overdue, Pause, Period, carries, find_overdue, left_after_message};
 use peers::{PROBE, UPGRADE};
 use std::alloc::Global;
 use std::mem;
@@ -39,8 +39,14 @@ pub struct Connection<'a, R> {
     pub unsent: bool,
     /// It stands in the list of those that aren't read on.
     pub held: bool,
-    /// It brings nothing of its client, for which too much waits at a backend.
+    /// It brings nothing of its client, for which too much waits at a backend, or which sent too fast.
     pub(crate) waits: bool,
+    /// The moment until which it waits since its client sent too fast, 0 where it doesn't.
+    pub(crate) paced: u64,
+    /// How many events its request brings.
+    pub events: u64,
+    /// The number of the address from which it comes.
+    pub from: u128,
     /// Its request has packets that it hasn't brought yet.
     pub posts: bool,
     /// It is a WebSocket over which its client speaks.
@@ -64,7 +70,7 @@ pub struct Connection<'a, R> {
 /// Written out, so that a crate above takes the drop of all that lies in it by this one call.
 impl<R: Drop> Drop for Connection<'_, R> {
     fn drop(self) {
-        let_go!(self; unsent, held, waits, posts, speaks, counted, mode, told, since, moved, not_before, asked, service);
+        let_go!(self; unsent, held, waits, paced, events, from, posts, speaks, counted, mode, told, since, moved, not_before, asked, service);
     }
 }
 
@@ -85,6 +91,19 @@ pub enum Next {
     Ends,
 }
 
+impl Next {
+    /// Whether it brings a message of a WebSocket that counts as an event of its client.
+    pub(crate) fn brings_message(&self) -> bool {
+        match self {
+            Next::Brings(Event::Frame { frame, .. }, _) => match frame {
+                WsFrame::Text(text) => carries(text.as_str()),
+                WsFrame::Bytes(_) => true,
+            },
+            _ => false,
+        }
+    }
+}
+
 /// What follows once a connection's bytes were sent.
 #[derive(Drop)]
 pub enum Sent {
@@ -99,12 +118,15 @@ pub enum Sent {
 
 impl<'a, R: Clock + Drop> Connection<'a, R> {
     /// Its request is coming. None where there is no memory for it.
-    pub fn new(alloc: Global, stream: Stream, now: u64) -> Option<Box<Self>> {
+    pub fn new(alloc: Global, stream: Stream, from: u128, now: u64) -> Option<Box<Self>> {
         let gathered = Gathered::new(alloc);
         let connection = Connection {
             unsent: false,
             held: false,
             waits: false,
+            paced: 0,
+            events: 0,
+            from,
             posts: false,
             speaks: false,
             counted: 0,
@@ -167,6 +189,11 @@ impl<'a, R: Clock + Drop> Connection<'a, R> {
             return 0;
         }
         self.service.stream().map_or(0, |stream| stream.unbrought)
+    }
+
+    /// How many events it brings next, of its request or as a WebSocket.
+    pub(crate) fn events_next(&self) -> u64 {
+        if self.posts { self.events } else { 1 }
     }
 
     /// It is read until it has so many bytes that aren't whole. One that receives no more is read to its

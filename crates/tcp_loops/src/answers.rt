@@ -1,15 +1,15 @@
 //! What a loop does with the requests of its connections, and with the answers to their events.
 
 use crate::event_loop::EventLoop;
-use events::{Answered, Cause, CoreError, CoreFault, Done, Outcome};
+use events::{Answered, CoreError, CoreFault, Done, Outcome};
 use http_edge::{EdgeError, Request, Status, Target, direct};
-use loop_rules::{Decision, owner_of};
+use loop_rules::{Decision, carried, owner_of};
 use metrics::Reason;
 use peers::{Moments, Response, is_noop, response_to_fault};
 use std::rt::Clock;
 use std::sync::Wait;
 use tcp_connections::Mode;
-use tcp_streams::{Handed, Log};
+use tcp_streams::{Ending, Handed, Log};
 
 impl<R: Wait + Clock + Copy + Drop, L: Log> EventLoop<'_, R, L> {
     /// Answers where no request was read.
@@ -37,6 +37,7 @@ impl<R: Wait + Clock + Copy + Drop, L: Log> EventLoop<'_, R, L> {
         let base = self.base;
         match direct(base.alloc, &base.rules.origins, &mut request) {
             Ok(Target::NotFound) if base.rules.asks_for_counts(&request) => {
+                base.shared.counts.lock(base.rt).note_request(self.number);
                 let Ok(text) = base.shared.counts.lock(base.rt).text(base.alloc) else {
                     return self.refuse(key, EdgeError::Memory);
                 };
@@ -62,12 +63,16 @@ impl<R: Wait + Clock + Copy + Drop, L: Log> EventLoop<'_, R, L> {
         if owner == self.number {
             return self.serve(key, request, target);
         }
-        let taken = self.connections.take(key);
-        if let Some(mut stream) = taken.and_then(|mut taken| taken.service.take_stream()) {
+        let Some(mut taken) = self.connections.take(key) else {
+            return;
+        };
+        let from = taken.from;
+        if let Some(mut stream) = taken.service.take_stream() {
             // The loop hears no more of it.
             let _ = self.ears.poll.registry().deregister(&mut stream.inner);
             let handed = Handed {
                 stream,
+                from,
                 request,
                 target,
             };
@@ -76,19 +81,27 @@ impl<R: Wait + Clock + Copy + Drop, L: Log> EventLoop<'_, R, L> {
                 return;
             }
         }
-        base.shared.note_closed(base.rt);
+        base.shared.note_closed(base.rt, from);
     }
 
     /// Begins to serve a request. A GET of a client that was told just so that nothing waits is served
     /// a little later.
     pub(crate) fn serve(&mut self, key: usize, request: Box<Request>, target: Target) {
         let now = self.watch.now();
+        let posts = matches!(target, Target::Post(_));
+        let is_paced = posts && self.base.rules.pace.is_some();
+        let events = if is_paced {
+            carried(request.body.as_str())
+        } else {
+            0
+        };
         if let Some(connection) = self.connections.get_mut(key) {
             let (base, watch) = (self.base, self.watch);
             let service = &mut connection.service;
             let served = service.serve(base.alloc, request, target, watch, base.rules);
             connection.turn_to(served.unwrap_or(Mode::Closes), now);
-            connection.posts = matches!(target, Target::Post(_));
+            connection.posts = posts;
+            connection.events = events;
             connection.not_before = self.delays.delay(target, key, now);
             self.connections.note_whole(key);
         }
@@ -152,7 +165,7 @@ impl<R: Wait + Clock + Copy + Drop, L: Log> EventLoop<'_, R, L> {
         match got {
             Ok(Outcome::Lost { done, .. }) => {
                 self.wake_for(done);
-                self.note_end(client, None, now);
+                self.note_end(client, got, now);
             }
             Err(error) if error.fault == CoreFault::UnknownClient => {
                 self.connections.note_attached(client, 0, now);
@@ -201,9 +214,9 @@ impl<R: Wait + Clock + Copy + Drop, L: Log> EventLoop<'_, R, L> {
             }
             Ok(Outcome::Begun) => self.connections.assign(client, key),
             Ok(Outcome::Probed(_)) => self.connections.roster.wake(client),
-            Ok(Outcome::Lost { .. }) => self.note_end(client, None, now),
+            Ok(Outcome::Lost { .. }) => self.note_end(client, got, now),
             Ok(Outcome::Done(done) | Outcome::Ticked { done, .. }) if done.closed.is_some() => {
-                self.note_end(client, done.closed, now);
+                self.note_end(client, got, now);
             }
             // What it brought over this connection may have put something for itself.
             Ok(Outcome::Done(_)) if !self.connections.roster.takers.is_taker(client, key) => {
@@ -219,7 +232,7 @@ impl<R: Wait + Clock + Copy + Drop, L: Log> EventLoop<'_, R, L> {
     fn note_error(&mut self, client: u128, key: usize, error: &CoreError, now: u64) {
         if error.fault == CoreFault::UnknownClient {
             self.connections.note_attached(client, 0, now);
-            self.base.note_end(client, None, now);
+            self.base.note_end(client, Ending::Gone, now);
         }
         self.connections.note_failed(client);
         let has_done = error.packets > 0 || error.effects > 0;
@@ -229,11 +242,13 @@ impl<R: Wait + Clock + Copy + Drop, L: Log> EventLoop<'_, R, L> {
         self.notes.everyone |= has_done;
     }
 
-    /// A client has ended, which its waiting GET is to be told.
-    fn note_end(&mut self, client: u128, cause: Option<Cause>, now: u64) {
+    /// A client has ended as the answer says, which its waiting GET is to be told.
+    fn note_end(&mut self, client: u128, got: &Answered, now: u64) {
         self.connections.note_attached(client, 0, now);
         self.connections.pressure.forget(client);
         self.connections.roster.wake(client);
-        self.base.note_end(client, cause, now);
+        if let Some(ending) = Ending::of(got) {
+            self.base.note_end(client, ending, now);
+        }
     }
 }

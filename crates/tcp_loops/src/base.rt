@@ -1,12 +1,11 @@
 //! What all workers go by.
 
-use events::Cause;
 use loop_rules::Notes;
 use std::alloc::Global;
 use std::mem;
 use std::sync::{Arc, Wait};
 use tcp_connections::Watch;
-use tcp_streams::{Ended, Log, Rules, Seen, Shared};
+use tcp_streams::{Ended, Ending, Log, Rules, Seen, Shared};
 
 /// What all workers go by: through it a loop, or the keeper, speaks to the others.
 #[derive(Drop)]
@@ -62,14 +61,14 @@ impl<R: Wait, L: Log> Base<'_, R, L> {
     }
 
     /// A client has ended, of which the log is told.
-    pub fn note_end(&self, client: u128, cause: Option<Cause>, now: u64) {
+    pub fn note_end(&self, client: u128, ending: Ending, now: u64) {
         let lives = self.shared.lives.as_ref();
         let life = lives.and_then(|lives| lives.lock(self.rt).remove(&client));
         if let Some((since, socket)) = life {
             self.log.client_ended(&Ended {
                 client,
                 socket,
-                cause,
+                ending,
                 lived: now.saturating_sub(since),
             });
         }

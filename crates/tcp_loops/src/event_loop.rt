@@ -11,7 +11,7 @@ use std::rt::Clock;
 use std::sync::Wait;
 use std::time::Duration;
 use tcp_connections::{Connection, Connections, Delays, Next, Sent, Watch};
-use tcp_streams::{Buffered, Ears, Handed, Inbox, Log, Stream};
+use tcp_streams::{Accepted, Buffered, Ears, Handed, Inbox, Log, Rules, Stream};
 
 /// How many reports of streams one wait takes.
 const EVENTS: usize = 256;
@@ -65,6 +65,11 @@ pub struct EventLoop<'a, R, L> {
     forgets: u64,
 }
 
+/// No connections yet, of a loop that goes by these rules.
+fn connections_for<'a, R: Clock + Drop>(alloc: Global, rules: &Rules) -> Connections<'a, R> {
+    Connections::new(alloc, rules.share(), rules.stretch(), rules.pace)
+}
+
 impl<'a, R: Wait + Clock + Copy + Drop, L: Log> EventLoop<'a, R, L> {
     /// A loop without connections.
     pub fn new(base: &'a Base<'a, R, L>, number: usize, ears: Ears) -> Result<Self, AllocError> {
@@ -75,7 +80,7 @@ impl<'a, R: Wait + Clock + Copy + Drop, L: Log> EventLoop<'a, R, L> {
             watch: base.watch,
             ears,
             events: Events::with_capacity(alloc, EVENTS)?,
-            connections: Connections::new(alloc, base.rules.share(), base.rules.stretch()),
+            connections: connections_for(alloc, base.rules),
             mail: Mail::new(alloc),
             notes: Notes::new(alloc, base.rules.loops)?,
             delays: Delays::new(alloc),
@@ -179,6 +184,7 @@ impl<'a, R: Wait + Clock + Copy + Drop, L: Log> EventLoop<'a, R, L> {
             return 0;
         }
         let due = self.delays.first().unwrap_or(self.beat).min(self.beat);
+        let due = self.connections.first_paced().unwrap_or(due).min(due);
         due.saturating_sub(self.watch.now()).min(BEAT)
     }
 
@@ -211,12 +217,14 @@ impl<'a, R: Wait + Clock + Copy + Drop, L: Log> EventLoop<'a, R, L> {
             };
             self.connections.roster.rota.call(key);
         }
+        self.connections.call_paced(now);
         if now < self.beat && !everyone {
             return;
         }
         self.beat = now.saturating_add(BEAT);
         self.gives_up = true;
         self.delays.forget_old(now);
+        self.settle_paces(now);
         self.forget_digits(now);
         let cutting = self.base.shared.standing(self.base.rt).cutting;
         for key in 0..self.connections.keys_below() {
@@ -224,6 +232,15 @@ impl<'a, R: Wait + Clock + Copy + Drop, L: Log> EventLoop<'a, R, L> {
             if self.connections.keep_deadline(key, cutting, now) {
                 self.close(key);
             }
+        }
+    }
+
+    /// Once a beat who sent nothing lately is forgotten, and how often one sent too fast is counted.
+    fn settle_paces(&mut self, now: u64) {
+        let times = self.connections.settle_paces(now);
+        if times > 0 {
+            let base = self.base;
+            base.shared.counts.lock(base.rt).note_paced(times);
         }
     }
 
@@ -242,19 +259,19 @@ impl<'a, R: Wait + Clock + Copy + Drop, L: Log> EventLoop<'a, R, L> {
     fn add_streams(&mut self) {
         for _ in 0..STREAMS {
             let base = self.base;
-            let Ok(stream) = self.ears.streams.try_recv(base.rt) else {
+            let Ok(Accepted { stream, from }) = self.ears.streams.try_recv(base.rt) else {
                 break;
             };
             let counts = &base.shared.counts;
             counts.lock(base.rt).note_connection(self.number);
             let stream = Buffered::new(base.alloc, stream);
-            let _ = self.add(Box::new(base.alloc, stream).ok());
+            let _ = self.add(Box::new(base.alloc, stream).ok(), from);
         }
         for _ in 0..usize::MAX {
             let Some(handed) = self.mail.handed.pop() else {
                 return;
             };
-            if let Some(key) = self.add(Some(handed.stream)) {
+            if let Some(key) = self.add(Some(handed.stream), handed.from) {
                 self.serve(key, handed.request, handed.target);
                 self.connections.roster.rota.call(key);
             }
@@ -263,12 +280,14 @@ impl<'a, R: Wait + Clock + Copy + Drop, L: Log> EventLoop<'a, R, L> {
 
     /// Adds a stream, where there was memory for it, and has its readiness told. One that can't be
     /// added is closed.
-    fn add(&mut self, stream: Option<Stream>) -> Option<usize> {
+    fn add(&mut self, stream: Option<Stream>, from: u128) -> Option<usize> {
         let (alloc, now) = (self.base.alloc, self.watch.now());
         let registry = self.ears.poll.registry();
-        let key = stream.and_then(|stream| self.connections.add(alloc, registry, stream, now));
+        let key = stream.and_then(|stream| self
+            .connections
+            .add(alloc, registry, stream, from, now));
         if key.is_none() {
-            self.base.shared.note_closed(self.base.rt);
+            self.base.shared.note_closed(self.base.rt, from);
         }
         key
     }
@@ -327,8 +346,8 @@ impl<'a, R: Wait + Clock + Copy + Drop, L: Log> EventLoop<'a, R, L> {
 
     /// A connection is over.
     fn close(&mut self, key: usize) {
-        if self.connections.take(key).is_some() {
-            self.base.shared.note_closed(self.base.rt);
+        if let Some(connection) = self.connections.take(key) {
+            self.base.shared.note_closed(self.base.rt, connection.from);
         }
     }
 }

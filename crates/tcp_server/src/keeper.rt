@@ -1,10 +1,13 @@
 //! The keeper: a peer that brings what the passing of time brings, for all clients.
 
-use events::{Answered, CoreFault, Event, Outcome, Peer, PeerFault};
+ghost use Rattle.std.specs.Prelude.{◌≡◌};
+ghost use Rattle.tcp_server.specs.Keeping as keeping;
+
+use events::{Answered, CoreFault, Done, Event, Outcome, Peer, PeerFault};
 use hub_gate::Locked;
 use hub_totals::Pass;
 use loop_rules::{Notes, loop_of};
-use metrics::{CoreCounts, Sizes};
+use metrics::{CoreCounts, Reason, Sizes};
 use peers::Moments;
 use std::alloc::{AllocError, Global};
 use std::mem;
@@ -14,12 +17,13 @@ use std::sync::ledger::Ledger;
 use std::time::Duration;
 use std::vec::IntoIter;
 use tcp_loops::{Base, Watch};
-use tcp_streams::Log;
+use tcp_streams::{Ending, Log};
 
 /// How long a round is, in milliseconds: each client is asked once a round what is due to it.
 const ROUND: u64 = 1_000;
 
-/// How often the log is told at the most what reached no backend, in milliseconds.
+/// How often the log is told at the most what reached no backend, and what came from addresses that had
+/// many connections, in milliseconds.
 const MINUTE: u64 = 60_000;
 
 /// How often in a round the journal is looked at.
@@ -30,6 +34,37 @@ const STEPS: usize = 65_536;
 
 /// And one whose entries hold so many bytes.
 const BYTES: u64 = 67_108_864;
+
+/// What is asked of the next client of a round; once all were asked about, the hub sweeps.
+fn event_of(client: Option<u128>) -> Event
+    ensures { result ≡ keeping.event_of client }
+{
+    match client {
+        Some(client) => Event::Tick { client },
+        None => Event::Sweep,
+    }
+}
+
+/// How many more there are of what is counted than the log was told of, where it is to be told now.
+fn more_to_tell(sum: u64, told: u64, now: u64, from: u64) -> Option<u64>
+    ensures { result ≡ keeping.more_to_tell sum told now from }
+{
+    (sum > told && now >= from).then(|| sum - told)
+}
+
+/// Whether the client that was asked about has to be looked at: a ping is due to it, or it has ended.
+fn has_news(ping: bool, done: &Done) -> bool
+    ensures { result ≡ keeping.has_news ping done.now }
+{
+    ping || done.closed.is_some()
+}
+
+/// Whether nobody knows whom an event concerned: it failed, and not since its client was gone.
+fn hides_whom(got: &Answered) -> bool
+    ensures { result ≡ keeping.hides_whom got.now }
+{
+    matches!(got, Err(error) if !matches!(error.fault, CoreFault::UnknownClient))
+}
 
 /// Asks for each client what is due to it, has the hub sweep, and seals its journal.
 #[derive(Drop)]
@@ -52,6 +87,8 @@ pub(crate) struct Keeper<'a, 'c, R, L, C: Ledger, T: Ledger> {
     /// from which on it may be told again.
     unheard: u64,
     remark: u64,
+    /// How many connections had been refused as those of addresses with many, when that was told last.
+    crowded: u64,
 }
 
 impl<'a, 'c, R: Wait + Clock + Copy, L: Log, C: Ledger, T: Ledger> Keeper<'a, 'c, R, L, C, T> {
@@ -73,6 +110,7 @@ impl<'a, 'c, R: Wait + Clock + Copy, L: Log, C: Ledger, T: Ledger> Keeper<'a, 'c
             report: 0,
             unheard: 0,
             remark: 0,
+            crowded: 0,
         })
     }
 
@@ -82,13 +120,15 @@ impl<'a, 'c, R: Wait + Clock + Copy, L: Log, C: Ledger, T: Ledger> Keeper<'a, 'c
         let core = self.locked.look(self.base.rt, &mut self.pass);
         let state = core.hub().state();
         let (sockets, rooms) = state.mirrors();
+        // The warden's client, its socket and the room of that are nobody's.
+        let own = u64::from(self.base.rules.warding.is_some());
         CoreCounts {
             totals: state.totals(),
             unheard,
             sizes: Sizes {
-                clients: core.clients_len() as u64,
-                sockets: sockets.len() as u64,
-                rooms: rooms.len() as u64,
+                clients: (core.clients_len() as u64).saturating_sub(own),
+                sockets: (sockets.len() as u64).saturating_sub(own),
+                rooms: (rooms.len() as u64).saturating_sub(own),
                 saved: state.saved_len() as u64,
                 logged: state.log_len() as u64,
             },
@@ -101,12 +141,29 @@ impl<'a, 'c, R: Wait + Clock + Copy, L: Log, C: Ledger, T: Ledger> Keeper<'a, 'c
         backends.map_or(0, |backends| backends.unheard(self.base.rt))
     }
 
-    /// Tells the log once a minute how many more events of clients went to no backend.
-    fn note_unheard(&mut self) {
-        let (sum, now) = (self.unheard(), self.watch.now());
-        if sum > self.unheard && now >= self.remark {
-            self.base.log.unheard(sum - self.unheard);
-            self.unheard = sum;
+    /// How many connections were refused as those of addresses with many.
+    fn crowded(&self) -> u64 {
+        let counts = self.base.shared.counts.lock(self.base.rt);
+        let refused = counts.refused.get(Reason::ManyFromAddress as usize);
+        refused.map_or(0, |refused| refused.count)
+    }
+
+    /// Tells the log once a minute how many more events of clients went to no backend, and how many more
+    /// connections were refused as those of addresses with many.
+    fn remark(&mut self) {
+        let now = self.watch.now();
+        let (unheard, crowded) = (self.unheard(), self.crowded());
+        let more_unheard = more_to_tell(unheard, self.unheard, now, self.remark);
+        let more_crowded = more_to_tell(crowded, self.crowded, now, self.remark);
+        if let Some(count) = more_unheard {
+            self.base.log.unheard(count);
+            self.unheard = unheard;
+        }
+        if let Some(count) = more_crowded {
+            self.base.log.crowded(count);
+            self.crowded = crowded;
+        }
+        if more_unheard.is_some() || more_crowded.is_some() {
             self.remark = now.saturating_add(MINUTE);
         }
     }
@@ -140,7 +197,7 @@ impl<'a, 'c, R: Wait + Clock + Copy, L: Log, C: Ledger, T: Ledger> Keeper<'a, 'c
             let _ = self.locked.seal(base.rt, base.alloc, STEPS, BYTES);
         }
         self.note_counts();
-        self.note_unheard();
+        self.remark();
         // Where there is no memory for the list, they are asked about in the next round.
         let core = self.locked.look(base.rt, &mut self.pass);
         let clients = core.clients(base.alloc);
@@ -166,38 +223,28 @@ impl<R: Wait + Clock + Copy, L: Log, C: Ledger, T: Ledger> Peer for Keeper<'_, '
         let Some(clients) = &mut self.clients else {
             return Ok(None);
         };
-        let event = match clients.next() {
-            Some(client) => {
-                self.client = client;
-                Event::Tick { client }
-            }
-            None => {
-                self.clients = None;
-                Event::Sweep
-            }
-        };
-        Ok(Some((event, self.watch.now())))
+        let client = clients.next();
+        match client {
+            Some(client) => self.client = client,
+            None => self.clients = None,
+        }
+        Ok(Some((event_of(client), self.watch.now())))
     }
 
     fn answer(&mut self, got: &Answered) -> Result<(), PeerFault> {
         let _ = self.base.take_seen(self.base.rules.loops);
-        match got {
-            Ok(Outcome::Ticked { ping, done }) => {
-                let has_ended = done.closed.is_some();
-                if *ping || has_ended {
-                    self.note(self.client);
-                }
-                if has_ended {
-                    let now = self.watch.now();
-                    self.base.note_end(self.client, done.closed, now);
-                }
-                for client in done.clients.lists().iter().flatten() {
-                    self.note(*client);
-                }
+        // What was put before a fault isn't told, nor whether the client was given up.
+        self.notes.everyone |= hides_whom(got);
+        if let Ok(Outcome::Ticked { ping, done }) = got {
+            if has_news(*ping, done) {
+                self.note(self.client);
             }
-            // What was put before the fault isn't told, nor whether the client was given up.
-            Err(error) if error.fault != CoreFault::UnknownClient => self.notes.everyone = true,
-            _ => {}
+            if let Some(ending) = Ending::of(got) {
+                self.base.note_end(self.client, ending, self.watch.now());
+            }
+            for client in done.clients.lists().iter().flatten() {
+                self.note(*client);
+            }
         }
         Ok(())
     }

@@ -3,11 +3,17 @@
 //! standard input.
 #![tactic(auto)]
 
+mod aide;
 mod backend_gate;
 mod keeper;
 mod program;
+mod secret;
 mod server;
+mod wall_clock;
+mod warden;
 
 pub use program::{ErrorLog, end_with, listen, processors, serve, wait_for_end};
+pub use secret::draw_secret;
 pub use server::Server;
-pub use tcp_streams::{Ended, Log, ServerFault, Shared};
+pub use tcp_streams::{Ended, Ending, Log, ServerFault, Shared};
+pub use wall_clock::seconds_now;

@@ -1,6 +1,9 @@
 //! A server as a program: it tells where it listens, serves any app, and tells what it did and how it
 //! ended.
 
+ghost use Rattle.std.specs.Prelude.{◌≡◌, ◌<◌, ◌≤◌};
+ghost use Rattle.tcp_server.specs.Telling as telling;
+
 use crate::server::Server;
 use events::App;
 use hub_gate::Report;
@@ -15,7 +18,7 @@ use std::sync::{Arc, Wait};
 use std::thread::Threads;
 use std::time::Duration;
 use std::{io, thread};
-use tcp_streams::{Ended, Log, ServerFault, Shared};
+use tcp_streams::{Ended, Ending, Log, ServerFault, Shared};
 
 /// How long what is open may take to end once standard input has ended, in milliseconds.
 const GRACE: u64 = 5_000;
@@ -31,6 +34,26 @@ pub struct ErrorLog<R> {
     pub verbose: bool,
 }
 
+/// The transport over which a client spoke last.
+fn transport_name(socket: bool) -> &'static str
+    ensures { result.now ≡ telling.transport_name socket }
+{
+    if socket { "websocket" } else { "polling" }
+}
+
+/// How a client ended, in words, and its cause, if it was closed for one.
+fn words_of(ending: Ending) -> (&'static str, &'static str)
+    ensures words { result.0.now ≡ telling.ending_words ending }
+    ensures cause { result.1.now ≡ telling.ending_cause ending }
+{
+    match ending {
+        Ending::Closed(cause) => ("closed: ", cause.name()),
+        Ending::Saved => ("lost", ""),
+        Ending::Unsaved => ("lost, not saved", ""),
+        Ending::Gone => ("gone", ""),
+    }
+}
+
 impl<R: Eprint> Log for ErrorLog<R> {
     fn hears_clients(&self) -> bool {
         self.verbose
@@ -38,22 +61,25 @@ impl<R: Eprint> Log for ErrorLog<R> {
 
     fn client_ended(&self, ended: &Ended) {
         let (id, lived) = (ended.client, ended.lived);
-        let transport = if ended.socket { "websocket" } else { "polling" };
-        let _ = match ended.cause {
-            Some(cause) => {
-                let cause = cause.name();
-                eprintln!(self.rt;
-                    "client {id:032x}, {transport}, closed: {cause}, after {lived} ms"
-                )
-            }
-            None => eprintln!(self.rt; "client {id:032x}, {transport}, lost, after {lived} ms"),
-        };
+        let transport = transport_name(ended.socket);
+        let (how, cause) = words_of(ended.ending);
+        let _ = eprintln!(self.rt; "client {id:032x}, {transport}, {how}{cause}, after {lived} ms");
     }
 
     fn unheard(&self, count: u64) {
         if self.verbose {
             let _ = eprintln!(self.rt; "went to no backend: {count}");
         }
+    }
+
+    fn crowded(&self, count: u64) {
+        if self.verbose {
+            let _ = eprintln!(self.rt; "connections from addresses with too many: {count}");
+        }
+    }
+
+    fn warden_lost(&self) {
+        let _ = eprintln!(self.rt; "the warden lost its client: who came meanwhile isn't ended");
     }
 
     fn totals(&self, totals: Totals) {
@@ -121,6 +147,9 @@ pub fn end_with<R: Eprint, E: Display + Drop>(
 }
 
 /// How many threads serve where nobody says how many.
-pub fn processors(rt: &impl Threads) -> usize {
+pub fn processors(rt: &impl Threads) -> usize
+    ensures some { 0 < result }
+    ensures few { result ≤ 8 }
+{
     thread::available_parallelism(rt).map_or(1, |number| number.get().min(MOST_WORKERS))
 }

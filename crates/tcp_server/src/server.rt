@@ -3,10 +3,13 @@
 ghost use Rattle.std.specs.Prelude.{◌≡◌, ◌+◌, None, Err, IfOk, IfSome, OnOk, sum_by};
 ghost use Rattle.hub_totals.specs.Pass.{IsBlankOf};
 ghost use Rattle.settings.specs.Wrong.{wrong_setting};
+ghost use Rattle.tcp_server.specs.Faults.{fault_of_core, fault_of_serving};
 ghost use Rattle.tcp_streams.specs.declared.fault.ServerFault.TheVariants.{BadSetting};
 
+use crate::aide::Aide;
 use crate::backend_gate::BackendGate;
 use crate::keeper::Keeper;
+use crate::warden::Warden;
 use dispatch::Core;
 use events::{App, CoreFault, Peer};
 use hub_gate::{Locked, Pool, Report, ServeError, serve_peers};
@@ -19,10 +22,10 @@ use std::net::Net;
 use std::random::RandomSource;
 use std::rt::Clock;
 use std::sync::ledger::{Blank, Ledger};
-use std::sync::{Arc, Wait};
+use std::sync::{Arc, Mutex, Wait};
 use std::thread::Threads;
 use std::time::Instant;
-use tcp_loops::{Base, Watch, sources, start_accepting, workers_for};
+use tcp_loops::{Base, Watch, Worker, sources, start_accepting, workers_for};
 use tcp_streams::{
     Acceptor, Ears, Log, Rules, ServerFault, Shared, acceptor_for, backends_for, ears_for,
     rules_and_limits,
@@ -67,7 +70,8 @@ impl<L: Log + Sync + Drop> Server<L> {
         let (port, acceptor, bell) = acceptor_for(rt, alloc, &settings)?;
         let (ears, inboxes) = ears_for(rt, alloc, settings.workers)?;
         let backends = backends_for(alloc, &settings)?;
-        let shared = Shared::new(alloc, inboxes, bell, backends, log.hears_clients())?;
+        let (hears, most) = (log.hears_clients(), settings.connections_from);
+        let shared = Shared::new(alloc, inboxes, bell, backends, hears, most)?;
         let (rules, hub) = rules_and_limits(alloc, settings)?;
         Ok(Server {
             log,
@@ -91,7 +95,8 @@ impl<L: Log + Sync + Drop> Server<L> {
     }
 
     /// Serves until it is stopped, or had as many connections as it was to have; then all threads have
-    /// ended, and their counts add up to the hub's totals. The last worker is the keeper.
+    /// ended, and their counts add up to the hub's totals. The last workers are the keeper, and the warden, if
+    /// there is one.
     pub fn run<
         R: Threads + Wait + Clock + RandomSource + Copy + Drop + Sync + Send + 'static,
         A: App + Sync,
@@ -124,7 +129,7 @@ impl<L: Log + Sync + Drop> Server<L> {
 }
 
 /// Serves over a new core, whose ledgers have no other: accepts, and serves by a loop with each of
-/// these ears and by the keeper, until all have ended.
+/// these ears, by the keeper and by the warden, if there is one, until all have ended.
 fn run_in<
     'a,
     C: Ledger + Send + Sync,
@@ -149,9 +154,33 @@ fn run_in<
         r.totals.taken ≡ sum_by (λ w. w.taken) r.workers.items) }
 {
     let (locked, pass, looks) = lock_core::<C, T>(base.alloc, hub, base.rules, commands, taken)?;
-    let keeper = Keeper::new(base, &*locked, looks)?;
-    let workers = workers_for(base, ears, keeper)?;
+    let keeper = Aide::Keeper(Keeper::new(base, &*locked, looks)?);
+    let mut workers = workers_for(base, ears, keeper)?;
+    if let Some(warding) = &base.rules.warding {
+        workers.push(Worker::Keeps(Aide::Warden(Warden::new(base, warding)?)))?;
+    }
     serve_all(base, app, &*locked, pass, acceptor, workers)
+}
+
+/// Why a server fails whose workers couldn't be served.
+fn fault_of_serving(error: &ServeError) -> ServerFault
+    ensures { result ≡ fault_of_serving error.now }
+{
+    match error {
+        ServeError::Memory => ServerFault::Memory(AllocError),
+        ServeError::NotAll(_) => ServerFault::Books,
+        _ => ServerFault::Starting,
+    }
+}
+
+/// Why a server fails whose core couldn't be made.
+fn fault_of_core(fault: CoreFault) -> ServerFault
+    ensures { result ≡ fault_of_core fault }
+{
+    match fault {
+        CoreFault::Memory => ServerFault::Memory(AllocError),
+        _ => ServerFault::BadSetting(Setting::Limits),
+    }
 }
 
 /// Accepts, and serves by these workers, until all have ended.
@@ -182,6 +211,8 @@ fn serve_all<
         rt: base.rt,
         alloc: base.alloc,
         backends: base.shared.backends.as_ref(),
+        pressed: Mutex::new(Vec::new(base.alloc)),
+        has_warden: base.rules.warding.is_some(),
     };
     let pool = Pool {
         rt: base.rt,
@@ -196,9 +227,7 @@ fn serve_all<
     accepting.join(base.rt);
     match served {
         Ok(settled) => Ok(settled.report),
-        Err(ServeError::Memory) => Err(ServerFault::Memory(AllocError)),
-        Err(ServeError::NotAll(_)) => Err(ServerFault::Books),
-        Err(_) => Err(ServerFault::Starting),
+        Err(error) => Err(fault_of_serving(&error)),
     }
 }
 
@@ -218,10 +247,7 @@ fn lock_core<C: Ledger, T: Ledger>(
     let made = Core::new(alloc, hub, rules.timing, rules.numbers, commands, taken);
     let (mut core, pass) = match made {
         Ok(made) => made,
-        Err(error) if error.fault == CoreFault::Memory => {
-            return Err(ServerFault::Memory(AllocError));
-        }
-        Err(_) => return Err(ServerFault::BadSetting(Setting::Limits)),
+        Err(error) => return Err(fault_of_core(error.fault)),
     };
     let looks = core.new_pass().map_err(|_| ServerFault::Starting)?;
     Ok((Box::new(alloc, Locked::new(core))?, pass, looks))

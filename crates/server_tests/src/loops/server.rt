@@ -40,7 +40,11 @@ impl Log for Deaf {
 
     fn client_ended(&self, _ended: &Ended) {}
 
+    fn crowded(&self, _count: u64) {}
+
     fn unheard(&self, _count: u64) {}
+
+    fn warden_lost(&self) {}
 
     fn totals(&self, _totals: Totals) {}
 }

@@ -5,6 +5,9 @@ use Rattle.metrics.proofs.metrics.Metrics.text.Goals as goal
 pub returns : goal.returns
 unfolding text_of
 returns c = rw (
+  c.in_ok-push_str-6.ensures.bytes,
+  c.as_str-6.ensures.value,
+  c.in_ok-paced_text.ensures,
   c.in_ok-push_str-5.ensures.bytes,
   c.as_str-5.ensures.value,
   c.in_ok-refused_text.ensures,
