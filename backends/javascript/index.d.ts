@@ -45,7 +45,7 @@ export interface RemoteSocket extends Sending {
 export interface Socket extends Emitter, RemoteSocket {
   readonly server: Backend;
   readonly rooms: Set<string>;
-  readonly handshake: { auth: { [key: string]: any } };
+  readonly handshake: { auth: { [key: string]: any }; claims: { [key: string]: any } };
   readonly connected: boolean;
   readonly disconnected: boolean;
   readonly recovered: boolean;

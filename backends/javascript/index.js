@@ -25,7 +25,7 @@ class Backend {
       missed: () => this.#sort(),
       failed: (error) => this.#failed(error),
       refused: (error) => this.refused(error),
-      happened: (...args) => this.#happened(...args),
+      happened: (link, kind, args) => this.#happened(link, kind, args),
     });
     this.sockets = this.of("/");
   }
@@ -92,7 +92,7 @@ class Backend {
     const isLast = this.nodes.links.every(({ hasEnded }) => hasEnded);
     if (isLast && heard) this.ready.catch(() => {});
     if (isLast) this.#settle.reject(error);
-    if (heard || (isLast && this.#isReady)) tell(this.sockets, "error", error);
+    if (heard || (isLast && this.#isReady)) tell(this.sockets, ["error", error]);
     else if (!isLast) console.error(`daghzimo-backend: ${error.message}`);
     this.#sort();
   }
@@ -100,13 +100,14 @@ class Backend {
   // The server refused a command, or it couldn't be sent, and the program doesn't wait for its outcome.
   refused(error) {
     const where = error.node && this.nodes.links.length > 1 ? ` (${error.node})` : "";
-    if (this.sockets.listenerCount("command_error")) tell(this.sockets, "command_error", error);
+    if (this.sockets.listenerCount("command_error")) tell(this.sockets, ["command_error", error]);
     else console.error(`daghzimo-backend: ${error.command}: ${error.message}${where}`);
   }
 
-  #happened(link, kind, name, ...rest) {
+  #happened(link, kind, args) {
+    const name = args[0];
     const space = this.#spaces.get(name);
-    if (space) space._happened(link, kind, ...rest);
+    if (space) space._happened(link, kind, args);
     else if (name !== "/backend") warnOnce(`what happens in ${name} is ignored until io.of("${name}") is called`);
   }
 }

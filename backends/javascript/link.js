@@ -15,6 +15,9 @@ async function installedClient() {
   }
 }
 
+// The stream under a client, where its WebSocket is one of the package `ws`. Where it is another, or there is none, nothing.
+const streamOf = (client) => client.io?.engine?.transport?.ws?._socket;
+
 export class Link {
   connected = false;
   isAway = false; // it couldn't be reached since it was connected, or has refused this backend
@@ -24,6 +27,8 @@ export class Link {
   #waiting = []; // commands that were given while it is away
   #flying = new Set(); // those that were sent and have to be answered
   #heard = new Map(); // digit -> questions that need it
+  #isInTurn = false; // a command was sent in this turn of the event loop
+  #corked = null; // the stream that holds back what is written to it
 
   // `hasPeers`: there are other nodes. `told` has a function for each thing that happens: joined, lost, missed, failed, refused,
   // happened.
@@ -52,7 +57,7 @@ export class Link {
       else this.#fail(new Error(`the server${this.hasPeers ? ` at ${this.url}` : ""} refused this backend: ${error.message}`));
     });
     for (const kind of ["connection", "event", "answer", "disconnection"]) {
-      this.#client.on(kind, (...args) => this.#ended || this.told.happened(this, kind, ...args));
+      this.#client.on(kind, (...args) => this.#ended || this.told.happened(this, kind, args));
     }
   }
 
@@ -141,7 +146,13 @@ export class Link {
   #send(command) {
     const { name, args, done } = command;
     const options = typeof command.options === "function" ? command.options() : command.options;
-    if (!done) return this.#client.emit(name, options, ...args);
+    if (done) this.#ask(command, options);
+    else this.#client.emit(name, options, ...args);
+    this.#gather();
+  }
+
+  #ask(command, options) {
+    const { name, args, done } = command;
     this.#client.emit(name, options, ...args, (status, value) => {
       if (!this.#flying.has(command)) return;
       if (status !== "ok") return this.#refuse(command, commandError(name, value));
@@ -149,6 +160,26 @@ export class Link {
       done(null, value);
     });
     this.#flying.add(command);
+  }
+
+  // Is called behind each command. The first of a turn of the event loop is written at once, so that the server begins, and those
+  // behind it in one piece: a write is a fifth of what an event costs.
+  #gather() {
+    if (this.#corked) return;
+    if (this.#isInTurn) {
+      this.#corked = streamOf(this.#client);
+      return this.#corked?.cork();
+    }
+    this.#isInTurn = true;
+    // What follows is given to the stream by a microtask, or a tick of Node, that the client put in line for the first command,
+    // so this one comes behind it. Where it doesn't, each is written by itself.
+    queueMicrotask(() => this.#endTurn());
+  }
+
+  #endTurn() {
+    this.#isInTurn = false;
+    this.#corked?.uncork();
+    this.#corked = null;
   }
 
   isOwn(id) { return this.digits.includes(id[0]); }

@@ -62,7 +62,7 @@ export class Namespace extends EventEmitter {
       if (error && !link.connected) return;
       const held = this.#held.get(link);
       this.#held.set(link, null);
-      for (const happening of held) this._happened(link, ...happening);
+      for (const [kind, args] of held) this._happened(link, kind, args);
       if (error) this.server.refused(Object.assign(error, { message: `${error.message}: ${this.name}` }));
       else this.#compare(link, ids);
       done();
@@ -78,19 +78,21 @@ export class Namespace extends EventEmitter {
     for (const id of ids) if (link.isOwn(id) && !this.find(id)) this.#arrive(link, id, null);
   }
 
-  _happened(link, kind, id, ...rest) {
-    if (!this.knows(link)) this.#held.get(link).push([kind, id, ...rest]);
-    else if (kind === "answer") this.server.questions.answer(this, link, id, rest[0], withBuffers(rest.slice(1)));
-    else if (kind === "disconnection") this.#left(link, id, ...rest);
+  // `args`: the namespace, the socket's id, and what else the server tells of it.
+  _happened(link, kind, args) {
+    const id = args[1];
+    if (!this.knows(link)) this.#held.get(link).push([kind, args]);
+    else if (kind === "answer") this.server.questions.answer(this, link, id, args[2], withBuffers(args.slice(3)));
+    else if (kind === "disconnection") this.#left(link, id, args[2], args[3]);
     else if (!link.isOwn(id)) return;
-    else if (kind === "connection") this.#came(link, id, ...rest);
-    else (this.find(id) ?? this.#arrive(link, id, null))._receive(rest[0], withBuffers(rest.slice(1)));
+    else if (kind === "connection") this.#came(link, id, args[2], args[3]);
+    else (this.find(id) ?? this.#arrive(link, id, null))._receive(args[2], withBuffers(args.slice(3)));
   }
 
-  #came(link, id, rooms, auth) {
+  #came(link, id, rooms, auth, claims) {
     const before = this.find(id);
     if (before) this.#gone(before, "transport close", null);
-    this.#arrive(link, id, rooms, auth);
+    this.#arrive(link, id, rooms, auth, claims);
   }
 
   #left(link, id, how, rooms) {
@@ -101,9 +103,9 @@ export class Namespace extends EventEmitter {
   }
 
   // A socket that came unheard has no `auth`, and no rooms but its own, except where it was saved in the sight of this process.
-  #arrive(link, id, rooms, auth) {
+  #arrive(link, id, rooms, auth, claims) {
     const kept = this.#saved.take(id);
-    const socket = new Socket(this, link, id, rooms ?? kept?.rooms ?? [], kept?.auth ?? auth);
+    const socket = new Socket(this, link, id, rooms ?? kept?.rooms ?? [], kept?.auth ?? auth, kept?.claims ?? claims);
     socket.recovered = Boolean(rooms ?? kept);
     if (kept) socket.data = kept.data;
     this.#arriving.set(id, socket);
@@ -118,8 +120,8 @@ export class Namespace extends EventEmitter {
   #accept(socket) {
     this.#arriving.delete(socket.id);
     this.sockets.set(socket.id, socket);
-    tell(this, "connect", socket);
-    tell(this, "connection", socket);
+    tell(this, ["connect", socket]);
+    tell(this, ["connection", socket]);
     socket._begin();
   }
 

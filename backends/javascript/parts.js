@@ -20,13 +20,22 @@ export function guarded(call) {
   try {
     call();
   } catch (error) {
-    process.nextTick(() => { throw error; });
+    throwLater(error);
   }
 }
 
-// Tells the listeners. `emit` of a socket or a namespace sends to clients, so it isn't called here.
-export function tell(emitter, name, ...args) {
-  guarded(() => EventEmitter.prototype.emit.call(emitter, name, ...args));
+function throwLater(error) {
+  process.nextTick(() => { throw error; });
+}
+
+// Tells the listeners of an event: the array of its name and arguments. `emit` of a socket or a namespace sends to clients, so it
+// isn't called here.
+export function tell(emitter, event) {
+  try {
+    EventEmitter.prototype.emit.apply(emitter, event);
+  } catch (error) {
+    throwLater(error);
+  }
 }
 
 const warned = new Set();
@@ -58,33 +67,38 @@ export function checkName(name) {
   if (RESERVED.has(name)) throw new Error(`"${name}" is a reserved event name`);
 }
 
+const isObject = (value) => value !== null && typeof value === "object";
 const isRoom = (room) => typeof room === "string" && (room.length * 3 <= LONGEST_ROOM || Buffer.byteLength(room) <= LONGEST_ROOM);
+const areRooms = (rooms) => !rooms || rooms.every(isRoom);
 
-function attachments(value) {
-  if (value === null || typeof value !== "object") return 0;
-  if (ArrayBuffer.isView(value) || types.isAnyArrayBuffer(value)) return 1;
+function attachments(values) {
   let count = 0;
-  for (const part of Array.isArray(value) ? value : Object.values(value)) count += attachments(part);
+  for (const value of values) {
+    if (!isObject(value)) continue;
+    if (ArrayBuffer.isView(value) || types.isAnyArrayBuffer(value)) count += 1;
+    else count += attachments(Array.isArray(value) ? value : Object.values(value));
+  }
   return count;
 }
 
 // Why the server would refuse a command, or null. A plain `emit` asks for no acknowledgement, so its faults are found here.
-export function fault(name, { to = [], except = [] }, args) {
-  const rooms = name === "emit" ? [] : args; // what other commands are about is a room
-  if (![...to, ...except, ...rooms].every(isRoom)) return "bad room";
+export function fault(name, { to, except }, args) {
+  const isAboutRooms = name !== "emit";
+  if (!areRooms(to) || !areRooms(except) || (isAboutRooms && !areRooms(args))) return "bad room";
   return attachments(args) > MOST_ATTACHMENTS ? `more than ${MOST_ATTACHMENTS} attachments` : null;
 }
 
 // Makes all ArrayBuffers in the values Buffers, as listeners on a server expect. It doesn't call itself, since a client
 // chooses how deep its data is.
 export function withBuffers(values) {
+  if (!values.some(isObject)) return values;
   const open = [values];
   while (open.length) {
     const holder = open.pop();
     for (const key of Object.keys(holder)) {
       const value = holder[key];
       if (types.isArrayBuffer(value)) holder[key] = Buffer.from(value);
-      else if (value !== null && typeof value === "object" && !ArrayBuffer.isView(value)) open.push(value);
+      else if (isObject(value) && !ArrayBuffer.isView(value)) open.push(value);
     }
   }
   return values;

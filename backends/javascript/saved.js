@@ -8,7 +8,7 @@ export class Saved {
   keep(socket, rooms, accepted) {
     const { id, data, handshake } = socket;
     this.#kept.delete(id);
-    this.#kept.set(id, { data, auth: handshake.auth, rooms, accepted, until: Date.now() + LIFE });
+    this.#kept.set(id, { data, ...handshake, rooms, accepted, until: Date.now() + LIFE });
     this.#shrink();
   }
 

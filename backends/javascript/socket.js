@@ -1,10 +1,14 @@
 // A client's socket in a namespace.
 import { EventEmitter } from "node:events";
 import { delegate, guarded, lacks, run, tell } from "./parts.js";
-import { One } from "./target.js";
+import { One, Target } from "./target.js";
 
+// `claims` are what the server verified of a signed token.
 class Handshake {
-  constructor(auth) { this.auth = auth; }
+  constructor(auth, claims) {
+    this.auth = auth;
+    this.claims = claims;
+  }
 }
 lacks(Handshake, "socket.handshake", ["headers", "time", "address", "xdomain", "secure", "issued", "url", "query"]);
 
@@ -18,13 +22,13 @@ export class Socket extends EventEmitter {
   #changes = new Map(); // room -> commands on it that the server hasn't answered
 
   // `link` is to the node that has it.
-  constructor(space, link, id, rooms, auth = {}) {
+  constructor(space, link, id, rooms, auth = {}, claims = {}) {
     super();
     this.nsp = space;
     this._link = link;
     this.id = id;
     this.rooms = new Set([id, ...rooms]);
-    this.handshake = new Handshake(auth);
+    this.handshake = new Handshake(auth, claims);
   }
 
   get disconnected() { return !this.connected; }
@@ -35,6 +39,11 @@ export class Socket extends EventEmitter {
   prependAny(listener) { this.#any.unshift(listener); return this; }
   offAny(listener) { this.#any = this.#any.filter((other) => listener && other !== listener); return this; }
   listenersAny() { return this.#any; }
+
+  // These are called most, and a call through `delegate` costs more.
+  emit(...event) { return One.of(this).emit(...event); }
+  to(rooms) { return Target.others(this).to(rooms); }
+  get broadcast() { return Target.others(this); }
 
   join(rooms) { return One.of(this).socketsJoin(rooms); }
   leave(rooms) { return One.of(this).socketsLeave(rooms); }
@@ -75,18 +84,20 @@ export class Socket extends EventEmitter {
     if (this.#held) return this.#held.push([id, event]);
     if (!this.connected) return;
     if (id !== null) event.push(this.#answer(id));
-    for (const listener of [...this.#any]) guarded(() => listener.apply(this, event));
-    run(this.#middleware, event, (error) => {
-      if (error) this.#refused(error);
-      else if (this.connected && this.#isHeard(event[0])) tell(this, ...event);
-    });
+    if (this.#any.length) for (const listener of [...this.#any]) guarded(() => listener.apply(this, event));
+    if (!this.#middleware.length) return this.#hear(event);
+    run(this.#middleware, event, (error) => (error ? this.#refused(error) : this.#hear(event)));
+  }
+
+  #hear(event) {
+    if (this.connected && this.#isHeard(event[0])) tell(this, event);
   }
 
   // A client may name its event `error`, which Node would throw where nobody listens.
   #isHeard(name) { return name !== "error" || this.listenerCount("error") > 0; }
 
   #refused(error) {
-    if (this.#isHeard("error")) tell(this, "error", error);
+    if (this.#isHeard("error")) tell(this, ["error", error]);
     else console.error("daghzimo-backend: an event was refused, and nobody listens to `error` of the socket:", error);
   }
 
@@ -102,10 +113,10 @@ export class Socket extends EventEmitter {
   _end(reason, rooms) {
     this.#changes.clear();
     if (rooms) this.rooms = new Set(rooms);
-    tell(this, "disconnecting", reason);
+    tell(this, ["disconnecting", reason]);
     this.connected = false;
     this.rooms.clear();
-    tell(this, "disconnect", reason);
+    tell(this, ["disconnect", reason]);
   }
 }
 
@@ -126,6 +137,6 @@ RemoteSocket.prototype.join = Socket.prototype.join;
 RemoteSocket.prototype.leave = Socket.prototype.leave;
 
 delegate(RemoteSocket, One.of, ["emit", "emitWithAck", "timeout"]);
-delegate(Socket, One.of, ["emit", "emitWithAck", "send", "write", "timeout", "compress", "to", "in", "except"], ["volatile", "local", "broadcast"]);
+delegate(Socket, One.of, ["emitWithAck", "send", "write", "timeout", "compress", "in", "except"], ["volatile", "local"]);
 lacks(RemoteSocket, "a remote socket", ["rooms", "data", "handshake"]);
 lacks(Socket, "socket", ["conn", "request", "client", "adapter"]);

@@ -2,20 +2,27 @@
 import { LOST, Outcome, checkName, commandError, fault, list, warnOnce } from "./parts.js";
 
 const first = (values) => values[0];
+const added = (before, rooms) => (before ? [...before, ...list(rooms)] : [...list(rooms)]);
+
+// Everybody in a namespace. Each aim has these members, in this order: objects of one shape are the fastest.
+const ALL = { to: undefined, except: undefined, volatile: undefined, timeout: undefined, one: undefined, link: undefined };
 
 export class Target {
   // `aim`: to, except (lists of rooms), volatile, timeout, and where it is a single socket `one`, its id, and `link`.
-  constructor(space, aim = {}) {
+  constructor(space, aim = ALL) {
     this.space = space;
     this.aim = aim;
   }
 
-  with(change) { return new this.constructor(this.space, { ...this.aim, ...change }); }
-  to(rooms) { return this.with({ to: [...(this.aim.to ?? []), ...list(rooms)] }); }
+  // All but a socket.
+  static others({ nsp, id }) { return new Target(nsp, { ...ALL, except: [id] }); }
+
+  aimed(aim) { return new this.constructor(this.space, aim); }
+  to(rooms) { return this.aimed({ ...this.aim, to: added(this.aim.to, rooms) }); }
   in(rooms) { return this.to(rooms); }
-  except(rooms) { return this.with({ except: [...(this.aim.except ?? []), ...list(rooms)] }); }
-  timeout(milliseconds) { return this.with({ timeout: milliseconds }); }
-  get volatile() { return this.with({ volatile: true }); }
+  except(rooms) { return this.aimed({ ...this.aim, except: added(this.aim.except, rooms) }); }
+  timeout(milliseconds) { return this.aimed({ ...this.aim, timeout: milliseconds }); }
+  get volatile() { return this.aimed({ ...this.aim, volatile: true }); }
 
   // A backend is at no node more than at others, and they compress nothing.
   get local() { return this; }
@@ -24,26 +31,31 @@ export class Target {
   // The links to the nodes that it is about.
   links() {
     const { to = [] } = this.aim;
-    return this.space.server.nodes.of(to.map((room) => this.space.find(room)));
+    const { nodes } = this.space.server;
+    return nodes.links.length === 1 ? nodes.links : nodes.of(to.map((room) => this.space.find(room)));
   }
 
   options(more) {
     const { to, except } = this.aim;
-    return { in: this.space.name, ...(to && { to }), ...(except && { except }), ...more };
+    const options = { in: this.space.name };
+    if (to) options.to = to;
+    if (except) options.except = except;
+    return more ? Object.assign(options, more) : options;
   }
 
-  emit(name, ...args) {
-    checkName(name);
-    const callback = typeof args.at(-1) === "function" ? args.pop() : null;
-    if (callback) this.ask([name, ...args], this.forCallback(callback));
-    else this.tell([name, ...args]);
+  // `event`: its name and arguments.
+  emit(...event) {
+    checkName(event[0]);
+    const callback = typeof event.at(-1) === "function" ? event.pop() : null;
+    if (callback) this.ask(event, this.forCallback(callback));
+    else this.tell(event);
     return true;
   }
 
   // A fault is told once, and not for each node.
   tell(elements) {
     const { volatile } = this.aim;
-    const options = this.options(volatile && { volatile });
+    const options = this.options(volatile ? { volatile } : undefined);
     const why = fault("emit", options, elements);
     if (why) return this.space.server.refused(commandError("emit", why));
     const links = this.links();
@@ -124,11 +136,11 @@ export class Target {
 
 // A single socket. Its `to` and the like mean others than it, and its answer is one, not a list.
 export class One extends Target {
-  static of({ nsp, id, _link }) { return new One(nsp, { to: [id], one: id, link: _link }); }
+  static of({ nsp, id, _link }) { return new One(nsp, { ...ALL, to: [id], one: id, link: _link }); }
 
   get broadcast() {
     const { volatile, timeout, one } = this.aim;
-    return new Target(this.space, { volatile, timeout, except: [one] });
+    return new Target(this.space, { ...ALL, volatile, timeout, except: [one] });
   }
 
   to(rooms) { return this.broadcast.to(rooms); }

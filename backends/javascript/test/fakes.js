@@ -5,6 +5,7 @@ export class Fake extends EventEmitter {
   active = true;
   id = "f".repeat(32);
   commands = []; // those that were sent, to be answered when the check says so
+  stream = null; // what the client writes to, where it has one
 
   // Stands in for the official client's `io`.
   open(...args) {
@@ -17,6 +18,7 @@ export class Fake extends EventEmitter {
       disconnect: () => {},
       get active() { return fake.active; },
       get id() { return fake.id; },
+      get io() { return fake.stream && { engine: { transport: { ws: { _socket: fake.stream } } } }; },
     };
   }
 

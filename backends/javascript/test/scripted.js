@@ -137,6 +137,18 @@ const CHECKS = {
     same(scene.take().filter((one) => one === "heard"), ["heard"]);
   },
 
+  async "what a turn sends is written at once, behind the first"(scene) {
+    scene.joined([A]);
+    await pause(0);
+    const done = (scene.commands = []);
+    scene.stream = { cork: () => done.push(["cork"]), uncork: () => done.push(["uncork"]) };
+    for (const turn of [["a"], ["b", "c", "d"], ["e"]]) {
+      for (const name of turn) scene.io.emit(name);
+      await pause(0);
+    }
+    same(done.map((one) => one[2] ?? one[0]), ["a", "b", "c", "cork", "d", "uncork", "e"]);
+  },
+
   async "the first answer counts"(scene) {
     scene.joined([A]);
     scene.io.sockets.sockets.get(A).on("ask", (answer) => (answer(1), answer(2)));

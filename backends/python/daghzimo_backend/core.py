@@ -70,7 +70,7 @@ class Core:
 
     # What the server tells.
 
-    def connection(self, namespace: str, sid: str, rooms: Optional[list], auth: Any = None) -> List[Job]:
+    def connection(self, namespace: str, sid: str, rooms: Optional[list], auth: Any = None, claims: Any = None) -> List[Job]:
         socket = self.sockets.get((namespace, sid))
         if socket is not None and socket.present:
             # Its session was lost and came back while this backend was away.
@@ -78,7 +78,8 @@ class Core:
             return []
         if namespace not in self.namespaces or sid[0] not in self.digits:
             return []
-        return self._arrive(namespace, sid, rooms or [sid], auth or None, {"recovered": True} if rooms else {})
+        environ = {**({"recovered": True} if rooms else {}), **({"claims": claims} if claims else {})}
+        return self._arrive(namespace, sid, rooms or [sid], auth or None, environ)
 
     def event(self, namespace: str, sid: str, id: Optional[int], name: str, *arguments: Any) -> List[Job]:
         if namespace not in self.namespaces or sid[0] not in self.digits or name in ("connect", "disconnect"):
