@@ -11,7 +11,8 @@ from prometheus_client.parser import text_string_to_metric_families
 from python_client import ensure, main
 
 COUNTERS = {'socketio_commands', 'socketio_messages_placed', 'socketio_messages_dropped', 'socketio_messages_taken',
-            'socketio_messages_discarded', 'socketio_connections', 'socketio_requests', 'socketio_refused'}
+            'socketio_messages_discarded', 'socketio_connections', 'socketio_requests', 'socketio_refused',
+            'socketio_unheard', 'socketio_paced'}
 GAUGES = {'socketio_messages_waiting', 'socketio_clients', 'socketio_sockets', 'socketio_rooms',
           'socketio_sessions_saved', 'socketio_log_entries'}
 
@@ -40,7 +41,7 @@ async def reads(room):
     ensure({name for name, it in found.items() if it.type == 'gauge'} == GAUGES, f'gauges {[*found]}')
     ensure(all(it.documentation and it.samples for it in found.values()), 'each says what it counts')
     reasons = {sample.labels['reason'] for sample in found['socketio_refused'].samples}
-    ensure(len(reasons) == len(found['socketio_refused'].samples) == 10, f'reasons {reasons}')
+    ensure(len(reasons) == len(found['socketio_refused'].samples) == 11, f'reasons {reasons}')
 
 
 async def follows(room):

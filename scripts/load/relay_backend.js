@@ -12,7 +12,7 @@ const masks = Buffer.alloc(8192);
 let drawn = masks.length;
 function generateMask(mask) {
   if (drawn === masks.length) drawn = randomFillSync(masks) && 0;
-  masks.copy(mask, 0, drawn, (drawn += 4));
+  for (let at = 0; at < 4; at += 1) mask[at] = masks[drawn++];
 }
 globalThis.WebSocket = class extends WebSocket {
   constructor(url, protocols) { super(url, protocols, { generateMask }); }
