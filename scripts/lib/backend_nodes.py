@@ -9,7 +9,8 @@ import time
 import engineio.payload
 import socketio
 
-from .backends import HIGH, LOW, PATIENCE, Backend, Server, free_port, twice, until
+from .backends import HIGH, LOW, PATIENCE, Backend, Server, twice, until
+from .processes import free_port
 
 TRANSPORTS = {"1": "polling", "2": "websocket"}
 EVERYBODY = "a1 a2 b1 b2 c1 c2"     # a1 is the client of node a by polling, and so on

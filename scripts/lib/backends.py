@@ -1,4 +1,5 @@
 """What scripts/try_backends has its parts play with: servers, backends, and clients."""
+import argparse
 import asyncio
 import collections
 import json
@@ -6,13 +7,14 @@ import os
 import pathlib
 import secrets
 import signal
-import socket
 import subprocess
 import sys
 import tempfile
 import time
 
 import aiohttp
+
+from .processes import file_at, free_port, listens
 
 TOP = pathlib.Path(__file__).resolve().parent.parent.parent
 CLIENTS = TOP / "scripts" / "clients"
@@ -22,18 +24,15 @@ PATIENCE = 20
 ALL, LOW, HIGH = "0123456789abcdef", "01234567", "89abcdef"
 
 
-class Checks:
-    def __init__(self):
-        self.passed = self.failed = 0
-        self.part = ""
-
-    def __call__(self, text, holds, fault=""):
-        self.passed, self.failed = self.passed + bool(holds), self.failed + (not holds)
-        fault = f": {str(fault)[:600]}" if fault and not holds else ""
-        print(f"{'ok' if holds else 'FAILED'}: {self.part}: {text}{fault}", flush=True)
-
-    def same(self, text, got, wanted):
-        self(text, got == wanted, f"{str(got)[:280]} instead of {str(wanted)[:280]}")
+def arguments(text, *flags):
+    """What a script with this text is given."""
+    parser = argparse.ArgumentParser(description=text, formatter_class=argparse.RawDescriptionHelpFormatter)
+    parser.add_argument("program", metavar="PROGRAM", type=file_at)
+    parser.add_argument("--library", metavar="FILE", type=file_at, required=True)
+    parser.add_argument("--only", metavar="WORD", default="")
+    for flag in flags:
+        parser.add_argument(flag, action="store_true")
+    return parser.parse_args()
 
 
 async def until(condition, seconds=PATIENCE):
@@ -42,12 +41,6 @@ async def until(condition, seconds=PATIENCE):
     while not condition() and time.monotonic() < end:
         await asyncio.sleep(0.02)
     return condition()
-
-
-def free_port():
-    with socket.socket() as it:
-        it.bind(("127.0.0.1", 0))
-        return it.getsockname()[1]
 
 
 class Server:
@@ -63,15 +56,8 @@ class Server:
     def start(self):
         words = [self.program, "serve", "--port", str(self.port), "--backend-token", self.folder / "token.txt", "--space", "/admin"]
         self.process = subprocess.Popen(words, stdin=subprocess.DEVNULL, stdout=subprocess.DEVNULL)
-        end = time.monotonic() + LONGEST
-        while True:
-            if self.process.poll() is not None or time.monotonic() > end:
-                sys.exit(f"the server doesn't listen: status {self.process.poll()}")
-            try:
-                socket.create_connection(("127.0.0.1", self.port), 1).close()
-                return
-            except OSError:
-                time.sleep(0.05)
+        if not listens(self.port, self.process, LONGEST):
+            sys.exit(f"the server doesn't listen: status {self.process.poll()}")
 
     def end(self, by=signal.SIGTERM):
         self.process.send_signal(by)

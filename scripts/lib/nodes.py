@@ -7,7 +7,6 @@ import os
 import pathlib
 import re
 import signal
-import socket
 import subprocess
 import sys
 import time
@@ -16,7 +15,8 @@ import aiohttp
 import engineio.payload
 import socketio
 
-from .backends import LONGEST, PATIENCE, PYTHON, TOP, free_port
+from .backends import LONGEST, PATIENCE, PYTHON, TOP
+from .processes import free_port, is_listening
 
 BACKENDS = TOP / "backends"
 OPERATING = TOP / "docs" / "OPERATING.md"
@@ -58,10 +58,7 @@ class Process:
             await asyncio.sleep(0.02)
 
     def is_up(self):
-        with contextlib.suppress(OSError):
-            socket.create_connection(("127.0.0.1", self.port), 1).close()
-            return True
-        return False
+        return is_listening(self.port)
 
     def end(self, by=signal.SIGTERM):
         if self.process is not None and self.process.poll() is None:

@@ -52,6 +52,14 @@ def server_at(url):
     return server
 
 
+def file_at(name):
+    """The whole path of a file, which has to be there; for argparse."""
+    path = pathlib.Path(name).resolve()
+    if not path.is_file():
+        raise argparse.ArgumentTypeError(f"{path}: no such file")
+    return path
+
+
 def end(process):
     process.terminate()
     try:

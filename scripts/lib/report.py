@@ -16,6 +16,9 @@ class Checks:
         kind, why = "ok" if holds else "left out" if left else "FAILED", "" if holds else left or str(fault)[:600]
         print(f"{kind}: {self.part}{text}{': ' if why else ''}{why}", flush=True)
 
+    def same(self, text, got, wanted):
+        self(text, got == wanted, f"{str(got)[:280]} instead of {str(wanted)[:280]}")
+
     def of_program(self, words, seconds):
         """The checks of a program, which tells of each in a line."""
         failed, program = self.failed, subprocess.Popen(["timeout", str(seconds), *words], stdout=subprocess.PIPE, text=True)
