@@ -3,6 +3,7 @@ import argparse
 import contextlib
 import os
 import pathlib
+import re
 import signal
 import socket
 import subprocess
@@ -69,6 +70,18 @@ def end(process):
         process.wait()
 
 
+def memory(number, key="VmRSS"):
+    """What a process has, in MB; by VmHWM the most so far."""
+    status = pathlib.Path(f"/proc/{number}/status").read_text()
+    return int(re.search(rf"{key}:\s+(\d+) kB", status)[1]) / 1024
+
+
+def processor_time(number):
+    """The processor seconds of a process so far."""
+    fields = pathlib.Path(f"/proc/{number}/stat").read_text().rpartition(")")[2].split()
+    return (int(fields[11]) + int(fields[12])) / os.sysconf("SC_CLK_TCK")
+
+
 def parents():
     """The parent of each process."""
     found = {}
@@ -109,7 +122,8 @@ class Process:
 
     def start(self):
         self.log = tempfile.TemporaryFile("w+")
-        self.process = subprocess.Popen(self.words, stdin=subprocess.DEVNULL, stdout=self.log, stderr=self.log, **self.more)
+        usual = {"stdin": subprocess.DEVNULL, "stdout": self.log, "stderr": self.log}
+        self.process = subprocess.Popen(self.words, **{**usual, **self.more})
 
     def end(self):
         ended = self.process.poll()
