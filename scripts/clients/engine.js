@@ -3,6 +3,7 @@
 'use strict';
 process.env.NODE_PATH = '/usr/share/nodejs';
 require('module').Module._initPaths();
+const assert = require('assert');
 const fs = require('fs');
 const http = require('http');
 const WebSocket = require('ws');
@@ -307,6 +308,85 @@ class Client {
   }
 }
 
+const OFFSET = /^[0-9a-f]{16}$/;
+
+// The next event, which has to be this one; a logged one has its offset behind it, which is greater than the one before.
+async function expectEvent(client, nsp, data, { logged = false } = {}) {
+  const event = await client.next(`${data && data[0]} for a member`);
+  assert.strictEqual(event.nsp, nsp);
+  if (!logged) return assert.deepStrictEqual(event.data, data);
+  const offset = event.data[event.data.length - 1];
+  assert.match(String(offset), OFFSET);
+  assert(!(offset <= client.offset), 'offsets rise');
+  client.offset = offset;
+  assert.deepStrictEqual(event.data.slice(0, -1), data);
+}
+
+// All that was put for the client before now has come: its own call was answered behind it.
+async function expectNothing(client, nsp = '/') {
+  await client.call(nsp, 'quiet', 'nobody');
+  assert.deepStrictEqual(client.events, []);
+}
+
+// What the verbs of cases.txt have a client do.
+const VERBS = {
+  call: async (client, nsp, event) => assert.deepStrictEqual(await client.call(nsp, ...event), []),
+  emit: (client, nsp, event) => client.emit(nsp, ...event),
+  hear: (client, nsp, event) => expectEvent(client, nsp, event, { logged: true }),
+  get: expectEvent,
+  rest: expectNothing,
+  end: (client, nsp) => expectEvent(client, nsp, null),
+  leave: (client) => client.disconnect('/'),
+  return: async (client) => assert((await client.connect('/')).sid, 'a new session'),
+  close: (client) => client.close(),
+  write: (client, _, text) => client.raw(`4${text}`),
+  answer: (client, _, answers) => { client.answer = () => answers.shift(); },
+};
+const STEP = /^((?:[a-d] )+)([a-z]+?)s?((?: \/\w*)*)(?: (.*))?$/u;
+
+// A value of cases.txt: a text for `write`, and else JSON.
+function valueOf(verb, text) {
+  if (verb === 'write' || text === undefined) return text;
+  return JSON.parse(text, (_, it) => {
+    if (it?.bytes) return Buffer.from(it.bytes);
+    if (it?.rising) return Buffer.from(Array.from({ length: it.rising }, (_, n) => n));
+    return it?.letters ? 'x'.repeat(it.letters) : it;
+  });
+}
+
+async function entered(transport, spaces, rooms) {
+  const client = await Client.open(port, transport);
+  for (const nsp of spaces) {
+    await client.connect(nsp);
+    for (const room of rooms) await VERBS.call(client, nsp, ['join', room]);
+  }
+  return client;
+}
+
+// Plays the steps of a case.
+async function play(steps, transport, keep) {
+  const clients = {};
+  let said;
+  for (const step of steps) {
+    const [, names, verb, places, text] = STEP.exec(step);
+    const [spaces, value] = [places.trim().split(' ').map((it) => it || '/'), valueOf(verb, text)];
+    if (verb === 'call' || verb === 'emit') said = value;
+    for (const name of names.trim().split(' ')) {
+      if (verb === 'enter') clients[name] = keep(await entered(transport, spaces, value));
+      else await VERBS[verb](clients[name], spaces[0], value ?? said);
+    }
+  }
+}
+
+// The names of cases in a text, which stands as in cases.txt, and what checks each over a transport.
+function casesOver(transport, text = fs.readFileSync(`${__dirname}/cases.txt`, 'utf8')) {
+  return text.trim().split('\n\n').filter((it) => !it.startsWith('#')).map((it) => {
+    const [name, ...lines] = it.split('\n');
+    const steps = lines.flatMap((line) => line.split(';')).map((step) => step.trim());
+    return [name, (keep) => play(steps, transport, keep)];
+  });
+}
+
 // What a program of checks is started with: PORT [WORD]. `--help` tells what stands at its head.
 function given() {
   const [port, word = ''] = process.argv.slice(2);
@@ -338,4 +418,4 @@ async function run(checks) {
   process.exit(failed ? 1 : 0);
 }
 
-module.exports = { Client, PacketType, pause, port, request, run };
+module.exports = { Client, PacketType, casesOver, expectEvent, expectNothing, pause, port, request, run };
