@@ -43,23 +43,11 @@ function request(port, method, target, body, agent) {
 class Client {
   // `transport` is polling or websocket.
   constructor(port, transport) {
-    this.port = port;
-    this.transport = transport;
-    this.agent = new http.Agent({ keepAlive: true });
-    this.encoder = new Encoder();
-    this.events = [];
-    this.waiting = [];
-    this.connects = new Map();
-    this.callbacks = new Map();
-    this.nextId = 0;
-    this.pings = 0;
-    this.gets = 0;
-    this.ended = new Set();
-    this.fault = null;
-    this.outgoing = [];
+    Object.assign(this, { port, transport, agent: new http.Agent({ keepAlive: true }), fault: null });
+    Object.assign(this, { encoder: new Encoder(), decoder: new Decoder(), events: [], waiting: [], outgoing: [] });
+    Object.assign(this, { connects: new Map(), callbacks: new Map(), ended: new Set(), nextId: 0, pings: 0, gets: 0 });
     this.answer = (data) => data.slice(1);
     this.closed = new Promise((resolve) => { this.close_done = resolve; });
-    this.decoder = new Decoder();
     this.decoder.on('decoded', (packet) => this.packet(packet));
   }
 
@@ -80,9 +68,9 @@ class Client {
     return client;
   }
 
-  target() {
+  target(transport = 'polling') {
     const sid = this.sid === undefined ? '' : `&sid=${this.sid}`;
-    return `/socket.io/?EIO=4&transport=polling&t=${Math.random().toString(36).slice(2)}${sid}`;
+    return `/socket.io/?EIO=4&transport=${transport}&t=${Math.random().toString(36).slice(2)}${sid}`;
   }
 
   async start() {
@@ -90,7 +78,7 @@ class Client {
       this.ws = this.dial();
       const opened = new Promise((resolve) => { this.opened = resolve; });
       this.listen(this.ws);
-      await Promise.race([opened, this.closed.then(() => { throw new Error(`closed: ${this.fault}`); })]);
+      await this.awaited(opened, 'the open packet');
     } else {
       const answer = await request(this.port, 'GET', this.target(), undefined, this.agent);
       if (answer.status !== 200) throw new Error(`${answer.status} ${answer.body}`);
@@ -101,8 +89,7 @@ class Client {
   }
 
   dial() {
-    const sid = this.sid === undefined ? '' : `&sid=${this.sid}`;
-    return new WebSocket(`ws://127.0.0.1:${this.port}/socket.io/?EIO=4&transport=websocket${sid}`);
+    return new WebSocket(`ws://127.0.0.1:${this.port}${this.target('websocket')}`);
   }
 
   listen(ws) {
@@ -183,7 +170,11 @@ class Client {
   // The next event; its `data` is null where the socket was disconnected.
   next(what = 'an event') {
     if (this.events.length) return Promise.resolve(this.events.shift());
-    const came = new Promise((resolve) => this.waiting.push(resolve));
+    return this.awaited(new Promise((resolve) => this.waiting.push(resolve)), what);
+  }
+
+  // What comes before the client is closed, and in time.
+  awaited(came, what) {
     const closed = this.closed.then(() => { throw new Error(`${what} doesn't come, closed: ${this.fault}`); });
     return within(Promise.race([came, closed]), what);
   }
@@ -204,12 +195,10 @@ class Client {
 
   // Emits an event and waits until it is acknowledged.
   call(nsp, ...data) {
-    const id = this.nextId;
-    this.nextId += 1;
+    const id = this.nextId++;
     const came = new Promise((resolve) => this.callbacks.set(id, resolve));
     this.send({ type: PacketType.EVENT, nsp, id, data });
-    const closed = this.closed.then(() => { throw new Error(`no answer, closed: ${this.fault}`); });
-    return within(Promise.race([came, closed]), `the answer to ${data[0]}`);
+    return this.awaited(came, `the answer to ${data[0]}`);
   }
 
   send(packet) {
@@ -264,10 +253,7 @@ class Client {
     ws.send('2probe');
     const answer = await answered;
     if (answer !== '3probe') throw new Error(`the probe is answered by ${answer}`);
-    if (lost) {
-      ws.terminate();
-      return;
-    }
+    if (lost) return ws.terminate();
     this.upgrading = true;
     this.polling = false;
     await this.polls;
@@ -310,7 +296,7 @@ class Client {
 
 const OFFSET = /^[0-9a-f]{16}$/;
 
-// The next event, which has to be this one; a logged one has its offset behind it, which is greater than the one before.
+// The next event, which has to be this one; a logged one has its offset behind it, which rises.
 async function expectEvent(client, nsp, data, { logged = false } = {}) {
   const event = await client.next(`${data && data[0]} for a member`);
   assert.strictEqual(event.nsp, nsp);

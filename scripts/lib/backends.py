@@ -1,4 +1,4 @@
-"""What scripts/try_backends has its parts play with: servers, backends, and clients."""
+"""What scripts/try_backends has its parts play with: servers, and backends."""
 import argparse
 import asyncio
 import collections
@@ -12,9 +12,7 @@ import sys
 import tempfile
 import time
 
-import aiohttp
-
-from .processes import file_at, free_port, listens
+from .processes import file_at, free_port, listens, memory
 
 TOP = pathlib.Path(__file__).resolve().parent.parent.parent
 CLIENTS = TOP / "scripts" / "clients"
@@ -65,8 +63,7 @@ class Server:
 
     def memory(self):
         """In MB, the most so far."""
-        status = pathlib.Path(f"/proc/{self.process.pid}/status").read_text()
-        return int(next(line.split()[1] for line in status.splitlines() if line.startswith("VmHWM"))) // 1024
+        return int(memory(self.process.pid, "VmHWM"))
 
 
 class Backend:
@@ -116,72 +113,6 @@ class Backend:
     async def __aexit__(self, *_):
         self.process.kill()
         self.process.wait()
-
-
-class Client:
-    """A client by WebSocket."""
-
-    def __init__(self, server, session):
-        self.server, self.session = server, session
-        self.sid, self.got, self.ended, self.refused = None, [], False, None
-
-    async def open(self, connect="40"):
-        self.ws = await self.session.ws_connect(self.server.url + "/socket.io/?EIO=4&transport=websocket", max_msg_size=0)
-        await self.ws.receive_str()
-        self.reading = asyncio.ensure_future(self.read())
-        await self.ws.send_str(connect)
-        await until(lambda: self.sid)
-        return self
-
-    async def read(self):
-        async for message in self.ws:
-            text = message.data
-            if text == "2":
-                await self.ws.send_str("3")
-            elif text.startswith("40{"):
-                self.sid = json.loads(text[2:])["sid"]
-            elif text.startswith("42["):
-                # What is logged has its offset behind it.
-                self.got.append(tuple(json.loads(text[2:])[:-1]))
-            elif text.startswith("44"):
-                self.refused = text
-        self.ended = True
-
-    async def send(self, *event):
-        await self.ws.send_str("42" + json.dumps(event))
-
-    async def close(self):
-        await self.ws.close()
-        await self.reading
-
-
-class Crowd:
-    """Clients of one scene."""
-
-    def __init__(self, server):
-        self.server, self.clients = server, []
-
-    async def __aenter__(self):
-        self.session = aiohttp.ClientSession(connector=aiohttp.TCPConnector(limit=0))
-        return self
-
-    async def __aexit__(self, *_):
-        for client in self.clients:
-            await client.close()
-        await self.session.close()
-
-    async def more(self, count=1):
-        made = [await Client(self.server, self.session).open() for _ in range(count)]
-        self.clients += made
-        return made
-
-    async def leave(self, clients):
-        for client in clients:
-            self.clients.remove(client)
-            await client.close()
-
-    def sids(self):
-        return {client.sid for client in self.clients}
 
 
 def twice(values):
