@@ -325,6 +325,13 @@ const VERBS = {
   leave: (client) => client.disconnect('/'),
   return: async (client) => assert((await client.connect('/')).sid, 'a new session'),
   close: (client) => client.close(),
+  probe: (client) => client.upgrade({ lost: true }),
+  upgrade: async (client) => {
+    await pause(300);       // its GET waits then
+    const began = Date.now();
+    await client.upgrade();
+    assert(Date.now() - began < 2000, `the waiting GET ends after ${Date.now() - began} ms`);
+  },
   write: (client, _, text) => client.raw(`4${text}`),
   answer: (client, _, answers) => { client.answer = () => answers.shift(); },
 };
@@ -349,7 +356,7 @@ async function entered(transport, spaces, rooms) {
   return client;
 }
 
-// Plays the steps of a case.
+// Plays the steps of a case, over one transport, or over those that clients have by their names.
 async function play(steps, transport, keep) {
   const clients = {};
   let said;
@@ -358,7 +365,7 @@ async function play(steps, transport, keep) {
     const [spaces, value] = [places.trim().split(' ').map((it) => it || '/'), valueOf(verb, text)];
     if (verb === 'call' || verb === 'emit') said = value;
     for (const name of names.trim().split(' ')) {
-      if (verb === 'enter') clients[name] = keep(await entered(transport, spaces, value));
+      if (verb === 'enter') clients[name] = keep(await entered(transport[name] ?? transport, spaces, value));
       else await VERBS[verb](clients[name], spaces[0], value ?? said);
     }
   }

@@ -105,48 +105,18 @@ async function upgradesInMidStream(keep) {
   await expectNothing(b);
 }
 
-async function upgradesAtRest(keep) {
-  const a = keep(await Client.connected(port, 'websocket'));
-  const b = keep(await Client.connected(port, 'polling'));
-  await b.call('/', 'join', 'rest');
-  await pause(300);
-  const began = Date.now();
-  await b.upgrade();
-  const took = Date.now() - began;
-  assert(took < 2000, `the waiting GET ends after ${took} ms`);
-  await a.call('/', 'say', 'rest', 1);
-  await expectNumbers(b, 'rest', 1);
-}
+// Cases with a client of each transport.
+const MIXED = casesOver({ a: 'websocket', b: 'polling', c: 'upgrade' }, `
+upgrade: at rest, with a GET that waits
+a enters []; b enters ["rest"]; b upgrades; a calls ["say","rest",1]; b hears
 
-async function losesAProbe(keep) {
-  const a = keep(await Client.connected(port, 'websocket'));
-  const b = keep(await Client.connected(port, 'polling'));
-  await b.call('/', 'join', 'lost');
-  await b.upgrade({ lost: true });
-  await a.call('/', 'say', 'lost', 1);
-  await expectNumbers(b, 'lost', 1);
-  await pause(300);
-  await b.upgrade();
-  await a.call('/', 'say', 'lost', 2);
-  await expectEvent(b, '/', ['say', 'lost', 2], { logged: true });
-}
+upgrade: after a lost probe
+a enters []; b enters ["lost"]; b probes; a calls ["say","lost",1]; b hears; b upgrades; a calls ["say","lost",2]; b hears
 
-async function mixes(keep) {
-  const members = [];
-  for (const transport of ['websocket', 'polling', 'upgrade']) {
-    const client = keep(await Client.connected(port, transport));
-    await client.call('/', 'join', 'mixed');
-    members.push(client);
-  }
-  for (const speaker of members) {
-    const bytes = Buffer.from(speaker.sid);
-    await speaker.call('/', 'say', 'mixed', speaker.sid, bytes);
-    for (const other of members) {
-      if (other !== speaker) await expectEvent(other, '/', ['say', 'mixed', speaker.sid, bytes], { logged: true });
-    }
-    await expectNothing(speaker);
-  }
-}
+all transports in one room
+a b c enter ["mixed"]; a calls ["say","mixed","a",{"rising":32}]; b c hear; a rests
+b calls ["say","mixed","b",{"rising":32}]; a c hear; b rests; c calls ["say","mixed","c",{"rising":32}]; a b hear; c rests
+`);
 
 async function refusesRequests(keep) {
   const unknown = '0'.repeat(32);
@@ -188,9 +158,7 @@ run([
   ...checksOver('polling'),
   ...checksOver('upgrade'),
   ['upgrade: in mid-stream', upgradesInMidStream],
-  ['upgrade: at rest, with a GET that waits', upgradesAtRest],
-  ['upgrade: after a lost probe', losesAProbe],
-  ['all transports in one room', mixes],
+  ...MIXED,
   ['requests that are refused', refusesRequests],
   ['faults close the client', closesOverFaults],
 ]);
