@@ -17,8 +17,6 @@ from .processes import free_port, is_listening
 BACKENDS = TOP / "backends"
 PLACES = {**os.environ, "PYTHONPATH": f"{BACKENDS / 'python'}:{BACKENDS / 'redis'}", "NODE_PATH": "/usr/share/nodejs"}
 BRIDGE = [*PYTHON, "-m", "daghzimo_redis"]
-
-
 # A script as a module.
 LOADER = importlib.machinery.SourceFileLoader("try_proxy", str(TOP / "scripts/try_proxy"))
 try_proxy = importlib.util.module_from_spec(importlib.util.spec_from_loader("try_proxy", LOADER))
