@@ -3,6 +3,7 @@
 'use strict';
 process.env.NODE_PATH = '/usr/share/nodejs';
 require('module').Module._initPaths();
+const assert = require('assert');
 const fs = require('fs');
 const http = require('http');
 const WebSocket = require('ws');
@@ -42,23 +43,11 @@ function request(port, method, target, body, agent) {
 class Client {
   // `transport` is polling or websocket.
   constructor(port, transport) {
-    this.port = port;
-    this.transport = transport;
-    this.agent = new http.Agent({ keepAlive: true });
-    this.encoder = new Encoder();
-    this.events = [];
-    this.waiting = [];
-    this.connects = new Map();
-    this.callbacks = new Map();
-    this.nextId = 0;
-    this.pings = 0;
-    this.gets = 0;
-    this.ended = new Set();
-    this.fault = null;
-    this.outgoing = [];
+    Object.assign(this, { port, transport, agent: new http.Agent({ keepAlive: true }), fault: null });
+    Object.assign(this, { encoder: new Encoder(), decoder: new Decoder(), events: [], waiting: [], outgoing: [] });
+    Object.assign(this, { connects: new Map(), callbacks: new Map(), ended: new Set(), nextId: 0, pings: 0, gets: 0 });
     this.answer = (data) => data.slice(1);
     this.closed = new Promise((resolve) => { this.close_done = resolve; });
-    this.decoder = new Decoder();
     this.decoder.on('decoded', (packet) => this.packet(packet));
   }
 
@@ -79,9 +68,9 @@ class Client {
     return client;
   }
 
-  target() {
+  target(transport = 'polling') {
     const sid = this.sid === undefined ? '' : `&sid=${this.sid}`;
-    return `/socket.io/?EIO=4&transport=polling&t=${Math.random().toString(36).slice(2)}${sid}`;
+    return `/socket.io/?EIO=4&transport=${transport}&t=${Math.random().toString(36).slice(2)}${sid}`;
   }
 
   async start() {
@@ -89,7 +78,7 @@ class Client {
       this.ws = this.dial();
       const opened = new Promise((resolve) => { this.opened = resolve; });
       this.listen(this.ws);
-      await Promise.race([opened, this.closed.then(() => { throw new Error(`closed: ${this.fault}`); })]);
+      await this.awaited(opened, 'the open packet');
     } else {
       const answer = await request(this.port, 'GET', this.target(), undefined, this.agent);
       if (answer.status !== 200) throw new Error(`${answer.status} ${answer.body}`);
@@ -100,8 +89,7 @@ class Client {
   }
 
   dial() {
-    const sid = this.sid === undefined ? '' : `&sid=${this.sid}`;
-    return new WebSocket(`ws://127.0.0.1:${this.port}/socket.io/?EIO=4&transport=websocket${sid}`);
+    return new WebSocket(`ws://127.0.0.1:${this.port}${this.target('websocket')}`);
   }
 
   listen(ws) {
@@ -182,7 +170,11 @@ class Client {
   // The next event; its `data` is null where the socket was disconnected.
   next(what = 'an event') {
     if (this.events.length) return Promise.resolve(this.events.shift());
-    const came = new Promise((resolve) => this.waiting.push(resolve));
+    return this.awaited(new Promise((resolve) => this.waiting.push(resolve)), what);
+  }
+
+  // What comes before the client is closed, and in time.
+  awaited(came, what) {
     const closed = this.closed.then(() => { throw new Error(`${what} doesn't come, closed: ${this.fault}`); });
     return within(Promise.race([came, closed]), what);
   }
@@ -203,12 +195,10 @@ class Client {
 
   // Emits an event and waits until it is acknowledged.
   call(nsp, ...data) {
-    const id = this.nextId;
-    this.nextId += 1;
+    const id = this.nextId++;
     const came = new Promise((resolve) => this.callbacks.set(id, resolve));
     this.send({ type: PacketType.EVENT, nsp, id, data });
-    const closed = this.closed.then(() => { throw new Error(`no answer, closed: ${this.fault}`); });
-    return within(Promise.race([came, closed]), `the answer to ${data[0]}`);
+    return this.awaited(came, `the answer to ${data[0]}`);
   }
 
   send(packet) {
@@ -263,10 +253,7 @@ class Client {
     ws.send('2probe');
     const answer = await answered;
     if (answer !== '3probe') throw new Error(`the probe is answered by ${answer}`);
-    if (lost) {
-      ws.terminate();
-      return;
-    }
+    if (lost) return ws.terminate();
     this.upgrading = true;
     this.polling = false;
     await this.polls;
@@ -307,6 +294,92 @@ class Client {
   }
 }
 
+const OFFSET = /^[0-9a-f]{16}$/;
+
+// The next event, which has to be this one; a logged one has its offset behind it, which rises.
+async function expectEvent(client, nsp, data, { logged = false } = {}) {
+  const event = await client.next(`${data && data[0]} for a member`);
+  assert.strictEqual(event.nsp, nsp);
+  if (!logged) return assert.deepStrictEqual(event.data, data);
+  const offset = event.data[event.data.length - 1];
+  assert.match(String(offset), OFFSET);
+  assert(!(offset <= client.offset), 'offsets rise');
+  client.offset = offset;
+  assert.deepStrictEqual(event.data.slice(0, -1), data);
+}
+
+// All that was put for the client before now has come: its own call was answered behind it.
+async function expectNothing(client, nsp = '/') {
+  await client.call(nsp, 'quiet', 'nobody');
+  assert.deepStrictEqual(client.events, []);
+}
+
+// What the verbs of cases.txt have a client do.
+const VERBS = {
+  call: async (client, nsp, event) => assert.deepStrictEqual(await client.call(nsp, ...event), []),
+  emit: (client, nsp, event) => client.emit(nsp, ...event),
+  hear: (client, nsp, event) => expectEvent(client, nsp, event, { logged: true }),
+  get: expectEvent,
+  rest: expectNothing,
+  end: (client, nsp) => expectEvent(client, nsp, null),
+  leave: (client) => client.disconnect('/'),
+  return: async (client) => assert((await client.connect('/')).sid, 'a new session'),
+  close: (client) => client.close(),
+  probe: (client) => client.upgrade({ lost: true }),
+  upgrade: async (client) => {
+    await pause(300);       // its GET waits then
+    const began = Date.now();
+    await client.upgrade();
+    assert(Date.now() - began < 2000, `the waiting GET ends after ${Date.now() - began} ms`);
+  },
+  write: (client, _, text) => client.raw(`4${text}`),
+  answer: (client, _, answers) => { client.answer = () => answers.shift(); },
+};
+const STEP = /^((?:[a-d] )+)([a-z]+?)s?((?: \/\w*)*)(?: (.*))?$/u;
+
+// A value of cases.txt: a text for `write`, and else JSON.
+function valueOf(verb, text) {
+  if (verb === 'write' || text === undefined) return text;
+  return JSON.parse(text, (_, it) => {
+    if (it?.bytes) return Buffer.from(it.bytes);
+    if (it?.rising) return Buffer.from(Array.from({ length: it.rising }, (_, n) => n));
+    return it?.letters ? 'x'.repeat(it.letters) : it;
+  });
+}
+
+async function entered(transport, spaces, rooms) {
+  const client = await Client.open(port, transport);
+  for (const nsp of spaces) {
+    await client.connect(nsp);
+    for (const room of rooms) await VERBS.call(client, nsp, ['join', room]);
+  }
+  return client;
+}
+
+// Plays the steps of a case, over one transport, or over those that clients have by their names.
+async function play(steps, transport, keep) {
+  const clients = {};
+  let said;
+  for (const step of steps) {
+    const [, names, verb, places, text] = STEP.exec(step);
+    const [spaces, value] = [places.trim().split(' ').map((it) => it || '/'), valueOf(verb, text)];
+    if (verb === 'call' || verb === 'emit') said = value;
+    for (const name of names.trim().split(' ')) {
+      if (verb === 'enter') clients[name] = keep(await entered(transport[name] ?? transport, spaces, value));
+      else await VERBS[verb](clients[name], spaces[0], value ?? said);
+    }
+  }
+}
+
+// The names of cases in a text, which stands as in cases.txt, and what checks each over a transport.
+function casesOver(transport, text = fs.readFileSync(`${__dirname}/cases.txt`, 'utf8')) {
+  return text.trim().split('\n\n').filter((it) => !it.startsWith('#')).map((it) => {
+    const [name, ...lines] = it.split('\n');
+    const steps = lines.flatMap((line) => line.split(';')).map((step) => step.trim());
+    return [name, (keep) => play(steps, transport, keep)];
+  });
+}
+
 // What a program of checks is started with: PORT [WORD]. `--help` tells what stands at its head.
 function given() {
   const [port, word = ''] = process.argv.slice(2);
@@ -338,4 +411,4 @@ async function run(checks) {
   process.exit(failed ? 1 : 0);
 }
 
-module.exports = { Client, PacketType, pause, port, request, run };
+module.exports = { Client, PacketType, casesOver, expectEvent, expectNothing, pause, port, request, run };

@@ -3,60 +3,24 @@
 
     left.py PORT [WORD]     WORD: only the checks whose names hold it
 """
+from python_client import cases_in, main
 
-from socketio.packet import DISCONNECT, Packet
+CHECKS = cases_in("""
+who leaves the namespace
+a b enter ["lobby"]; b leaves; a hears ["left","<b>","left"]
 
-from python_client import main
+who is disconnected by the server
+a b enter ["porch"]; b emits ["bye"]; a hears ["left","<b>","alone"]
 
+who closes the connection
+a b enter ["hall"]; b loses; a hears ["left","<b>","saved"]
 
-async def two_in(room, name):
-    """Two clients in a room of this name, and the id of the second."""
-    stays, leaves = [await room.client().connect() for _ in range(2)]
-    for client in (stays, leaves):
-        await client.call('join', name)
-    return stays, leaves, leaves.sio.get_sid('/')
+who is kicked
+a b enter ["yard"]; a calls ["kick","yard"]; a hears ["left","<b>","together"]
 
-
-async def leaves_namespace(room):
-    stays, leaves, sid = await two_in(room, 'lobby')
-    # Its own `disconnect` may close the WebSocket before the packet is sent.
-    await leaves.sio._send_packet(Packet(DISCONNECT, namespace='/'))
-    await stays.expect('left', sid, 'left')
-
-
-async def says_bye(room):
-    stays, leaves, sid = await two_in(room, 'porch')
-    await leaves.sio.emit('bye')
-    await stays.expect('left', sid, 'alone')
-
-
-async def loses_connection(room):
-    stays, leaves, sid = await two_in(room, 'hall')
-    await leaves.sio.eio.disconnect(abort=True)
-    await stays.expect('left', sid, 'saved')
-
-
-async def is_kicked(room):
-    stays, _, sid = await two_in(room, 'yard')
-    await stays.call('kick', 'yard')
-    await stays.expect('left', sid, 'together')
-
-
-async def is_elsewhere(room):
-    _, leaves, _ = await two_in(room, 'street')
-    other = await room.client().connect()
-    await other.call('join', 'park')
-    await leaves.sio.disconnect()
-    await other.expect_nothing()
-
-
-CHECKS = {
-    'who leaves the namespace': leaves_namespace,
-    'who is disconnected by the server': says_bye,
-    'who closes the connection': loses_connection,
-    'who is kicked': is_kicked,
-    "other rooms aren't told": is_elsewhere,
-}
+other rooms aren't told
+a b enter ["street"]; c enters ["park"]; b closes; c rests
+""")
 
 if __name__ == '__main__':
     main(CHECKS, __doc__)

@@ -5,16 +5,20 @@
 """
 import argparse
 import asyncio
+import functools
+import json
 import logging
+import pathlib
 import re
 import sys
 
 import socketio
 
 PATIENCE = 10
-LARGE = 300000
 OFFSET = re.compile('[0-9a-f]{16}$')
 TRANSPORTS = {'polling': ['polling'], 'websocket': ['websocket'], 'upgrade': None}
+CASES = pathlib.Path(__file__).with_name('cases.txt')
+STEP = re.compile(r'((?:[a-d] )+)([a-z]+?)s?((?: /\w*)*)(?: (.*))?')
 logging.disable(logging.CRITICAL)
 
 
@@ -28,7 +32,7 @@ class Chatter:
         self.events = asyncio.Queue()
         self.refusals = asyncio.Queue()
         self.ended = asyncio.Queue()
-        self.answer = None
+        self.answer, self.offset = None, ''
         for namespace in ('/', '/admin', '/nowhere'):
             self.listen(namespace)
 
@@ -49,6 +53,7 @@ class Chatter:
     async def connect(self, namespaces=('/',), auth=None, wait=True):
         await self.sio.connect(self.url, auth=auth, transports=TRANSPORTS[self.transport],
                                namespaces=list(namespaces), wait=wait, wait_timeout=PATIENCE if wait else 1)
+        self.sid = self.sio.get_sid('/')
         return self
 
     async def call(self, *data, namespace='/'):
@@ -61,17 +66,40 @@ class Chatter:
     async def expect(self, *data, namespace='/', logged=True):
         """The next event has to be this one; a logged one has its offset behind it."""
         event = await soon(self.events, f'{data[0]} for a member')
-        offset = event[-1] if logged else None
         if logged:
+            *event, offset = event
             ensure(isinstance(offset, str) and OFFSET.match(offset), f'no offset behind {brief(event)}')
-            event = event[:-1]
-        ensure(event == (namespace, *data), f'{brief(event)} for {brief((namespace, *data))}')
-        return offset
+            ensure(offset > self.offset, 'offsets rise')
+            self.offset = offset
+        ensure((*event,) == (namespace, *data), f'{brief(event)} for {brief((namespace, *data))}')
 
     async def expect_nothing(self, namespace='/'):
         """All that was put for the client before now has come: its own call was answered behind it."""
         await self.call('quiet', 'nobody', namespace=namespace)
         ensure(self.events.empty(), f'more than was expected: {brief(list(self.events._queue))}')
+
+    async def acknowledged(self, *data, namespace='/'):
+        """The event's acknowledgement is empty."""
+        ensure(await self.call(*data, namespace=namespace) is None, f'the acknowledgement of {data[0]}')
+
+    async def expect_end(self, namespace='/'):
+        ended = await soon(self.ended, 'the disconnection')
+        ensure(ended == namespace and self.sio.connected == bool(self.sio.namespaces), 'disconnected')
+
+    async def disconnect(self):
+        """Ends its connection, and is told so."""
+        await self.sio.disconnect()
+        ensure(await soon(self.ended, 'the disconnection') == '/', 'disconnected')
+
+    async def leave(self):
+        # Its own `disconnect` may close the WebSocket before the packet is sent.
+        await self.sio.eio.send('1')
+        del self.sio.namespaces['/']
+
+    async def enter_again(self):
+        await self.sio.eio.send('0')
+        while '/' not in self.sio.namespaces:
+            await asyncio.sleep(0.01)
 
     async def close(self):
         if self.sio.eio.state == 'connected':
@@ -116,7 +144,7 @@ class Room:
         client = await self.client().connect(namespaces)
         for namespace in namespaces:
             for room in rooms:
-                ensure(await client.call('join', room, namespace=namespace) is None, 'the acknowledgement of join')
+                await client.acknowledged('join', room, namespace=namespace)
         return client
 
     async def close(self):
@@ -125,6 +153,51 @@ class Room:
 
 
 # ---- the checks
+
+# What the verbs of cases.txt have a client do, in a namespace and with a value.
+VERBS = {
+    'call': lambda client, space, event: client.acknowledged(*event, namespace=space),
+    'emit': lambda client, space, event: client.emit(*event, namespace=space),
+    'hear': lambda client, space, event: client.expect(*event, namespace=space),
+    'get': lambda client, space, event: client.expect(*event, namespace=space, logged=False),
+    'rest': lambda client, space, _: client.expect_nothing(space),
+    'end': lambda client, space, _: client.expect_end(space),
+    'leave': lambda client, *_: client.leave(),
+    'return': lambda client, *_: client.enter_again(),
+    'close': lambda client, *_: client.disconnect(),
+    'lose': lambda client, *_: client.sio.eio.disconnect(abort=True),
+    'write': lambda client, _, text: client.sio.eio.send(text),
+}
+
+
+def made(value):
+    """An object of cases.txt, or what it stands for."""
+    if 'rising' in value:
+        return bytes(number % 256 for number in range(value['rising']))
+    return bytes(value['bytes']) if 'bytes' in value else 'x' * value['letters'] if 'letters' in value else value
+
+
+async def play(lines, room):
+    """Plays the steps of a case. `<b>` in a text is the id of b."""
+    clients, said = {}, None
+    for step in ';'.join(lines).split(';'):
+        names, verb, spaces, text = STEP.fullmatch(step.strip()).groups()
+        text = re.sub('<([a-d])>', lambda name: clients[name[1]].sid, text or '')
+        value = text if verb == 'write' else json.loads(text, object_hook=made) if text else said
+        said = value if verb in ('call', 'emit') else said
+        spaces = spaces.split() or ['/']
+        for name in names.split():
+            if verb == 'enter':
+                clients[name] = await room.member(*value, namespaces=spaces)
+            else:
+                await VERBS[verb](clients[name], spaces[0], value)
+
+
+def cases_in(text):
+    """The checks of cases by their names."""
+    cases = [it.split('\n') for it in text.strip().split('\n\n') if not it.startswith('#')]
+    return {name: functools.partial(play, lines) for name, *lines in cases}
+
 
 async def connects(room):
     client = await room.client().connect(auth={'token': 'yes'})
@@ -146,78 +219,11 @@ async def is_refused(room):
     ensure(False, 'connect reports success')
 
 
-async def namespaces(room):
-    a, b = [await room.member('r', namespaces=('/', '/admin')) for _ in range(2)]
-    ensure(a.sio.get_sid('/') != a.sio.get_sid('/admin'), 'a session id for each namespace')
-    await a.call('say', 'r', 'inside', namespace='/admin')
-    await b.expect('say', 'r', 'inside', namespace='/admin')
-    await a.call('say', 'r', 'outside')
-    await b.expect('say', 'r', 'outside')
-    await b.expect_nothing('/admin')
-    await b.expect_nothing()
-
-
 async def unknown_namespace(room):
     client = await room.client().connect(('/', '/nowhere'), wait=False)
     refusal = await soon(client.refusals, 'the refusal')
     ensure(refusal == ('/nowhere', {'message': 'Invalid namespace'}), brief(refusal))
     await client.expect_nothing()
-
-
-async def rooms(room):
-    a, b, c = [await room.member('r') for _ in range(3)]
-    await a.call('say', 'r', 'one')
-    first = await b.expect('say', 'r', 'one')
-    await c.expect('say', 'r', 'one')
-    await c.call('leave', 'r')
-    await a.call('say', 'r', 'two', {'n': [2, 2.5, None, True]})
-    second = await b.expect('say', 'r', 'two', {'n': [2, 2.5, None, True]})
-    ensure(first < second, 'offsets rise')
-    await a.expect_nothing()
-    await c.expect_nothing()
-
-
-async def selections(room):
-    a, b, c, d = [await room.member(*names) for names in (['p'], ['p', 'q'], ['q'], [])]
-    await d.call('two', 'p', 'q', 1)
-    for each in (a, b, c):
-        await each.expect('two', 'p', 'q', 1)
-    await d.call('but', 'p', 'q', 2)
-    await a.expect('but', 'p', 'q', 2)
-    await d.call('quiet', 'q', 3)
-    for each in (b, c):
-        await each.expect('quiet', 'q', 3, logged=False)
-    for each in (a, b, c, d):
-        await each.expect_nothing()
-    await d.call('all', 4)
-    for each in (a, b, c, d):
-        await each.expect('all', 4)
-
-
-async def many(room):
-    a, b, c = [await room.member(*names) for names in (['from'], ['from'], [])]
-    await c.call('pull', 'from', 'to')
-    await c.call('say', 'to', 'pulled')
-    for each in (a, b):
-        await each.expect('say', 'to', 'pulled')
-    await c.call('push', 'from', 'to')
-    await c.call('say', 'to', 'pushed')
-    for each in (a, b):
-        await each.expect_nothing()
-    await a.call('kick', 'from')
-    ensure(await soon(b.ended, 'the disconnection') == '/', 'disconnected')
-    await c.call('say', 'from', 'left')
-    await a.expect('say', 'from', 'left')
-
-
-async def attachments(room):
-    a, b = [await room.member('r') for _ in range(2)]
-    data = ('say', 'r', bytes(range(256)), {'deep': [b'', {'x': b'\x1e'}]}, 'end')
-    ensure(await a.call(*data) is None, 'the acknowledgement')
-    await b.expect(*data)
-    await a.emit('quiet', 'r', b'alone')
-    await b.expect('quiet', 'r', b'alone', logged=False)
-    await a.expect_nothing()
 
 
 async def answers(room):
@@ -235,26 +241,6 @@ async def answers(room):
     ensure(client.sio.connected, 'still connected')
 
 
-async def large(room):
-    a, b = [await room.member('r') for _ in range(2)]
-    text, data = 'x' * LARGE, b'\x07' * LARGE
-    await a.call('say', 'r', text)
-    await b.expect('say', 'r', text)
-    await a.call('say', 'r', data)
-    await b.expect('say', 'r', data)
-    await b.emit('ask', data)
-    await b.expect('ask', data, logged=False)
-    await b.expect_nothing()
-
-
-async def unicode(room):
-    a, b = await room.member(), await room.member('místnost 🦄')
-    text = 'žluť 🦄 \u2028 \x1e " \\ \x00'
-    await a.call('say', 'místnost 🦄', text)
-    await b.expect('say', 'místnost 🦄', text)
-    await a.expect_nothing()
-
-
 async def in_order(room):
     a, b = [await room.member('r') for _ in range(2)]
     for batch in range(10):
@@ -264,45 +250,13 @@ async def in_order(room):
             await b.expect('say', 'r', batch, n)
 
 
-async def leaves_and_closes(room):
-    a, b = [await room.member('r') for _ in range(2)]
-    await b.sio.disconnect()
-    ensure(await soon(b.ended, 'the disconnection') == '/', 'disconnected')
-    await a.call('say', 'r', 'gone')
-    await b.close()
-    again = await room.member('r')
-    await a.call('say', 'r', 'back')
-    await again.expect('say', 'r', 'back')
-    await a.expect_nothing()
-
-
-async def is_disconnected(room):
-    a = await room.member('r')
-    b = await room.member('r', namespaces=('/', '/admin'))
-    await b.emit('bye')
-    ensure(await soon(b.ended, 'the disconnection') == '/', 'disconnected')
-    await a.call('say', 'r', 'gone')
-    await b.expect_nothing('/admin')
-    await b.emit('bye', namespace='/admin')
-    ensure(await soon(b.ended, 'the second disconnection') == '/admin', 'disconnected')
-    ensure(not b.sio.connected, 'no longer connected')
-
-
 CHECKS = {
     'connects': connects,
     'is refused by the app': is_refused,
-    'joins two namespaces': namespaces,
     'is refused an unknown namespace': unknown_namespace,
-    'rooms': rooms,
-    'two, but, quiet and all': selections,
-    'pull, push and kick': many,
-    'attachments': attachments,
     'answers both ways': answers,
-    'large payloads': large,
-    'unicode': unicode,
     'events in order': in_order,
-    'leaves and closes': leaves_and_closes,
-    'is disconnected by the server': is_disconnected,
+    **cases_in(CASES.read_text(encoding='utf-8')),
 }
 
 

@@ -11,10 +11,7 @@ const NOTICED = 300;
 // A member whose connection can be cut: what came, and where it stands.
 class Member {
   constructor(keep, room) {
-    this.keep = keep;
-    this.room = room;
-    this.got = [];
-    this.offset = null;
+    Object.assign(this, { keep, room, got: [], offset: null });
   }
 
   async begin(transport) {
@@ -57,11 +54,7 @@ class Member {
 // what the member must not get, to another room, or without an offset while it is away.
 class Speakers {
   constructor(keep, room) {
-    this.keep = keep;
-    this.room = room;
-    this.last = 0;
-    this.over = false;
-    this.away = false;
+    Object.assign(this, { keep, room, last: 0, over: false, away: false });
   }
 
   async begin() {
@@ -85,9 +78,7 @@ class Speakers {
   }
 
   async reached(count) {
-    while (this.last < count) {
-      await Promise.race([pause(5), this.speaking]);
-    }
+    while (this.last < count) await Promise.race([pause(5), this.speaking]);
   }
 
   async end() {

@@ -1,22 +1,18 @@
 """The scene `nodes` of scripts/try_backends: one app over three servers, of which one isn't up at first and one is cut off, and
 killed later; and a fourth one that has another token."""
 import asyncio
-import contextlib
-import re
 import signal
 import time
 
-import engineio.payload
-import socketio
-
-from .backends import HIGH, LOW, PATIENCE, Backend, Server, free_port, twice, until
+from .backends import HIGH, LOW, PATIENCE, Backend, Server, twice, until
+from .clients import Client
+from .front import Front
 
 TRANSPORTS = {"1": "polling", "2": "websocket"}
 EVERYBODY = "a1 a2 b1 b2 c1 c2"     # a1 is the client of node a by polling, and so on
 RED, BLUE = "a1 b2 c1", "b1 c2"     # who is in which room
 SHORT, LONG = 3.0, 9.0              # seconds that a question is open
 LOST, LATE = "the connection to the server was lost", "operation has timed out"
-engineio.payload.Payload.max_decode_packets = 100_000   # python-socketio's polling clients take no more than 16 at once else
 
 # Whom an event is for: who gets it, the steps of JavaScript, and the options of Python. `@a1` stands for the sid of a1.
 EMITS = {
@@ -47,70 +43,30 @@ CHANGES = [
 ]
 
 
-class Visitor:
-    """A client of a node, by one transport. It answers questions while it isn't silent."""
+class Visitor(Client):
+    """A client of a node. It answers questions while it isn't silent."""
 
     def __init__(self, node, transport):
-        self.node, self.transport = node, transport
-        self.got, self.asked, self.silent, self.gone = [], [], False, False
-        self.client = socketio.AsyncClient(reconnection=False, handle_sigint=False)
-        self.client.on("*", self.take)
+        super().__init__(node.url, transport)
+        self.asked, self.silent = [], False
+
+    def listen(self):
+        super().listen()
         self.client.on("question", self.answer)
-        self.client.on("disconnect", lambda *_: setattr(self, "gone", True))
-
-    async def open(self):
-        await self.client.connect(self.node.url, transports=[self.transport], wait_timeout=PATIENCE)
-        self.sid = self.client.get_sid()
-        return self
-
-    def take(self, *event):
-        """What is logged has its offset behind it."""
-        self.got.append(event[:-1] if re.fullmatch("[0-9a-f]{16}", str(event[-1])) else event)
 
     async def answer(self, number):
         self.asked.append(number)
-        while self.silent and not self.gone:
+        while self.silent and not self.ended:
             await asyncio.sleep(0.02)
         return [self.sid, number]
 
-    async def close(self):
-        with contextlib.suppress(Exception):
-            await self.client.disconnect()
-            await asyncio.wait_for(self.client.eio.wait(), 2)
-        if self.client.eio.http:
-            await self.client.eio.http.close()
 
-
-class Way:
-    """A backend's way to a node, which can be cut."""
+class Way(Front):
+    """A backend's way to a node."""
 
     def __init__(self, node):
-        self.node, self.token, self.library, self.port = node, node.token, node.library, free_port()
-        self.url, self.writers = f"http://127.0.0.1:{self.port}", set()
-
-    async def open(self):
-        self.server = await asyncio.start_server(self.serve, "127.0.0.1", self.port)
-
-    def cut(self):
-        self.server.close()
-        for writer in self.writers:
-            writer.transport.abort()
-        self.writers.clear()
-
-    async def serve(self, reader, writer):
-        try:
-            there, out = await asyncio.open_connection("127.0.0.1", self.node.port)
-        except OSError:
-            return writer.transport.abort()
-        self.writers |= {writer, out}
-        await asyncio.gather(self.pump(reader, out), self.pump(there, writer))
-
-    async def pump(self, reader, writer):
-        with contextlib.suppress(OSError):
-            while data := await reader.read(65536):
-                writer.write(data)
-                await writer.drain()
-        writer.transport.abort()
+        super().__init__(("127.0.0.1", node.port))
+        self.token, self.library, self.url = node.token, node.library, f"http://127.0.0.1:{self.port}"
 
 
 class Scene:
@@ -124,12 +80,11 @@ class Scene:
         self.visitors, self.count = {}, 0
 
     async def __aenter__(self):
-        await self.way.open()
         return self
 
     async def __aexit__(self, *_):
         await self.close(self.visitors.values())
-        self.way.cut()
+        self.way.turn("cut")
         for node in (*self.nodes.values(), self.stranger):
             if node.process is not None:
                 node.end(signal.SIGKILL)
@@ -284,10 +239,10 @@ async def asks(scene):
 async def is_cut_off(scene):
     """Only the way to a node is lost: its sockets go for the app, and come back."""
     checks, backend = scene.checks, scene.backend
-    scene.way.cut()
+    scene.way.turn("cut")
     await until(lambda: len(backend.present()) == 4)
     checks.same("cut off: its sockets are told to have gone", sorted(backend.present()), scene.sids("a1 a2 c1 c2"))
-    await scene.way.open()
+    scene.way.turn("mended")
     await until(lambda: len(backend.present()) == 6)
     checks.same("and to be back", sorted(backend.present()), scene.sids(EVERYBODY))
     scene.cut_off = scene.sids("b1 b2")
@@ -348,11 +303,11 @@ async def ends(scene):
         await scene.do([["socket", f"@{name}"], ["disconnect"]], ["disconnect", [f"@{name}"]])
     await until(lambda: len(backend.present()) == 4)
     checks.same("who is put out is told to have gone", sorted(backend.present()), scene.sids("a2 b1 c1 c2"))
-    await until(lambda: sum(one.gone for one in scene.visitors.values()) == 2)
-    checks.same("and is out", [name for name, one in scene.visitors.items() if one.gone], ["a1", "b2"])
+    await until(lambda: sum(one.ended for one in scene.visitors.values()) == 2)
+    checks.same("and is out", [name for name, one in scene.visitors.items() if one.ended], ["a1", "b2"])
     if scene.language == "javascript":
         await scene.do([["in", "blue"], ["disconnectSockets"]], None)
-        await until(lambda: scene.visitors["c2"].gone)
+        await until(lambda: scene.visitors["c2"].ended)
     await scene.close(scene.visitors.values())
     await until(lambda: not backend.present())
     checks.same("all are told to have gone", backend.present(), set())

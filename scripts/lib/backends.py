@@ -1,4 +1,5 @@
-"""What scripts/try_backends has its parts play with: servers, backends, and clients."""
+"""What scripts/try_backends has its parts play with: servers, and backends."""
+import argparse
 import asyncio
 import collections
 import json
@@ -6,13 +7,12 @@ import os
 import pathlib
 import secrets
 import signal
-import socket
 import subprocess
 import sys
 import tempfile
 import time
 
-import aiohttp
+from .processes import file_at, free_port, listens, memory
 
 TOP = pathlib.Path(__file__).resolve().parent.parent.parent
 CLIENTS = TOP / "scripts" / "clients"
@@ -22,18 +22,15 @@ PATIENCE = 20
 ALL, LOW, HIGH = "0123456789abcdef", "01234567", "89abcdef"
 
 
-class Checks:
-    def __init__(self):
-        self.passed = self.failed = 0
-        self.part = ""
-
-    def __call__(self, text, holds, fault=""):
-        self.passed, self.failed = self.passed + bool(holds), self.failed + (not holds)
-        fault = f": {str(fault)[:600]}" if fault and not holds else ""
-        print(f"{'ok' if holds else 'FAILED'}: {self.part}: {text}{fault}", flush=True)
-
-    def same(self, text, got, wanted):
-        self(text, got == wanted, f"{str(got)[:280]} instead of {str(wanted)[:280]}")
+def arguments(text, *flags):
+    """What a script with this text is given."""
+    parser = argparse.ArgumentParser(description=text, formatter_class=argparse.RawDescriptionHelpFormatter)
+    parser.add_argument("program", metavar="PROGRAM", type=file_at)
+    parser.add_argument("--library", metavar="FILE", type=file_at, required=True)
+    parser.add_argument("--only", metavar="WORD", default="")
+    for flag in flags:
+        parser.add_argument(flag, action="store_true")
+    return parser.parse_args()
 
 
 async def until(condition, seconds=PATIENCE):
@@ -42,12 +39,6 @@ async def until(condition, seconds=PATIENCE):
     while not condition() and time.monotonic() < end:
         await asyncio.sleep(0.02)
     return condition()
-
-
-def free_port():
-    with socket.socket() as it:
-        it.bind(("127.0.0.1", 0))
-        return it.getsockname()[1]
 
 
 class Server:
@@ -63,15 +54,8 @@ class Server:
     def start(self):
         words = [self.program, "serve", "--port", str(self.port), "--backend-token", self.folder / "token.txt", "--space", "/admin"]
         self.process = subprocess.Popen(words, stdin=subprocess.DEVNULL, stdout=subprocess.DEVNULL)
-        end = time.monotonic() + LONGEST
-        while True:
-            if self.process.poll() is not None or time.monotonic() > end:
-                sys.exit(f"the server doesn't listen: status {self.process.poll()}")
-            try:
-                socket.create_connection(("127.0.0.1", self.port), 1).close()
-                return
-            except OSError:
-                time.sleep(0.05)
+        if not listens(self.port, self.process, LONGEST):
+            sys.exit(f"the server doesn't listen: status {self.process.poll()}")
 
     def end(self, by=signal.SIGTERM):
         self.process.send_signal(by)
@@ -79,8 +63,7 @@ class Server:
 
     def memory(self):
         """In MB, the most so far."""
-        status = pathlib.Path(f"/proc/{self.process.pid}/status").read_text()
-        return int(next(line.split()[1] for line in status.splitlines() if line.startswith("VmHWM"))) // 1024
+        return int(memory(self.process.pid, "VmHWM"))
 
 
 class Backend:
@@ -130,72 +113,6 @@ class Backend:
     async def __aexit__(self, *_):
         self.process.kill()
         self.process.wait()
-
-
-class Client:
-    """A client by WebSocket."""
-
-    def __init__(self, server, session):
-        self.server, self.session = server, session
-        self.sid, self.got, self.ended, self.refused = None, [], False, None
-
-    async def open(self, connect="40"):
-        self.ws = await self.session.ws_connect(self.server.url + "/socket.io/?EIO=4&transport=websocket", max_msg_size=0)
-        await self.ws.receive_str()
-        self.reading = asyncio.ensure_future(self.read())
-        await self.ws.send_str(connect)
-        await until(lambda: self.sid)
-        return self
-
-    async def read(self):
-        async for message in self.ws:
-            text = message.data
-            if text == "2":
-                await self.ws.send_str("3")
-            elif text.startswith("40{"):
-                self.sid = json.loads(text[2:])["sid"]
-            elif text.startswith("42["):
-                # What is logged has its offset behind it.
-                self.got.append(tuple(json.loads(text[2:])[:-1]))
-            elif text.startswith("44"):
-                self.refused = text
-        self.ended = True
-
-    async def send(self, *event):
-        await self.ws.send_str("42" + json.dumps(event))
-
-    async def close(self):
-        await self.ws.close()
-        await self.reading
-
-
-class Crowd:
-    """Clients of one scene."""
-
-    def __init__(self, server):
-        self.server, self.clients = server, []
-
-    async def __aenter__(self):
-        self.session = aiohttp.ClientSession(connector=aiohttp.TCPConnector(limit=0))
-        return self
-
-    async def __aexit__(self, *_):
-        for client in self.clients:
-            await client.close()
-        await self.session.close()
-
-    async def more(self, count=1):
-        made = [await Client(self.server, self.session).open() for _ in range(count)]
-        self.clients += made
-        return made
-
-    async def leave(self, clients):
-        for client in clients:
-            self.clients.remove(client)
-            await client.close()
-
-    def sids(self):
-        return {client.sid for client in self.clients}
 
 
 def twice(values):

@@ -7,7 +7,9 @@ import tempfile
 import time
 
 from .backends import NODE, TOP, until
-from .nodes import Crowd, Process, cpu
+from .clients import Crowd
+from .nodes import Process
+from .processes import processor_time
 from .service import Service
 
 LOAD = TOP / "scripts" / "load"
@@ -22,12 +24,12 @@ class Figures:
 
     def __init__(self, service, count):
         self.service, self.nodes = service, service.nodes[:count]
-        self.many = service.folder / "many"
+        self.program = service.folder / "load"
 
     async def load(self, *words):
         """Clients in C, which say things to rooms."""
         ports = [word for node in self.nodes for word in ("--port", str(node.port))]
-        done = await asyncio.to_thread(subprocess.run, [self.many, *ports, "--seconds", str(SECONDS), *words],
+        done = await asyncio.to_thread(subprocess.run, [self.program, *ports, "--seconds", str(SECONDS), *words],
                                        capture_output=True, text=True)
         try:
             return json.loads(done.stdout.strip().splitlines()[-1])
@@ -49,10 +51,10 @@ class Figures:
         """Does the work. `shown` makes of what it gives the figures, and how many events it was; processor microseconds of each
         kind of process for one event come behind them."""
         kinds = {"a node": self.nodes, **others}
-        before = {kind: sum(cpu(it.process) for it in them) for kind, them in kinds.items()}
+        before = {kind: sum(processor_time(it.process.pid) for it in them) for kind, them in kinds.items()}
         figures, events = shown(await work)
         for kind, them in kinds.items():
-            spent = sum(cpu(it.process) for it in them) - before[kind]
+            spent = sum(processor_time(it.process.pid) for it in them) - before[kind]
             figures[f"us of {kind} an event"] = spent * 1e6 / len(them) / max(1, events)
         shown = ", ".join(f"{name} {value:,.0f}" for name, value in figures.items())
         print(f"{len(self.nodes)} nodes, {what}: {shown}", flush=True)
@@ -111,7 +113,7 @@ async def emitted(service, nodes):
 async def measured(program, library):
     with tempfile.TemporaryDirectory() as folder:
         service = Service(pathlib.Path(folder), program, library)
-        subprocess.run(["cc", "-O2", "-pthread", "-o", service.folder / "many", LOAD / "many.c"], check=True)
+        subprocess.run(["cc", "-O2", "-pthread", "-o", service.folder / "load", LOAD / "load.c"], check=True)
         try:
             await service.start()
             for bridge in service.bridges:

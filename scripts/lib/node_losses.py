@@ -8,8 +8,8 @@ import signal
 import aiohttp
 
 from .backends import HIGH, LOW, twice, until
+from .clients import Crowd
 from .node_scenes import BOTH, SETTLED, at_nodes
-from .nodes import Crowd
 
 BEAT = 0.01         # seconds between two events
 BEFORE, AWAY, AFTER = 1.0, 2.0, 2.0     # seconds

@@ -11,8 +11,9 @@ import subprocess
 import msgpack
 import socketio
 
-from .backends import HIGH, LOW, PYTHON, until
-from .nodes import BACKENDS, BRIDGE, PLACES, Client, Crowd, script
+from .backends import HIGH, LONGEST, LOW, PYTHON, until
+from .clients import Client, Crowd
+from .nodes import BACKENDS, BRIDGE, PLACES
 from .service import RELAYED
 
 SETTLED = 0.5       # seconds, after which nothing comes any more
@@ -55,8 +56,7 @@ async def is_refused(url, transport):
 
 
 async def forms(checks, service, _):
-    backends = script("try_backends")
-    await asyncio.to_thread(backends.library, checks, [*PYTHON, BACKENDS / "redis/tests/forms.py"], backends.of_python)
+    await asyncio.to_thread(checks.of_program, [*PYTHON, BACKENDS / "redis/tests/forms.py"], LONGEST, least=1)
 
 
 # Clients through proxies, and a room over all nodes.

@@ -3,6 +3,7 @@ import argparse
 import contextlib
 import os
 import pathlib
+import re
 import signal
 import socket
 import subprocess
@@ -52,6 +53,14 @@ def server_at(url):
     return server
 
 
+def file_at(name):
+    """The whole path of a file, which has to be there; for argparse."""
+    path = pathlib.Path(name).resolve()
+    if not path.is_file():
+        raise argparse.ArgumentTypeError(f"{path}: no such file")
+    return path
+
+
 def end(process):
     process.terminate()
     try:
@@ -59,6 +68,18 @@ def end(process):
     except subprocess.TimeoutExpired:
         process.kill()
         process.wait()
+
+
+def memory(number, key="VmRSS"):
+    """What a process has, in MB; by VmHWM the most so far."""
+    status = pathlib.Path(f"/proc/{number}/status").read_text()
+    return int(re.search(rf"{key}:\s+(\d+) kB", status)[1]) / 1024
+
+
+def processor_time(number):
+    """The processor seconds of a process so far."""
+    fields = pathlib.Path(f"/proc/{number}/stat").read_text().rpartition(")")[2].split()
+    return (int(fields[11]) + int(fields[12])) / os.sysconf("SC_CLK_TCK")
 
 
 def parents():
@@ -101,7 +122,8 @@ class Process:
 
     def start(self):
         self.log = tempfile.TemporaryFile("w+")
-        self.process = subprocess.Popen(self.words, stdin=subprocess.DEVNULL, stdout=self.log, stderr=self.log, **self.more)
+        usual = {"stdin": subprocess.DEVNULL, "stdout": self.log, "stderr": self.log}
+        self.process = subprocess.Popen(self.words, **{**usual, **self.more})
 
     def end(self):
         ended = self.process.poll()

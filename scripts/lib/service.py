@@ -1,6 +1,7 @@
 """A service of several nodes for scripts/try_nodes: all of its processes, and what publishes to it from elsewhere."""
 import asyncio
 import contextlib
+import dataclasses
 import json
 import secrets
 
@@ -13,7 +14,7 @@ from .backends import ALL, PATIENCE, Backend, Server
 from .nodes import Bridge, Haproxy, Nginx, RedisServer
 
 RELAYED = "lobby"       # the room that the bridges relay
-HASH = "        hash $remote_addr consistent;\n"
+HASH = "    hash $remote_addr consistent;\n"
 NODES = 3
 
 
@@ -85,28 +86,28 @@ class Service:
             await self.command(node, "socketsJoin", {"to": [client.sid for client in clients]}, room)
 
 
+@dataclasses.dataclass
 class Emitter:
     """Publishes as @socket.io/redis-emitter 5 does, by msgpack alone. Each call gives to how many bridges Redis sent it."""
 
-    def __init__(self, client, key="socket.io", namespace="/", rooms=(), excepted=(), flags=()):
-        self.redis, self.key, self.namespace = client, key, namespace
-        self.rooms, self.excepted, self.flags = list(rooms), list(excepted), dict(flags)
-
-    def changed(self, **more):
-        return Emitter(**{"client": self.redis, "key": self.key, "namespace": self.namespace, "rooms": self.rooms,
-                          "excepted": self.excepted, "flags": self.flags, **more})
+    redis: redis.asyncio.Redis
+    key: str = "socket.io"
+    namespace: str = "/"
+    rooms: tuple = ()
+    excepted: tuple = ()
+    flags: dict = dataclasses.field(default_factory=dict)
 
     def of(self, namespace):
-        return self.changed(namespace=namespace)
+        return dataclasses.replace(self, namespace=namespace)
 
     def to(self, *rooms):
-        return self.changed(rooms=[*self.rooms, *rooms])
+        return dataclasses.replace(self, rooms=(*self.rooms, *rooms))
 
     def but(self, *rooms):
-        return self.changed(excepted=[*self.excepted, *rooms])
+        return dataclasses.replace(self, excepted=(*self.excepted, *rooms))
 
     def volatile(self):
-        return self.changed(flags={"volatile": True})
+        return dataclasses.replace(self, flags={"volatile": True})
 
     async def publish(self, channel, payload):
         try:

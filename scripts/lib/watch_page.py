@@ -10,7 +10,8 @@ import urllib.request
 
 import websocket
 
-from lib.browser import Front, Page
+from lib.browser import Page
+from lib.front import Front
 from lib.processes import PATIENCE, Process, free_port, listens, until
 
 PAGE = pathlib.Path(__file__).resolve().parents[2] / "examples" / "watch"
@@ -62,12 +63,9 @@ class Watcher:
         self.page = Page(browser, "about:blank", width)
         self.page.call("Page.addScriptToEvaluateOnNewDocument", source=script)
         self.page.call("Emulation.setFocusEmulationEnabled", enabled=True)
-        self.turn_to("light")
+        self.page.turn_to("light")
         self.page.call("Page.navigate", url=f"http://127.0.0.1:{self.way.port}/")
         self.page.becomes("document.querySelector('#state')?.dataset.state === 'open'")
-
-    def turn_to(self, scheme):
-        self.page.call("Emulation.setEmulatedMedia", features=[{"name": "prefers-color-scheme", "value": scheme}])
 
     def feed(self, **changed):
         self.way.files["/metrics"] = text_of(**changed)
@@ -161,7 +159,7 @@ def fits(watcher, checks, what):
     checks(f"{what}: nothing reaches over its side", watcher.page.run(
         "[document.documentElement, ...document.querySelectorAll('main, .chart')].every((it) => it.scrollWidth <= it.clientWidth)"))
     for scheme in ("dark", "light"):
-        watcher.turn_to(scheme)
+        watcher.page.turn_to(scheme)
         checks(f"{what}, {scheme}: its line has the colour of its style", until(lambda: watcher.last_of_line("Clients") is not None))
 
 
@@ -272,14 +270,6 @@ def ends_there(watcher, title):
     return None not in (value, drawn) and abs(drawn - value) < 0.02 * value + 1
 
 
-def picture(watcher, folder, name):
-    watcher.page.call("Page.bringToFront")
-    for scheme in ("dark", "light"):
-        watcher.turn_to(scheme)
-        time.sleep(0.3)
-        watcher.page.picture(folder / f"{name}-{scheme}.png")
-
-
 def try_watch(browser, given, _, checks):
     """The page from the start of its server to its end."""
     port = free_port()
@@ -301,7 +291,7 @@ def try_watch(browser, given, _, checks):
         if given.pictures:
             time.sleep(given.load)
             for watcher, name in zip(watchers, ("wide", "narrow")):
-                picture(watcher, given.pictures, f"watch-{name}")
+                watcher.page.pictures(given.pictures, f"watch-{name}")
         load.end()
         checks("that all have gone is shown", until(lambda: watchers[0].shown("Clients")[0] == 0))
         server.end()

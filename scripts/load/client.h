@@ -14,10 +14,17 @@
 #include <time.h>
 #include <unistd.h>
 
-static int port;
+static int port, size = 16;
 
 static double now(void) { struct timespec t; clock_gettime(CLOCK_MONOTONIC, &t); return t.tv_sec + t.tv_nsec / 1e9; }
 static void die(const char *why) { printf("{\"error\":\"%s\"}\n", why); exit(1); }
+
+static int cmp(const void *a, const void *b) { double x = *(double *)a, y = *(double *)b; return x < y ? -1 : x > y; }
+/* What says `size` letters to a room. */
+static char *event(size_t *n, const char *room) {
+    char *t = malloc(size + 64); int k = sprintf(t, "42[\"say\",\"%s\",\"", room);
+    memset(t + k, 'x', size); *n = k + size + sprintf(t + k + size, "\"]"); return t;
+}
 
 static int dial(void) {
     struct sockaddr_in a = { .sin_family = AF_INET, .sin_port = htons(port) };

@@ -44,12 +44,7 @@ class Message {
 
 class Client {
   constructor(ws) {
-    this.sid = id();
-    this.ws = ws;
-    this.box = [];
-    this.get = null;
-    this.sockets = new Map();
-    this.decoder = new Decoder();
+    Object.assign(this, { sid: id(), ws, box: [], get: null, sockets: new Map(), decoder: new Decoder() });
     this.decoder.on('decoded', (packet) => this.packet(packet));
     this.beat = setInterval(() => this.raw('2'), 25000);
     clients.set(this.sid, this);
@@ -88,18 +83,14 @@ class Client {
   }
 
   data(text) {
-    try {
-      if (text[0] === '4') this.decoder.add(text.slice(1));
-      else if (text[0] === 'b') this.decoder.add(Buffer.from(text.slice(1), 'base64'));
-      else if (text[0] === '1') this.close();
-    } catch (error) {
-      this.close();
-    }
+    if (text[0] === '4') this.decode(text.slice(1));
+    else if (text[0] === 'b') this.decode(Buffer.from(text.slice(1), 'base64'));
+    else if (text[0] === '1') this.close();
   }
 
-  attachment(bytes) {
+  decode(part) {
     try {
-      this.decoder.add(bytes);
+      this.decoder.add(part);
     } catch (error) {
       this.close();
     }
@@ -236,7 +227,7 @@ function opened(ws, sid) {
   const client = sid ? clients.get(sid) : new Client(ws);
   if (!client) return ws.close();
   if (!sid) ws.send(client.open());
-  ws.on('message', (message, isBinary) => isBinary ? client.attachment(message) : heard(client, ws, message.toString()));
+  ws.on('message', (message, isBinary) => isBinary ? client.decode(message) : heard(client, ws, message.toString()));
   ws.on('close', () => { if (client.ws === ws) client.close(); });
   ws.on('error', () => {});                         // 'close' comes after it
 }
