@@ -5,6 +5,7 @@ ghost use Rattle.tungstenite.specs.Connection.{write_step};
 ghost use Rattle.tungstenite.specs.Socket.{IsFresh, Writes, content_of};
 ghost use Rattle.websocket.specs.declared.protocol.config.Role.TheVariants.{Server};
 ghost use Rattle.events.specs.declared.peer.PeerFault.TheVariants.{Memory, Device};
+ghost use Rattle.peers.specs.Accepted.{HasMostBytes};
 ghost use Rattle.peers.specs.Heard.{to_send};
 ghost use Rattle.peers.specs.Sent.{AddsFrame};
 ghost use Rattle.peers.specs.Spoken.{Sends};
@@ -78,6 +79,7 @@ impl<S: Drop, M> SocketPeer<S, M> {
     /// buffers that grew are given back. What was read and not brought is lost, so none is to be there.
     pub fn renewed(self) -> SocketPeer<S, M>
         ensures fresh { IsFresh result.socket self.socket.stream Server }
+        ensures limits { HasMostBytes 1048576 result.socket.conn.config }
         ensures stage { result.stage ≡ self.stage }
         ensures moments { result.moments ≡ self.moments }
     {
