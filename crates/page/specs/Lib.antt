@@ -1,3 +1,4 @@
 pub mod Media
 pub mod Answer
 pub mod Pages
+pub mod Folders

@@ -1,6 +1,7 @@
 //! Reading the files of a folder.
 
 ghost use Rattle.std.specs.Prelude.{◌≡◌, ◌++◌, ◌∷◌, [], None, IfSome, OnOk, OnErr};
+ghost use Rattle.page.specs.Folders.{IsOfPage};
 ghost use Rattle.page.specs.Pages.{file_of, refusal};
 
 use crate::file::File;
@@ -31,6 +32,8 @@ pub enum FolderError {
 }
 
 impl From<PageError> for FolderError {
+    ghost from_gives = { λ error fault. IsOfPage error fault };
+
     fn from(error: PageError) -> FolderError {
         match error {
             PageError::TooMany => FolderError::TooMany,
