@@ -12,4 +12,6 @@ IsUnread mail asleep = asleep ≡ true → count mail ≡ 0
 
 -- these clients are told of, or everybody is
 abbrev pub Tells : {H : Type 0} → List ℕ → Mail H → Mail H → Type 0
-Tells clients old new = (new.woken.items ≡ old.woken.items ++ clients) ⊎ (new.everyone ≡ true)
+Tells clients old new =
+    ((new.woken.items ≡ old.woken.items ++ clients) × (new.everyone ≡ old.everyone))
+    ⊎ ((new.woken.items ≡ old.woken.items) × (new.everyone ≡ true))

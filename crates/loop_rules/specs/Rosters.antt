@@ -1,11 +1,11 @@
 -- Who is woken where something was put for clients.
-use Rattle.std.specs.Prelude.{◌≡◌, ℕ, ◌<◌, Bool, true, false, Option, None, Some, nat_eq, List, length, slice_index_or}
+use Rattle.std.specs.Prelude.{◌≡◌, ℕ, ◌<◌, Bool, true, false, cond, Option, None, Some, nat_eq, List, length, slice_index_or}
 use Rattle.loop_rules.specs.declared.looks.LookState.{LookState}
 use Rattle.loop_rules.specs.declared.roster.Roster.{Roster}
 use Rattle.loop_rules.specs.declared.roster.Notes.{Notes}
 use Rattle.loop_rules.specs.Ids.{loop_of}
 use Rattle.loop_rules.specs.Notes.{is_noted}
-use Rattle.loop_rules.specs.Rotas.{look_of, will_look}
+use Rattle.loop_rules.specs.Rotas.{Waiting, look_of, will_look, called_at, called_below}
 use Rattle.loop_rules.specs.Takers.{taker_of}
 
 -- the connection to which what is put for a client goes will look, if there is one here; where there was no
@@ -14,6 +14,11 @@ abbrev pub IsWoken : Option ℕ → Bool → List LookState → Type 0
 IsWoken (Some key) unlisted looks = key < length looks → will_look (look_of looks key) ≡ true
 IsWoken None unlisted looks =
     unlisted ≡ true → (key : ℕ) → key < length looks → will_look (look_of looks key) ≡ true
+
+-- who takes for a client is called; where none is listed and some could not be, all are
+abbrev pub woken_at : Option ℕ → Bool → Waiting → Waiting
+woken_at (Some key) unlisted w = called_at key w
+woken_at None unlisted w = cond unlisted (called_below (length w.looks) w) w
 
 -- who will look still will
 pub record Keeps (old new : List LookState) : Type 0 where

@@ -1,5 +1,5 @@
 -- The connections of a loop that have something to do, by their keys.
-use Rattle.std.specs.Prelude.{◌≡◌, ℕ, ◌≤◌, Bool, true, false, cond, nat_eq, nat_lt, Option, None, Some, List, [], ◌∷◌, ◌++◌, length, count_by, slice_index_or, slice_set}
+use Rattle.std.specs.Prelude.{◌≡◌, ℕ, zero, suc, ◌≤◌, Bool, true, false, cond, nat_eq, nat_lt, Option, None, Some, List, [], ◌∷◌, ◌++◌, length, count_by, slice_index_or, slice_set}
 use Rattle.loop_rules.specs.declared.looks.LookState.{LookState}
 use Rattle.loop_rules.specs.declared.looks.LookState.TheVariants as state
 use Rattle.loop_rules.specs.declared.looks.Pause.{Pause}
@@ -72,6 +72,11 @@ called_at key w =
     (record { looks = slice_set w.looks key (called s); ready = w.ready ++ key ∷ []; again = w.again })
     (with_look key (called s) w))
     w
+
+-- the connections with keys below this were called, one after another
+abbrev pub called_below : ℕ → Waiting → Waiting
+called_below zero w = w
+called_below (suc n) w = called_at n (called_below n w)
 
 -- whose stint is next
 abbrev pub next_of : List ℕ → Option ℕ

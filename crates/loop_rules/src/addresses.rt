@@ -42,6 +42,8 @@ impl Addresses {
         ensures place { OnTrue result (count_from self.old address < self.old.most) }
         ensures counted { OnTrue result (count_from self.new address ≡ count_from self.old address + 1) }
         ensures kept { OnFalse result (count_from self.new address ≡ count_from self.old address) }
+        ensures refused { OnFalse result (0 < count_from self.old address
+            → ¬ (count_from self.old address < self.old.most)) }
         ensures most { self.new.most ≡ self.old.most }
         ensures others { (a : ℕ) → a ≢ address → count_from self.new a ≡ count_from self.old a }
     {

@@ -100,6 +100,7 @@ impl<H: Drop> Mailbox<H> {
         ensures empty { IsTrue result → (mails.count self.new.mail ≡ 0) × (nothing_beside ≡ true) }
         ensures asleep { self.new.asleep ≡ result }
         ensures mail { self.new.mail ≡ self.old.mail }
+        ensures falls { OnFalse result (nothing_beside ≡ true → ¬ (mails.count self.old.mail ≡ 0)) }
     {
         let mail = &self.mail;
         let is_empty = mail.handed.is_empty() && mail.woken.is_empty() && !mail.everyone;

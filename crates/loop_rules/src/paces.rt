@@ -107,6 +107,7 @@ impl Paces {
         ensures refused { OnFalse result (Known self.old client
             → may_bring self.old.pace count now (allowance self.old client) ≡ false) }
         ensures others { (c : ℕ) → c ≢ client → allowance self.new c ≡ allowance self.old c }
+        ensures pace { self.new.pace ≡ self.old.pace }
     {
         let Some(lack) = self.pace.taken(self.allowance(client), count, now) else {
             return false;

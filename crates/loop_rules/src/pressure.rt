@@ -83,6 +83,7 @@ impl Pressure {
     pub fn note(&mut self, client: u128, digits: u16) -> bool
         ensures noted { OnTrue result (known self.new client ≡ Some digits) }
         ensures kept { OnFalse result (known self.new client ≡ known self.old client) }
+        ensures new { OnFalse result (known self.old client ≡ None) }
         ensures others { (c : ℕ) → c ≢ client → known self.new c ≡ known self.old c }
         ensures same { IsSame self.old self.new }
     {

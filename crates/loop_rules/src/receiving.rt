@@ -46,7 +46,8 @@ pub struct Receiving {
 }
 
 impl Receiving {
-    ghost use Rattle.std.specs.Prelude.{◌++◌, [], None, IfOk, OnErr, not, option_to_list};
+    ghost use Rattle.std.specs.Prelude.{◌++◌, [], true, false, None, Ok, IfOk, IsOk, OnErr, nat_eq, not, option_to_list};
+    ghost use Rattle.std.specs.List.{list_any};
     ghost use Rattle.loop_rules.specs.Receiving.{ahead_after, counted_of, done_ahead, goes_on, has_room, is_ahead, limit_of, listed, next_of, overdue_of, SameBytes};
 
     /// Nothing is unfinished.
@@ -120,6 +121,9 @@ impl Receiving {
         ensures held { IfOk result (λ held. held ≡ not (goes_on (has_room self.old) sender bytes self.old.ahead)) }
         ensures listed { IfOk result (λ held. self.new.held.items ≡ listed held key self.old.held.items) }
         ensures refused { OnErr result (self.new.held.items ≡ self.old.held.items) }
+        ensures goes { goes_on (has_room self.old) sender bytes self.old.ahead ≡ true
+            → result ≡ Ok false }
+        ensures again { list_any (λ k. nat_eq k key) self.old.held.items ≡ true → IsOk result }
         ensures ahead { self.new.ahead ≡ done_ahead sender bytes self.old.ahead }
         ensures same { SameBytes self.old self.new }
     {

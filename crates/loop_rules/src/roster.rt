@@ -2,7 +2,7 @@
 
 ghost use Rattle.std.specs.Prelude.{◌≡◌, ◌≢◌, ◌⊎◌, ◌<◌, ℕ, true, false, None, Some, IfOk, [], length, map, slice_index_or, vec_len};
 ghost use Rattle.loop_rules.specs.Notes.{is_noted};
-ghost use Rattle.loop_rules.specs.Rosters.{AreTold, IsWoken, Keeps, Remembers};
+ghost use Rattle.loop_rules.specs.Rosters.{AreTold, IsWoken, Keeps, Remembers, woken_at};
 ghost use Rattle.loop_rules.specs.Rotas.{nobody};
 ghost use Rattle.loop_rules.specs.Takers.{taker_of, is_taker};
 
@@ -25,6 +25,7 @@ impl Notes {
     pub fn new(alloc: Global, loops: usize) -> Result<Notes, AllocError>
         ensures loops { IfOk result (λ notes. vec_len notes.lists ≡ loops) }
         ensures nobody { IfOk result (λ notes. notes.everyone ≡ false) }
+        ensures none { IfOk result (λ notes. (n c : ℕ) → is_noted n c notes ≡ false) }
     {
         let mut lists = Vec::new(alloc);
         for _loop in 0..loops {
@@ -39,6 +40,7 @@ impl Notes {
     pub fn note(&mut self, number: usize, client: u128)
         ensures noted { is_noted number client self.new ≡ true }
         ensures kept { (n c : ℕ) → is_noted n c self.old ≡ true → is_noted n c self.new ≡ true }
+        ensures long { vec_len self.new.lists ≡ vec_len self.old.lists }
     {
         let noted = match self.lists.get_mut(number) {
             Some(list) => list.push(client).is_ok(),
@@ -77,6 +79,9 @@ impl Takers {
             ⊎ ((taker_of self.new client ≡ None) × (self.new.unlisted ≡ true)) }
         ensures unlisted { self.old.unlisted ≡ true → self.new.unlisted ≡ true }
         ensures others { (c : ℕ) → c ≢ client → taker_of self.new c ≡ taker_of self.old c }
+        ensures same { taker_of self.new client ≡ Some key
+            → self.new.unlisted ≡ self.old.unlisted }
+        ensures known { taker_of self.old client ≢ None → taker_of self.new client ≡ Some key }
     {
         self.unlisted |= self.keys.insert(client, key).is_err();
     }
@@ -122,6 +127,8 @@ impl Roster {
         ensures woken { IsWoken (taker_of self.new.takers client) self.new.takers.unlisted self.new.rota.looks }
         ensures kept { Keeps self.old.rota.looks self.new.rota.looks }
         ensures same { self.new.takers ≡ self.old.takers }
+        ensures rota { self.new.rota
+            ≡ woken_at (taker_of self.old.takers client) self.old.takers.unlisted self.old.rota }
     {
         match self.takers.of(client) {
             Some(key) => self.rota.call(key),

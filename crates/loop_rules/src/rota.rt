@@ -75,6 +75,8 @@ impl Rota {
         ensures same { (k : ℕ) → look_of self.new.looks k ≡ look_of self.old.looks k }
         ensures ready { self.new.ready ≡ self.old.ready }
         ensures again { self.new.again ≡ self.old.again }
+        ensures still { key < length self.old.looks → self.new ≡ self.old }
+        ensures refused { result ≡ false → self.new ≡ self.old }
     {
         let count = self.looks.len();
         if key != count {
@@ -111,6 +113,7 @@ impl Rota {
     pub fn call_all(&mut self)
         ensures looks { (k : ℕ) → k < length self.old.looks → will_look (look_of self.new.looks k) ≡ true }
         ensures long { length self.new.looks ≡ length self.old.looks }
+        ensures state { self.new ≡ rotas.called_below (length self.old.looks) self.old }
     {
         for key in 0..self.looks.len() {
             self.call(key);

@@ -105,6 +105,8 @@ impl Unfinished {
     pub fn note(&mut self, number: u128, bytes: usize, now: u64) -> bool
         ensures counted { OnTrue result (part_of self.new number ≡ noted bytes now (part_of self.old number)) }
         ensures kept { OnFalse result (part_of self.new number ≡ part_of self.old number) }
+        ensures refused { OnFalse result (part_of self.old number ≢ None
+            → ¬ (self.old.sum + bytes < 2 ^ 64 + bytes_of self.old number)) }
         ensures less { bytes ≤ bytes_of self.old number → result ≡ true }
         ensures sum { self.new.sum + bytes_of self.old number ≡ self.old.sum + bytes_of self.new number }
         ensures others { (n : ℕ) → n ≢ number → part_of self.new n ≡ part_of self.old n }

@@ -1,4 +1,5 @@
 use Rattle.std.proofs.Common.{◌≡◌, ◌∙◌, ◌⊎◌, inl, inr, ℕ, ◌<◌, ◌+◌, true, length, arith, sym, subst, ap}
+use native.Mathlib.Numerals.{unary_clauses}
 use Rattle.std.proofs.lemmas.Bool.{cases_eq}
 use Rattle.loop_rules.specs.Rotas.{Waiting, look_of, will_look, called_at}
 use Rattle.loop_rules.proofs.RotaLemmas.{called_keeps, called_long}
@@ -20,4 +21,5 @@ loop-key-preserved c =
     record {
       called = λ k below. called-more c.loop-key.self c.call.new.self c.loop-key.key c.call.ensures.state here c.loop-key.invariant.called k below (cases_eq k c.loop-key.key);
       same = ap (λ (w : Waiting). length w.looks) c.call.ensures.state ∙ called_long c.loop-key.self c.loop-key.key ∙ c.loop-key.invariant.same;
+      state = simp unary_clauses (c.call.ensures.state ∙ ap (called_at c.loop-key.key) c.loop-key.invariant.state);
     }
