@@ -1,6 +1,6 @@
-//! Tests of the server: its parts, the core with its lock and its scripts, HTTP and the peers, and
-//! whole servers over loopback. They are one crate, since the proof of each crate of tests reads all
-//! libraries that it reaches.
+//! Tests of the server: the core with its lock and its scripts, HTTP and the peers, and whole servers over
+//! loopback. They are one crate, since the proof of each crate of tests reads all libraries that it
+//! reaches.
 #![tactic(auto)]
 
 #[cfg(test)]
@@ -9,7 +9,5 @@ mod cores;
 mod edge;
 #[cfg(test)]
 mod loops;
-#[cfg(test)]
-mod parts;
 #[cfg(test)]
 mod vague;

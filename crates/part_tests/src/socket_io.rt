@@ -1,6 +1,6 @@
 //! Packets of Socket.IO, and the frames that make them.
 
-use crate::parts::play::{Part, play};
+use crate::play::{Part, play};
 use sio_wire::{
     Assembler, Header, Kind, SioError, SioPacket, connected_text, disconnect_text, names,
     read_header, read_offset, refused_text, resume_of, with_offset, write_header,

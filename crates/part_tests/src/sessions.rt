@@ -2,7 +2,7 @@
 
 ghost use Rattle.std.specs.Prelude.{◌≤◌};
 
-use crate::parts::play::{Part, play};
+use crate::play::{Part, play};
 use recovery::{PacketLog, Pid, RecoveryError, Saved, SavedTable};
 use std::alloc::Global;
 use std::sync::Arc;

@@ -1,6 +1,6 @@
 //! Clocks, lines and books of questions.
 
-use crate::parts::play::{Part, play};
+use crate::play::{Part, play};
 use connection::{AckBook, AckError, Clock, ClockError, ClockState, Due, Line, Timing, Transport};
 use sio_wire::{SioError, SioPacket};
 use std::alloc::Global;

@@ -1,6 +1,6 @@
 //! Packets of Engine.IO, ids, and the digits of numbers.
 
-use crate::parts::play::{Part, play};
+use crate::play::{Part, play};
 use eio_wire::{
     Numbers, Packet, WireError, open_text, read_packet, read_payload, write_packet, write_payload,
 };

@@ -1,6 +1,6 @@
 //! Which sockets are in which rooms.
 
-use crate::parts::play::{Part, play};
+use crate::play::{Part, play};
 use room_maps::{RoomError, Rooms};
 use std::alloc::{AllocError, Global};
 use terms::{Room, Sid};

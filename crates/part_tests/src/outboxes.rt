@@ -1,6 +1,6 @@
 //! Broadcasts to members whose outboxes grow, and a log that its bytes bound.
 
-use crate::parts::play::{Part, play};
+use crate::play::{Part, play};
 use hub_state::State;
 use journal::{Cast, Config, Form, HubError, Totals};
 use recovery::Pid;
