@@ -33,4 +33,17 @@ pub trait Peer {
     /// Tells the peer what became of its event.
     fn answer(&mut self, got: &Answered) -> Result<(), PeerFault>
         ensures { hears self.old got.now result self.new };
+
+    /// The same, of an answer that is the peer's own from then on.
+    fn hear(&mut self, got: Answered) -> Result<(), PeerFault>
+        ensures { hears self.old got result self.new }
+    {
+        self.answer(&got)
+    }
+
+    /// Whether its next event is at hand, whatever this one is answered with. Then the core's lock is
+    /// kept for that, so neither hearing the answer nor bringing the event may take long.
+    fn has_next(&self) -> bool {
+        false
+    }
 }

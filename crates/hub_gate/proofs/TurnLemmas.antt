@@ -1,5 +1,5 @@
 -- One turn, one attempt or one peer more.
-use Rattle.std.proofs.Common.{◌≡◌, ℕ, ◌+◌, List, [], ◌∷◌, ◌++◌, ◌&&◌, Bool, true, false, Option, Some, option_map, refl, sym, subst, arith, if◌then◌else◌}
+use Rattle.std.proofs.Common.{◌≡◌, ℕ, ◌+◌, List, [], ◌∷◌, ◌++◌, ◌&&◌, Bool, true, false, Option, None, Some, IfSome, option_map, refl, sym, subst, arith, if◌then◌else◌}
 use Rattle.std.proofs.lemmas.List.Sums.{sum_by-append}
 use Rattle.std.specs.Iterator.{Yields}
 use Rattle.hub_gate.specs.Turns.{Turn, Handled, lost_by, failures, last_client, all_heard}
@@ -27,3 +27,8 @@ failures-push {P} handled h b is =
 pub yields-push : {S A : Type 0} (steps : S → Option A → S → Type 0) (s : S) (xs : List A) (t : S) (x : A) (u : S) → Yields steps s xs t → steps t (Some x) u → Yields steps s (xs ++ x ∷ []) u
 yields-push steps s [] t x u here step = (u, subst (λ w. steps w (Some x) u) (sym here) step, refl)
 yields-push steps s (y ∷ ys) t x u here step = (here.0, here.1, yields-push steps here.0 ys t x u here.2 step)
+
+-- what is kept is as it was
+pub kept_as : {G : Type 0} (P : G → Type 0) (r : Option G) (x : G) → IfSome r (λ k. k ≡ x) → P x → IfSome r P
+kept_as P None x is holds = tt
+kept_as P (Some k) x is holds = subst P (sym is) holds

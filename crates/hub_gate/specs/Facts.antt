@@ -15,6 +15,7 @@ use Rattle.journal.specs.Legal.{IsLegal, IsSound}
 use Rattle.journal.specs.Seal.{PlainEpoch, SealsAs}
 use Rattle.hub_state.specs.EndedSockets.{held}
 use Rattle.events.specs.declared.fault.CoreError.{CoreError}
+use Rattle.hub_totals.specs.Pass.{PlainPass, AtLeast}
 use Rattle.dispatch.specs.Holding.{PlainCore, Agree, IsClean}
 
 -- a map of sockets to rooms and one of rooms to sockets hold what these hold: the same sockets, each with the same
@@ -51,6 +52,10 @@ pub record IsSoundCore (core : PlainCore) : Type 0 where
   pub kept : IsKept core.hub.history
   pub lines : Agree core.hub.history core.lines
   pub clean : IsClean core.hub.history
+
+-- a core that a worker may apply events to: it is sound, and has counted at least what the worker's pass has
+abbrev pub IsReady : PlainCore → PlainPass → Type 0
+IsReady core pass = IsSoundCore core × AtLeast core.hub pass
 
 -- the journal has fewer steps than that, and these hold fewer bytes
 abbrev pub IsShort : (least bytes : ℕ) → History → Type 0

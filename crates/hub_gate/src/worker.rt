@@ -1,16 +1,20 @@
-//! One worker: it serves its peers one after another, and holds the lock for `Core::apply` alone.
+//! One worker: it serves its peers one after another, and holds the lock for `Core::apply` alone, one
+//! event after another where a peer has them at hand.
 
-ghost use Rattle.std.specs.Prelude.{◌≡◌, ◌+◌, option_map};
+ghost use Rattle.std.specs.Prelude.{◌≡◌, ◌+◌, IfSome, option_map};
+ghost use Rattle.std.specs.Sync.Mutex.{mutex_guard_value};
+ghost use Rattle.hub_gate.specs.Facts.{IsReady};
 ghost use Rattle.hub_gate.specs.Turns.{Applied, ServesAll, Talks, TellsLost, WorksOff, desk, lost_by};
 
 use crate::locked::{Locked, Turn, note_facts};
 use crate::peer::{PeerSource, Turnstile};
+use dispatch::Core;
 use events::{Answered, App, Event, IdSource, Loss, Outcome, Peer, Retry};
 use hub_totals::Pass;
 use std::alloc::Global;
 use std::snapshot::Snapshot;
-use std::sync::Wait;
 use std::sync::ledger::Ledger;
+use std::sync::{MutexGuard, Wait};
 
 /// What one worker did.
 #[derive(Clone, Copy, Debug, PartialEq, Eq)]
@@ -37,6 +41,9 @@ fn lost_after(event: &Event, got: &Answered, now: u64) -> Option<(u128, u64)>
     Some((event.client().or(opened)?, now))
 }
 
+/// A core that is lent as long as its lock is held.
+type Lent<'a, C, T> = MutexGuard<'a, Core<C, T>>;
+
 /// What all workers of a pool share. It can be lent to any number of threads.
 #[derive(Drop)]
 pub struct Pool<'a, R, C: Ledger, T: Ledger, A, G> {
@@ -51,22 +58,62 @@ pub struct Pool<'a, R, C: Ledger, T: Ledger, A, G> {
 }
 
 impl<R: Wait, C: Ledger, T: Ledger, A: App, G: Turnstile> Pool<'_, R, C, T, A, G> {
-    /// Applies one event to the core, under the lock, and has the gate look at what it did. It may
-    /// wait.
+    /// The core, by the lock that is held already, or else is taken now, before which the gate is told.
+    /// It may wait.
+    fn enter<'s>(
+        &'s self,
+        worker: usize,
+        turn: u64,
+        held: Option<Lent<'s, C, T>>,
+        pass: &mut Pass<C, T>,
+    ) -> Lent<'s, C, T>
+        requires { IfSome held (λ lent. IsReady (mutex_guard_value lent) pass.old) }
+        ensures same { pass.new ≡ pass.old }
+        ensures ready { IsReady (mutex_guard_value result) pass.old }
+    {
+        if let Some(lent) = held {
+            return lent;
+        }
+        self.gate.before(worker, turn);
+        self.locked.look(self.rt, pass)
+    }
+
+    /// Keeps the lock for the next event, or gives it back, of which the gate is told.
+    fn leave<'s>(
+        &self,
+        worker: usize,
+        turn: u64,
+        lent: Lent<'s, C, T>,
+        keeps: bool,
+    ) -> Option<Lent<'s, C, T>>
+        ensures { IfSome result (λ kept. kept ≡ lent.entry) }
+    {
+        if keeps {
+            return Some(lent);
+        }
+        drop(lent);
+        self.gate.after(worker, turn);
+        None
+    }
+
+    /// Applies one event to the core that is lent, and has the gate look at what it did.
     fn apply<I: IdSource>(
         &self,
         worker: usize,
+        lent: &mut Lent<'_, C, T>,
         pass: &mut Pass<C, T>,
         event: &Event,
         now: u64,
         ids: &mut I,
     ) -> Turn<C, T, Answered>
-        ensures { Applied (A.policy self.now.app.now) event.now now
+        requires { IsReady (mutex_guard_value lent.old) pass.old }
+        ensures applied { Applied (A.policy self.now.app.now) event.now now
             result.before.value (desk pass.old (I.stream ids.old)) result.got
             result.after.value (desk pass.new (I.stream ids.new)) }
+        ensures before { result.before.value ≡ mutex_guard_value lent.old }
+        ensures after { mutex_guard_value lent.new ≡ result.after.value }
     {
-        let mut guard = self.locked.look(self.rt, pass);
-        let core = &mut *guard;
+        let core = &mut **lent;
         let before = Snapshot::of(core);
         let got = core.apply(self.alloc, pass, self.app, event, now, ids);
         self.gate.applied(worker, core, event, &got);
@@ -90,7 +137,9 @@ impl<R: Wait, C: Ledger, T: Ledger, A: App, G: Turnstile> Pool<'_, R, C, T, A, G
     {
         let mut loss = Loss::new(client);
         'tries: loop {
-            let told = self.apply(worker, pass, &loss.event(), now, ids);
+            let mut lent = self.locked.look(self.rt, pass);
+            let told = self.apply(worker, &mut lent, pass, &loss.event(), now, ids);
+            drop(lent);
             match loss.hears(&told.got) {
                 Retry::Again => {}
                 Retry::Over => return,
@@ -99,7 +148,8 @@ impl<R: Wait, C: Ledger, T: Ledger, A: App, G: Turnstile> Pool<'_, R, C, T, A, G
     }
 
     /// Serves a peer until it ends: whether it failed, and the client of its last event with its
-    /// moment. The gate is told before and after each event.
+    /// moment. The lock is kept for events that the peer has at hand. The gate is told before it is taken
+    /// and after it is given back.
     fn talk<P: Peer, I: IdSource>(
         &self,
         pass: &mut Pass<C, T>,
@@ -112,7 +162,7 @@ impl<R: Wait, C: Ledger, T: Ledger, A: App, G: Turnstile> Pool<'_, R, C, T, A, G
             self.now.turns (peer.old, desk pass.old (I.stream ids.old)) result.0 result.1
             (peer.new, desk pass.new (I.stream ids.new)) }
     {
-        let mut lost = None;
+        let (mut lost, mut held) = (None, None);
         'turns: for _ in 0..self.turns {
             let Ok(given) = peer.next() else {
                 return (true, lost);
@@ -120,12 +170,12 @@ impl<R: Wait, C: Ledger, T: Ledger, A: App, G: Turnstile> Pool<'_, R, C, T, A, G
             let Some((event, now)) = given else {
                 return (false, lost);
             };
-            self.gate.before(worker, *turn);
-            let done = self.apply(worker, pass, &event, now, ids);
-            self.gate.after(worker, *turn);
+            let mut lent = self.enter(worker, *turn, held, pass);
+            let done = self.apply(worker, &mut lent, pass, &event, now, ids);
+            held = self.leave(worker, *turn, lent, peer.has_next());
             *turn = turn.saturating_add(1);
             lost = lost_after(&event, &done.got, now);
-            if peer.answer(&done.got).is_err() {
+            if peer.hear(done.got).is_err() {
                 return (true, lost);
             }
         }

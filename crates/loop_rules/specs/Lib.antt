@@ -1,6 +1,7 @@
 pub mod Addresses
 pub mod Deadlines
 pub mod Frames
+pub mod Holds
 pub mod Ids
 pub mod Looks
 pub mod Mailboxes

@@ -4,6 +4,7 @@
 
 mod addresses;
 mod deadlines;
+mod hold;
 mod looks;
 mod mailbox;
 mod owners;
@@ -17,6 +18,7 @@ mod unfinished;
 
 pub use addresses::Addresses;
 pub use deadlines::{Overdue, Period, find_overdue, has_had_its_turn, has_stopped};
+pub use hold::Hold;
 pub use looks::{Decision, Found, LookState, Pause, Stint, left_after_message};
 pub use mailbox::{Mail, Mailbox};
 pub use owners::{LOOPS, dealt_to, loop_of, marked, owner_of};

@@ -119,3 +119,9 @@ has_read_nothing _ = false
 abbrev pub without_read : SocketStage → SocketStage
 without_read (stage.Reads c phase.Speaks idle) = stage.Takes c
 without_read other = other
+
+-- what is left of a round of a client that speaks is passed over, and the next one is to begin
+abbrev pub without_rest : SocketStage → SocketStage
+without_rest (stage.Takes c) = stage.Reads c phase.Speaks false
+without_rest (stage.Ticks c idle) = stage.Reads c phase.Speaks idle
+without_rest other = other

@@ -9,7 +9,7 @@ ghost use Rattle.peers.specs.Accepted.{HasMostBytes};
 ghost use Rattle.peers.specs.Heard.{to_send};
 ghost use Rattle.peers.specs.Sent.{AddsFrame};
 ghost use Rattle.peers.specs.Spoken.{Sends};
-ghost use Rattle.peers.specs.Rounds.{client_of, first_stage, has_read_nothing, is_idle, without_read};
+ghost use Rattle.peers.specs.Rounds.{client_of, first_stage, has_read_nothing, is_idle, without_read, without_rest};
 
 use crate::accept::renewed;
 use crate::incoming::{Incoming, read_incoming};
@@ -129,6 +129,23 @@ impl<S: Drop, M> SocketPeer<S, M> {
                 self.stage = SocketStage::Takes { client };
             }
         }
+    }
+
+    /// The rest of the round, a take or a look at what is due, is passed over, where the client speaks
+    /// over the WebSocket: its driver knows that nothing waits, or that it need not ask what is due.
+    pub fn skip_rest(&mut self)
+        ensures { self.new ≡ record self.old { stage = without_rest self.old.stage } }
+    {
+        let (client, idle) = match self.stage {
+            SocketStage::Takes { client } => (client, false),
+            SocketStage::Ticks { client, idle } => (client, idle),
+            _ => return,
+        };
+        self.stage = SocketStage::Reads {
+            client,
+            at: Phase::Speaks,
+            idle,
+        };
     }
 
     /// The socket, whose stream a driver may send or poll.

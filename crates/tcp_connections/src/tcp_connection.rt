@@ -104,6 +104,16 @@ impl Next {
     }
 }
 
+/// Whether all that waited for a WebSocket's client was taken, once its event got this answer: nothing
+/// waited after its message, or a take left nothing.
+fn has_taken_all(got: &Answered, rests: bool) -> bool {
+    match got {
+        Ok(Outcome::Done(done)) => rests && done.closed.is_none(),
+        Ok(Outcome::Frames(frames)) => !frames.has_more(),
+        _ => false,
+    }
+}
+
 /// What follows once a connection's bytes were sent.
 #[derive(Drop)]
 pub enum Sent {
@@ -285,8 +295,9 @@ impl<'a, R: Clock + Drop> Connection<'a, R> {
         stream.is_none_or(|stream| stream.unbrought == 0 && stream.drained)
     }
 
-    /// Hears the answer to its event, and tells what that says of its look. None where it fails.
-    pub fn hear(&mut self, got: &Answered, now: u64) -> Option<Found> {
+    /// Hears the answer to its event, after which nothing waits for its client, as far as is known, or
+    /// something may. Tells what that says of its look; none where it fails.
+    pub fn hear(&mut self, got: &Answered, rests: bool, now: u64) -> Option<Found> {
         // All that was read was brought, and the stream has no more, or isn't read.
         let has_brought_all = self.waits || self.has_brought_all();
         let dry = matches!(&self.service, Service::Speaking(peer)
@@ -295,11 +306,15 @@ impl<'a, R: Clock + Drop> Connection<'a, R> {
             self.fail(now);
             return None;
         }
+        let is_over = has_taken_all(got, rests);
+        if let (true, Service::Speaking(peer)) = (is_over, &mut self.service) {
+            peer.skip_rest();
+        }
         Some(match got {
             _ if of_peer!(&self.service, peer => peer.is_idle(), true) => Found::Idle,
+            _ if is_over && dry => Found::Idle,
             Ok(Outcome::Ticked { ping, done }) if !*ping && done.closed.is_none() => Found::Quiet,
             Ok(Outcome::Nothing) if dry => Found::Dry,
-            Ok(Outcome::Frames(frames)) if dry && !frames.has_more() => Found::Dry,
             _ => Found::More,
         })
     }

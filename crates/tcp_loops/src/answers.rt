@@ -1,17 +1,18 @@
 //! What a loop does with the requests of its connections, and with the answers to their events.
 
-use crate::event_loop::EventLoop;
+use crate::driver::{Active, Driver, Origin, Step};
 use events::{Answered, CoreError, CoreFault, Done, Outcome};
 use http_edge::{EdgeError, Request, Status, Target, direct};
-use loop_rules::{Decision, carried, owner_of};
+use loop_rules::{Decision, Stint, carried, owner_of};
 use metrics::Reason;
-use peers::{Moments, Response, is_noop, response_to_fault};
+use peers::{Response, is_noop, response_to_fault};
+use std::mem;
 use std::rt::Clock;
 use std::sync::Wait;
 use tcp_connections::Mode;
 use tcp_streams::{Ending, Handed, Log};
 
-impl<R: Wait + Clock + Copy + Drop, L: Log> EventLoop<'_, R, L> {
+impl<R: Wait + Clock + Copy + Drop, L: Log> Driver<'_, R, L> {
     /// Answers where no request was read.
     pub(crate) fn refuse(&mut self, key: usize, fault: EdgeError) {
         if let Some(reason) = Reason::of_edge(fault) {
@@ -23,7 +24,7 @@ impl<R: Wait + Clock + Copy + Drop, L: Log> EventLoop<'_, R, L> {
 
     /// Answers by this, if by anything, which pages of this origin may read. The connection ends then.
     fn respond(&mut self, key: usize, origin: &Option<String>, response: Option<Response<'_>>) {
-        let now = self.watch.now();
+        let now = self.now;
         if let Some(connection) = self.connections.get_mut(key) {
             let service = &mut connection.service;
             service.respond(self.base.alloc, origin, response);
@@ -87,7 +88,7 @@ impl<R: Wait + Clock + Copy + Drop, L: Log> EventLoop<'_, R, L> {
     /// Begins to serve a request. A GET of a client that was told just so that nothing waits is served
     /// a little later.
     pub(crate) fn serve(&mut self, key: usize, request: Box<Request>, target: Target) {
-        let now = self.watch.now();
+        let now = self.now;
         let posts = matches!(target, Target::Post(_));
         let is_paced = posts && self.base.rules.pace.is_some();
         let events = if is_paced {
@@ -107,37 +108,59 @@ impl<R: Wait + Clock + Copy + Drop, L: Log> EventLoop<'_, R, L> {
         }
     }
 
-    /// Heeds what an event of this client showed of the backends.
-    fn heed(&mut self, client: u128, now: u64) {
-        let Some(seen) = self.base.take_seen(self.number) else {
-            return;
-        };
-        self.is_pressed = seen.pressed != 0;
-        let pressure = &mut self.connections.pressure;
-        pressure.press(seen.pressed, now);
-        if let Some(digits) = seen.digits {
-            let _ = pressure.note(client, digits);
+    /// Heeds what the core's state showed after the last events.
+    pub(crate) fn heed(&mut self) {
+        self.look_at_watch();
+        let now = self.now;
+        self.base.take_shown(self.number, &mut self.shown);
+        if let Some(pressed) = self.shown.pressed {
+            self.is_pressed = pressed != 0;
+            self.connections.pressure.press(pressed, now);
+        }
+        for sign in self.shown.signs() {
+            if let Some(digits) = sign.digits {
+                let _ = self.connections.pressure.note(sign.client, digits);
+            }
         }
     }
 
-    /// A connection's event was answered.
-    pub(crate) fn hear(&mut self, got: &Answered) {
-        let (base, now) = (self.base, self.watch.now());
-        let Some(key) = self.current else {
-            return self.hear_loss(got, now);
-        };
+    /// An event was answered that is of this.
+    pub(crate) fn settle(&mut self, of: Origin, got: &Answered) {
+        match of {
+            Origin::Loss { client } => self.hear_loss(client, got),
+            Origin::Stint { active, comes_over } => {
+                let Active { key, stint } = active;
+                if let Step::GoesOn(left) = self.hear(key, stint, comes_over, got) {
+                    self.go_on(key, left);
+                }
+            }
+        }
+    }
+
+    /// A connection's event was answered. By it its client may have come over to it.
+    pub(crate) fn hear(
+        &mut self,
+        key: usize,
+        mut stint: Stint,
+        comes_over: bool,
+        got: &Answered,
+    ) -> Step {
+        let (base, now) = (self.base, self.now);
         let Some(connection) = self.connections.get_mut(key) else {
-            return;
+            return Step::Over;
         };
         if let Some(pause) = connection.hear_loss(got, now) {
-            self.note(key, got, now);
-            return self.rest(key, pause);
+            self.note(key, comes_over, got, now);
+            self.rest(key, pause);
+            return Step::Over;
         }
-        let found = connection.hear(got, now);
+        let client = connection.service.client();
+        let rests = client.is_some_and(|client| self.shown.rests(client));
+        let found = connection.hear(got, rests, now);
         let (full, has_brought_all) = (connection.is_full(), connection.has_brought_all());
         let rota = &mut self.connections.roster.rota;
         let decision = match found {
-            Some(found) => rota.follow(key, &mut self.stint, found, full),
+            Some(found) => rota.follow(key, &mut stint, found, full),
             // Its next event tells so.
             None => Decision::GoesOn,
         };
@@ -145,23 +168,26 @@ impl<R: Wait + Clock + Copy + Drop, L: Log> EventLoop<'_, R, L> {
             let reason = Reason::of_core(error.fault);
             base.shared.counts.lock(base.rt).note_refused(reason);
         }
-        self.note(key, got, now);
-        if has_brought_all && matches!(got, Ok(Outcome::Done(_))) {
-            // The others may begin while this one goes on.
-            base.send(&mut self.notes);
+        self.note(key, comes_over, got, now);
+        self.tells |= has_brought_all && matches!(got, Ok(Outcome::Done(_)));
+        if decision == Decision::GoesOn {
+            return Step::GoesOn(stint);
         }
-        if decision != Decision::GoesOn {
-            self.current = None;
-            self.send_soon(key);
+        self.send_soon(key);
+        Step::Over
+    }
+
+    /// The answers were heard. Others may begin with what was put for them, while a connection goes on
+    /// that has no more to bring.
+    pub(crate) fn tell(&mut self) {
+        if mem::replace(&mut self.tells, false) {
+            self.base.send(&mut self.notes);
         }
     }
 
     /// The core was told that a client is given up. Where it refused, it is told at the next beat.
-    fn hear_loss(&mut self, got: &Answered, now: u64) {
-        let Some(client) = self.loses.take() else {
-            return;
-        };
-        self.heed(client, now);
+    fn hear_loss(&mut self, client: u128, got: &Answered) {
+        let now = self.now;
         match got {
             Ok(Outcome::Lost { done, .. }) => {
                 self.wake_for(done);
@@ -182,12 +208,11 @@ impl<R: Wait + Clock + Copy + Drop, L: Log> EventLoop<'_, R, L> {
     }
 
     /// Notes whom the answer to an event of a connection concerns.
-    fn note(&mut self, key: usize, got: &Answered, now: u64) {
+    fn note(&mut self, key: usize, comes_over: bool, got: &Answered, now: u64) {
         let service = self.connections.get_mut(key).map(|it| &it.service);
         let Some((is_socket, Some(client))) = service.map(|it| (it.is_socket(), it.client())) else {
             return;
         };
-        self.heed(client, now);
         if is_noop(got) {
             self.delays.note_noop(client, now);
         }
@@ -200,7 +225,7 @@ impl<R: Wait + Clock + Copy + Drop, L: Log> EventLoop<'_, R, L> {
         if let Ok(Outcome::Done(done)) = got {
             self.connections.note_attached(client, done.unfinished, now);
         }
-        if self.comes_over && matches!(got, Ok(Outcome::Done(_))) {
+        if comes_over && matches!(got, Ok(Outcome::Done(_))) {
             self.connections.assign(client, key);
             self.base.note_upgraded(client);
         }

@@ -5,7 +5,7 @@ use std::alloc::Global;
 use std::mem;
 use std::sync::{Arc, Wait};
 use tcp_connections::Watch;
-use tcp_streams::{Ended, Ending, Log, Rules, Seen, Shared};
+use tcp_streams::{Ended, Ending, Log, Rules, Shared, Shown};
 
 /// What all workers go by: through it a loop, or the keeper, speaks to the others.
 #[derive(Drop)]
@@ -34,14 +34,13 @@ impl<R: Wait, L: Log> Base<'_, R, L> {
         }
     }
 
-    /// What the last event of a worker showed of the backends, if it did. Where one is pressed no more,
-    /// each loop looks at all of its connections.
-    pub fn take_seen(&self, worker: usize) -> Option<Seen> {
-        let seen = self.shared.backends.as_ref()?.take_seen(self.rt, worker)?;
-        if seen.relieved {
+    /// Takes what the last events of a worker showed. Where a backend is pressed no more, each loop looks
+    /// at all of its connections.
+    pub fn take_shown(&self, worker: usize, shown: &mut Shown) {
+        self.shared.showing.take(self.rt, worker, shown);
+        if shown.relieved {
             self.shared.wake_everyone(self.rt);
         }
-        Some(seen)
     }
 
     /// A client was opened. Where there is no memory for it, nothing is told of it.

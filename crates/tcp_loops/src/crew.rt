@@ -49,6 +49,23 @@ impl<R: Wait + Clock + Copy + Drop, L: Log, K: Peer> Peer for Worker<'_, R, L, K
             Worker::Keeps(keeper) => keeper.answer(got),
         }
     }
+
+    fn hear(&mut self, got: Answered) -> Result<(), PeerFault> {
+        match self {
+            Worker::Serves(own) => {
+                own.note(got);
+                Ok(())
+            }
+            Worker::Keeps(keeper) => keeper.answer(&got),
+        }
+    }
+
+    fn has_next(&self) -> bool {
+        match self {
+            Worker::Serves(own) => own.has_next(),
+            Worker::Keeps(_) => false,
+        }
+    }
 }
 
 /// The loops, each with its ears, and the keeper as the last worker.

@@ -1,353 +1,153 @@
 //! A loop that serves many connections: one peer, which brings the events of all of their clients.
 
 use crate::base::Base;
-use events::{Done, Event, Loss, Outcome};
-use loop_rules::{LookState, Mail, Notes, Pause, Pressure, Stint};
-use mio::Events;
-use peers::Moments;
-use std::alloc::{AllocError, Global};
-use std::mem;
+use crate::driver::{Driver, Origin};
+use events::{Answered, Event, Outcome, WsFrame};
+use loop_rules::Hold;
+use std::alloc::AllocError;
 use std::rt::Clock;
 use std::sync::Wait;
-use std::time::Duration;
-use tcp_connections::{Connection, Connections, Delays, Next, Sent, Watch};
-use tcp_streams::{Accepted, Buffered, Ears, Handed, Inbox, Log, Rules, Stream};
+use tcp_streams::{Ears, Log};
 
-/// How many reports of streams one wait takes.
-const EVENTS: usize = 256;
+/// How many events the core gets under one hold of its lock, at the most.
+const EVENTS: usize = 32;
 
-/// The most new connections that one round of the loop adds. Where more wait, it doesn't sleep.
-const STREAMS: usize = 256;
+/// How many of these bring packets, at the most: what one puts for others takes time under the lock.
+const SAYING: usize = 4;
 
-/// So many bytes are sent when their connection's stint ends, while they are at hand in the processor's
-/// caches. Fewer wait for the end of the loop's round, so that more may go out with them.
-const MUCH_UNSENT: usize = 32_768;
+/// About so many bytes are taken under one hold, since they are copied there: where clients took much
+/// last, fewer events are gathered.
+const BYTES: usize = 16_384;
 
-/// The most stints of connections in one round of the loop.
-const STINTS: usize = 1_024;
-
-/// For how long the digits of clients are kept, in milliseconds: a loop isn't told of all that end.
-const KEPT: u64 = 60_000;
-
-/// How long a loop sleeps at the most, in milliseconds.
-const BEAT: u64 = 1_000;
-
-/// A loop over many connections.
+/// A loop over many connections. It gathers the events of all that have something to do, which the
+/// core gets under one hold of its lock, and then hears the answers.
 #[derive(Drop)]
 pub struct EventLoop<'a, R, L> {
-    pub(crate) base: &'a Base<'a, R, L>,
-    /// Which loop it is.
-    pub(crate) number: usize,
-    pub(crate) watch: Watch<R>,
-    pub(crate) ears: Ears,
-    events: Events<Global>,
-    pub(crate) connections: Connections<'a, R>,
-    mail: Mail<Handed>,
-    /// The clients of other loops, to be told once a round.
-    pub(crate) notes: Notes,
-    pub(crate) delays: Delays,
-    /// The connection whose stint it is.
-    pub(crate) current: Option<usize>,
-    /// The client that is given up, of which the core is told, where it is no connection's stint.
-    pub(crate) loses: Option<u128>,
-    /// Clients are to be looked for that are given up.
-    pub(crate) gives_up: bool,
-    /// Whether the event that it brought has its client come over to it.
-    pub(crate) comes_over: bool,
-    pub(crate) stint: Stint,
-    /// How many stints of connections the loop's round has left.
-    stints_left: usize,
-    /// The moment of the next beat, 0 until the loop has begun.
-    beat: u64,
-    /// Some backend is pressed, as far as the loop knows.
-    pub(crate) is_pressed: bool,
-    /// The moment from which on the digits of clients are forgotten, where no backend is pressed.
-    forgets: u64,
+    hold: Hold<Origin, (Event, u64), Answered>,
+    /// How many events are gathered for the next hold, at the most.
+    most: usize,
+    driver: Driver<'a, R, L>,
 }
 
-/// No connections yet, of a loop that goes by these rules.
-fn connections_for<'a, R: Clock + Drop>(alloc: Global, rules: &Rules) -> Connections<'a, R> {
-    Connections::new(alloc, rules.share(), rules.stretch(), rules.pace)
+/// Whether an event brings packets.
+fn says(event: &Event) -> bool {
+    matches!(event, Event::Frame { .. } | Event::Post { .. })
+}
+
+/// How many bytes a frame has.
+fn bytes_of(frame: &WsFrame) -> usize {
+    match frame {
+        WsFrame::Text(text) => text.as_str().len(),
+        WsFrame::Bytes(bytes) => bytes.as_slice().len(),
+    }
+}
+
+/// How many bytes frames have together.
+fn bytes_in(frames: &[WsFrame]) -> usize {
+    let mut bytes = 0usize;
+    for frame in frames {
+        bytes = bytes.saturating_add(bytes_of(frame));
+    }
+    bytes
+}
+
+/// How many events a hold has at the most, where each takes so many bytes.
+fn most_after(bytes: usize) -> usize {
+    (BYTES / bytes.max(1)).min(EVENTS).max(1)
 }
 
 impl<'a, R: Wait + Clock + Copy + Drop, L: Log> EventLoop<'a, R, L> {
     /// A loop without connections.
     pub fn new(base: &'a Base<'a, R, L>, number: usize, ears: Ears) -> Result<Self, AllocError> {
-        let alloc = base.alloc;
         Ok(EventLoop {
-            base,
-            number,
-            watch: base.watch,
-            ears,
-            events: Events::with_capacity(alloc, EVENTS)?,
-            connections: connections_for(alloc, base.rules),
-            mail: Mail::new(alloc),
-            notes: Notes::new(alloc, base.rules.loops)?,
-            delays: Delays::new(alloc),
-            current: None,
-            loses: None,
-            gives_up: false,
-            comes_over: false,
-            stint: Stint::begin(),
-            stints_left: 0,
-            beat: 0,
-            is_pressed: false,
-            forgets: KEPT,
+            hold: Hold::new(base.alloc, EVENTS)?,
+            most: EVENTS,
+            driver: Driver::new(base, number, ears, EVENTS)?,
         })
     }
 
     /// The next event, or none where the loop has ended.
     pub(crate) fn next(&mut self) -> Option<(Event, u64)> {
-        if self.beat == 0 {
-            self.base.shared.begun.note(self.base.rt);
-        }
+        self.driver.begin();
         for _ in 0..u64::MAX {
-            if let Some(brought) = self.current.and_then(|key| self.step(key)) {
+            if let Some(brought) = self.hold.next() {
                 return Some(brought);
             }
-            if self.current.is_some() {
-                continue;
-            }
-            if let Some(brought) = self.give_up() {
-                return Some(brought);
-            }
-            if !self.pick() {
+            self.hear_all();
+            self.gather();
+            if !self.hold.has_next() && !self.driver.turn() {
                 break;
             }
         }
-        // What is still open is closed. That is nothing, but where the system failed to wait.
-        for key in 0..self.connections.keys_below() {
-            self.close(key);
-        }
-        self.base.shared.ended.note(self.base.rt);
+        self.driver.close_all();
         None
     }
 
-    /// Tells of a client that is given up that it is lost, if there is one.
-    fn give_up(&mut self) -> Option<(Event, u64)> {
-        if !self.gives_up {
-            return None;
-        }
-        let now = self.watch.now();
-        self.loses = self.connections.find_given_up(now);
-        self.gives_up = self.loses.is_some();
-        Some((Loss::new(self.loses?).event(), now))
+    /// Whether another event was gathered.
+    pub(crate) fn has_next(&self) -> bool {
+        self.hold.has_next()
     }
 
-    /// The next connection gets its stint; where none has anything to do, the loop's round ends, and the
-    /// next begins once it has waited for streams, for what others hand in, or for the next moment at
-    /// which something is due. Answers whether the loop goes on.
-    fn pick(&mut self) -> bool {
-        if self.connections.receiving.next().is_some() {
-            let now = self.watch.now();
-            self.connections.call_held(now);
+    /// Its event was answered, which is heard once all were that were gathered with it.
+    pub(crate) fn note(&mut self, got: Answered) {
+        self.hold.hear(got);
+    }
+
+    /// Its event was answered, which is heard at once.
+    pub(crate) fn hear(&mut self, got: &Answered) {
+        if let Some(of) = self.hold.forget() {
+            self.driver.heed();
+            self.driver.settle(of, got);
         }
-        if self.stints_left > 0 {
-            if let Some(key) = self.connections.roster.rota.pop() {
-                self.stints_left -= 1;
-                self.stint = Stint::begin();
-                self.current = Some(key);
-                return true;
-            }
-        }
-        self.connections.roster.rota.begin_round();
-        self.base.send(&mut self.notes);
-        let now = self.watch.now();
+    }
+
+    /// Gathers what connections bring, one event of each, for the next hold of the lock.
+    fn gather(&mut self) {
+        let (mut left, mut saying) = (self.most, SAYING);
         for _ in 0..u64::MAX {
-            let Some(key) = self.connections.pop_unsent() else {
-                break;
-            };
-            self.send(key, now);
-        }
-        if self.connections.len() == 0 && self.base.shared.standing(self.base.rt).is_over() {
-            return false;
-        }
-        self.stints_left = STINTS;
-        let timeout = Duration::from_millis(self.time_to_sleep());
-        let waited = self.ears.poll.poll(&mut self.events, Some(timeout));
-        if waited.is_err() {
-            return false;
-        }
-        for event in self.events.iter() {
-            self.connections.note(event);
-        }
-        self.take_in();
-        true
-    }
-
-    /// The time until something is due: none where something is to be done, or was handed in.
-    fn time_to_sleep(&mut self) -> u64 {
-        let inbox = self.base.shared.inboxes.get(self.number);
-        let sleeps = |inbox: &Inbox| inbox.falls_asleep(self.base.rt);
-        let has_next = self.connections.receiving.next().is_some();
-        if has_next || !self.connections.roster.rota.is_quiet() || !inbox.is_none_or(sleeps) {
-            return 0;
-        }
-        let due = self.delays.first().unwrap_or(self.beat).min(self.beat);
-        let due = self.connections.first_paced().unwrap_or(due).min(due);
-        due.saturating_sub(self.watch.now()).min(BEAT)
-    }
-
-    /// Takes in what was handed in, and does what is due.
-    fn take_in(&mut self) {
-        if let Some(inbox) = self.base.shared.inboxes.get(self.number) {
-            inbox.take(self.base.rt, &mut self.mail);
-        }
-        self.add_streams();
-        for client in self.mail.woken.drain(..) {
-            self.connections.roster.wake(client);
-        }
-        let everyone = mem::replace(&mut self.mail.everyone, false);
-        if everyone {
-            // So it is where a backend is pressed no more; the next event shows which still are.
-            let now = self.watch.now();
-            self.connections.pressure.press(0, now);
-            self.is_pressed = false;
-            self.connections.roster.rota.call_all();
-        }
-        self.do_due(everyone);
-    }
-
-    /// Does what is due. Once a beat, or where all are to be looked at, each connection's deadline is.
-    fn do_due(&mut self, everyone: bool) {
-        let now = self.watch.now();
-        for _ in 0..usize::MAX {
-            let Some(key) = self.delays.pop_due(now) else {
-                break;
-            };
-            self.connections.roster.rota.call(key);
-        }
-        self.connections.call_paced(now);
-        if now < self.beat && !everyone {
-            return;
-        }
-        self.beat = now.saturating_add(BEAT);
-        self.gives_up = true;
-        self.delays.forget_old(now);
-        self.settle_paces(now);
-        self.forget_digits(now);
-        let cutting = self.base.shared.standing(self.base.rt).cutting;
-        for key in 0..self.connections.keys_below() {
-            self.connections.give_back(key, self.base.alloc);
-            if self.connections.keep_deadline(key, cutting, now) {
-                self.close(key);
-            }
-        }
-    }
-
-    /// Once a beat who sent nothing lately is forgotten, and how often one sent too fast is counted.
-    fn settle_paces(&mut self, now: u64) {
-        let times = self.connections.settle_paces(now);
-        if times > 0 {
-            let base = self.base;
-            base.shared.counts.lock(base.rt).note_paced(times);
-        }
-    }
-
-    /// Once a minute the digits of clients are forgotten. Those that are still there are known again by
-    /// their next events.
-    fn forget_digits(&mut self, now: u64) {
-        if self.is_pressed || now < self.forgets {
-            return;
-        }
-        let base = self.base;
-        self.forgets = now.saturating_add(KEPT);
-        self.connections.pressure = Pressure::new(base.alloc, base.rules.stretch());
-    }
-
-    /// Adds the new connections, and takes over the requests that other loops handed on.
-    fn add_streams(&mut self) {
-        for _ in 0..STREAMS {
-            let base = self.base;
-            let Ok(Accepted { stream, from }) = self.ears.streams.try_recv(base.rt) else {
-                break;
-            };
-            let counts = &base.shared.counts;
-            counts.lock(base.rt).note_connection(self.number);
-            let stream = Buffered::new(base.alloc, stream);
-            let _ = self.add(Box::new(base.alloc, stream).ok(), from);
-        }
-        for _ in 0..usize::MAX {
-            let Some(handed) = self.mail.handed.pop() else {
+            if left == 0 || saying == 0 || self.hold.is_full() {
                 return;
+            }
+            let Some(active) = self.driver.next() else {
+                break;
             };
-            if let Some(key) = self.add(Some(handed.stream), handed.from) {
-                self.serve(key, handed.request, handed.target);
-                self.connections.roster.rota.call(key);
+            if let Some((of, event, moment)) = self.driver.drive(active) {
+                if says(&event) {
+                    saying -= 1;
+                }
+                self.hold.add(of, (event, moment));
+                left -= 1;
             }
         }
-    }
-
-    /// Adds a stream, where there was memory for it, and has its readiness told. One that can't be
-    /// added is closed.
-    fn add(&mut self, stream: Option<Stream>, from: u128) -> Option<usize> {
-        let (alloc, now) = (self.base.alloc, self.watch.now());
-        let registry = self.ears.poll.registry();
-        let key = stream.and_then(|stream| self
-            .connections
-            .add(alloc, registry, stream, from, now));
-        if key.is_none() {
-            self.base.shared.note_closed(self.base.rt, from);
+        if self.hold.is_full() {
+            return;
         }
-        key
-    }
-
-    /// The next event of a connection, if it has one. The stint of one that is gone is over.
-    fn step(&mut self, key: usize) -> Option<(Event, u64)> {
-        let (alloc, now) = (self.base.alloc, self.watch.now());
-        match self.connections.next(key, alloc, now) {
-            Next::Requests(request) => self.direct(key, request),
-            Next::Refuses(fault) => self.refuse(key, fault),
-            Next::Brings(event, moment) => {
-                self.comes_over = matches!(event, Event::Upgraded { .. });
-                return Some((event, moment));
-            }
-            // Nothing can be due that wasn't, so the core need not be asked.
-            Next::AsksAgain => {
-                let done = Done::nothing(alloc);
-                self.hear(&Ok(Outcome::Ticked { ping: false, done }));
-            }
-            Next::Pauses(pause) => self.rest(key, pause),
-            Next::Fails => {}
-            Next::Ends => self.close(key),
-        }
-        None
-    }
-
-    /// The stint of a connection is over, and what it has to send goes out.
-    pub(crate) fn rest(&mut self, key: usize, pause: Pause) {
-        self.current = None;
-        self.connections.roster.rota.pause(key, pause);
-        self.send_soon(key);
-    }
-
-    /// What a connection has to send goes out at the end of the loop's round, or at once where that is
-    /// much.
-    pub(crate) fn send_soon(&mut self, key: usize) {
-        let connection = self.connections.get_mut(key);
-        if connection.map_or(0, Connection::bytes_unsent) < MUCH_UNSENT {
-            return self.connections.note_unsent(key);
-        }
-        let now = self.watch.now();
-        self.send(key, now);
-    }
-
-    /// Sends the bytes of a connection, which may be over then.
-    fn send(&mut self, key: usize, now: u64) {
-        let connection = self.connections.get_mut(key);
-        match connection.map(|connection| connection.send(now)) {
-            // It may be served again, if it waits for that.
-            Some(Sent::Fits) if self.connections.roster.rota.look(key) != LookState::Full => {}
-            Some(Sent::Fits | Sent::Queue) => self.connections.roster.rota.call(key),
-            Some(Sent::Remove) => self.close(key),
-            Some(Sent::Nothing) | None => {}
+        if let Some((of, event, moment)) = self.driver.give_up() {
+            self.hold.add(of, (event, moment));
         }
     }
 
-    /// A connection is over.
-    fn close(&mut self, key: usize) {
-        if let Some(connection) = self.connections.take(key) {
-            self.base.shared.note_closed(self.base.rt, connection.from);
+    /// Hears an answer, which may show how much clients take.
+    fn hear_one(&mut self, of: Origin, got: &Answered) {
+        if let Ok(Outcome::Frames(frames)) = got {
+            self.most = most_after(bytes_in(frames.as_slice()));
         }
+        self.driver.settle(of, got);
+    }
+
+    /// Hears the answers of the last hold.
+    fn hear_all(&mut self) {
+        let Some((of, got)) = self.hold.pop() else {
+            return;
+        };
+        self.driver.heed();
+        self.hear_one(of, &got);
+        for _ in 0..EVENTS {
+            let Some((of, got)) = self.hold.pop() else {
+                break;
+            };
+            self.hear_one(of, &got);
+        }
+        self.driver.tell();
     }
 }

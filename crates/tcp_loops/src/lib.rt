@@ -5,6 +5,7 @@
 mod answers;
 mod base;
 mod crew;
+mod driver;
 mod event_loop;
 
 pub use base::Base;

@@ -17,7 +17,7 @@ use std::sync::ledger::Ledger;
 use std::time::Duration;
 use std::vec::IntoIter;
 use tcp_loops::{Base, Watch};
-use tcp_streams::{Ending, Log};
+use tcp_streams::{Ending, Log, Shown};
 
 /// How long a round is, in milliseconds: each client is asked once a round what is due to it.
 const ROUND: u64 = 1_000;
@@ -81,6 +81,8 @@ pub(crate) struct Keeper<'a, 'c, R, L, C: Ledger, T: Ledger> {
     client: u128,
     /// The clients for which something was put, to be told once a round.
     notes: Notes,
+    /// What the last event showed.
+    shown: Shown,
     /// The moment at which the totals are told next.
     report: u64,
     /// How many events of clients had gone to no backend when that was told last, and the moment
@@ -107,6 +109,7 @@ impl<'a, 'c, R: Wait + Clock + Copy, L: Log, C: Ledger, T: Ledger> Keeper<'a, 'c
             clients: None,
             client: 0,
             notes: Notes::new(base.alloc, base.rules.loops)?,
+            shown: Shown::new(base.alloc),
             report: 0,
             unheard: 0,
             remark: 0,
@@ -232,7 +235,7 @@ impl<R: Wait + Clock + Copy, L: Log, C: Ledger, T: Ledger> Peer for Keeper<'_, '
     }
 
     fn answer(&mut self, got: &Answered) -> Result<(), PeerFault> {
-        let _ = self.base.take_seen(self.base.rules.loops);
+        self.base.take_shown(self.base.rules.loops, &mut self.shown);
         // What was put before a fault isn't told, nor whether the client was given up.
         self.notes.everyone |= hides_whom(got);
         if let Ok(Outcome::Ticked { ping, done }) = got {

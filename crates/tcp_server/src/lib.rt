@@ -4,7 +4,7 @@
 #![tactic(auto)]
 
 mod aide;
-mod backend_gate;
+mod gate;
 mod keeper;
 mod program;
 mod secret;

@@ -7,7 +7,7 @@ ghost use Rattle.tcp_server.specs.Faults.{fault_of_core, fault_of_serving};
 ghost use Rattle.tcp_streams.specs.declared.fault.ServerFault.TheVariants.{BadSetting};
 
 use crate::aide::Aide;
-use crate::backend_gate::BackendGate;
+use crate::gate::Gate;
 use crate::keeper::Keeper;
 use crate::warden::Warden;
 use dispatch::Core;
@@ -207,10 +207,10 @@ fn serve_all<
     let number = workers.len();
     let ids = sources(base.rt, base.alloc, number)?;
     let accepting = start_accepting(base, acceptor)?;
-    let gate = BackendGate {
+    let gate = Gate {
         rt: base.rt,
         alloc: base.alloc,
-        backends: base.shared.backends.as_ref(),
+        shared: &**base.shared,
         pressed: Mutex::new(Vec::new(base.alloc)),
         has_warden: base.rules.warding.is_some(),
     };

@@ -10,12 +10,14 @@ mod inbox;
 mod log;
 mod rules;
 mod shared;
+mod shown;
 
 pub use acceptor::{Acceptor, acceptor_for};
-pub use backends::{Backends, Seen, backends_for};
+pub use backends::{Backends, backends_for};
 pub use buffered::{Buffered, Stream};
 pub use fault::ServerFault;
 pub use inbox::{Accepted, Ears, Handed, Inbox, ears_for};
 pub use log::{Ended, Ending, Log};
 pub use rules::{Rules, rules_and_limits};
 pub use shared::Shared;
+pub use shown::{Showing, Shown, Sign};

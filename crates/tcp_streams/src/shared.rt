@@ -3,6 +3,7 @@
 use crate::backends::Backends;
 use crate::fault::ServerFault;
 use crate::inbox::Inbox;
+use crate::shown::Showing;
 use loop_rules::Addresses;
 use metrics::{Metrics, Reason};
 use mio::Waker;
@@ -25,6 +26,8 @@ pub struct Shared {
     pub counts: Mutex<Metrics>,
     /// What is known of the backends, if there may be some.
     pub backends: Option<Backends>,
+    /// What the core's state showed to each loop, and to the keeper.
+    pub showing: Showing,
     standing: Mutex<Standing>,
     /// How many connections are open from each address, if that is bounded.
     addresses: Option<Mutex<Addresses>>,
@@ -37,7 +40,7 @@ pub struct Shared {
 /// Written out, so that a crate above takes the drop of all that lies in it by this one call.
 impl Drop for Shared {
     fn drop(self) {
-        let_go!(self; inboxes, acceptor, lives, counts, backends, standing, addresses, begun, ended);
+        let_go!(self; inboxes, acceptor, lives, counts, backends, showing, standing, addresses, begun, ended);
     }
 }
 
@@ -96,6 +99,7 @@ impl Shared {
     ) -> Result<Arc<Shared>, ServerFault> {
         let shared = Shared {
             counts: Mutex::new(Metrics::new(alloc, inboxes.len())?),
+            showing: Showing::new(alloc, inboxes.len().saturating_add(1))?,
             inboxes,
             acceptor,
             backends,

@@ -27,7 +27,7 @@ tries-preserved g c =
     record {
       attempts = before.attempts ++ a ∷ [];
       told = FoldsTo-push (λ (d : Desk) (x : Attempt) (e : Desk). Applied (g.A.App.policy c.args.self.now.app.now) (TransportLost c.args.client) c.args.now x.before d x.got x.after e)
-          _ before.attempts _ a _ before.told (rw event at c.apply-told.ensures);
+          _ before.attempts _ a _ before.told (rw (event, c.look-lent.ensures.same) at c.apply-told.ensures.applied);
       refused = refused_more before.attempts a before.refused again.0;
       client = ap (λ (l : Loss). l.client) c.hears.ensures.told ∙ before.client;
       left = omega (arith, length-append before.attempts (a ∷ []), before.left, left, again.1);
@@ -42,6 +42,6 @@ returns-in-Over g c =
     record {
       attempts = before.attempts ++ a ∷ [];
       told = FoldsTo-push (λ (d : Desk) (x : Attempt) (e : Desk). Applied (g.A.App.policy c.args.self.now.app.now) (TransportLost c.args.client) c.args.now x.before d x.got x.after e)
-          _ before.attempts _ a _ before.told (rw event at c.apply-told.ensures);
+          _ before.attempts _ a _ before.told (rw (event, c.look-lent.ensures.same) at c.apply-told.ensures.applied);
       tries = tries_end before.attempts a c.tries.loss.left before.refused before.left before.more (sym c.hears.ensures.retry ∙ c.in-Over.is);
     }

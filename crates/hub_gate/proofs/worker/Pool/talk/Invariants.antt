@@ -1,5 +1,8 @@
 use Rattle.std.proofs.Common.{◌≡◌, List, length, None, true}
 use Rattle.std.specs.List.{FoldsTo}
+use Rattle.std.specs.Prelude.{IfSome}
+use Rattle.std.specs.Sync.Mutex.{mutex_guard_value}
+use Rattle.hub_gate.specs.Facts.{IsReady}
 use Rattle.hub_gate.specs.Turns.{Turn, Serves, desk, last_client, all_heard}
 use Rattle.hub_gate.proofs.worker.Pool.talk.Given as goal
 
@@ -10,4 +13,5 @@ invariant-turns g l = record {
   count : length served ≡ l.counter;
   heard : all_heard served ≡ true;
   lost_is : l.lost ≡ last_client None served;
+  ready : IfSome l.held (λ lent. IsReady (mutex_guard_value lent) l.pass);
 }

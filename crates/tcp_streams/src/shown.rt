@@ -1,0 +1,91 @@
+//! What the core's state showed after the events of a worker, until the worker heeds it.
+
+use std::alloc::{AllocError, Global};
+use std::mem;
+use std::sync::{Mutex, Wait};
+
+/// What an event of a client showed.
+#[derive(Clone, Copy)]
+pub struct Sign {
+    pub client: u128,
+    /// It was a message, after which nothing waited for its client.
+    pub rests: bool,
+    /// The digits with which the ids of the client's sockets begin, a bit each, where it brought messages
+    /// that backends hear of; none where it is a backend.
+    pub digits: Option<u16>,
+}
+
+/// What the events of a worker showed since it looked last.
+#[derive(Drop)]
+pub struct Shown {
+    signs: Vec<Sign>,
+    /// The digits of the backends that are pressed, a bit each, if there may be backends.
+    pub pressed: Option<u16>,
+    /// One of them is pressed no more.
+    pub relieved: bool,
+}
+
+impl Shown {
+    /// Nothing was shown yet.
+    pub fn new(alloc: Global) -> Shown {
+        Shown {
+            signs: Vec::new(alloc),
+            pressed: None,
+            relieved: false,
+        }
+    }
+
+    /// What each event showed.
+    pub fn signs(&self) -> &[Sign] {
+        self.signs.as_slice()
+    }
+
+    /// An event showed this. Where there is no memory for it, it is as if it had shown nothing.
+    pub fn add(&mut self, sign: Sign) {
+        let _ = self.signs.push(sign);
+    }
+
+    /// Whether nothing waited for a client after its message.
+    pub fn rests(&self, client: u128) -> bool {
+        self.signs
+            .iter()
+            .any(|sign| sign.client == client && sign.rests)
+    }
+
+    /// All of it was heeded.
+    pub fn clear(&mut self) {
+        self.signs.clear();
+        self.pressed = None;
+        self.relieved = false;
+    }
+}
+
+/// What was shown to each worker.
+#[derive(Drop)]
+pub struct Showing {
+    places: Vec<Mutex<Shown>>,
+}
+
+impl Showing {
+    /// Nothing was shown to so many workers yet.
+    pub fn new(alloc: Global, workers: usize) -> Result<Showing, AllocError> {
+        let mut places = Vec::new(alloc);
+        for _worker in 0..workers {
+            places.push(Mutex::new(Shown::new(alloc)))?;
+        }
+        Ok(Showing { places })
+    }
+
+    /// Where what is shown to a worker lies, if something is.
+    pub fn of(&self, worker: usize) -> Option<&Mutex<Shown>> {
+        self.places.get(worker)
+    }
+
+    /// Takes what was shown to a worker, and leaves this in its place, of which all was heeded.
+    pub fn take(&self, rt: &impl Wait, worker: usize, shown: &mut Shown) {
+        shown.clear();
+        if let Some(place) = self.places.get(worker) {
+            mem::swap(&mut *place.lock(rt), shown);
+        }
+    }
+}
