@@ -96,6 +96,20 @@ impl Stint {
         Stint { left: EVENTS }
     }
 
+    /// One of which so many events are left.
+    pub fn of(left: u32) -> Stint
+        ensures { result ≡ left }
+    {
+        Stint { left }
+    }
+
+    /// How many events are left of it.
+    pub fn left(&self) -> u32
+        ensures { result ≡ self.now }
+    {
+        self.left
+    }
+
     /// What follows, where a connection is idle or not and has too much unsent or not. One more
     /// event of the stint is counted where the connection goes on.
     pub fn next(&mut self, idle: bool, full: bool) -> Decision

@@ -1,5 +1,5 @@
 -- The rounds of a WebSocket (Engine.IO protocol 4, "WebSocket" and "Upgrade"): a read, a take, and a look at the time.
-use Rattle.std.specs.Prelude.{ℕ, Bool, true, false, List, Option, None, Some, Result, Ok, Err, cond, codes, bytes_eq}
+use Rattle.std.specs.Prelude.{ℕ, Bool, true, false, List, Option, None, Some, Result, Ok, Err, cond, codes, bytes_eq, length}
 use Rattle.events.specs.declared.event.Event.{Event}
 use Rattle.events.specs.declared.event.Event.TheVariants as event
 use Rattle.events.specs.declared.event.WsFrame.TheVariants as frame
@@ -90,6 +90,14 @@ next_of other came = (other, Ok None)
 
 -- ---- what a driver asks
 
+-- the bytes of the message by which an event was brought, if it was brought by one
+abbrev pub message_length : Event → Option ℕ
+message_length (event.Frame c (frame.Text text)) = Some (length text)
+message_length (event.Frame c (frame.Bytes bytes)) = Some (length bytes)
+message_length (event.Probe c) = Some 6
+message_length (event.Upgraded c) = Some 1
+message_length _ = None
+
 abbrev pub client_of : SocketStage → Option ℕ
 client_of stage.Opens = None
 client_of stage.Opening = None
@@ -114,6 +122,11 @@ is_idle _ = false
 abbrev pub has_read_nothing : SocketStage → Bool
 has_read_nothing (stage.Taking c idle) = idle
 has_read_nothing _ = false
+
+-- it is to be asked what is due to a client that speaks
+abbrev pub asks_due : SocketStage → Bool
+asks_due (stage.Ticks c idle) = true
+asks_due _ = false
 
 -- a round that is to begin by a read of a client that speaks begins by a take
 abbrev pub without_read : SocketStage → SocketStage

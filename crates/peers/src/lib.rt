@@ -17,4 +17,4 @@ pub use poll_peer::PollPeer;
 pub use poll_stage::PollRequest;
 pub use responses::{Response, response_to_fault, response_to_target};
 pub use socket_peer::{SocketPeer, send_frame};
-pub use socket_stage::{FRAMES_PER_TAKE, PROBE, SocketRequest, UPGRADE};
+pub use socket_stage::{SocketRequest, message_length};

@@ -9,7 +9,7 @@ ghost use Rattle.peers.specs.Accepted.{HasMostBytes};
 ghost use Rattle.peers.specs.Heard.{to_send};
 ghost use Rattle.peers.specs.Sent.{AddsFrame};
 ghost use Rattle.peers.specs.Spoken.{Sends};
-ghost use Rattle.peers.specs.Rounds.{client_of, first_stage, has_read_nothing, is_idle, without_read, without_rest};
+ghost use Rattle.peers.specs.Rounds.{asks_due, client_of, first_stage, has_read_nothing, is_idle, without_read, without_rest};
 
 use crate::accept::renewed;
 use crate::incoming::{Incoming, read_incoming};
@@ -118,6 +118,13 @@ impl<S: Drop, M> SocketPeer<S, M> {
         ensures { result ≡ has_read_nothing self.now.stage }
     {
         matches!(self.stage, SocketStage::Taking { idle: true, .. })
+    }
+
+    /// Whether its next event asks what is due, to a client that speaks over the WebSocket.
+    pub fn asks_due(&self) -> bool
+        ensures { result ≡ asks_due self.now.stage }
+    {
+        matches!(self.stage, SocketStage::Ticks { .. })
     }
 
     /// The round that is to begin is one without a read, where the client speaks over the WebSocket.

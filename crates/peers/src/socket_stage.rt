@@ -12,13 +12,13 @@ use events::{Answered, CoreFault, Event, Outcome, PeerFault, WsFrame};
 use http_edge::Target;
 
 /// The most entries of one take of a WebSocket.
-pub const FRAMES_PER_TAKE: usize = 64;
+pub(crate) const FRAMES_PER_TAKE: usize = 64;
 
 /// The message by which a client probes its WebSocket.
-pub const PROBE: &str = "2probe";
+pub(crate) const PROBE: &str = "2probe";
 
 /// The message by which a client that has probed it comes over to it.
-pub const UPGRADE: &str = "5";
+pub(crate) const UPGRADE: &str = "5";
 
 /// What a request asks for that is to become a WebSocket.
 #[derive(Clone, Copy, PartialEq, Eq)]
@@ -82,6 +82,21 @@ pub(crate) enum SocketStage {
     Losing { client: u128 },
     /// It is served no more; its client, if it had one.
     Over(Option<u128>),
+}
+
+/// How many bytes the message had by which an event was brought, if it was brought by one.
+pub fn message_length(event: &Event) -> Option<usize>
+    ensures { result ≡ rounds.message_length event.now }
+{
+    match event {
+        Event::Frame { frame, .. } => Some(match frame {
+            WsFrame::Text(text) => text.as_str().len(),
+            WsFrame::Bytes(bytes) => bytes.as_slice().len(),
+        }),
+        Event::Probe { .. } => Some(PROBE.len()),
+        Event::Upgraded { .. } => Some(UPGRADE.len()),
+        _ => None,
+    }
 }
 
 /// Whether it is just this text.

@@ -1,0 +1,12 @@
+pub mod Concerns
+pub mod Course
+pub mod Deadlines
+pub mod Delays
+pub mod Heard
+pub mod Holding
+pub mod Link
+pub mod Links
+pub mod Moments
+pub mod Pacing
+pub mod Sending
+pub mod Stints
