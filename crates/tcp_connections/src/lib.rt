@@ -1,15 +1,13 @@
-//! The connections of one loop over TCP: what each is about, who serves it, and which of them have
-//! something to do.
+//! The connections of one loop over TCP: their streams, and who serves each. What they do is decided by
+//! `links`.
 #![tactic(auto)]
 
+mod came;
 mod connections;
-mod delays;
-mod pacing;
 mod service;
-mod tcp_connection;
 mod watch;
 
-pub use connections::Connections;
-pub use delays::Delays;
-pub use tcp_connection::{Connection, Mode, Next, Sent};
+pub use came::Came;
+pub use connections::{Connection, Connections};
+pub use service::Service;
 pub use watch::Watch;

@@ -1,8 +1,10 @@
 //! Who serves a connection.
 
-use crate::tcp_connection::{Mode, Next};
+use crate::came::Came;
 use crate::watch::Watch;
+use events::{Answered, Event, Peer, PeerFault};
 use http_edge::{EdgeError, Gathered, OnStream, Replay, Request, Target, write_response};
+use links::{Do, Seen, left_unbrought};
 use loop_rules::Pause;
 use page::File;
 use peers::{
@@ -10,6 +12,7 @@ use peers::{
 };
 use std::alloc::Global;
 use std::io::{ErrorKind, Read, Write};
+use std::net::Shutdown;
 use std::rt::Clock;
 use std::{io, mem};
 use tcp_streams::{Rules, Stream};
@@ -81,14 +84,86 @@ impl<'a, R: Clock + Drop> Service<'a, R> {
         matches!(self, Service::Speaking(_))
     }
 
-    /// Whether it is a GET that waits.
-    pub fn is_waiting(&self) -> bool {
-        matches!(self, Service::Polling(peer) if peer.is_idle())
+    /// Whether it is a request over HTTP.
+    pub fn is_request(&self) -> bool {
+        matches!(self, Service::Polling(_))
     }
 
-    /// Whether it is read for a request or for messages, so that it may be held.
-    pub fn is_receiving(&self) -> bool {
-        matches!(self, Service::Gathering { .. } | Service::Speaking(_))
+    /// What is seen of its stream and of its peer.
+    pub fn seen(&mut self) -> Seen {
+        let idle = of_peer!(&*self, peer => peer.is_idle(), true);
+        let has_more = matches!(self, Service::Answered { rest, .. } if !rest.is_empty());
+        let (asks_due, has_read_nothing) = match self {
+            Service::Speaking(peer) => (peer.asks_due(), peer.has_read_nothing()),
+            _ => (false, false),
+        };
+        let (unsent, unbrought, drained) = match self.stream() {
+            Some(stream) => (stream.unsent(), stream.unbrought, stream.drained),
+            None => (0, 0, true),
+        };
+        Seen {
+            unsent,
+            unbrought,
+            drained,
+            idle,
+            asks_due,
+            has_read_nothing,
+            has_more,
+        }
+    }
+
+    /// The next event of the peer, which reads or doesn't; none where it has no more.
+    pub fn bring(&mut self, reads: bool) -> Result<Option<(Event, u64)>, PeerFault> {
+        if let (false, Service::Speaking(peer)) = (reads, &mut *self) {
+            peer.skip_read();
+        }
+        of_peer!(self, peer => peer.next(), Ok(None))
+    }
+
+    /// Tells the peer what became of its event.
+    pub fn answer(&mut self, got: &Answered) -> Result<(), PeerFault> {
+        of_peer!(self, peer => peer.answer(got), Ok(()))
+    }
+
+    /// The rest of the round of a WebSocket is passed over.
+    pub fn skip_rest(&mut self) {
+        if let Service::Speaking(peer) = self {
+            peer.skip_rest();
+        }
+    }
+
+    /// A GET that waits is told that nothing waits.
+    pub fn give_up(&mut self) {
+        if let Service::Polling(peer) = self {
+            peer.give_up();
+        }
+    }
+
+    /// Nothing more is read of it, or sent.
+    pub fn cut(&mut self) {
+        if let Some(stream) = self.stream() {
+            stream.cut();
+        }
+    }
+
+    /// The other side is told that nothing more comes. Answers whether it was.
+    pub fn shut(&mut self) -> bool {
+        let stream = self.stream();
+        stream.is_some_and(|stream| stream.inner.shutdown(Shutdown::Write).is_ok())
+    }
+
+    /// It is read until it has so many bytes that aren't whole.
+    pub fn read_up_to(&mut self, most: usize) {
+        if let Some(stream) = self.stream() {
+            stream.most = most;
+        }
+    }
+
+    /// An event was brought, by a message of so many bytes, or by a POST, or by neither.
+    pub fn note_brought(&mut self, message: Option<usize>, is_post: bool) {
+        if let Some(stream) = self.stream() {
+            stream.unbrought = left_unbrought(stream.unbrought, message, is_post, READ);
+        }
     }
 
     /// Gives back the buffers of a WebSocket of which nothing is unbrought, between two of its events.
@@ -123,10 +198,10 @@ impl<'a, R: Clock + Drop> Service<'a, R> {
         self.stream().ok_or(ErrorKind::NotConnected)?.send()
     }
 
-    /// Reads what has come of the request. Until that is whole, the connection pauses.
-    pub fn read(&mut self, alloc: Global) -> Result<Next, EdgeError> {
+    /// Reads what has come of the request. Until that is whole, the connection rests.
+    pub fn read(&mut self, alloc: Global) -> Result<Came, EdgeError> {
         let Service::Gathering { stream, gathered } = self else {
-            return Ok(Next::Pauses(Pause::Done));
+            return Ok(Came::Nothing(Do::Rest(Pause::Done)));
         };
         let mut bytes = [0; READ];
         for _ in 0..READS {
@@ -134,15 +209,15 @@ impl<'a, R: Clock + Drop> Service<'a, R> {
                 Ok(0) => return Err(EdgeError::EarlyEnd),
                 Ok(count) => count,
                 Err(error) if error.kind() == ErrorKind::WouldBlock => {
-                    return Ok(Next::Pauses(Pause::Done));
+                    return Ok(Came::Nothing(Do::Rest(Pause::Done)));
                 }
                 Err(_) => return Err(EdgeError::Device),
             };
             if let Some(request) = gathered.feed(alloc, &bytes[..count])? {
-                return Ok(Next::Requests(Box::new(alloc, request)?));
+                return Ok(Came::Request(Box::new(alloc, request)?));
             }
         }
-        Ok(Next::Pauses(Pause::More))
+        Ok(Came::Nothing(Do::Rest(Pause::More)))
     }
 
     /// Reads and forgets what comes. None where it has ended.
@@ -176,8 +251,7 @@ impl<'a, R: Clock + Drop> Service<'a, R> {
         }
     }
 
-    /// Answers a request, or has a peer serve it, and tells what the connection is about then. None
-    /// where no peer serves it.
+    /// Answers a request, or has a peer serve it. Answers whether one does.
     pub fn serve(
         &mut self,
         alloc: Global,
@@ -185,21 +259,26 @@ impl<'a, R: Clock + Drop> Service<'a, R> {
         target: Target,
         watch: Watch<R>,
         rules: &'a Rules,
-    ) -> Option<Mode> {
+    ) -> bool {
         if let (Target::NotFound, Some(file)) = (target, rules.file_for(&request)) {
-            return self.send_file(alloc, &request, file);
+            let _ = self.send_file(alloc, &request, file);
+            return false;
         }
         if let Some(response) = response_to_target(target) {
             self.respond(alloc, &request.origin, Some(response));
-            return None;
+            return false;
         }
-        let (stream, request) = (self.take_stream()?, Box::into_inner(request));
-        *self = Self::with_peer(alloc, stream, request, target, watch, rules.poll_entries)?;
-        Some(Mode::Serves)
+        let (Some(stream), request) = (self.take_stream(), Box::into_inner(request)) else {
+            return false;
+        };
+        let peer = Self::with_peer(alloc, stream, request, target, watch, rules.poll_entries);
+        let is_served = peer.is_some();
+        *self = peer.unwrap_or(Service::Gone);
+        is_served
     }
 
     /// Answers by a file. No peer serves it then.
-    fn send_file(&mut self, alloc: Global, request: &Request, file: &'a File) -> Option<Mode> {
+    fn send_file(&mut self, alloc: Global, request: &Request, file: &'a File) -> Option<()> {
         let mut stream = self.take_stream()?;
         let head = file.head(alloc, &request.origin).ok()?;
         let _ = stream.write(head.as_str().as_bytes()).ok()?;
@@ -207,7 +286,7 @@ impl<'a, R: Clock + Drop> Service<'a, R> {
         let mut rest = if is_head { &[] } else { file.bytes.as_slice() };
         write_piece(&mut stream, &mut rest).ok()?;
         *self = Service::Answered { stream, rest };
-        None
+        Some(())
     }
 
     /// The peer that serves a request, if one serves its target.

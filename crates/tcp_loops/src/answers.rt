@@ -1,15 +1,15 @@
 //! What a loop does with the requests of its connections, and with the answers to their events.
 
-use crate::driver::{Active, Driver, Origin, Step};
-use events::{Answered, CoreError, CoreFault, Done, Outcome};
+use crate::driver::{Driver, Origin};
+use events::{Answered, CoreFault, Done, Outcome};
 use http_edge::{EdgeError, Request, Status, Target, direct};
-use loop_rules::{Decision, Stint, carried, owner_of};
+use links::{Concern, Do, concern_of, done_of};
+use loop_rules::owner_of;
 use metrics::Reason;
-use peers::{Response, is_noop, response_to_fault};
+use peers::{Response, response_to_fault};
 use std::mem;
 use std::rt::Clock;
 use std::sync::Wait;
-use tcp_connections::Mode;
 use tcp_streams::{Ending, Handed, Log};
 
 impl<R: Wait + Clock + Copy + Drop, L: Log> Driver<'_, R, L> {
@@ -24,11 +24,9 @@ impl<R: Wait + Clock + Copy + Drop, L: Log> Driver<'_, R, L> {
 
     /// Answers by this, if by anything, which pages of this origin may read. The connection ends then.
     fn respond(&mut self, key: usize, origin: &Option<String>, response: Option<Response<'_>>) {
-        let now = self.now;
-        if let Some(connection) = self.connections.get_mut(key) {
-            let service = &mut connection.service;
+        if let Some(service) = self.connections.service(key) {
             service.respond(self.base.alloc, origin, response);
-            connection.turn_to(Mode::Closes, now);
+            self.connections.links.close(key, self.now);
         }
     }
 
@@ -88,24 +86,9 @@ impl<R: Wait + Clock + Copy + Drop, L: Log> Driver<'_, R, L> {
     /// Begins to serve a request. A GET of a client that was told just so that nothing waits is served
     /// a little later.
     pub(crate) fn serve(&mut self, key: usize, request: Box<Request>, target: Target) {
-        let now = self.now;
-        let posts = matches!(target, Target::Post(_));
-        let is_paced = posts && self.base.rules.pace.is_some();
-        let events = if is_paced {
-            carried(request.body.as_str())
-        } else {
-            0
-        };
-        if let Some(connection) = self.connections.get_mut(key) {
-            let (base, watch) = (self.base, self.watch);
-            let service = &mut connection.service;
-            let served = service.serve(base.alloc, request, target, watch, base.rules);
-            connection.turn_to(served.unwrap_or(Mode::Closes), now);
-            connection.posts = posts;
-            connection.events = events;
-            connection.not_before = self.delays.delay(target, key, now);
-            self.connections.note_whole(key);
-        }
+        let (watch, rules, now) = (self.watch, self.base.rules, self.now);
+        self.connections
+            .serve(key, request, target, watch, rules, now);
     }
 
     /// Heeds what the core's state showed after the last events.
@@ -115,11 +98,11 @@ impl<R: Wait + Clock + Copy + Drop, L: Log> Driver<'_, R, L> {
         self.base.take_shown(self.number, &mut self.shown);
         if let Some(pressed) = self.shown.pressed {
             self.is_pressed = pressed != 0;
-            self.connections.pressure.press(pressed, now);
+            self.connections.links.pressure.press(pressed, now);
         }
-        for sign in self.shown.signs() {
+        for sign in self.shown.signs.as_slice() {
             if let Some(digits) = sign.digits {
-                let _ = self.connections.pressure.note(sign.client, digits);
+                let _ = self.connections.links.pressure.note(sign.client, digits);
             }
         }
     }
@@ -128,53 +111,26 @@ impl<R: Wait + Clock + Copy + Drop, L: Log> Driver<'_, R, L> {
     pub(crate) fn settle(&mut self, of: Origin, got: &Answered) {
         match of {
             Origin::Loss { client } => self.hear_loss(client, got),
-            Origin::Stint { active, comes_over } => {
-                let Active { key, stint } = active;
-                if let Step::GoesOn(left) = self.hear(key, stint, comes_over, got) {
-                    self.go_on(key, left);
-                }
-            }
+            Origin::Stint { key, comes_over } => self.hear(key, comes_over, got),
         }
     }
 
     /// A connection's event was answered. By it its client may have come over to it.
-    pub(crate) fn hear(
-        &mut self,
-        key: usize,
-        mut stint: Stint,
-        comes_over: bool,
-        got: &Answered,
-    ) -> Step {
+    fn hear(&mut self, key: usize, comes_over: bool, got: &Answered) {
         let (base, now) = (self.base, self.now);
-        let Some(connection) = self.connections.get_mut(key) else {
-            return Step::Over;
-        };
-        if let Some(pause) = connection.hear_loss(got, now) {
-            self.note(key, comes_over, got, now);
-            self.rest(key, pause);
-            return Step::Over;
+        if self.connections.service(key).is_none() {
+            return;
         }
-        let client = connection.service.client();
+        let client = self.connections.links.link(key).client;
         let rests = client.is_some_and(|client| self.shown.rests(client));
-        let found = connection.hear(got, rests, now);
-        let (full, has_brought_all) = (connection.is_full(), connection.has_brought_all());
-        let rota = &mut self.connections.roster.rota;
-        let decision = match found {
-            Some(found) => rota.follow(key, &mut stint, found, full),
-            // Its next event tells so.
-            None => Decision::GoesOn,
-        };
-        if let Err(error) = got {
+        let what = self.connections.hear(key, got, rests, now);
+        if let (Err(error), false) = (got, matches!(what, Do::Rest(_))) {
             let reason = Reason::of_core(error.fault);
             base.shared.counts.lock(base.rt).note_refused(reason);
         }
-        self.note(key, comes_over, got, now);
-        self.tells |= has_brought_all && matches!(got, Ok(Outcome::Done(_)));
-        if decision == Decision::GoesOn {
-            return Step::GoesOn(stint);
-        }
-        self.send_soon(key);
-        Step::Over
+        self.note(key, comes_over, got);
+        self.tells |= matches!(got, Ok(Outcome::Done(_))) && self.connections.has_brought_all(key);
+        self.obey(key, what);
     }
 
     /// The answers were heard. Others may begin with what was put for them, while a connection goes on
@@ -187,14 +143,14 @@ impl<R: Wait + Clock + Copy + Drop, L: Log> Driver<'_, R, L> {
 
     /// The core was told that a client is given up. Where it refused, it is told at the next beat.
     fn hear_loss(&mut self, client: u128, got: &Answered) {
-        let now = self.now;
         match got {
             Ok(Outcome::Lost { done, .. }) => {
                 self.wake_for(done);
-                self.note_end(client, got, now);
+                self.connections.links.note_end(client, self.now);
+                self.note_end(client, got);
             }
             Err(error) if error.fault == CoreFault::UnknownClient => {
-                self.connections.note_attached(client, 0, now);
+                self.connections.links.note_attached(client, 0, self.now);
             }
             _ => self.gives_up = false,
         }
@@ -202,78 +158,46 @@ impl<R: Wait + Clock + Copy + Drop, L: Log> Driver<'_, R, L> {
 
     /// An event put something for others.
     fn wake_for(&mut self, done: &Done) {
-        let (lists, loops) = (done.clients.lists(), self.base.rules.loops);
-        let roster = &mut self.connections.roster;
-        roster.wake_lists(self.number, loops, lists, &mut self.notes);
+        let loops = self.base.rules.loops;
+        self.connections
+            .links
+            .wake_for(self.number, loops, done, &mut self.notes);
     }
 
-    /// Notes whom the answer to an event of a connection concerns.
-    fn note(&mut self, key: usize, comes_over: bool, got: &Answered, now: u64) {
-        let service = self.connections.get_mut(key).map(|it| &it.service);
-        let Some((is_socket, Some(client))) = service.map(|it| (it.is_socket(), it.client())) else {
+    /// Tells whom the answer to an event of a connection concerns.
+    fn note(&mut self, key: usize, comes_over: bool, got: &Answered) {
+        let now = self.now;
+        let links = &mut self.connections.links;
+        let Some(client) = links.link(key).client else {
             return;
         };
-        if is_noop(got) {
-            self.delays.note_noop(client, now);
-        }
-        if let Ok(
-            Outcome::Done(done) | Outcome::Lost { done, .. } | Outcome::Ticked { done, .. },
-        ) = got
-        {
+        links.note_answer(client, got, now);
+        let concern = concern_of(got, comes_over, links.is_taker(key));
+        if let Some(done) = done_of(got) {
             self.wake_for(done);
         }
-        if let Ok(Outcome::Done(done)) = got {
-            self.connections.note_attached(client, done.unfinished, now);
-        }
-        if comes_over && matches!(got, Ok(Outcome::Done(_))) {
-            self.connections.assign(client, key);
-            self.base.note_upgraded(client);
-        }
-        match got {
-            Ok(Outcome::Opened(_)) => {
-                // What is put for it goes to its WebSocket, if it has one.
-                if is_socket {
-                    self.connections.assign(client, key);
-                }
-                self.base.note_opened(client, is_socket, now);
+        self.connections.links.heed(key, client, concern, now);
+        self.notes.everyone |= concern.hides_whom();
+        self.log(key, client, concern, got);
+    }
+
+    /// The log is told of a client that has come or has ended.
+    fn log(&mut self, key: usize, client: u128, concern: Concern, got: &Answered) {
+        match concern {
+            Concern::Opens => {
+                let is_socket = self.connections.links.link(key).course.is_socket();
+                self.base.note_opened(client, is_socket, self.now);
             }
-            Ok(Outcome::Begun) => self.connections.assign(client, key),
-            Ok(Outcome::Probed(_)) => self.connections.roster.wake(client),
-            Ok(Outcome::Lost { .. }) => self.note_end(client, got, now),
-            Ok(Outcome::Done(done) | Outcome::Ticked { done, .. }) if done.closed.is_some() => {
-                self.note_end(client, got, now);
-            }
-            // What it brought over this connection may have put something for itself.
-            Ok(Outcome::Done(_)) if !self.connections.roster.takers.is_taker(client, key) => {
-                self.connections.roster.wake(client);
-            }
-            Ok(_) => {}
-            Err(error) => self.note_error(client, key, error, now),
+            Concern::ComesOver => self.base.note_upgraded(client),
+            Concern::Ends | Concern::Gone { .. } => self.note_end(client, got),
+            _ => {}
         }
     }
 
-    /// A client's event failed. Where it put something first, those for whom it did are not known.
-    /// It may have ended the client, which the client's other connection finds out when it takes.
-    fn note_error(&mut self, client: u128, key: usize, error: &CoreError, now: u64) {
-        if error.fault == CoreFault::UnknownClient {
-            self.connections.note_attached(client, 0, now);
-            self.base.note_end(client, Ending::Gone, now);
-        }
-        self.connections.note_failed(client);
-        let has_done = error.packets > 0 || error.effects > 0;
-        if has_done || !self.connections.roster.takers.is_taker(client, key) {
-            self.connections.roster.wake(client);
-        }
-        self.notes.everyone |= has_done;
-    }
-
-    /// A client has ended as the answer says, which its waiting GET is to be told.
-    fn note_end(&mut self, client: u128, got: &Answered, now: u64) {
-        self.connections.note_attached(client, 0, now);
-        self.connections.pressure.forget(client);
-        self.connections.roster.wake(client);
+    /// The log is told how a client has ended.
+    fn note_end(&mut self, client: u128, got: &Answered) {
         if let Some(ending) = Ending::of(got) {
-            self.base.note_end(client, ending, now);
+            self.base.note_end(client, ending, self.now);
         }
     }
 }

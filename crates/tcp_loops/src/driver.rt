@@ -1,8 +1,9 @@
 //! What a loop does with its connections: whose stint it is, what they bring, and when it sleeps.
 
 use crate::base::Base;
-use events::{Done, Event, Loss, Outcome};
-use loop_rules::{LookState, Mail, Notes, Pause, Pressure, Stint};
+use events::{Event, Loss};
+use links::{Do, Links};
+use loop_rules::{Mail, Notes, Pause, Pressure};
 use mio::Events;
 use peers::Moments;
 use std::alloc::{AllocError, Global};
@@ -11,7 +12,7 @@ use std::mem;
 use std::rt::Clock;
 use std::sync::Wait;
 use std::time::Duration;
-use tcp_connections::{Connection, Connections, Delays, Next, Sent, Watch};
+use tcp_connections::{Came, Connections, Service, Watch};
 use tcp_streams::{Accepted, Buffered, Ears, Handed, Inbox, Log, Rules, Shown, Stream};
 
 /// How many reports of streams one wait takes.
@@ -33,18 +34,11 @@ const KEPT: u64 = 60_000;
 /// How long a loop sleeps at the most, in milliseconds.
 const BEAT: u64 = 1_000;
 
-/// A connection whose stint is under way, and what is left of that.
-#[derive(Clone, Copy)]
-pub(crate) struct Active {
-    pub(crate) key: usize,
-    pub(crate) stint: Stint,
-}
-
 /// What an event is of that the loop brings.
 #[derive(Clone, Copy)]
 pub(crate) enum Origin {
     /// A connection in its stint. By the event its client may come over to it.
-    Stint { active: Active, comes_over: bool },
+    Stint { key: usize, comes_over: bool },
     /// A client that is given up, of which the core is told that it is lost.
     Loss { client: u128 },
 }
@@ -57,7 +51,7 @@ pub(crate) type Brought = (Origin, Event, u64);
 pub(crate) enum Step {
     Brought(Brought),
     /// It goes on with its stint.
-    GoesOn(Stint),
+    GoesOn,
     /// Its stint is over.
     Over,
 }
@@ -77,9 +71,8 @@ pub(crate) struct Driver<'a, R, L> {
     mail: Mail<Handed>,
     /// The clients of other loops, to be told once a round.
     pub(crate) notes: Notes,
-    pub(crate) delays: Delays,
     /// The connections whose stints go on, in order.
-    active: VecDeque<Active>,
+    active: VecDeque<usize>,
     /// Clients are to be looked for that are given up.
     pub(crate) gives_up: bool,
     /// What the last events showed.
@@ -98,7 +91,8 @@ pub(crate) struct Driver<'a, R, L> {
 
 /// No connections yet, of a loop that goes by these rules.
 fn connections_for<'a, R: Clock + Drop>(alloc: Global, rules: &Rules) -> Connections<'a, R> {
-    Connections::new(alloc, rules.share(), rules.stretch(), rules.pace)
+    let links = Links::new(alloc, rules.share(), rules.stretch(), rules.pace);
+    Connections::new(alloc, links)
 }
 
 impl<'a, R: Wait + Clock + Copy + Drop, L: Log> Driver<'a, R, L> {
@@ -120,7 +114,6 @@ impl<'a, R: Wait + Clock + Copy + Drop, L: Log> Driver<'a, R, L> {
             connections: connections_for(alloc, base.rules),
             mail: Mail::new(alloc),
             notes: Notes::new(alloc, base.rules.loops)?,
-            delays: Delays::new(alloc),
             active: VecDeque::with_capacity(alloc, most)?,
             gives_up: false,
             shown: Shown::new(alloc),
@@ -145,28 +138,21 @@ impl<'a, R: Wait + Clock + Copy + Drop, L: Log> Driver<'a, R, L> {
     }
 
     /// The next connection in its stint; none where the round's stints are over.
-    pub(crate) fn next(&mut self) -> Option<Active> {
-        if let Some(active) = self.active.pop_front() {
-            return Some(active);
+    pub(crate) fn next(&mut self) -> Option<usize> {
+        if let Some(key) = self.active.pop_front() {
+            return Some(key);
         }
-        if self.connections.receiving.next().is_some() {
-            self.look_at_watch();
-            self.connections.call_held(self.now);
+        let links = &mut self.connections.links;
+        if links.receiving.next().is_some() {
+            self.now = self.watch.now();
+            links.call_held(self.now);
         }
         if self.stints_left == 0 {
             return None;
         }
-        let key = self.connections.roster.rota.pop()?;
+        let key = links.begin()?;
         self.stints_left -= 1;
-        let stint = Stint::begin();
-        Some(Active { key, stint })
-    }
-
-    /// The stint of a connection goes on.
-    pub(crate) fn go_on(&mut self, key: usize, stint: Stint) {
-        if self.active.push_back(Active { key, stint }).is_err() {
-            self.rest(key, Pause::More);
-        }
+        Some(key)
     }
 
     /// Tells of a client that is given up that it is lost, if there is one.
@@ -175,7 +161,7 @@ impl<'a, R: Wait + Clock + Copy + Drop, L: Log> Driver<'a, R, L> {
             return None;
         }
         let now = self.now;
-        let found = self.connections.find_given_up(now);
+        let found = self.connections.links.find_given_up(now);
         self.gives_up = found.is_some();
         let client = found?;
         Some((Origin::Loss { client }, Loss::new(client).event(), now))
@@ -185,7 +171,7 @@ impl<'a, R: Wait + Clock + Copy + Drop, L: Log> Driver<'a, R, L> {
     /// streams, for what others hand in, or for the next moment at which something is due. Answers
     /// whether the loop goes on.
     pub(crate) fn turn(&mut self) -> bool {
-        self.connections.roster.rota.begin_round();
+        self.connections.links.roster.rota.begin_round();
         self.send_all();
         if self.connections.len() == 0 && self.base.shared.standing(self.base.rt).is_over() {
             return false;
@@ -209,7 +195,7 @@ impl<'a, R: Wait + Clock + Copy + Drop, L: Log> Driver<'a, R, L> {
         self.base.send(&mut self.notes);
         let now = self.now;
         for _ in 0..u64::MAX {
-            let Some(key) = self.connections.pop_unsent() else {
+            let Some(key) = self.connections.links.pop_unsent() else {
                 break;
             };
             self.send(key, now);
@@ -228,12 +214,10 @@ impl<'a, R: Wait + Clock + Copy + Drop, L: Log> Driver<'a, R, L> {
     fn time_to_sleep(&mut self) -> u64 {
         let inbox = self.base.shared.inboxes.get(self.number);
         let sleeps = |inbox: &Inbox| inbox.falls_asleep(self.base.rt);
-        let has_next = self.connections.receiving.next().is_some();
-        if has_next || !self.connections.roster.rota.is_quiet() || !inbox.is_none_or(sleeps) {
+        if !self.connections.links.is_quiet() || !inbox.is_none_or(sleeps) {
             return 0;
         }
-        let due = self.delays.first().unwrap_or(self.beat).min(self.beat);
-        let due = self.connections.first_paced().unwrap_or(due).min(due);
+        let due = self.connections.links.first_due(self.beat);
         due.saturating_sub(self.watch.now()).min(BEAT)
     }
 
@@ -244,15 +228,15 @@ impl<'a, R: Wait + Clock + Copy + Drop, L: Log> Driver<'a, R, L> {
         }
         self.add_streams();
         for client in self.mail.woken.drain(..) {
-            self.connections.roster.wake(client);
+            self.connections.links.roster.wake(client);
         }
         let everyone = mem::replace(&mut self.mail.everyone, false);
         if everyone {
             // So it is where a backend is pressed no more; the next event shows which still are.
             let now = self.now;
-            self.connections.pressure.press(0, now);
+            self.connections.links.pressure.press(0, now);
             self.is_pressed = false;
-            self.connections.roster.rota.call_all();
+            self.connections.links.roster.rota.call_all();
         }
         self.do_due(everyone);
     }
@@ -260,36 +244,23 @@ impl<'a, R: Wait + Clock + Copy + Drop, L: Log> Driver<'a, R, L> {
     /// Does what is due. Once a beat, or where all are to be looked at, each connection's deadline is.
     fn do_due(&mut self, everyone: bool) {
         let now = self.now;
-        for _ in 0..usize::MAX {
-            let Some(key) = self.delays.pop_due(now) else {
-                break;
-            };
-            self.connections.roster.rota.call(key);
-        }
-        self.connections.call_paced(now);
+        self.connections.links.call_due(now);
         if now < self.beat && !everyone {
             return;
         }
         self.beat = now.saturating_add(BEAT);
         self.gives_up = true;
-        self.delays.forget_old(now);
-        self.settle_paces(now);
-        self.forget_digits(now);
-        let cutting = self.base.shared.standing(self.base.rt).cutting;
-        for key in 0..self.connections.keys_below() {
-            self.connections.give_back(key, self.base.alloc);
-            if self.connections.keep_deadline(key, cutting, now) {
-                self.close(key);
-            }
-        }
-    }
-
-    /// Once a beat who sent nothing lately is forgotten, and how often one sent too fast is counted.
-    fn settle_paces(&mut self, now: u64) {
-        let times = self.connections.settle_paces(now);
+        let times = self.connections.links.forget_old(now);
         if times > 0 {
             let base = self.base;
             base.shared.counts.lock(base.rt).note_paced(times);
+        }
+        self.forget_digits(now);
+        let cutting = self.base.shared.standing(self.base.rt).cutting;
+        for key in 0..self.connections.keys_below() {
+            if self.connections.keep_deadline(key, cutting, now) {
+                self.close(key);
+            }
         }
     }
 
@@ -301,7 +272,7 @@ impl<'a, R: Wait + Clock + Copy + Drop, L: Log> Driver<'a, R, L> {
         }
         let base = self.base;
         self.forgets = now.saturating_add(KEPT);
-        self.connections.pressure = Pressure::new(base.alloc, base.rules.stretch());
+        self.connections.links.pressure = Pressure::new(base.alloc, base.rules.stretch());
     }
 
     /// Adds the new connections, and takes over the requests that other loops handed on.
@@ -322,7 +293,7 @@ impl<'a, R: Wait + Clock + Copy + Drop, L: Log> Driver<'a, R, L> {
             };
             if let Some(key) = self.add(Some(handed.stream), handed.from) {
                 self.serve(key, handed.request, handed.target);
-                self.connections.roster.rota.call(key);
+                self.connections.links.roster.rota.call(key);
             }
         }
     }
@@ -330,11 +301,9 @@ impl<'a, R: Wait + Clock + Copy + Drop, L: Log> Driver<'a, R, L> {
     /// Adds a stream, where there was memory for it, and has its readiness told. One that can't be
     /// added is closed.
     fn add(&mut self, stream: Option<Stream>, from: u128) -> Option<usize> {
-        let (alloc, now) = (self.base.alloc, self.now);
+        let now = self.now;
         let registry = self.ears.poll.registry();
-        let key = stream.and_then(|stream| self
-            .connections
-            .add(alloc, registry, stream, from, now));
+        let key = stream.and_then(|stream| self.connections.add(registry, stream, from, now));
         if key.is_none() {
             self.base.shared.note_closed(self.base.rt, from);
         }
@@ -342,64 +311,59 @@ impl<'a, R: Wait + Clock + Copy + Drop, L: Log> Driver<'a, R, L> {
     }
 
     /// A step of a connection in its stint.
-    fn step(&mut self, key: usize, stint: Stint) -> Step {
-        let (alloc, now) = (self.base.alloc, self.now);
-        match self.connections.next(key, alloc, now) {
-            Next::Requests(request) => self.direct(key, request),
-            Next::Refuses(fault) => self.refuse(key, fault),
-            Next::Brings(event, moment) => {
+    fn step(&mut self, key: usize) -> Step {
+        match self.connections.go_on(key, self.now) {
+            Came::Request(request) => self.direct(key, request),
+            Came::Refused(fault) => self.refuse(key, fault),
+            Came::Event(event, moment) => {
                 let comes_over = matches!(event, Event::Upgraded { .. });
-                let active = Active { key, stint };
-                return Step::Brought((Origin::Stint { active, comes_over }, event, moment));
+                return Step::Brought((Origin::Stint { key, comes_over }, event, moment));
             }
-            // Nothing can be due that wasn't, so the core need not be asked.
-            Next::AsksAgain => {
-                let done = Done::nothing(alloc);
-                return self.hear(
-                    key,
-                    stint,
-                    false,
-                    &Ok(Outcome::Ticked { ping: false, done }),
-                );
-            }
-            Next::Pauses(pause) => {
-                self.rest(key, pause);
-                return Step::Over;
-            }
-            Next::Fails => {}
-            Next::Ends => {
-                self.close(key);
+            Came::Nothing(Do::GoOn) => {}
+            Came::Nothing(what) => {
+                self.obey(key, what);
                 return Step::Over;
             }
         }
-        Step::GoesOn(stint)
+        Step::GoesOn
     }
 
     /// A connection goes on with its stint until it brings an event; none where the stint is over.
-    pub(crate) fn drive(&mut self, active: Active) -> Option<Brought> {
-        let Active { key, mut stint } = active;
+    pub(crate) fn drive(&mut self, key: usize) -> Option<Brought> {
         for _ in 0..u64::MAX {
-            match self.step(key, stint) {
+            match self.step(key) {
                 Step::Brought(brought) => return Some(brought),
-                Step::GoesOn(left) => stint = left,
+                Step::GoesOn => {}
                 Step::Over => break,
             }
         }
         None
     }
 
+    /// Does what is to be done with a connection whose event was answered, or which brought none.
+    pub(crate) fn obey(&mut self, key: usize, what: Do) {
+        match what {
+            Do::GoOn if self.active.push_back(key).is_ok() => {}
+            Do::GoOn => self.rest(key, Pause::More),
+            Do::Rest(pause) => self.rest(key, pause),
+            Do::Send => self.send_soon(key),
+            Do::End => self.close(key),
+            _ => {}
+        }
+    }
+
     /// The stint of a connection is over, and what it has to send goes out.
-    pub(crate) fn rest(&mut self, key: usize, pause: Pause) {
-        self.connections.roster.rota.pause(key, pause);
+    fn rest(&mut self, key: usize, pause: Pause) {
+        self.connections.links.rest(key, pause);
         self.send_soon(key);
     }
 
     /// What a connection has to send goes out at the end of the loop's round, or at once where that is
     /// much.
-    pub(crate) fn send_soon(&mut self, key: usize) {
-        let connection = self.connections.get_mut(key);
-        if connection.map_or(0, Connection::bytes_unsent) < MUCH_UNSENT {
-            return self.connections.note_unsent(key);
+    fn send_soon(&mut self, key: usize) {
+        let stream = self.connections.service(key).and_then(Service::stream);
+        if stream.map_or(0, |stream| stream.unsent()) < MUCH_UNSENT {
+            return self.connections.links.note_unsent(key);
         }
         let now = self.now;
         self.send(key, now);
@@ -407,13 +371,8 @@ impl<'a, R: Wait + Clock + Copy + Drop, L: Log> Driver<'a, R, L> {
 
     /// Sends the bytes of a connection, which may be over then.
     fn send(&mut self, key: usize, now: u64) {
-        let connection = self.connections.get_mut(key);
-        match connection.map(|connection| connection.send(now)) {
-            // It may be served again, if it waits for that.
-            Some(Sent::Fits) if self.connections.roster.rota.look(key) != LookState::Full => {}
-            Some(Sent::Fits | Sent::Queue) => self.connections.roster.rota.call(key),
-            Some(Sent::Remove) => self.close(key),
-            Some(Sent::Nothing) | None => {}
+        if self.connections.send(key, now) {
+            self.close(key);
         }
     }
 

@@ -108,10 +108,10 @@ impl<'a, R: Wait + Clock + Copy + Drop, L: Log> EventLoop<'a, R, L> {
             if left == 0 || saying == 0 || self.hold.is_full() {
                 return;
             }
-            let Some(active) = self.driver.next() else {
+            let Some(key) = self.driver.next() else {
                 break;
             };
-            if let Some((of, event, moment)) = self.driver.drive(active) {
+            if let Some((of, event, moment)) = self.driver.drive(key) {
                 if says(&event) {
                     saying -= 1;
                 }

@@ -1,3 +1,4 @@
+pub mod Gates
 pub mod Faults
 pub mod Keeping
 pub mod Telling

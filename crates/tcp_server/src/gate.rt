@@ -1,5 +1,8 @@
 //! A gate that looks, after each event, at what the hub's state says of those whom it concerns.
 
+ghost use Rattle.std.specs.Prelude.{◌≡◌};
+ghost use Rattle.tcp_server.specs.Gates as gates;
+
 use backend_watch::{Pressed, Sight, digits_together};
 use dispatch::Core;
 use events::{Answered, Event, Outcome};
@@ -25,7 +28,9 @@ pub(crate) struct Gate<'a, R> {
 }
 
 /// Whether the event was a message over a WebSocket, whose client goes on.
-fn is_served(event: &Event, got: &Answered) -> bool {
+fn is_served(event: &Event, got: &Answered) -> bool
+    ensures { result ≡ gates.is_served event.now got.now }
+{
     let is_done = matches!(got, Ok(Outcome::Done(done)) if done.closed.is_none());
     is_done && matches!(event, Event::Frame { .. })
 }

@@ -1,2 +1,4 @@
 pub mod Ending
 pub mod Outputs
+pub mod Rules
+pub mod Shown

@@ -1,6 +1,7 @@
 //! What a server's settings come to.
 
-ghost use Rattle.std.specs.Prelude.{◌<◌};
+ghost use Rattle.std.specs.Prelude.{◌≡◌, ◌<◌, ◌*◌, ◌/◌};
+ghost use Rattle.tcp_streams.specs.Rules as rules;
 
 use connection::Timing;
 use eio_wire::Numbers;
@@ -46,13 +47,17 @@ pub struct Rules {
 
 impl Rules {
     /// How many bytes all that one loop is receiving may have.
-    pub fn share(&self) -> usize {
+    pub fn share(&self) -> usize
+        ensures { result ≡ self.now.receiving / self.now.loops }
+    {
         self.receiving / self.loops
     }
 
     /// How long the clients of a backend for which much waits aren't read at a stretch, in milliseconds:
     /// less than what they have for the answer to a ping.
-    pub fn stretch(&self) -> u64 {
+    pub fn stretch(&self) -> u64
+        ensures { result ≡ self.now.timing.ping_timeout / 4 * 3 }
+    {
         self.timing.ping_timeout / 4 * 3
     }
 
@@ -74,7 +79,9 @@ impl Rules {
 /// How fast one client may send. It waits for no longer than three eighths of the time that it has for
 /// the answer to a ping, so that what it sends now and the answer behind it come in time; but for a second
 /// where that is longer.
-fn pace_of(settings: &Settings) -> Option<Pace> {
+fn pace_of(settings: &Settings) -> Option<Pace>
+    ensures { result ≡ rules.pace_of settings.now.timing.ping_timeout settings.now.pace }
+{
     let pace = settings.pace?;
     let stretch = settings.timing.ping_timeout / 8 * 3;
     Some(Pace {

@@ -1,5 +1,7 @@
 //! What all threads of a server share, beside the core.
 
+ghost use Rattle.std.specs.Prelude.{◌≡◌, ◌&&◌, ◌==◌};
+
 use crate::backends::Backends;
 use crate::fault::ServerFault;
 use crate::inbox::Inbox;
@@ -48,7 +50,7 @@ impl Drop for Shared {
 #[derive(Clone, Copy, Default)]
 pub struct Standing {
     /// The connections that are open, those on their way to a loop among them.
-    open: u64,
+    pub open: u64,
     /// No more connections are accepted.
     pub closing: bool,
     /// What is still open is to end.
@@ -57,7 +59,9 @@ pub struct Standing {
 
 impl Standing {
     /// Whether nothing is open, and nothing more will be.
-    pub fn is_over(self) -> bool {
+    pub fn is_over(self) -> bool
+        ensures { result ≡ (self.closing && self.open == 0) }
+    {
         self.closing && self.open == 0
     }
 }

@@ -1,5 +1,8 @@
 //! What the core's state showed after the events of a worker, until the worker heeds it.
 
+ghost use Rattle.std.specs.Prelude.{◌≡◌, ◌⊎◌, ◌++◌, ◌∷◌, [], None, false};
+ghost use Rattle.tcp_streams.specs.Shown as shown;
+
 use std::alloc::{AllocError, Global};
 use std::mem;
 use std::sync::{Mutex, Wait};
@@ -18,7 +21,7 @@ pub struct Sign {
 /// What the events of a worker showed since it looked last.
 #[derive(Drop)]
 pub struct Shown {
-    signs: Vec<Sign>,
+    pub signs: Vec<Sign>,
     /// The digits of the backends that are pressed, a bit each, if there may be backends.
     pub pressed: Option<u16>,
     /// One of them is pressed no more.
@@ -27,7 +30,9 @@ pub struct Shown {
 
 impl Shown {
     /// Nothing was shown yet.
-    pub fn new(alloc: Global) -> Shown {
+    pub fn new(alloc: Global) -> Shown
+        ensures { shown.ShowsNothing result }
+    {
         Shown {
             signs: Vec::new(alloc),
             pressed: None,
@@ -35,25 +40,29 @@ impl Shown {
         }
     }
 
-    /// What each event showed.
-    pub fn signs(&self) -> &[Sign] {
-        self.signs.as_slice()
-    }
-
     /// An event showed this. Where there is no memory for it, it is as if it had shown nothing.
-    pub fn add(&mut self, sign: Sign) {
+    pub fn add(&mut self, sign: Sign)
+        ensures sign { (self.new.signs.items ≡ self.old.signs.items ++ sign ∷ [])
+            ⊎ (self.new.signs.items ≡ self.old.signs.items) }
+        ensures pressed { self.new.pressed ≡ self.old.pressed }
+        ensures relieved { self.new.relieved ≡ self.old.relieved }
+    {
         let _ = self.signs.push(sign);
     }
 
     /// Whether nothing waited for a client after its message.
-    pub fn rests(&self, client: u128) -> bool {
+    pub fn rests(&self, client: u128) -> bool
+        ensures { result ≡ shown.rests client self.now.signs.items }
+    {
         self.signs
             .iter()
             .any(|sign| sign.client == client && sign.rests)
     }
 
     /// All of it was heeded.
-    pub fn clear(&mut self) {
+    pub fn clear(&mut self)
+        ensures { shown.ShowsNothing self.new }
+    {
         self.signs.clear();
         self.pressed = None;
         self.relieved = false;
