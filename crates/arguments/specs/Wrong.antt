@@ -1,7 +1,7 @@
 -- Of which options no server is made.
-use Rattle.std.specs.Prelude.{◌≡◌, ◌++◌, ◌&&◌, ◌||◌, ◌==◌, ℕ, Bool, true, false, List, [], ◌∷◌, Option, None, Some, Result, Ok, Err, bytes_eq, codes, is_none, is_some, length, nat_lt, not, option_map, slice_index, string_bytes}
+use Rattle.std.specs.Prelude.{◌≡◌, ◌-◌, ◌++◌, drop, if◌then◌else◌, ◌&&◌, ◌||◌, ◌==◌, ℕ, Bool, true, false, List, [], ◌∷◌, Option, None, Some, Result, Ok, Err, bytes_eq, codes, is_none, is_some, length, map, nat_lt, not, option_map, slice_index, string_bytes}
 use Rattle.std.specs.Char.{is_ascii_digit, is_ascii_graphic, is_ascii_lowercase}
-use Rattle.std.specs.List.{list_any}
+use Rattle.std.specs.List.{after_first, before_first, list_any, position_or_len}
 use Rattle.terms.specs.Refusal.{first_refusal}
 use Rattle.journal.specs.Config.{is_bad_config}
 use Rattle.journal.specs.Plain.{Limits}
@@ -14,9 +14,28 @@ use Rattle.arguments.specs.declared.wrong.Wrong.TheVariants as wrong
 abbrev pub is_part_byte : ℕ → Bool
 is_part_byte b = is_ascii_lowercase b || is_ascii_digit b || list_any (λ c. b == c) (codes "+-._:[]")
 
--- some bytes, of which each may stand there
-abbrev pub is_part : List ℕ → Bool
-is_part text = nat_lt 0 (length text) && not (list_any (λ b. not (is_part_byte b)) text)
+abbrev pub has_strange_part : List ℕ → Bool
+has_strange_part text = list_any (λ b. not (is_part_byte b)) text
+
+-- a scheme with its colon
+abbrev pub is_scheme : List ℕ → Bool
+is_scheme text =
+    nat_lt 1 (length text) && slice_index text (length text - 1) == 58 && not (has_strange_part text)
+
+-- a slash with a host behind it
+abbrev pub is_host : List ℕ → Bool
+is_host text = nat_lt 1 (length text) && slice_index text 0 == 47 && not (has_strange_part (drop 1 text))
+
+-- SCHEME://HOST, which has a slash behind the colon and another behind that; without a slash only `*`,
+-- which stands for all, and `null`
+abbrev pub is_origin : List ℕ → Bool
+is_origin text =
+    if nat_lt (position_or_len (λ b. b == 47) text) (length text)
+    then is_scheme (before_first (λ b. b == 47) text) && is_host (after_first (λ b. b == 47) text)
+    else bytes_eq text (codes "*") || bytes_eq text (codes "null")
+
+abbrev pub are_origins : List (List ℕ) → Bool
+are_origins origins = not (list_any (λ origin. not (is_origin origin)) origins)
 
 -- ASCII without blanks, `?` and `#`
 abbrev pub is_path_byte : ℕ → Bool
@@ -67,5 +86,6 @@ backend_refusal backend token tells =
 -- settings of which a server is made
 pub record IsRight (s : Settings) (rate burst : Option ℕ) : Type 0 where
   pub settings : wrong_setting s ≡ None
+  pub origins : are_origins (map string_bytes s.origins.items) ≡ true
   pub metrics : is_right_path (option_map string_bytes s.metrics) ≡ true
   pub at_once : burst_refusal rate burst ≡ None

@@ -1,6 +1,6 @@
 //! What is wrong with options, of which no server is made.
 
-ghost use Rattle.std.specs.Prelude.{◌≡◌, [], IfSome, OnErr, OnOk, false, not, option_map, string_bytes, true};
+ghost use Rattle.std.specs.Prelude.{◌≡◌, ◌≢◌, [], IfSome, OnErr, OnOk, false, map, not, option_map, string_bytes, true};
 ghost use Rattle.std.specs.List.{list_any};
 ghost use Rattle.terms.specs.Refusal.{ok_unless};
 ghost use Rattle.arguments.specs.Wrong as rules;
@@ -75,17 +75,26 @@ fn has_strange_part(bytes: &[u8]) -> bool
     bytes.iter().any(|byte| !is_part_byte(*byte))
 }
 
-/// Whether a browser may name this as the scheme or the host of an origin.
-fn is_part(text: &str) -> bool
-    ensures { result ≡ rules.is_part text.now }
+/// Whether this is a scheme with its colon.
+fn is_scheme(bytes: &[u8]) -> bool
+    ensures { result ≡ rules.is_scheme bytes.now }
 {
-    text.len() > 0 && !has_strange_part(text.as_bytes())
+    bytes.len() > 1 && bytes[bytes.len() - 1] == b':' && !has_strange_part(bytes)
+}
+
+/// Whether this is a slash with a host behind it.
+fn is_host(bytes: &[u8]) -> bool
+    ensures { result ≡ rules.is_host bytes.now }
+{
+    bytes.len() > 1 && bytes[0] == b'/' && !has_strange_part(&bytes[1..])
 }
 
 /// Whether a browser may name this origin (RFC 6454, section 6.2), or it is `*`, which stands for all.
-fn is_origin(text: &str) -> bool {
-    match text.split_once("://") {
-        Some((scheme, host)) => is_part(scheme) && is_part(host),
+fn is_origin(text: &str) -> bool
+    ensures { result ≡ rules.is_origin text.now }
+{
+    match text.split_once('/') {
+        Some((scheme, host)) => is_scheme(scheme.as_bytes()) && is_host(host.as_bytes()),
         None => text == "*" || text == "null",
     }
 }
@@ -150,7 +159,8 @@ fn check_setting(settings: &mut Settings) -> Result<(), Wrong>
 
 /// Refuses an origin that no browser names, the first one.
 fn check_origins(alloc: Global, origins: &[String]) -> Result<(), Wrong>
-    ensures { origins.now ≡ [] → result ≡ Ok tt }
+    ensures right { OnOk result (rules.are_origins (map string_bytes origins.now) ≡ true) }
+    ensures wrong { OnErr result (origins.now ≢ []) }
 {
     for origin in origins {
         if !is_origin(origin.as_str()) {
