@@ -27,6 +27,9 @@ const WRONG_ORIGIN: &str =
 const WRONG_PATH: &str =
     "it begins without /, has a ?, a #, a blank or no ASCII, or is the socket's";
 
+/// What is told of a token that clients and backends have.
+const ONE_TOKEN: &str = "it has the token of --token-file, by which clients would be backends";
+
 /// Why no server is made by these options.
 #[derive(Debug, Drop, Error)]
 pub(crate) enum Wrong {
@@ -55,7 +58,7 @@ pub(crate) enum Wrong {
     #[error("--tell-left: with --backend-token there is no demonstration app that tells it")]
     NobodyTells,
     /// Clients would be backends.
-    #[error("--backend-token: it has the token of --token-file, by which clients would be backends")]
+    #[error("--backend-token: {ONE_TOKEN}")]
     OneToken,
 }
 
