@@ -2,8 +2,13 @@
 //! keys in the files that they name, and what is told where they are refused.
 #![tactic(auto)]
 
+mod asked;
 mod keys;
+mod names;
 pub mod options;
 pub mod refused;
 pub mod task;
 mod token;
+mod wrong;
+
+pub use asked::BACKENDS;

@@ -2,6 +2,7 @@
 //! script` serves the clients of a script.
 #![tactic(auto)]
 
+use arguments::BACKENDS;
 use arguments::options::Options;
 use arguments::refused::print_refused;
 use arguments::task::{Task, read_arguments};
@@ -25,9 +26,6 @@ use terms::Text;
 
 /// The program's name.
 const NAME: &str = "event_server";
-
-/// The namespace that backends join by a token of their own.
-const BACKENDS: &str = "/backend";
 
 /// The demonstration app, which tells of sockets that have ended or doesn't, behind this entrance. A
 /// warden with this token ends sockets, if there is one.

@@ -15,7 +15,8 @@ use crate::setup::{Ledgers, set_limit};
 use dispatch::Core;
 use events::{App, CoreFault};
 use journal::Config;
-use settings::{NUMBERS, TIMING, usual_hub};
+use settings::usual;
+use settings::usual::{NUMBERS, TIMING};
 use std::alloc::{AllocError, Global};
 use std::io;
 use std::io::{BufWriter, ErrorKind, Read, Write};
@@ -47,7 +48,7 @@ pub fn play_script<R: Input + Print + AllocGlobal, A: App>(
 pub fn usual_limits(alloc: Global) -> Result<Config, AllocError>
     ensures { IfOk result (λ limits. limits ≡ USUAL) }
 {
-    let mut limits = usual_hub(alloc)?;
+    let mut limits = usual::hub(alloc)?;
     limits.clients = 1024;
     limits.capacity = 64;
     Ok(limits)

@@ -2,11 +2,29 @@
 use Rattle.std.specs.Prelude.{◌≡◌, ℕ, List, [], ◌∷◌, None, codes, string_bytes}
 use Rattle.connection.specs.declared.timing.Timing.{Timing}
 use Rattle.journal.specs.Plain.{Limits}
+use Rattle.settings.specs.declared.usual.UsualLimits.{UsualLimits}
 use Rattle.settings.specs.declared.settings.Settings.{Settings}
 
 -- pings each 25 s, 20 s for the answer, 45 s to join a namespace
 abbrev pub timing : Timing
 timing = record { ping_interval = 25000; ping_timeout = 20000; connect_timeout = 45000 }
+
+-- the most bytes of a payload, and of all that is being received; how many connections in a row one
+-- loop is given; the most entries of one answer to a GET
+abbrev pub max_payload : ℕ
+max_payload = 1000000
+
+abbrev pub receiving : ℕ
+receiving = 268435456
+
+abbrev pub together : ℕ
+together = 16
+
+abbrev pub poll_entries : ℕ
+poll_entries = 15
+
+abbrev pub host : List ℕ
+host = codes "127.0.0.1"
 
 abbrev pub spaces : List (List ℕ)
 spaces = codes "/" ∷ codes "/admin" ∷ []
@@ -25,21 +43,35 @@ hub =
       spaces = spaces;
     }
 
--- the settings of a server with so many loops at this port, where nothing else is said; the defaults
--- of the options in `arguments` are to be these. It listens to the machine itself, ends after no
+-- limits with these namespaces
+abbrev pub with_spaces : UsualLimits → List (List ℕ) → Limits
+with_spaces l names =
+    record {
+      clients = l.clients;
+      capacity = l.capacity;
+      bytes = l.bytes;
+      log = l.log;
+      log_bytes = l.log_bytes;
+      saved = l.saved;
+      keep = l.keep;
+      first_offset = l.first_offset;
+      spaces = names;
+    }
+
+-- the settings of a server with so many loops at this port, where nothing else is said. It listens to the machine itself, ends after no
 -- number of connections, serves all pages and has no files, tells no counts and no totals, has no backends and no warden, and
 -- bounds neither how fast a client sends nor how many connections an address has
 pub record IsUsual (its_port loops : ℕ) (s : Settings) : Type 0 where
-  pub host : string_bytes s.host ≡ codes "127.0.0.1"
+  pub host : string_bytes s.host ≡ host
   pub port : s.port ≡ its_port
   pub workers : s.workers ≡ loops
   pub connections : s.connections ≡ None
   pub hub : s.hub ≡ hub
   pub timing : s.timing ≡ timing
-  pub max_payload : s.max_payload ≡ 1000000
-  pub receiving : s.receiving ≡ 268435456
-  pub together : s.together ≡ 16
-  pub poll_entries : s.poll_entries ≡ 15
+  pub max_payload : s.max_payload ≡ max_payload
+  pub receiving : s.receiving ≡ receiving
+  pub together : s.together ≡ together
+  pub poll_entries : s.poll_entries ≡ poll_entries
   pub origins : s.origins.items ≡ []
   pub page : s.page ≡ []
   pub metrics : s.metrics ≡ None

@@ -2,8 +2,6 @@
 #![tactic(auto)]
 
 mod settings;
+pub mod usual;
 
-pub use settings::{
-    LEAST_RECEIVING, MOST_BYTES, MOST_RATE, NUMBERS, Pace, Setting, Settings, TIMING, Warding,
-    usual_hub,
-};
+pub use settings::{LEAST_RECEIVING, MOST_BYTES, MOST_RATE, Pace, Setting, Settings, Warding};

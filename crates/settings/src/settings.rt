@@ -1,11 +1,11 @@
 //! The settings of a server: which are usual, and which allow no server.
 
 ghost use Rattle.std.specs.Prelude.{◌≡◌, ◌<◌, ◌≤◌, None, Some, IfOk};
-ghost use Rattle.settings.specs.Usual as usual;
 ghost use Rattle.settings.specs.Usual.{IsUsual};
 ghost use Rattle.settings.specs.Wrong as rules;
 ghost use Rattle.settings.specs.Wrong.{told, wrong_setting};
 
+use crate::usual;
 use connection::Timing;
 use eio_wire::Numbers;
 use journal::Config;
@@ -22,41 +22,6 @@ pub const MOST_BYTES: u64 = 1_000_000;
 
 /// The fewest bytes of which all that is received may be bounded: more than one request has.
 pub const LEAST_RECEIVING: u64 = 1_048_576;
-
-/// When a client is pinged and given up: pings each 25 s, 20 s for the answer, 45 s to join a
-/// namespace.
-pub const TIMING: Timing = Timing {
-    ping_interval: 25_000,
-    ping_timeout: 20_000,
-    connect_timeout: 45_000,
-};
-
-/// What clients are told of that, and of their payloads.
-pub const NUMBERS: Numbers = Numbers {
-    ping_interval: TIMING.ping_interval,
-    ping_timeout: TIMING.ping_timeout,
-    max_payload: MOST_BYTES,
-};
-
-/// The limits of the hub, with the namespaces.
-pub fn usual_hub(alloc: Global) -> Result<Config, AllocError>
-    ensures { IfOk result (λ hub. hub ≡ usual.hub) }
-{
-    let mut spaces = Vec::new(alloc);
-    spaces.push(Text::copy_of(alloc, "/")?)?;
-    spaces.push(Text::copy_of(alloc, "/admin")?)?;
-    Ok(Config {
-        clients: 10_000,
-        capacity: 4_096,
-        bytes: 8_388_608,
-        log: 1_024,
-        log_bytes: 67_108_864,
-        saved: 4_096,
-        keep: 120_000,
-        first_offset: 1,
-        spaces,
-    })
-}
 
 /// A setting that can be wrong.
 #[derive(Clone, Copy, Debug, PartialEq, Eq)]
@@ -190,16 +155,16 @@ impl Settings {
         ensures { IfOk result (IsUsual port workers) }
     {
         Ok(Settings {
-            host: String::from_str(alloc, "127.0.0.1")?,
+            host: String::from_str(alloc, usual::HOST)?,
             port,
             workers,
             connections: None,
-            hub: usual_hub(alloc)?,
-            timing: TIMING,
-            max_payload: MOST_BYTES,
-            receiving: 268_435_456,
-            together: 16,
-            poll_entries: 15,
+            hub: usual::hub(alloc)?,
+            timing: usual::TIMING,
+            max_payload: usual::MAX_PAYLOAD,
+            receiving: usual::RECEIVING,
+            together: usual::TOGETHER,
+            poll_entries: usual::POLL_ENTRIES,
             origins: Vec::new(alloc),
             page: Page::new(alloc),
             metrics: None,

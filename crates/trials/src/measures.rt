@@ -16,7 +16,7 @@ use std::sync::Wait;
 use std::sync::ledger::{Blank, Ledger};
 use std::thread::Threads;
 use std::time::{Duration, Instant};
-use usual_core::{NUMBERS, PARTS, TIMING, UsualLimits};
+use usual_core::{NUMBERS, PARTS, TIMING, limits_for};
 
 /// What a row is played with where its counts are printed. The greatest room has 256 members.
 const SMALL: Sizes = Sizes {
@@ -83,7 +83,7 @@ fn measure_in<
         × (commands.parts ≡ C.parts) × (commands.parts ≡ 65536) }
     requires taken { (taken.name ≡ T.name) × (taken.parts ≡ T.parts) × (taken.parts ≡ 65536) }
 {
-    let (alloc, mut limits) = (rt.alloc(), UsualLimits::usual(row.sizes.sockets as usize));
+    let (alloc, mut limits) = (rt.alloc(), limits_for(row.sizes.sockets as usize));
     limits.capacity = CAPACITY;
     limits.saved = limits.clients;
     let config = limits.config(alloc, &["/", FEW])?;

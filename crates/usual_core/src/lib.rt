@@ -1,8 +1,9 @@
 //! The usual settings of a server, and a new core with its pass and its ids.
 #![tactic(auto)]
 
+mod made_with;
 mod run;
-mod settings;
 
+pub use made_with::{PARTS, UsualSettings, limits_for};
 pub use run::{OnCore, OnLocked, UsualCore, on_new_core, on_new_locked};
-pub use settings::{NUMBERS, PARTS, TIMING, UsualLimits, UsualSettings};
+pub use settings::usual::{NUMBERS, TIMING, UsualLimits};

@@ -2,7 +2,7 @@
 
 ghost use Rattle.std.specs.Prelude.{◌≡◌};
 
-use crate::settings::{PARTS, UsualSettings};
+use crate::made_with::{PARTS, UsualSettings};
 use dispatch::Core;
 use events::{Answered, App, CoreError, CoreFault, Event};
 use hub_gate::Locked;

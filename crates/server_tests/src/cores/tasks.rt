@@ -14,7 +14,7 @@ use std::sync::Wait;
 use std::sync::ledger::{Blank, Ledger};
 use std::thread::Threads;
 use std::time::Clock;
-use usual_core::{NUMBERS, PARTS, TIMING, UsualLimits};
+use usual_core::{NUMBERS, PARTS, TIMING, UsualLimits, limits_for};
 
 #[derive(Clone, Copy)]
 pub enum Task {
@@ -67,7 +67,7 @@ fn new_locked<C: Ledger, T: Ledger>(
 {
     let limits = UsualLimits {
         capacity: 256,
-        ..UsualLimits::usual(8)
+        ..limits_for(8)
     };
     let Ok(config) = limits.config(alloc, &["/"]) else {
         return Err(CoreFault::Memory.at_once());

@@ -1,0 +1,4 @@
+pub mod Asked
+pub mod Keys
+pub mod Options
+pub mod Wrong

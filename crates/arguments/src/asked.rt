@@ -1,0 +1,273 @@
+//! The settings that options ask for.
+
+ghost use Rattle.std.specs.Prelude.{◌≡◌, [], None, IfOk, codes, map, option_map, string_bytes};
+ghost use Rattle.clap.specs.Words.{found_of};
+ghost use Rattle.arguments.specs.Asked as asked;
+ghost use Rattle.arguments.specs.Asked.{AsksHub, AsksLimits, AsksNumbers, AsksPace, AsksTexts, AsksTiming, IsSaid, IsSaidIn, IsSaidUnless0, Says};
+
+use crate::names;
+use clap::ArgMatches;
+use connection::Timing;
+use expiry::EXPIRY;
+use journal::Config;
+use settings::usual::UsualLimits;
+use settings::{Pace, Settings, usual};
+use std::alloc::{AllocError, Global};
+use terms::Text;
+
+/// The namespace of the backends.
+pub const BACKENDS: &str = "/backend";
+
+/// The number that an option says, or this one where it says none.
+fn number(matches: &ArgMatches<'_>, name: &str, usual: u64) -> u64
+    ensures { IsSaid (found_of matches.now) name.now usual result }
+{
+    matches.get_one(name).unwrap_or(usual)
+}
+
+/// The same of a size.
+fn size(matches: &ArgMatches<'_>, name: &str, usual: usize) -> usize
+    ensures { IsSaid (found_of matches.now) name.now usual result }
+{
+    matches.get_one(name).unwrap_or(usual)
+}
+
+/// The limits that are asked for, but for the namespaces.
+fn limits(matches: &ArgMatches<'_>) -> UsualLimits
+    ensures { AsksLimits (found_of matches.now) result }
+{
+    let usual = usual::LIMITS;
+    UsualLimits {
+        clients: size(matches, names::CLIENTS, usual.clients),
+        capacity: size(matches, names::CAPACITY, usual.capacity),
+        bytes: size(matches, names::BYTES, usual.bytes),
+        log: size(matches, names::LOG, usual.log),
+        log_bytes: size(matches, names::LOG_BYTES, usual.log_bytes),
+        saved: size(matches, names::SAVED, usual.saved),
+        keep: number(matches, names::KEEP, usual.keep),
+        first_offset: usual.first_offset,
+    }
+}
+
+/// The timing that is asked for.
+fn timing(matches: &ArgMatches<'_>) -> Timing
+    ensures { AsksTiming (found_of matches.now) result }
+{
+    let usual = usual::TIMING;
+    Timing {
+        ping_interval: number(matches, names::PING_INTERVAL, usual.ping_interval),
+        ping_timeout: number(matches, names::PING_TIMEOUT, usual.ping_timeout),
+        connect_timeout: number(matches, names::CONNECT_TIMEOUT, usual.connect_timeout),
+    }
+}
+
+/// A number of which 0 says never.
+fn unless_0(number: u64) -> Option<u64>
+    ensures { result ≡ asked.unless_0 number }
+{
+    (number != 0).then_some(number)
+}
+
+/// How fast one client may send, if that is bounded: as many events at once as a second where that
+/// isn't said.
+fn pace(rate: Option<u64>, burst: Option<u64>) -> Option<Pace>
+    ensures { result ≡ asked.pace_of rate burst }
+{
+    let rate = rate?;
+    let burst = burst.unwrap_or(rate);
+    Some(Pace { rate, burst })
+}
+
+/// The number that an option says, if it says one.
+fn said(matches: &ArgMatches<'_>, name: &str) -> Option<u64>
+    ensures { Says 64 (found_of matches.now) name.now result }
+{
+    matches.get_one(name)
+}
+
+/// How fast one client may send, as it is asked for.
+fn asked_pace(matches: &ArgMatches<'_>) -> Option<Pace>
+    ensures { AsksPace (found_of matches.now) result }
+{
+    pace(said(matches, names::PACE), said(matches, names::BURST))
+}
+
+/// The port that is asked for; the parse refuses arguments without one.
+fn port(matches: &ArgMatches<'_>) -> u16
+    ensures { IsSaidIn 16 (found_of matches.now) (codes "port") 0 result }
+{
+    matches.get_one(names::PORT).unwrap_or(0)
+}
+
+/// How many clients there may be at a time: a warden has one more.
+fn clients(number: usize, has_warden: bool) -> usize
+    ensures { result ≡ asked.clients_with has_warden number }
+{
+    if has_warden {
+        number.saturating_add(1)
+    } else {
+        number
+    }
+}
+
+/// The namespaces, as they are named, that of the backends where there may be some, and that of the
+/// warden where there is one.
+fn spaces(
+    alloc: Global,
+    named: &[&str],
+    has_backends: bool,
+    has_warden: bool,
+) -> Result<Vec<Text>, AllocError>
+    ensures { IfOk result (λ spaces. spaces.items
+        ≡ asked.spaces_of (map (λ name. name.now) named.now) has_backends has_warden) }
+{
+    let mut spaces = Vec::new(alloc);
+    spaces.push(Text::copy_of(alloc, "/")?)?;
+    for name in named {
+        spaces.push(Text::copy_of(alloc, name)?)?;
+    }
+    if has_backends {
+        spaces.push(Text::copy_of(alloc, BACKENDS)?)?;
+    }
+    if has_warden {
+        spaces.push(Text::copy_of(alloc, EXPIRY)?)?;
+    }
+    Ok(spaces)
+}
+
+/// The limits that are asked for, with the namespaces.
+fn hub(alloc: Global, matches: &ArgMatches<'_>, has_warden: bool) -> Result<Config, AllocError>
+    ensures { IfOk result (AsksHub (found_of matches.now) has_warden) }
+{
+    let limits = limits(matches);
+    let has_backends = matches.get_str(names::BACKEND_TOKEN).is_some();
+    let named = matches.get_strs(names::SPACE).unwrap_or(&[]);
+    let spaces = spaces(alloc, named, has_backends, has_warden)?;
+    Ok(Config {
+        clients: clients(limits.clients, has_warden),
+        capacity: limits.capacity,
+        bytes: limits.bytes,
+        log: limits.log,
+        log_bytes: limits.log_bytes,
+        saved: limits.saved,
+        keep: limits.keep,
+        first_offset: limits.first_offset,
+        spaces,
+    })
+}
+
+/// The number that an option says, if it isn't 0.
+fn number_unless_0(matches: &ArgMatches<'_>, name: &str) -> Option<u64>
+    ensures { IsSaidUnless0 (found_of matches.now) name.now result }
+{
+    unless_0(number(matches, name, 0))
+}
+
+/// Takes the numbers that are asked for.
+fn set_numbers(matches: &ArgMatches<'_>, settings: &mut Settings)
+    ensures asked { AsksNumbers (found_of matches.now) settings.new }
+    ensures others { settings.new ≡ record settings.old {
+      connections = settings.new.connections;
+      timing = settings.new.timing;
+      max_payload = settings.new.max_payload;
+      receiving = settings.new.receiving;
+      together = settings.new.together;
+      poll_entries = settings.new.poll_entries;
+      report = settings.new.report;
+      pace = settings.new.pace;
+      connections_from = settings.new.connections_from;
+    } }
+{
+    settings.connections = number_unless_0(matches, names::CONNECTIONS);
+    settings.timing = timing(matches);
+    settings.max_payload = number(matches, names::MAX_PAYLOAD, usual::MAX_PAYLOAD);
+    settings.receiving = size(matches, names::RECEIVING, usual::RECEIVING);
+    settings.together = number(matches, names::TOGETHER, usual::TOGETHER);
+    settings.poll_entries = size(matches, names::POLL_ENTRIES, usual::POLL_ENTRIES);
+    settings.report = number_unless_0(matches, names::REPORT);
+    settings.pace = asked_pace(matches);
+    settings.connections_from = said(matches, names::CONNECTIONS_FROM);
+}
+
+/// Copies of texts.
+fn copies(alloc: Global, texts: &[&str]) -> Result<Vec<String>, AllocError>
+    ensures { IfOk result (λ copies. map string_bytes copies.items
+        ≡ map (λ text. text.now) texts.now) }
+{
+    let mut copies = Vec::new(alloc);
+    for text in texts {
+        copies.push(String::from_str(alloc, text)?)?;
+    }
+    Ok(copies)
+}
+
+/// A copy of a text, where there is one.
+fn copy_of(alloc: Global, text: Option<&str>) -> Result<Option<String>, AllocError>
+    ensures { IfOk result (λ copy. option_map string_bytes copy
+        ≡ option_map (λ text. text.now) text.entry) }
+{
+    match text {
+        Some(text) => Ok(Some(String::from_str(alloc, text)?)),
+        None => Ok(None),
+    }
+}
+
+/// The namespace of the backends, where there may be some.
+fn backend_space(alloc: Global, has_backends: bool) -> Result<Option<Text>, AllocError>
+    ensures { IfOk result (λ space. space ≡ asked.backend_space has_backends) }
+{
+    if has_backends {
+        Ok(Some(Text::copy_of(alloc, BACKENDS)?))
+    } else {
+        Ok(None)
+    }
+}
+
+/// Takes the texts that are asked for.
+fn set_texts(
+    alloc: Global,
+    matches: &ArgMatches<'_>,
+    settings: &mut Settings,
+) -> Result<(), AllocError>
+    ensures asked { IfOk result (λ _. AsksTexts (found_of matches.now) settings.new) }
+    ensures others { settings.new ≡ record settings.old {
+      host = settings.new.host;
+      origins = settings.new.origins;
+      metrics = settings.new.metrics;
+      backends = settings.new.backends;
+    } }
+{
+    let host = matches.get_str(names::HOST).unwrap_or(usual::HOST);
+    let origins = matches.get_strs(names::ORIGIN).unwrap_or(&[]);
+    let has_backends = matches.get_str(names::BACKEND_TOKEN).is_some();
+    settings.host = String::from_str(alloc, host)?;
+    settings.origins = copies(alloc, origins)?;
+    settings.metrics = copy_of(alloc, matches.get_str(names::METRICS))?;
+    settings.backends = backend_space(alloc, has_backends)?;
+    Ok(())
+}
+
+/// The settings that are asked for, where so many threads serve if none says how many. A warden has a
+/// client and a namespace of its own.
+pub(crate) fn read_settings(
+    alloc: Global,
+    matches: &ArgMatches<'_>,
+    processors: usize,
+    has_warden: bool,
+) -> Result<Settings, AllocError>
+    ensures port { IfOk result (λ settings.
+        IsSaidIn 16 (found_of matches.now) (codes "port") 0 settings.port) }
+    ensures workers { IfOk result (λ settings.
+        IsSaid (found_of matches.now) (codes "workers") processors settings.workers) }
+    ensures hub { IfOk result (λ settings. AsksHub (found_of matches.now) has_warden settings.hub) }
+    ensures numbers { IfOk result (AsksNumbers (found_of matches.now)) }
+    ensures texts { IfOk result (AsksTexts (found_of matches.now)) }
+    ensures later { IfOk result (λ settings. (settings.page ≡ []) × (settings.warding ≡ None)) }
+{
+    let workers = size(matches, names::WORKERS, processors);
+    let mut settings = Settings::usual(alloc, port(matches), workers)?;
+    set_texts(alloc, matches, &mut settings)?;
+    settings.hub = hub(alloc, matches, has_warden)?;
+    set_numbers(matches, &mut settings);
+    Ok(settings)
+}
