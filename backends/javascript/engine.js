@@ -13,7 +13,7 @@ const OPEN = 1; // of a WebSocket's `readyState`
 
 // Whether the client is the official one, and its parser writes events as they are written here.
 function isKnown({ engine, encoder }) {
-  if (!engine?.writeBuffer || !encoder || engine.listeners("data").length !== 1) return false;
+  if (!engine?.writeBuffer || !encoder?.encode || engine.listeners("data").length !== 1) return false;
   const texts = encoder.encode({ type: 2, nsp: SPACE, data: ["emit", {}] });
   return texts.length === 1 && texts[0] === `${EVENT}["emit",{}]`;
 }
@@ -34,10 +34,9 @@ export class Engine {
       this.#fallBehind();
       return toClient(data);
     });
-    this.#fallBehind(); // what came before the client was connected
   }
 
-  // Most versions of the client tell of what they are given a little later. So what comes behind it in this turn goes its way too.
+  // Most versions of the client tell of what they are given a little later. What comes behind it in this turn goes its way too.
   #fallBehind() {
     if (!this.#isBehind) setImmediate(() => { this.#isBehind = false; });
     this.#isBehind = true;

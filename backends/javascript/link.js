@@ -26,7 +26,7 @@ export class Link {
   isAway = false; // it couldn't be reached since it was connected, or has refused this backend
   isOut = false; // it takes no commands until it is back
   #client = null;
-  #engine = null; // that of the client, while it is connected, if it is known
+  #engine = null; // that of the client's last connection, if it is known
   #ended = null; // why no command is taken any more
   #waiting = []; // commands that were given while it is away
   #flying = new Set(); // those that were sent and have to be answered
@@ -94,7 +94,6 @@ export class Link {
 
   #lost(reason) {
     this.connected = false;
-    this.#engine = null;
     this.#heard.clear();
     this.#drop([...this.#flying], LOST);
     if (this.#ended) return;
@@ -177,8 +176,8 @@ export class Link {
   // what an event costs. But where the turn before had only one, the first is written at once, so that the server begins.
   #gather() {
     this.#sent += 1;
-    // Some of them the client gives to the stream by a microtask, or a tick of Node. Mostly the second microtask is behind
-    // these. Where it isn't, each is written by itself.
+    // The client gives some of them to the stream by a microtask, or a tick of Node. The second microtask from here is behind
+    // these, but for a tick where a promise goes on. There, each is written by itself.
     if (this.#sent === 1) NOW.then().then(this.#endTurn);
     if (this.#corked || (this.#sent === 1 && !this.#isBusy)) return;
     this.#corked = streamOf(this.#client);
