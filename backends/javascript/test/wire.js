@@ -42,9 +42,9 @@ class Scene {
     this.ws._socket.uncork();
   }
 
-  async backend(options) {
+  async backend() {
     const client = (...args) => (this.client = official(...args));
-    this.io = connect(`http://127.0.0.1:${this.server.address().port}`, { token: "t", client, ...options });
+    this.io = connect(`http://127.0.0.1:${this.server.address().port}`, { token: "t", client });
     await this.io.ready;
     this.own = 0; // packets that the client made
     const { packet } = this.client;
