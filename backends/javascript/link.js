@@ -1,8 +1,9 @@
 // The connection to a node, which is a server: commands go up, and events come down.
+import { Engine, SPACE } from "./engine.js";
 import { LOST, commandError, fault } from "./parts.js";
 
 export const DIGITS = "0123456789abcdef";
-const SPACE = "/backend";
+const KINDS = ["connection", "event", "answer", "disconnection"]; // of what a node tells
 const MOST_WAITING = 10_000; // commands
 const PAUSE = 1000; // milliseconds
 const PATIENCE = 5000; // milliseconds for a connection to be made, where there are other nodes
@@ -15,6 +16,8 @@ async function installedClient() {
   }
 }
 
+const NOW = Promise.resolve();
+
 // The stream under a client, where its WebSocket is one of the package `ws`. Where it is another, or there is none, nothing.
 const streamOf = (client) => client.io?.engine?.transport?.ws?._socket;
 
@@ -23,11 +26,13 @@ export class Link {
   isAway = false; // it couldn't be reached since it was connected, or has refused this backend
   isOut = false; // it takes no commands until it is back
   #client = null;
+  #engine = null; // that of the client's last connection, if it is known
   #ended = null; // why no command is taken any more
   #waiting = []; // commands that were given while it is away
   #flying = new Set(); // those that were sent and have to be answered
   #heard = new Map(); // digit -> questions that need it
-  #isInTurn = false; // a command was sent in this turn of the event loop
+  #sent = 0; // commands of this turn of the event loop
+  #isBusy = false; // the last turn that had some had several
   #corked = null; // the stream that holds back what is written to it
 
   // `hasPeers`: there are other nodes. `told` has a function for each thing that happens: joined, lost, missed, failed, refused,
@@ -56,14 +61,19 @@ export class Link {
       if (this.#client.active) this.#missed();
       else this.#fail(new Error(`the server${this.hasPeers ? ` at ${this.url}` : ""} refused this backend: ${error.message}`));
     });
-    for (const kind of ["connection", "event", "answer", "disconnection"]) {
-      this.#client.on(kind, (...args) => this.#ended || this.told.happened(this, kind, args));
-    }
+    for (const kind of KINDS) this.#client.on(kind, (...args) => this.#ended || this.told.happened(this, kind, args));
+  }
+
+  // What came straight from the engine.
+  #tell(event) {
+    const kind = event.shift();
+    if (this.connected && KINDS.includes(kind)) this.told.happened(this, kind, event);
   }
 
   #joined() {
     this.connected = true;
     this.isAway = false;
+    this.#engine = Engine.under(this.#client, (event) => this.#tell(event));
     const waiting = this.#waiting;
     this.#waiting = [];
     for (const command of waiting) {
@@ -146,9 +156,9 @@ export class Link {
   #send(command) {
     const { name, args, done } = command;
     const options = typeof command.options === "function" ? command.options() : command.options;
-    if (done) this.#ask(command, options);
-    else this.#client.emit(name, options, ...args);
     this.#gather();
+    if (done) this.#ask(command, options);
+    else if (!this.#engine?.write(name, options, args)) this.#client.emit(name, options, ...args);
   }
 
   #ask(command, options) {
@@ -162,25 +172,24 @@ export class Link {
     this.#flying.add(command);
   }
 
-  // Is called behind each command. The first of a turn of the event loop is written at once, so that the server begins, and those
-  // behind it in one piece: a write is a fifth of what an event costs.
+  // Is called before each command. Those of one turn of the event loop are written in one piece, since a write is a fifth of
+  // what an event costs. But where the turn before had only one, the first is written at once, so that the server begins.
   #gather() {
-    if (this.#corked) return;
-    if (this.#isInTurn) {
-      this.#corked = streamOf(this.#client);
-      return this.#corked?.cork();
-    }
-    this.#isInTurn = true;
-    // What follows is given to the stream by a microtask, or a tick of Node, that the client put in line for the first command,
-    // so this one comes behind it. Where it doesn't, each is written by itself.
-    queueMicrotask(() => this.#endTurn());
+    this.#sent += 1;
+    // The client gives some of them to the stream by a microtask, or a tick of Node. The second microtask from here is behind
+    // these, but for a tick where a promise goes on. There, each is written by itself.
+    if (this.#sent === 1) NOW.then().then(this.#endTurn);
+    if (this.#corked || (this.#sent === 1 && !this.#isBusy)) return;
+    this.#corked = streamOf(this.#client);
+    this.#corked?.cork();
   }
 
-  #endTurn() {
-    this.#isInTurn = false;
+  #endTurn = () => {
     this.#corked?.uncork();
     this.#corked = null;
-  }
+    this.#isBusy = this.#sent > 1;
+    this.#sent = 0;
+  };
 
   isOwn(id) { return this.digits.includes(id[0]); }
 

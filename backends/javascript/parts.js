@@ -81,6 +81,20 @@ function attachments(values) {
   return count;
 }
 
+// Whether JSON has all of the values as they are: texts, numbers and the like, and lists and plain objects of them. Another
+// object may be binary, or have a form of its own in JSON.
+export function arePlain(values) {
+  for (const value of values) {
+    if (typeof value === "function") return false;
+    if (!isObject(value)) continue;
+    const isList = Array.isArray(value);
+    const made = isList ? null : Object.getPrototypeOf(value);
+    if (made !== null && made !== Object.prototype) return false;
+    if (!arePlain(isList ? value : Object.values(value))) return false;
+  }
+  return true;
+}
+
 // Why the server would refuse a command, or null. A plain `emit` asks for no acknowledgement, so its faults are found here.
 export function fault(name, { to, except }, args) {
   const isAboutRooms = name !== "emit";

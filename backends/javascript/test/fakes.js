@@ -5,7 +5,7 @@ export class Fake extends EventEmitter {
   active = true;
   id = "f".repeat(32);
   commands = []; // those that were sent, to be answered when the check says so
-  stream = null; // what the client writes to, where it has one
+  under = null; // what lies under the client, where that is known
 
   // Stands in for the official client's `io`.
   open(...args) {
@@ -18,7 +18,7 @@ export class Fake extends EventEmitter {
       disconnect: () => {},
       get active() { return fake.active; },
       get id() { return fake.id; },
-      get io() { return fake.stream && { engine: { transport: { ws: { _socket: fake.stream } } } }; },
+      get io() { return fake.under; },
     };
   }
 
@@ -49,6 +49,29 @@ export class Fake extends EventEmitter {
   names() {
     return this.commands.map(([name]) => name);
   }
+}
+
+// What lies under the official client, as far as the library looks at it. What is written is noted.
+export class FakeEngine extends EventEmitter {
+  written = [];
+  writeBuffer = [];
+  transport = {};
+  isSilent = false; // the server sent no ping for too long
+
+  constructor() {
+    super();
+    this.on("data", () => {});
+  }
+
+  // With an encoder as the official one, but for the namespace.
+  under(space = "/backend") {
+    return { engine: this, encoder: { encode: ({ data }) => [`2${space},${JSON.stringify(data)}`] } };
+  }
+
+  off(name) { return this.removeAllListeners(name); }
+  write(text) { this.written.push(["engine", text]); }
+  _hasPingExpired() { return this.isSilent; }
+  open() { this.transport.ws = { readyState: 1, send: (text) => this.written.push(["WebSocket", text]) }; }
 }
 
 // Notes what the program is told.

@@ -3,7 +3,7 @@
 import assert from "node:assert";
 import { connect, RemoteSocket } from "../index.js";
 import { next, pause, play, rejected, same } from "./checks.js";
-import { Fake, back, came, gone, note } from "./fakes.js";
+import { Fake, FakeEngine, back, came, gone, note } from "./fakes.js";
 
 const [word] = process.argv.slice(2);
 const [A, B, C] = ["a", "b", "c"].map((letter) => letter.repeat(32));
@@ -137,16 +137,103 @@ const CHECKS = {
     same(scene.take().filter((one) => one === "heard"), ["heard"]);
   },
 
-  async "what a turn sends is written at once, behind the first"(scene) {
+  // Behind the first, if the turn before had no others.
+  async "what a turn sends is written at once"(scene) {
     scene.joined([A]);
     await pause(0);
     const done = (scene.commands = []);
-    scene.stream = { cork: () => done.push(["cork"]), uncork: () => done.push(["uncork"]) };
-    for (const turn of [["a"], ["b", "c", "d"], ["e"]]) {
+    const stream = { cork: () => done.push(["cork"]), uncork: () => done.push(["uncork"]) };
+    scene.under = { engine: { transport: { ws: { _socket: stream } } } };
+    for (const turn of [["a"], ["b", "c", "d"], ["e", "f"], ["g"], ["h"]]) {
       for (const name of turn) scene.io.emit(name);
       await pause(0);
     }
-    same(done.map((one) => one[2] ?? one[0]), ["a", "b", "c", "cork", "d", "uncork", "e"]);
+    const expected = ["a", "b", "cork", "c", "d", "uncork", "cork", "e", "f", "uncork", "cork", "g", "uncork", "h"];
+    same(done.map((one) => one[2] ?? one[0]), expected);
+  },
+
+  async "a command that throws doesn't hold back others"(scene) {
+    const done = [];
+    const engine = new FakeEngine();
+    scene.under = engine.under();
+    scene.joined([A]);
+    await pause(0);
+    engine.transport.ws = { _socket: { cork: () => done.push("cork"), uncork: () => done.push("uncork") } };
+    for (const value of [1, 2]) scene.io.emit("x", value);
+    assert.throws(() => scene.io.emit("x", 5n), /BigInt/);
+    await pause(0);
+    assert.throws(() => scene.io.emit("x", 5n), /BigInt/);
+    await pause(0);
+    same(done, ["cork", "uncork", "cork", "uncork"]);
+  },
+
+  async "past the official client"(scene) {
+    const engine = new FakeEngine();
+    scene.under = engine.under();
+    scene.joined([A]);
+    scene.commands = [];
+    const text = (...event) => `2/backend,${JSON.stringify(["emit", { in: "/" }, ...event])}`;
+    scene.io.emit("a"); // over polling
+    engine.open();
+    scene.io.emit("b");
+    engine.writeBuffer.push("what waits");
+    scene.io.emit("c");
+    engine.writeBuffer.pop();
+    engine.transport.ws.readyState = 2;
+    scene.io.emit("d");
+    engine.transport.ws.readyState = 1;
+    engine.isSilent = true;
+    scene.io.emit("e");
+    engine.isSilent = false;
+    scene.io.emit("f", new Blob([]));
+    scene.io.emit("g");
+    const way = (one) => (one === "b" || one === "g" ? ["WebSocket", `4${text(one)}`] : ["engine", text(one)]);
+    same(engine.written, ["a", "b", "c", "d", "g"].map(way));
+    same(scene.commands.map((command) => command[2]), ["e", "f"]);
+    // Another engine after each connect, and none before.
+    scene.lost();
+    scene.io.emit("h");
+    const next = new FakeEngine();
+    scene.under = next.under();
+    scene.joined([A]);
+    same([engine.written.length, next.written], [5, [["engine", text("h")]]]);
+  },
+
+  async "past the official client, what is told"(scene) {
+    const engine = new FakeEngine();
+    scene.under = engine.under();
+    scene.joined([A]);
+    await pause(0);
+    scene.take();
+    const say = (...event) => engine.emit("data", `2/backend,${JSON.stringify(event)}`);
+    say("event", "/", A, null, "x", 1);
+    say("connection", "/", B, null, { n: 1 });
+    say("disconnection", "/", A, "left", [A]);
+    say("no such kind", "/", B);
+    same(scene.take(), [[A, "x", 1], came(B, { n: 1 }), ...gone(A, "client namespace disconnect")]);
+    // The client tells it, and what is behind it in this turn.
+    engine.emit("data", '3/backend,0["ok"]');
+    say("event", "/", B, null, "x", 2);
+    same(scene.take(), []);
+    await pause(0);
+    say("event", "/", B, null, "x", 3);
+    scene.lost();
+    say("event", "/", B, null, "x", 4);
+    same(scene.take(), [[B, "x", 3]]);
+  },
+
+  async "past no other client"() {
+    const engines = [new FakeEngine(), new FakeEngine(), new FakeEngine()];
+    engines[2].on("data", () => {}); // somebody else listens
+    const unders = [null, {}, { engine: engines[0] }, { engine: {}, encoder: {} }, engines[1].under("/other"), engines[2].under()];
+    for (const under of unders) {
+      const scene = new Scene();
+      scene.under = under;
+      scene.joined([A]);
+      scene.io.emit("a", 1);
+      same(scene.commands.at(-1), ["emit", { in: "/" }, "a", 1]);
+    }
+    same(engines.map(({ written }) => written), [[], [], []]);
   },
 
   async "the first answer counts"(scene) {
