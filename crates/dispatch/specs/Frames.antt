@@ -1,5 +1,5 @@
 -- What comes and what goes over a client's WebSocket: a packet is a message of it (Engine.IO protocol 4, "WebSocket").
-use Rattle.std.specs.Prelude.{◌≡◌, ◌⊎◌, ℕ, Bool, List, [], ◌∷◌, ◌++◌, map, codes, length, nat_lt, Ok, Err}
+use Rattle.std.specs.Prelude.{◌≡◌, ◌⊎◌, ℕ, Bool, List, [], ◌∷◌, length, nat_lt, Ok, Err}
 use Rattle.std.specs.List.{AllZip}
 use Rattle.eio_wire.specs.declared.error.WireError.{WireError}
 use Rattle.eio_wire.specs.declared.packet.Packet.{Packet}
@@ -7,7 +7,6 @@ use Rattle.eio_wire.specs.declared.packet.Packet.TheVariants.{Binary}
 use Rattle.eio_wire.specs.Packet.{Eio, IsNoPacket, fault_of}
 use Rattle.connection.specs.declared.transport.Transport.{Transport}
 use Rattle.connection.specs.declared.transport.Transport.TheVariants.{Socket}
-use Rattle.terms.specs.declared.entry.Entry.{Entry}
 use Rattle.connection.specs.Line.{PlainLine, Advances}
 use Rattle.journal.specs.Journal.{History}
 use Rattle.events.specs.declared.fault.CoreFault.{CoreFault}
@@ -44,10 +43,6 @@ IsNoFrame (frame.Bytes bytes) fault = ⊥
 abbrev pub IsSentAs : Packet → WsFrame → Type 0
 IsSentAs (Binary bytes) sent = sent ≡ frame.Bytes bytes
 IsSentAs packet sent = (text : List ℕ) × Eio packet text × (sent ≡ frame.Text text)
-
--- the frames of an entry: its text as a message, and then its attachments
-abbrev pub frames_of : Entry → List WsFrame
-frames_of entry = frame.Text (codes "4" ++ entry.text) ∷ map frame.Bytes entry.attachments
 
 -- the frames are written, and then the entries are taken
 abbrev pub Sends : (c n : ℕ) → ℕ → (ping : Bool) → Take → (h g : History) → (old new : PlainLine) → Type 0

@@ -1,13 +1,12 @@
 //! What comes and what goes over a client's WebSocket (Engine.IO protocol 4, "WebSocket").
 
-ghost use Rattle.std.specs.Prelude.{◌≡◌, ◌≢◌, ◌⊎◌, ◌++◌, true, take, IfOk, IfErr, OnOk};
-ghost use Rattle.std.specs.List.{AllZip};
+ghost use Rattle.std.specs.Prelude.{◌≡◌, ◌≢◌, ◌≤◌, ◌⊎◌, true, length, map, take, IfOk, IfErr};
+ghost use Rattle.std.specs.Arc.{arc_value};
 ghost use Rattle.journal.specs.Membership.{is_open};
 ghost use Rattle.dispatch.specs.Answers.{ForClient};
-ghost use Rattle.dispatch.specs.Frames.{is_too_long, IsFrameOf, IsNoFrame, IsSentAs, frames_of, SendsWaiting, SendsFor};
+ghost use Rattle.dispatch.specs.Frames.{is_too_long, IsFrameOf, IsNoFrame, SendsWaiting, SendsFor};
 ghost use Rattle.dispatch.specs.Machine.{HearsFor, TakesFrames};
 ghost use Rattle.dispatch.specs.Holding.{holding, Agree};
-ghost use Rattle.dispatch.specs.Takes.{carried};
 
 use crate::lines::{Lines, transport_of};
 use crate::requests::{close_unread, work_on};
@@ -20,7 +19,8 @@ use hub_parts::Outbox;
 use hub_state::State;
 use std::alloc::{AllocError, Global};
 use std::slice;
-use terms::{Entry, Text};
+use std::sync::Arc;
+use terms::Entry;
 
 /// A frame of more bytes isn't read.
 const LONGEST_FRAME: usize = 1_000_000;
@@ -77,46 +77,33 @@ pub(crate) fn hear<A: App, I: IdSource>(
     }
 }
 
-/// Adds the frames of an entry: its text as a message, and then its attachments.
-fn push_entry(alloc: Global, frames: &mut Vec<WsFrame>, entry: &Entry) -> Result<(), AllocError>
-    ensures { OnOk result (frames.new.items ≡ frames.old.items ++ frames_of entry.now) }
-{
-    let rest = entry.text.as_str();
-    let mut text = String::with_capacity(alloc, rest.len().saturating_add(1))?;
-    text.push_str("4")?;
-    text.push_str(rest)?;
-    frames.push(WsFrame::Text(Text::from_string(text)))?;
-    for attachment in entry.attachments.as_slice() {
-        frames.push(WsFrame::Bytes(attachment.clone()?))?;
-    }
-    Ok(())
-}
-
-/// The frames that a take of at most so many entries carries. Each text is copied once.
-fn frames_for(
+/// The first entries that wait, as many as are named. They are shared where no others wait, and
+/// else copied.
+#[tactic(auto, using(journal::proofs::OutboxesLemmas::take_next))]
+fn first_of(
     alloc: Global,
     outbox: &Outbox,
-    ping: bool,
-    most: usize,
-) -> Result<Vec<WsFrame>, AllocError>
-    ensures { IfOk result (λ frames.
-        AllZip IsSentAs (carried ping (take most outbox.now.waiting)) frames.items) }
+    number: usize,
+) -> Result<Vec<Arc<Entry>>, AllocError>
+    requires { number ≤ length outbox.now.waiting }
+    ensures { IfOk result (λ entries.
+        map arc_value entries.items ≡ take number outbox.now.waiting) }
 {
-    let mut frames = Vec::new(alloc);
-    if ping {
-        frames.push(WsFrame::Text(Text::copy_of(alloc, "2")?))?;
+    if number == outbox.len() {
+        return outbox.shares(alloc);
     }
-    for index in 0..most {
+    let mut entries = Vec::with_capacity(alloc, number)?;
+    for index in 0..number {
         let Some(entry) = outbox.get(index) else {
-            return Ok(frames);
+            unreachable!()
         };
-        push_entry(alloc, &mut frames, entry)?;
+        entries.push(Arc::new(alloc, entry.clone()?)?)?;
     }
-    Ok(frames)
+    Ok(entries)
 }
 
-/// Takes the frames of as many entries as a take hands out, or says that there is nothing. They
-/// are written before the entries are taken.
+/// Takes the frames of as many entries as a take hands out, or says that there is nothing. There is
+/// memory for them before the entries are taken.
 fn take_waiting(visit: Visit, state: &mut State, line: &mut Line, most: usize, ping: bool) -> Taken
     requires { is_open state.old.base state.old.journal visit.client ≡ true }
     ensures { SendsWaiting ping visit.client most visit.moment result
@@ -124,13 +111,13 @@ fn take_waiting(visit: Visit, state: &mut State, line: &mut Line, most: usize, p
 {
     let outbox = outbox_of(state, visit.client);
     let number = fitting(outbox, most);
-    let frames = frames_for(visit.alloc, outbox, ping, number)?;
-    if frames.is_empty() {
+    if number == 0 && !ping {
         return Ok(Outcome::Nothing);
     }
+    let entries = first_of(visit.alloc, outbox, number)?;
     let more = number < outbox.len();
     count(visit, state, line, number, ping)?;
-    Ok(Outcome::Frames(Frames::new(frames, more)))
+    Ok(Outcome::Frames(Frames::new(ping, entries, more)))
 }
 
 /// Takes the frames for a client's WebSocket, or says that there is nothing.

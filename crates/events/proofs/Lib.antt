@@ -1,1 +1,2 @@
+pub mod TakenLemmas
 pub mod WholeLemmas

@@ -10,6 +10,7 @@ mod fault;
 mod loss;
 mod outcome;
 mod peer;
+mod taken;
 
 pub use app::{
     Answer, App, Arrived, Effect, Emission, IdSource, Inquiry, Message, Newcomer, Reply, Returned,
@@ -20,5 +21,6 @@ pub use ending::ending_word;
 pub use event::{Event, WsFrame};
 pub use fault::{CoreError, CoreFault, Stopped, Worked};
 pub use loss::{Loss, Retry};
-pub use outcome::{Answered, Done, Frames, Opening, Outcome, Receivers};
+pub use outcome::{Answered, Done, Opening, Outcome, Receivers};
 pub use peer::{Peer, PeerFault};
+pub use taken::Frames;

@@ -2,11 +2,10 @@
 
 ghost use Rattle.std.specs.Prelude.{◌≡◌, ◌-◌, ◌<◌, ◌++◌, ◌∷◌, List, [], Some, map, OnOk, vec_len, vec_capacity};
 ghost use Rattle.events.specs.Plain.{PlainDone, PlainReceivers, nothing_done};
-ghost use Rattle.events.specs.Frames.{PlainFrames};
 
 use crate::cause::Cause;
-use crate::event::WsFrame;
 use crate::fault::CoreError;
+use crate::taken::Frames;
 use journal::Swept;
 use room_maps::RoomError;
 use std::alloc::{AllocError, Global};
@@ -49,43 +48,6 @@ pub struct Opening {
     pub client: u128,
     /// The text of its open packet.
     pub text: Text,
-}
-
-/// Frames for a WebSocket, in order, and whether more waits behind them. In a contract they are
-/// plain data.
-#[derive(Drop)]
-pub struct Frames {
-    list: Vec<WsFrame>,
-    more: bool,
-}
-
-impl Model for Frames {
-    ghost Value = { PlainFrames };
-
-    ghost view = { λ f. record { list = f.list.items; more = f.more } };
-}
-
-impl Frames {
-    /// The frames of a `Vec`, which takes no memory. More waits behind them or not.
-    pub fn new(list: Vec<WsFrame>, more: bool) -> Frames
-        ensures { result ≡ record { list = list.items; more = more } }
-    {
-        Frames { list, more }
-    }
-
-    /// The frames themselves.
-    pub fn as_slice(&self) -> &[WsFrame]
-        ensures { result.now ≡ self.now.list }
-    {
-        self.list.as_slice()
-    }
-
-    /// Whether more waits behind them.
-    pub fn has_more(&self) -> bool
-        ensures { result ≡ self.now.more }
-    {
-        self.more
-    }
 }
 
 /// What was done of an event. In a contract it is plain data.

@@ -1,2 +1,3 @@
 pub mod AcceptedLemmas
+pub mod SentLemmas
 pub mod StageLemmas

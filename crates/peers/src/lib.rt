@@ -16,5 +16,5 @@ pub use moments::{Moments, is_noop, is_recent, served_from};
 pub use poll_peer::PollPeer;
 pub use poll_stage::PollRequest;
 pub use responses::{Response, response_to_fault, response_to_target};
-pub use socket_peer::{SocketPeer, send_frame};
+pub use socket_peer::{SocketPeer, send_bytes, send_text};
 pub use socket_stage::{SocketRequest, message_length};

@@ -1,26 +1,28 @@
 //! One WebSocket, as a peer.
 
-ghost use Rattle.std.specs.Prelude.{◌≡◌, ◌⊎◌, [], OnOk, IfErr, IsOkAnd};
+ghost use Rattle.std.specs.Prelude.{◌≡◌, ◌⊎◌, [], ◌++◌, OnOk, IfOk, IfErr, IsOkAnd};
 ghost use Rattle.tungstenite.specs.Connection.{write_step};
+ghost use Rattle.tungstenite.specs.Content.{text};
 ghost use Rattle.tungstenite.specs.Socket.{IsFresh, Writes, content_of};
 ghost use Rattle.websocket.specs.declared.protocol.config.Role.TheVariants.{Server};
+ghost use Rattle.events.specs.Frames.{frames_of};
 ghost use Rattle.events.specs.declared.peer.PeerFault.TheVariants.{Memory, Device};
 ghost use Rattle.peers.specs.Accepted.{HasMostBytes};
 ghost use Rattle.peers.specs.Heard.{to_send};
 ghost use Rattle.peers.specs.Sent.{AddsFrame};
-ghost use Rattle.peers.specs.Spoken.{Sends};
+ghost use Rattle.peers.specs.Spoken.{Sends, SendsAll};
 ghost use Rattle.peers.specs.Rounds.{asks_due, client_of, first_stage, has_read_nothing, is_idle, without_read, without_rest};
 
 use crate::accept::renewed;
 use crate::incoming::{Incoming, read_incoming};
 use crate::moments::Moments;
 use crate::socket_stage::{Phase, SocketRequest, SocketStage};
-use events::{Answered, Event, Outcome, Peer, PeerFault, WsFrame};
+use events::{Answered, Event, Frames, Outcome, Peer, PeerFault, WsFrame};
 use std::alloc::{AllocError, Global};
 use std::io::{Read, Write};
 use std::marker::Model;
-use terms::let_go;
-use tungstenite::{Error, MaskKeys, Message, NoMask, WebSocket};
+use terms::{Entry, let_go};
+use tungstenite::{Error, MaskKeys, Message, NoMask, Utf8Bytes, WebSocket};
 
 /// Serves one WebSocket by rounds: a read, a take of what waits, and a look at what is due. A client
 /// that polls says first that it probes, and then that the probe succeeded; until then its round is a
@@ -165,6 +167,17 @@ impl<S: Drop, M> SocketPeer<S, M> {
     }
 }
 
+/// A text message of two parts, whose bytes are copied once.
+fn text_of(alloc: Global, start: &str, rest: &str) -> Result<Message, AllocError>
+    ensures { IfOk result (λ m. content_of m ≡ text (start.now ++ rest.now)) }
+{
+    let size = start.len().saturating_add(rest.len());
+    let mut text = String::with_capacity(alloc, size)?;
+    text.push_str(start)?;
+    text.push_str(rest)?;
+    Ok(Message::Text(Utf8Bytes::from_string(text)?))
+}
+
 /// Sends one message, if there was memory for it. Where memory was refused, nothing has changed.
 fn send_message<S: Read + Write + Drop, K: MaskKeys + Drop>(
     socket: &mut WebSocket<S, K>,
@@ -186,24 +199,74 @@ fn send_message<S: Read + Write + Drop, K: MaskKeys + Drop>(
     }
 }
 
-/// Sends one frame. Where memory was refused, nothing has changed.
-pub fn send_frame<S: Read + Write + Drop, K: MaskKeys + Drop>(
+/// Sends one text, which is given in two parts. Where memory was refused, nothing has changed.
+pub fn send_text<S: Read + Write + Drop, K: MaskKeys + Drop>(
     alloc: Global,
     socket: &mut WebSocket<S, K>,
-    frame: &WsFrame,
+    start: &str,
+    rest: &str,
 ) -> Result<(), PeerFault>
     // Where nothing waited, the output grew by just this one frame.
     ensures one { OnOk result (socket.old.output ≡ [] →
-        AddsFrame socket.old.conn.role (S.contents socket.old.stream) (S.contents socket.new.stream) frame.now) }
+        AddsFrame socket.old.conn.role (S.contents socket.old.stream) (S.contents socket.new.stream)
+        (WsFrame.Text (start.now ++ rest.now))) }
     ensures clean { OnOk result (socket.new.output ≡ []) }
     ensures same { OnOk result ((socket.new.conn ≡ socket.old.conn) × (socket.new.input ≡ socket.old.input)) }
     ensures kinds { IfErr result (λ e. (e ≡ Memory) ⊎ (e ≡ Device)) }
     ensures unsent { IfErr result (λ e. e ≡ Memory → socket.new ≡ socket.old) }
 {
-    match frame {
-        WsFrame::Text(text) => send_message(socket, Message::text(alloc, text.as_str())),
-        WsFrame::Bytes(bytes) => send_message(socket, Message::binary(alloc, bytes.as_slice())),
+    send_message(socket, text_of(alloc, start, rest))
+}
+
+/// Sends some bytes as one frame. Where memory was refused, nothing has changed.
+pub fn send_bytes<S: Read + Write + Drop, K: MaskKeys + Drop>(
+    alloc: Global,
+    socket: &mut WebSocket<S, K>,
+    bytes: &[u8],
+) -> Result<(), PeerFault>
+    // Where nothing waited, the output grew by just this one frame.
+    ensures one { OnOk result (socket.old.output ≡ [] →
+        AddsFrame socket.old.conn.role (S.contents socket.old.stream) (S.contents socket.new.stream)
+        (WsFrame.Bytes bytes.now)) }
+    ensures clean { OnOk result (socket.new.output ≡ []) }
+    ensures same { OnOk result ((socket.new.conn ≡ socket.old.conn) × (socket.new.input ≡ socket.old.input)) }
+    ensures kinds { IfErr result (λ e. (e ≡ Memory) ⊎ (e ≡ Device)) }
+    ensures unsent { IfErr result (λ e. e ≡ Memory → socket.new ≡ socket.old) }
+{
+    send_message(socket, Message::binary(alloc, bytes))
+}
+
+/// Sends the frames of an entry: its text as a message, and then its attachments.
+fn send_entry<S: Read + Write + Drop, K: MaskKeys + Drop>(
+    alloc: Global,
+    socket: &mut WebSocket<S, K>,
+    entry: &Entry,
+) -> Result<(), PeerFault>
+    ensures { SendsAll S.contents (frames_of entry.now) socket.old result socket.new }
+{
+    send_text(alloc, socket, "4", entry.text.as_str())?;
+    for attachment in entry.attachments.as_slice() {
+        send_bytes(alloc, socket, attachment.as_slice())?;
     }
+    Ok(())
+}
+
+/// Sends the frames of a take.
+fn send_taken<S: Read + Write + Drop, K: MaskKeys + Drop>(
+    alloc: Global,
+    socket: &mut WebSocket<S, K>,
+    frames: &Frames,
+) -> Result<(), PeerFault>
+    ensures { Sends S.contents frames.now.list socket.old result socket.new }
+{
+    let (ping, entries) = frames.parts();
+    if ping {
+        send_text(alloc, socket, "2", "")?;
+    }
+    for entry in entries {
+        send_entry(alloc, socket, entry)?;
+    }
+    Ok(())
 }
 
 /// Sends what the answer to an event asks for.
@@ -218,15 +281,12 @@ fn send<S: Read + Write + Drop>(
     let text = match (stage, got) {
         (SocketStage::Opening, Ok(Outcome::Opened(opened))) => opened.text.as_str(),
         (SocketStage::Probing { .. }, Ok(Outcome::Probed(text))) => text.as_str(),
-        (SocketStage::Taking { .. }, Ok(Outcome::Frames(list))) => {
-            for frame in list.as_slice() {
-                send_frame(alloc, socket, frame)?;
-            }
-            return Ok(());
+        (SocketStage::Taking { .. }, Ok(Outcome::Frames(frames))) => {
+            return send_taken(alloc, socket, frames);
         }
         _ => return Ok(()),
     };
-    send_message(socket, Message::text(alloc, text))
+    send_text(alloc, socket, "", text)
 }
 
 impl<S: Read + Write + Drop, M: Moments> Peer for SocketPeer<S, M> {

@@ -197,7 +197,8 @@ fn answer_to<'a>(
         Ok(Outcome::Begun) => Ok(Answer::Ok),
         Ok(Outcome::Payload(text)) => Ok(Answer::Taken(name, Some(text))),
         Ok(Outcome::Frames(frames)) => {
-            Ok(Answer::Frames(frame_lines(alloc, name, frames.as_slice())?))
+            let frames = frames.copies(alloc)?;
+            Ok(Answer::Frames(frame_lines(alloc, name, &frames)?))
         }
         Ok(Outcome::Nothing) => Ok(Answer::Taken(name, None)),
         Ok(Outcome::Probed(text)) => Ok(Answer::Probed(name, text)),

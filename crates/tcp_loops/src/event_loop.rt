@@ -2,7 +2,7 @@
 
 use crate::base::Base;
 use crate::driver::{Driver, Origin};
-use events::{Answered, Event, Outcome, WsFrame};
+use events::{Answered, Event, Outcome};
 use loop_rules::Hold;
 use std::alloc::AllocError;
 use std::rt::Clock;
@@ -32,23 +32,6 @@ pub struct EventLoop<'a, R, L> {
 /// Whether an event brings packets.
 fn says(event: &Event) -> bool {
     matches!(event, Event::Frame { .. } | Event::Post { .. })
-}
-
-/// How many bytes a frame has.
-fn bytes_of(frame: &WsFrame) -> usize {
-    match frame {
-        WsFrame::Text(text) => text.as_str().len(),
-        WsFrame::Bytes(bytes) => bytes.as_slice().len(),
-    }
-}
-
-/// How many bytes frames have together.
-fn bytes_in(frames: &[WsFrame]) -> usize {
-    let mut bytes = 0usize;
-    for frame in frames {
-        bytes = bytes.saturating_add(bytes_of(frame));
-    }
-    bytes
 }
 
 /// How many events a hold has at the most, where each takes so many bytes.
@@ -130,7 +113,7 @@ impl<'a, R: Wait + Clock + Copy + Drop, L: Log> EventLoop<'a, R, L> {
     /// Hears an answer, which may show how much clients take.
     fn hear_one(&mut self, of: Origin, got: &Answered) {
         if let Ok(Outcome::Frames(frames)) = got {
-            self.most = most_after(bytes_in(frames.as_slice()));
+            self.most = most_after(frames.size());
         }
         self.driver.settle(of, got);
     }

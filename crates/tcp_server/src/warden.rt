@@ -25,17 +25,16 @@ const ROUND: u64 = 1_000;
 /// How many entries it takes together.
 const ENTRIES: usize = 256;
 
-/// What an event begins with, as a message, and what a CONNECT does (Socket.IO protocol 5, "Packet
-/// encoding"; Engine.IO protocol 4, "Protocol").
-const EVENT: &str = "42";
+/// What a message begins with as a frame (Engine.IO protocol 4, "Protocol").
+const MESSAGE: &str = "4";
 
-const CONNECT: &str = "40";
+/// What an event begins with, and what a CONNECT does (Socket.IO protocol 5, "Packet encoding").
+const EVENT: &str = "2";
+
+const CONNECT: &str = "0";
 
 /// The answer to a ping (Engine.IO protocol 4, "Heartbeat").
 const PONG: &str = "3";
-
-/// A ping.
-const PING: &str = "2";
 
 /// What it does next with its client.
 #[derive(Clone, Copy)]
@@ -53,8 +52,8 @@ enum Stage {
 }
 
 /// The payload of an event of its namespace.
-fn payload_in(frame: &str) -> Option<&str> {
-    let packet = frame.strip_prefix(EVENT)?;
+fn payload_in(text: &str) -> Option<&str> {
+    let packet = text.strip_prefix(EVENT)?;
     packet.strip_prefix(EXPIRY)?.strip_prefix(',')
 }
 
@@ -121,13 +120,13 @@ impl<'a, R: Wait + Clock + Copy, L: Log> Warden<'a, R, L> {
             (Stage::Joins, _) => {
                 let payload = connect_text(alloc, self.warding.token.as_str())?;
                 let payload = payload.as_str();
-                Ok(self.frame(format!(in alloc; "{CONNECT}{EXPIRY},{payload}")?))
+                Ok(self.frame(format!(in alloc; "{MESSAGE}{CONNECT}{EXPIRY},{payload}")?))
             }
             (Stage::Answers, _) => Ok(self.frame(String::from_str(alloc, PONG)?)),
             (Stage::Ends, Some(due)) => {
                 let payload = end_text(alloc, due.space.as_str(), due.room)?;
                 let payload = payload.as_str();
-                Ok(self.frame(format!(in alloc; "{EVENT}{EXPIRY},{payload}")?))
+                Ok(self.frame(format!(in alloc; "{MESSAGE}{EVENT}{EXPIRY},{payload}")?))
             }
             (Stage::Takes | Stage::Ends, _) => Ok(Event::FrameTake {
                 client: self.client,
@@ -160,13 +159,9 @@ impl<'a, R: Wait + Clock + Copy, L: Log> Warden<'a, R, L> {
 
     /// Reads the frames that it took, and goes on with what follows them.
     fn hear(&mut self, frames: &Frames, now: u64) {
-        let mut pinged = false;
-        for frame in frames.as_slice() {
-            let WsFrame::Text(text) = frame else {
-                continue;
-            };
-            pinged |= text.as_str() == PING;
-            if let Some(payload) = payload_in(text.as_str()) {
+        let (pinged, entries) = frames.parts();
+        for entry in entries {
+            if let Some(payload) = payload_in(entry.text.as_str()) {
                 if let Ok(Some(told)) = read_told(self.base.alloc, payload) {
                     self.note(told, now);
                 }

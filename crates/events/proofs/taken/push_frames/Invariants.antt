@@ -1,6 +1,6 @@
 use Rattle.std.proofs.Common.{◌≡◌, ◌++◌, map, take}
 use Rattle.events.specs.declared.event.WsFrame.TheVariants.{Bytes}
-use Rattle.dispatch.proofs.frames.push_entry.Given as goal
+use Rattle.events.proofs.taken.push_frames.Given as goal
 
 abbrev pub invariant-loop-attachment : goal.invariant-loop-attachment
 invariant-loop-attachment l = record {
