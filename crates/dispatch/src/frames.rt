@@ -1,7 +1,6 @@
 //! What comes and what goes over a client's WebSocket (Engine.IO protocol 4, "WebSocket").
 
-ghost use Rattle.std.specs.Prelude.{◌≡◌, ◌≢◌, ◌≤◌, ◌⊎◌, true, length, map, take, IfOk, IfErr};
-ghost use Rattle.std.specs.Arc.{arc_value};
+ghost use Rattle.std.specs.Prelude.{◌≡◌, ◌≢◌, ◌⊎◌, true, IfOk, IfErr};
 ghost use Rattle.journal.specs.Membership.{is_open};
 ghost use Rattle.dispatch.specs.Answers.{ForClient};
 ghost use Rattle.dispatch.specs.Frames.{is_too_long, IsFrameOf, IsNoFrame, SendsWaiting, SendsFor};
@@ -15,12 +14,9 @@ use connection::{Line, Transport};
 use effects::Visit;
 use eio_wire::{Packet, WireError, read_packet};
 use events::{Answered, App, Cause, CoreFault, Frames, IdSource, Outcome, WsFrame};
-use hub_parts::Outbox;
 use hub_state::State;
-use std::alloc::{AllocError, Global};
+use std::alloc::Global;
 use std::slice;
-use std::sync::Arc;
-use terms::Entry;
 
 /// A frame of more bytes isn't read.
 const LONGEST_FRAME: usize = 1_000_000;
@@ -77,31 +73,6 @@ pub(crate) fn hear<A: App, I: IdSource>(
     }
 }
 
-/// The first entries that wait, as many as are named. They are shared where no others wait, and
-/// else copied.
-#[tactic(auto, using(journal::proofs::OutboxesLemmas::take_next))]
-fn first_of(
-    alloc: Global,
-    outbox: &Outbox,
-    number: usize,
-) -> Result<Vec<Arc<Entry>>, AllocError>
-    requires { number ≤ length outbox.now.waiting }
-    ensures { IfOk result (λ entries.
-        map arc_value entries.items ≡ take number outbox.now.waiting) }
-{
-    if number == outbox.len() {
-        return outbox.shares(alloc);
-    }
-    let mut entries = Vec::with_capacity(alloc, number)?;
-    for index in 0..number {
-        let Some(entry) = outbox.get(index) else {
-            unreachable!()
-        };
-        entries.push(Arc::new(alloc, entry.clone()?)?)?;
-    }
-    Ok(entries)
-}
-
 /// Takes the frames of as many entries as a take hands out, or says that there is nothing. There is
 /// memory for them before the entries are taken.
 fn take_waiting(visit: Visit, state: &mut State, line: &mut Line, most: usize, ping: bool) -> Taken
@@ -114,7 +85,7 @@ fn take_waiting(visit: Visit, state: &mut State, line: &mut Line, most: usize, p
     if number == 0 && !ping {
         return Ok(Outcome::Nothing);
     }
-    let entries = first_of(visit.alloc, outbox, number)?;
+    let entries = outbox.share_first(visit.alloc, number)?;
     let more = number < outbox.len();
     count(visit, state, line, number, ping)?;
     Ok(Outcome::Frames(Frames::new(ping, entries, more)))

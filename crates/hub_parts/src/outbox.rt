@@ -210,6 +210,22 @@ impl Outbox {
         Ok(entries)
     }
 
+    /// The oldest entries, as many as are named, each shared.
+    pub fn share_first(&self, alloc: Global, count: usize) -> Result<Vec<Arc<Entry>>, AllocError>
+        requires { count ≤ length self.now.waiting }
+        ensures { IfOk result (λ entries.
+            map arc_value entries.items ≡ take count self.now.waiting) }
+    {
+        let mut entries = Vec::with_capacity(alloc, count)?;
+        for index in 0..count {
+            let Some(entry) = self.ring.get(index) else {
+                unreachable!()
+            };
+            entries.push(Arc::try_clone(entry)?)?;
+        }
+        Ok(entries)
+    }
+
     /// The entries that wait, in order, each shared.
     pub fn shares(&self, alloc: Global) -> Result<Vec<Arc<Entry>>, AllocError>
         ensures { IfOk result (λ entries. map arc_value entries.items ≡ self.now.waiting) }
