@@ -1,2 +1,1 @@
-pub mod TakenLemmas
 pub mod WholeLemmas

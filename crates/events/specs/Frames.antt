@@ -1,5 +1,5 @@
 -- Frames for a WebSocket, as plain data.
-use Rattle.std.specs.Prelude.{ℕ, Bool, List, [], ◌∷◌, ◌++◌, map, codes, length, if◌then◌else◌}
+use Rattle.std.specs.Prelude.{Bool, List, [], ◌∷◌, ◌++◌, map, codes, if◌then◌else◌}
 use Rattle.std.specs.List.{flat_map}
 use Rattle.terms.specs.declared.entry.Entry.{Entry}
 use Rattle.events.specs.declared.event.WsFrame.{WsFrame}
@@ -17,8 +17,3 @@ frames_of entry = frame.Text (codes "4" ++ entry.text) ∷ map frame.Bytes entry
 -- a ping where one is due, and then the frames of the entries
 abbrev pub frames_taken : (ping : Bool) → List Entry → List WsFrame
 frames_taken ping entries = (if ping then frame.Text (codes "2") ∷ [] else []) ++ flat_map frames_of entries
-
--- how many bytes a frame has
-abbrev pub frame_size : WsFrame → ℕ
-frame_size (frame.Text text) = length text
-frame_size (frame.Bytes bytes) = length bytes

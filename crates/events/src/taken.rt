@@ -1,8 +1,8 @@
 //! What a take of a WebSocket brings.
 
-ghost use Rattle.std.specs.Prelude.{◌≡◌, ◌++◌, map, min, sum_by, IfOk, OnOk};
+ghost use Rattle.std.specs.Prelude.{◌≡◌, ◌++◌, map, IfOk, OnOk};
 ghost use Rattle.std.specs.Arc.{arc_value};
-ghost use Rattle.events.specs.Frames.{PlainFrames, frames_of, frames_taken, frame_size};
+ghost use Rattle.events.specs.Frames.{PlainFrames, frames_of, frames_taken};
 
 use crate::event::WsFrame;
 use std::alloc::{AllocError, Global};
@@ -54,19 +54,6 @@ impl Frames {
         ensures { result ≡ self.now.more }
     {
         self.more
-    }
-
-    /// How many bytes they have together. It stays at the greatest usize.
-    pub fn size(&self) -> usize
-        ensures { result ≡ min (sum_by frame_size self.now.list) usize.MAX }
-    {
-        let (ping, entries) = self.parts();
-        let mut size = usize::from(ping);
-        for entry in entries {
-            let message = entry.size().unwrap_or(usize::MAX).saturating_add(1);
-            size = size.saturating_add(message);
-        }
-        size
     }
 
     /// Copies of the frames.

@@ -74,16 +74,6 @@ impl<'a, R: Clock + Drop> Service<'a, R> {
         }
     }
 
-    /// Whose connection it is, once that is known.
-    pub fn client(&self) -> Option<u128> {
-        of_peer!(self, peer => peer.client(), None)
-    }
-
-    /// Whether it is a WebSocket.
-    pub fn is_socket(&self) -> bool {
-        matches!(self, Service::Speaking(_))
-    }
-
     /// Whether it is a request over HTTP.
     pub fn is_request(&self) -> bool {
         matches!(self, Service::Polling(_))
@@ -168,7 +158,7 @@ impl<'a, R: Clock + Drop> Service<'a, R> {
 
     /// Gives back the buffers of a WebSocket of which nothing is unbrought, between two of its events.
     pub fn renew(&mut self, alloc: Global) {
-        if !self.is_socket() {
+        if !matches!(self, Service::Speaking(_)) {
             return;
         }
         if let Service::Speaking(peer) = mem::replace(self, Service::Gone) {

@@ -1,8 +1,11 @@
 //! A loop that serves many connections: one peer, which brings the events of all of their clients.
 
+ghost use Rattle.std.specs.Prelude.{◌≡◌};
+ghost use Rattle.tcp_loops.specs.Holding as holding;
+
 use crate::base::Base;
 use crate::driver::{Driver, Origin};
-use events::{Answered, Event, Outcome};
+use events::{Answered, Event};
 use loop_rules::Hold;
 use std::alloc::AllocError;
 use std::rt::Clock;
@@ -15,28 +18,19 @@ const EVENTS: usize = 32;
 /// How many of these bring packets, at the most: what one puts for others takes time under the lock.
 const SAYING: usize = 4;
 
-/// About so many bytes are taken under one hold, since they are copied there: where clients took much
-/// last, fewer events are gathered.
-const BYTES: usize = 16_384;
-
 /// A loop over many connections. It gathers the events of all that have something to do, which the
 /// core gets under one hold of its lock, and then hears the answers.
 #[derive(Drop)]
 pub struct EventLoop<'a, R, L> {
     hold: Hold<Origin, (Event, u64), Answered>,
-    /// How many events are gathered for the next hold, at the most.
-    most: usize,
     driver: Driver<'a, R, L>,
 }
 
 /// Whether an event brings packets.
-fn says(event: &Event) -> bool {
+fn says(event: &Event) -> bool
+    ensures { result ≡ holding.says event.now }
+{
     matches!(event, Event::Frame { .. } | Event::Post { .. })
-}
-
-/// How many events a hold has at the most, where each takes so many bytes.
-fn most_after(bytes: usize) -> usize {
-    (BYTES / bytes.max(1)).min(EVENTS).max(1)
 }
 
 impl<'a, R: Wait + Clock + Copy + Drop, L: Log> EventLoop<'a, R, L> {
@@ -44,7 +38,6 @@ impl<'a, R: Wait + Clock + Copy + Drop, L: Log> EventLoop<'a, R, L> {
     pub fn new(base: &'a Base<'a, R, L>, number: usize, ears: Ears) -> Result<Self, AllocError> {
         Ok(EventLoop {
             hold: Hold::new(base.alloc, EVENTS)?,
-            most: EVENTS,
             driver: Driver::new(base, number, ears, EVENTS)?,
         })
     }
@@ -86,9 +79,9 @@ impl<'a, R: Wait + Clock + Copy + Drop, L: Log> EventLoop<'a, R, L> {
 
     /// Gathers what connections bring, one event of each, for the next hold of the lock.
     fn gather(&mut self) {
-        let (mut left, mut saying) = (self.most, SAYING);
+        let mut saying = SAYING;
         for _ in 0..u64::MAX {
-            if left == 0 || saying == 0 || self.hold.is_full() {
+            if saying == 0 || self.hold.is_full() {
                 return;
             }
             let Some(key) = self.driver.next() else {
@@ -99,7 +92,6 @@ impl<'a, R: Wait + Clock + Copy + Drop, L: Log> EventLoop<'a, R, L> {
                     saying -= 1;
                 }
                 self.hold.add(of, (event, moment));
-                left -= 1;
             }
         }
         if self.hold.is_full() {
@@ -110,26 +102,18 @@ impl<'a, R: Wait + Clock + Copy + Drop, L: Log> EventLoop<'a, R, L> {
         }
     }
 
-    /// Hears an answer, which may show how much clients take.
-    fn hear_one(&mut self, of: Origin, got: &Answered) {
-        if let Ok(Outcome::Frames(frames)) = got {
-            self.most = most_after(frames.size());
-        }
-        self.driver.settle(of, got);
-    }
-
     /// Hears the answers of the last hold.
     fn hear_all(&mut self) {
         let Some((of, got)) = self.hold.pop() else {
             return;
         };
         self.driver.heed();
-        self.hear_one(of, &got);
+        self.driver.settle(of, &got);
         for _ in 0..EVENTS {
             let Some((of, got)) = self.hold.pop() else {
                 break;
             };
-            self.hear_one(of, &got);
+            self.driver.settle(of, &got);
         }
         self.driver.tell();
     }
