@@ -117,39 +117,15 @@ of_begin done = of_closed done.closed
 
 -- ---- the table, by the event that was answered
 
-abbrev pub to_opening : Answer → Option PlainResponse
-to_opening (Ok (outcome.Opened o)) = Some (success o.text)
-to_opening (Ok _) = None
-to_opening (Err e) = of_refusal e.fault
-
-abbrev pub to_posting : Answer → Option PlainResponse
-to_posting (Ok (outcome.Done done)) = Some (of_post done)
-to_posting (Ok _) = None
-to_posting (Err e) = of_refusal e.fault
-
-abbrev pub to_beginning : Answer → Option PlainResponse
-to_beginning (Ok (outcome.Done done)) = of_begin done
-to_beginning (Ok _) = None
-to_beginning (Err e) = of_refusal e.fault
-
-abbrev pub to_taking : Answer → Option PlainResponse
-to_taking (Ok (outcome.Payload text)) = Some (success text)
-to_taking (Ok _) = None
-to_taking (Err e) = of_begun e.fault
-
-abbrev pub to_ending : Answer → Option PlainResponse
-to_ending (Ok (outcome.Done done)) = Some (success (codes "6"))
-to_ending (Ok _) = None
-to_ending (Err e) = of_begun e.fault
-
 abbrev pub answer_to : PollStage → Answer → Option PlainResponse
-answer_to (stage.First r) got = None
-answer_to stage.Opening got = to_opening got
-answer_to (stage.Posting c) got = to_posting got
-answer_to (stage.Beginning c) got = to_beginning got
-answer_to (stage.Begun c) got = None
-answer_to (stage.Waits c left) got = None
-answer_to (stage.Taking c left) got = to_taking got
-answer_to (stage.Ends c) got = None
-answer_to (stage.Ending c) got = to_ending got
-answer_to (stage.Over c) got = None
+answer_to stage.Opening (Ok (outcome.Opened o)) = Some (success o.text)
+answer_to stage.Opening (Err e) = of_refusal e.fault
+answer_to (stage.Posting c) (Ok (outcome.Done done)) = Some (of_post done)
+answer_to (stage.Posting c) (Err e) = of_refusal e.fault
+answer_to (stage.Beginning c) (Ok (outcome.Done done)) = of_begin done
+answer_to (stage.Beginning c) (Err e) = of_refusal e.fault
+answer_to (stage.Taking c left) (Ok (outcome.Payload text)) = Some (success text)
+answer_to (stage.Taking c left) (Err e) = of_begun e.fault
+answer_to (stage.Ending c) (Ok (outcome.Done done)) = Some (success (codes "6"))
+answer_to (stage.Ending c) (Err e) = of_begun e.fault
+answer_to _ _ = None
