@@ -58,8 +58,7 @@ async def gone_for_a_while(process):
     await asyncio.sleep(BEFORE)
     process.end(signal.SIGKILL)
     await asyncio.sleep(AWAY)
-    if asyncio.iscoroutine(started := process.start()):
-        await started
+    await asyncio.to_thread(process.start)
 
 
 async def node_killed(checks, service, language):

@@ -12,7 +12,7 @@ import websocket
 
 from lib.browser import Page
 from lib.front import Front
-from lib.processes import PATIENCE, Process, free_port, listens, until
+from lib.processes import PATIENCE, Server, until
 
 PAGE = pathlib.Path(__file__).resolve().parents[2] / "examples" / "watch"
 TITLES = ["Clients", "Messages a second", "Dropped a second", "Rooms"]
@@ -272,13 +272,11 @@ def ends_there(watcher, title):
 
 def try_watch(browser, given, _, checks):
     """The page from the start of its server to its end."""
-    port = free_port()
     # None is pinged, so that none has to answer.
-    server = Process([given.program, "serve", "--port", str(port), "--page", PAGE, "--metrics", "/metrics", "--capacity", "100",
-                      "--ping-interval", "4000000"])
-    watchers, load = [], None
+    server = Server([given.program, "serve", "--port", "{port}", "--page", PAGE, "--metrics", "/metrics", "--capacity", "100",
+                     "--ping-interval", "4000000"]).start()
+    port, watchers, load = server.port, [], None
     try:
-        checks("the server listens", listens(port, server.process, PATIENCE))
         for script, check in (("", shows_made_up_counts), (FAST_CLOCK, draws_what_was_read)):
             watchers = [Watcher(browser, port, 960, script, metrics=text_of())]
             check(watchers[0], checks)
