@@ -198,11 +198,10 @@ def made(value):
 
 
 async def play(lines, room):
-    """Plays the steps of a case. `<b>` in a text is the id of b."""
+    """Plays the steps of a case."""
     clients, said = {}, None
     for step in ';'.join(lines).split(';'):
         names, verb, spaces, text = STEP.fullmatch(step.strip()).groups()
-        text = re.sub('<([a-d])>', lambda name: clients[name[1]].sid, text or '')
         value = text if verb == 'write' else json.loads(text, object_hook=made) if text else said
         said = value if verb in ('call', 'emit') else said
         spaces = spaces.split() or ['/']

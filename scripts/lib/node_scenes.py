@@ -309,25 +309,6 @@ async def refused(checks, service, _):
         checks(f"{text}: in one line", len(lines) == 1 or lines[0].startswith("usage"), lines)
 
 
-async def stranger(checks, service, language):
-    """An app has the wrong token for one of its nodes."""
-    other = service.node("stranger" + language, "another")
-    await asyncio.to_thread(other.start)
-    service.others.append(other)
-    async with Crowd() as crowd, service.app(language, [*service.nodes, other]) as app:
-        clients, apart = await at_nodes(crowd, service, 1), (await crowd.more(other.url))[0]
-        refusals = [it for it in app.told("log") if f"{other.url} refused this backend: Not allowed" in it[2]]
-        checks.same("the app says which node refused it, once", len(refusals), 1)
-        for number in range(20):
-            await clients[number % 3].send("say", number)
-            await apart.send("say", number)
-        await all_have(clients, "said", 20)
-        checks.same("at the other nodes all is heard, once",
-                    [sorted(it[-1] for it in client.named("said")) for client in clients], [list(range(20))] * 3)
-        checks.same("at that node nothing is done", apart.got, [])
-    other.end()
-
-
 async def silent(checks, service, language):
     """A node that stands still, and one that isn't there."""
     stopped, nobody = service.nodes[2].process, service.node("nobody" + language)
@@ -354,5 +335,4 @@ async def silent(checks, service, language):
     bridge.end()
 
 
-SCENES = {forms: [""], proxies: BOTH, emitter: [""], manager: [""], relay: BOTH, wrong: [""], refused: [""],
-          stranger: BOTH, silent: BOTH}
+SCENES = {forms: [""], proxies: BOTH, emitter: [""], manager: [""], relay: BOTH, wrong: [""], refused: [""], silent: BOTH}
