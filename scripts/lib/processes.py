@@ -3,6 +3,7 @@ import argparse
 import contextlib
 import os
 import pathlib
+import random
 import re
 import signal
 import socket
@@ -17,9 +18,12 @@ PATIENCE = 20
 
 
 def free_port():
-    with socket.socket() as it:
-        it.bind((HOST, 0))
-        return it.getsockname()[1]
+    """One that no connection gets from the system."""
+    while True:
+        port = random.randrange(10_000, 32_768)
+        with socket.socket() as it, contextlib.suppress(OSError):
+            it.bind((HOST, port))
+            return port
 
 
 def is_listening(port, host=HOST):
