@@ -46,10 +46,10 @@ class Bridge(Process):
 
 # Proxies, by the lines of docs/OPERATING.md.
 
-def lines_of(mark, nodes, places):
-    """The lines that hold the mark, with these nodes and values in their places."""
+def lines_of(start, nodes, places):
+    """The lines that begin so, with these nodes and values in their places."""
     ports = {f"10.0.0.{number}:3000": f"127.0.0.1:{node.port}" for number, node in enumerate(nodes, 1)}
-    return documented("docs/OPERATING.md", "## Several machines", mark, {**ports, **places})
+    return documented("docs/OPERATING.md", start, {**ports, **places})
 
 
 class Nginx(try_proxy.Proxy):
@@ -57,7 +57,7 @@ class Nginx(try_proxy.Proxy):
 
     def __init__(self, nodes, without=None):
         super().__init__("nodes")
-        self.lines = lines_of("upstream", nodes, {without: ""} if without else {}) + self.lines
+        self.lines = lines_of("upstream nodes", nodes, {without: ""} if without else {}) + self.lines
 
 
 class Haproxy(Server):
@@ -66,4 +66,4 @@ class Haproxy(Server):
     def __init__(self, folder, nodes):
         config = folder / "haproxy.cfg"
         super().__init__([try_proxy.program("haproxy"), "-db", "-f", config], LONGEST)
-        config.write_text(lines_of("backend nodes", nodes, {"bind :8080": f"bind 127.0.0.1:{self.port}"}))
+        config.write_text(lines_of("defaults", nodes, {"bind :8080": f"bind 127.0.0.1:{self.port}"}))
