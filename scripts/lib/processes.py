@@ -59,6 +59,11 @@ def file_at(name):
     return path
 
 
+def free_memory():
+    """The memory that is free, in GB."""
+    return int(re.search(r"MemAvailable:\s+(\d+)", pathlib.Path("/proc/meminfo").read_text())[1]) / 1e6
+
+
 def parents():
     """The parent of each process."""
     found = {}

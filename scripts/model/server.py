@@ -343,35 +343,31 @@ class Server:
 
     def do(self, client, sid, header, effect, now):
         hub, line, (name, *words), space = self.hub, self.lines[client], effect, header.space
-        refuse_if(name in TO_MANY and words[0][0] not in hub.limits["spaces"], "BadEffect")
-        if name == "join":
-            hub.join(sid, *words, now)
-        elif name == "leave":
-            hub.leave(sid, *words, now)
-        elif name == "emit":
-            self.emit(*words, now)
-        elif name == "pull":
-            hub.join_all(*words[0], words[1], now)
-        elif name == "push":
-            hub.leave_all(*words[0], words[1], now)
-        elif name == "end":
-            for ended in hub.end_all(*words[0], now)[0]:
-                for other in self.lines.values():
-                    other.questions.pop(ended, None)
-        elif name == "no array":
-            raise Refused("BadEffect")
-        elif name == "ask":
-            self.ask(client, line.questions[sid], space, *words, now)
-        elif name == "fetch":
-            self.reply(client, header, ["ok", [id_text(it) for it in hub.addressed(*words[0])]], now)
-        elif name == "reply":
-            self.reply(client, header, *words, now)
-        elif name == "bye":
-            farewell = Entry(f"1{start(space)}")
-            if hub.has_space(client, [farewell]):
-                hub.tell(client, farewell, now)
-            hub.end(sid, now)
-            del line.questions[sid]
+        refuse_if(name == "no array" or name in TO_MANY and words[0][0] not in hub.limits["spaces"], "BadEffect")
+        {
+            "join": lambda room: hub.join(sid, room, now),
+            "leave": lambda room: hub.leave(sid, room, now),
+            "emit": lambda *what: self.emit(*what, now),
+            "pull": lambda whom, room: hub.join_all(*whom, room, now),
+            "push": lambda whom, room: hub.leave_all(*whom, room, now),
+            "end": lambda whom: self.forget(hub.end_all(*whom, now)[0]),
+            "ask": lambda *what: self.ask(client, line.questions[sid], space, *what, now),
+            "fetch": lambda whom: self.reply(client, header, ["ok", [id_text(it) for it in hub.addressed(*whom)]], now),
+            "reply": lambda values: self.reply(client, header, values, now),
+            "bye": lambda: self.dismiss(client, sid, space, now),
+        }[name](*words)
+
+    def forget(self, ended):
+        """The questions of sockets that have ended."""
+        for sid, line in itertools.product(ended, self.lines.values()):
+            line.questions.pop(sid, None)
+
+    def dismiss(self, client, sid, space, now):
+        farewell = Entry(f"1{start(space)}")
+        if self.hub.has_space(client, [farewell]):
+            self.hub.tell(client, farewell, now)
+        self.hub.end(sid, now)
+        del self.lines[client].questions[sid]
 
     def emit(self, to, form, payload, parts, now):
         self.hub.cast(*to, form, payload, parts, now)
