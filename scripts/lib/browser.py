@@ -26,10 +26,10 @@ class Browser(Process):
     def __init__(self):
         if not shutil.which("chromium"):
             sys.exit("chromium isn't there: Debian's package chromium")
-        self.profile = tempfile.TemporaryDirectory(prefix="browser-", ignore_cleanup_errors=True)
-        self.told = pathlib.Path(self.profile.name) / "DevToolsActivePort"
+        self.profile = tempfile.mkdtemp(prefix="browser-")
+        self.told = pathlib.Path(self.profile) / "DevToolsActivePort"
         super().__init__(["chromium", "--headless=new", "--no-sandbox", "--disable-gpu", "--remote-debugging-port=0",
-                          "--remote-allow-origins=*", f"--user-data-dir={self.profile.name}", "about:blank"])
+                          "--remote-allow-origins=*", f"--user-data-dir={self.profile}", "about:blank"])
 
     def is_up(self):
         return self.told.exists() and self.told.read_text()
@@ -40,7 +40,7 @@ class Browser(Process):
 
     def end(self, *how):
         super().end(*how)
-        self.profile.cleanup()
+        shutil.rmtree(self.profile, ignore_errors=True)
 
 
 class Page:
