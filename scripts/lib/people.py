@@ -48,13 +48,15 @@ SENDS_A_PICTURE = """(async () => {
 class Person:
     """One who has a page, perhaps over a way that can be cut, and with a script of one's own in it."""
 
+    ready = "typeof document.getElementById('enter')?.onsubmit === 'function'"
+
     def __init__(self, browser, url, width, way=None, script=""):
         self.way, self.page = way, Page(browser, "about:blank", width)
         self.page.call("Page.addScriptToEvaluateOnNewDocument", source=script)
         self.page.call("Emulation.setFocusEmulationEnabled", enabled=True)
         self.page.turn_to("light")
         self.page.call("Page.navigate", url=url)
-        self.page.becomes("typeof document.getElementById('enter')?.onsubmit === 'function'")
+        self.page.becomes(self.ready)
 
     def fills(self, field, text):
         self.page.run(f"(() => {{ const it = document.querySelector({json.dumps(field)}); it.focus(); it.select(); }})()")
