@@ -40,17 +40,11 @@ def block(document, start):
     return "\n".join(found[0].lines) + "\n"
 
 
-def documented(document, heading, mark, places):
-    """The text of the one block under a heading that has this mark, with values in place of what stands there once."""
-    lines = (TOP / document).read_text().splitlines()
-    first = lines.index(heading) + 1
-    last = next((at for at, line in enumerate(lines) if at > first and line.startswith("## ")), len(lines))
-    texts = ["\n".join(it.lines) + "\n" for it in blocks_of(document) if first < it.line <= last]
-    found = [it for it in texts if mark in it]
-    if len(found) != 1:
-        sys.exit(f"{document}: {len(found)} blocks with {mark!r} under {heading!r}, not one")
+def documented(document, start, places):
+    """The text of the one block that begins so, with values in place of what stands there once."""
+    text = block(document, start)
     for place, value in places.items():
-        if found[0].count(place) != 1:
-            sys.exit(f"{document}: {place!r} stands {found[0].count(place)} times in the lines of a proxy, not once")
-        found = [found[0].replace(place, value)]
-    return found[0]
+        if text.count(place) != 1:
+            sys.exit(f"{document}: {place!r} stands {text.count(place)} times in the lines of a proxy, not once")
+        text = text.replace(place, value)
+    return text

@@ -29,9 +29,6 @@ class Function:
         self.name, self.owner, self.trait, self.file, self.line = name, owner, trait, file, line
         self.clauses, self.parameters = [], set()
 
-    def __str__(self):
-        return f"{self.owner}::{self.name}" if self.owner else self.name
-
     def clause(self, name):
         return next((it for it in self.clauses if it.name == name), None)
 

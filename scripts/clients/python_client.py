@@ -1,25 +1,40 @@
 #!/usr/bin/python3
-"""python-socketio's own client over polling, over WebSocket, and upgraded.
+"""python-socketio's own client over polling, over WebSocket, upgraded, and all of these side by side.
 
     python_client.py PORT [WORD]     WORD: only the checks whose names hold it
 """
 import argparse
 import asyncio
 import functools
+import itertools
 import json
 import logging
 import pathlib
 import re
 import sys
 
+import engineio.payload
 import socketio
 
 PATIENCE = 10
 OFFSET = re.compile('[0-9a-f]{16}$')
 TRANSPORTS = {'polling': ['polling'], 'websocket': ['websocket'], 'upgrade': None}
+# Of a check whose clients have several transports those of a, b and so on.
+MIXED = ('websocket', 'polling', 'upgrade')
 CASES = pathlib.Path(__file__).with_name('cases.txt')
 STEP = re.compile(r'((?:[a-d] )+)([a-z]+?)s?((?: /\w*)*)(?: (.*))?')
+engineio.payload.Payload.max_decode_packets = 100_000   # clients that poll take no more than 16 at once else
 logging.disable(logging.CRITICAL)
+
+
+class Session(socketio.AsyncClient):
+    """A client that keeps the private id of its session."""
+
+    pid = None
+
+    async def _handle_connect(self, namespace, data):
+        self.pid = data.get('pid')
+        await super()._handle_connect(namespace, data)
 
 
 class Chatter:
@@ -28,11 +43,11 @@ class Chatter:
     def __init__(self, port, transport):
         self.url = f'http://127.0.0.1:{port}'
         self.transport = transport
-        self.sio = socketio.AsyncClient(reconnection=False)
+        self.sio = Session(reconnection=False)
         self.events = asyncio.Queue()
         self.refusals = asyncio.Queue()
         self.ended = asyncio.Queue()
-        self.answer, self.offset = None, ''
+        self.answers, self.offset = [], ''
         for namespace in ('/', '/admin', '/nowhere'):
             self.listen(namespace)
 
@@ -40,7 +55,7 @@ class Chatter:
         @self.sio.on('*', namespace=namespace)
         async def came(event, *data):
             self.events.put_nowait((namespace, event, *data))
-            return self.answer
+            return self.answers.pop(0) if self.answers else None
 
         @self.sio.on('connect_error', namespace=namespace)
         async def refused(*data):
@@ -53,7 +68,7 @@ class Chatter:
     async def connect(self, namespaces=('/',), auth=None, wait=True):
         await self.sio.connect(self.url, auth=auth, transports=TRANSPORTS[self.transport],
                                namespaces=list(namespaces), wait=wait, wait_timeout=PATIENCE if wait else 1)
-        self.sid = self.sio.get_sid('/')
+        self.sid, self.pid = self.sio.get_sid('/'), self.sio.pid
         return self
 
     async def call(self, *data, namespace='/'):
@@ -77,6 +92,9 @@ class Chatter:
         """All that was put for the client before now has come: its own call was answered behind it."""
         await self.call('quiet', 'nobody', namespace=namespace)
         ensure(self.events.empty(), f'more than was expected: {brief(list(self.events._queue))}')
+
+    async def will_answer(self, answers):
+        self.answers += answers
 
     async def acknowledged(self, *data, namespace='/'):
         """The event's acknowledgement is empty."""
@@ -134,10 +152,11 @@ class Room:
     """Makes the clients of one check, and closes them behind it."""
 
     def __init__(self, port, transport):
-        self.port, self.transport, self.clients = port, transport, []
+        self.port, self.clients = port, []
+        self.transports = itertools.cycle(MIXED if transport == 'mixed' else [transport])
 
-    def client(self):
-        self.clients.append(Chatter(self.port, self.transport))
+    def client(self, transport=None):
+        self.clients.append(Chatter(self.port, transport or next(self.transports)))
         return self.clients[-1]
 
     async def member(self, *rooms, namespaces=('/',)):
@@ -166,6 +185,7 @@ VERBS = {
     'return': lambda client, *_: client.enter_again(),
     'close': lambda client, *_: client.disconnect(),
     'lose': lambda client, *_: client.sio.eio.disconnect(abort=True),
+    'answer': lambda client, _, answers: client.will_answer(answers),
     'write': lambda client, _, text: client.sio.eio.send(text),
 }
 
@@ -178,11 +198,10 @@ def made(value):
 
 
 async def play(lines, room):
-    """Plays the steps of a case. `<b>` in a text is the id of b."""
+    """Plays the steps of a case."""
     clients, said = {}, None
     for step in ';'.join(lines).split(';'):
         names, verb, spaces, text = STEP.fullmatch(step.strip()).groups()
-        text = re.sub('<([a-d])>', lambda name: clients[name[1]].sid, text or '')
         value = text if verb == 'write' else json.loads(text, object_hook=made) if text else said
         said = value if verb in ('call', 'emit') else said
         spaces = spaces.split() or ['/']
@@ -201,7 +220,7 @@ def cases_in(text):
 
 async def connects(room):
     client = await room.client().connect(auth={'token': 'yes'})
-    expected = 'polling' if room.transport == 'polling' else 'websocket'
+    expected = 'polling' if client.transport == 'polling' else 'websocket'
     ensure(client.sio.transport() == expected, f'the transport is {client.sio.transport()}')
     ensure(client.sio.get_sid('/'), 'a session id')
     await client.expect_nothing()
@@ -213,7 +232,7 @@ async def is_refused(room):
     refusal = await soon(client.refusals, 'the refusal')
     ensure(refusal == ('/', {'message': 'Not allowed'}), brief(refusal))
     try:
-        await room.client().sio.connect(client.url, auth={'token': 'no'}, transports=TRANSPORTS[room.transport])
+        await room.client().sio.connect(client.url, auth={'token': 'no'}, transports=TRANSPORTS[client.transport])
     except socketio.exceptions.ConnectionError:
         return
     ensure(False, 'connect reports success')
@@ -232,7 +251,7 @@ async def answers(room):
     await client.sio.emit('unknown to the app', 1, callback=lambda *data: called.put_nowait(data))
     ensure(await soon(called, 'the callback') == (), 'the acknowledgement is empty')
     for answer in (None, 'text', {'a': [1]}, (1, 2), b'bytes'):
-        client.answer = answer
+        client.answers.append(answer)
         await client.emit('ask', 'why', 7)
         await client.expect('ask', 'why', 7, logged=False)
     await client.emit('ask', b'\x00\x01')
@@ -260,17 +279,17 @@ CHECKS = {
 }
 
 
-async def played(given, checks):
+async def played(given, checks, transports):
     """The status, after the checks were run whose names hold the word."""
     failed = 0
-    for transport in TRANSPORTS:
+    for transport in transports:
         for name, check in checks.items():
             name = f'{transport}: {name}'
             if given.word not in name:
                 continue
             room = Room(given.port, transport)
             try:
-                await asyncio.wait_for(check(room), 60)
+                await asyncio.wait_for(check(room), 120)
                 print(f'ok      {name}', flush=True)
             except Exception as error:
                 failed += 1
@@ -279,12 +298,12 @@ async def played(given, checks):
     return 1 if failed else 0
 
 
-def main(checks, text):
-    """A program of checks, with its usage."""
+def main(checks, text, transports=(*TRANSPORTS, 'mixed')):
+    """A program of checks, with its usage, which are run over each of the transports."""
     parser = argparse.ArgumentParser(description=text, formatter_class=argparse.RawDescriptionHelpFormatter)
     parser.add_argument('port', metavar='PORT', type=int)
     parser.add_argument('word', metavar='WORD', nargs='?', default='')
-    sys.exit(asyncio.run(played(parser.parse_args(), checks)))
+    sys.exit(asyncio.run(played(parser.parse_args(), checks, transports)))
 
 
 if __name__ == '__main__':

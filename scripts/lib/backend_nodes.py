@@ -86,8 +86,7 @@ class Scene:
         await self.close(self.visitors.values())
         self.way.turn("cut")
         for node in (*self.nodes.values(), self.stranger):
-            if node.process is not None:
-                node.end(signal.SIGKILL)
+            node.end(signal.SIGKILL)
 
     async def close(self, visitors):
         await asyncio.gather(*(visitor.close() for visitor in visitors))

@@ -3,16 +3,15 @@ import argparse
 import asyncio
 import collections
 import json
-import os
 import pathlib
 import secrets
 import signal
 import subprocess
 import sys
-import tempfile
 import time
 
-from .processes import file_at, free_port, listens, memory
+from . import processes
+from .processes import file_at
 
 TOP = pathlib.Path(__file__).resolve().parent.parent.parent
 CLIENTS = TOP / "scripts" / "clients"
@@ -41,51 +40,35 @@ async def until(condition, seconds=PATIENCE):
     return condition()
 
 
-class Server:
+class Server(processes.Server):
     """PROGRAM on a port of its own, with a token of its own if it is given none. It may be started again."""
 
     def __init__(self, program, folder, library, token=None):
-        self.port, self.token, self.library = free_port(), token or secrets.token_hex(16), library
-        self.url = f"http://127.0.0.1:{self.port}"
-        self.program, self.folder, self.process = program, folder, None
+        self.program, self.folder, self.name = program, folder, folder.name
+        self.library, self.token = library, token or secrets.token_hex(16)
+        words = [program, "serve", "--port", "{port}", "--backend-token", folder / "token.txt", "--space", "/admin"]
+        super().__init__(words, LONGEST)
         folder.mkdir(exist_ok=True)
         (folder / "token.txt").write_text(self.token + "\n")
 
-    def start(self):
-        words = [self.program, "serve", "--port", str(self.port), "--backend-token", self.folder / "token.txt", "--space", "/admin"]
-        self.process = subprocess.Popen(words, stdin=subprocess.DEVNULL, stdout=subprocess.DEVNULL)
-        if not listens(self.port, self.process, LONGEST):
-            sys.exit(f"the server doesn't listen: status {self.process.poll()}")
 
-    def end(self, by=signal.SIGTERM):
-        self.process.send_signal(by)
-        self.process.wait()
-
-    def memory(self):
-        """In MB, the most so far."""
-        return int(memory(self.process.pid, "VmHWM"))
-
-
-class Backend:
+class Backend(processes.Process):
     """A process of scripts/clients/backend.* for these servers, and what it was told."""
 
     def __init__(self, servers, language, digits=ALL):
-        self.log = tempfile.TemporaryFile("w+")
         words = {"javascript": [*NODE, CLIENTS / "backend.mjs"], "python": [*PYTHON, CLIENTS / "backend.py"]}[language]
         urls = ",".join(server.url for server in servers)
-        self.process = subprocess.Popen([*words, urls, servers[0].token, digits, servers[0].library], stdin=subprocess.PIPE,
-                                        stdout=self.log, stderr=sys.stderr, text=True)
+        super().__init__([*words, urls, servers[0].token, digits, servers[0].library], stdin=subprocess.PIPE, stderr=sys.stderr)
         self.digits, self.calls = digits, 0
 
     def told(self, kind=None, sid=None):
-        at = os.pread(self.log.fileno(), os.fstat(self.log.fileno()).st_size, 0).decode()
-        lines = [json.loads(line) for line in at.split("\n")[:-1]]      # the last one isn't whole
+        lines = [json.loads(line) for line in self.output().split("\n")[:-1]]      # the last one isn't whole
         return [it for it in lines if kind in (None, it[0]) and sid in (None, it[1])]
 
     def begin(self, *call):
         """Has it call the library. Gives the number of the call."""
         self.calls += 1
-        self.process.stdin.write(json.dumps([self.calls, *call]) + "\n")
+        self.process.stdin.write(json.dumps([self.calls, *call]).encode() + b"\n")
         self.process.stdin.flush()
         return self.calls
 
@@ -102,17 +85,14 @@ class Backend:
         last = {it[1]: it[0] for it in self.told() if it[0] in ("connection", "disconnection")}
         return {sid for sid, kind in last.items() if kind == "connection"}
 
-    def is_ready(self):
-        return self.process.poll() is None and self.told("ready")
+    def is_up(self):
+        return bool(self.told("ready"))
 
     async def __aenter__(self):
-        if not await until(self.is_ready):
-            raise RuntimeError("the backend isn't ready")
-        return self
+        return await asyncio.to_thread(self.start)
 
     async def __aexit__(self, *_):
-        self.process.kill()
-        self.process.wait()
+        self.end(signal.SIGKILL)
 
 
 def twice(values):

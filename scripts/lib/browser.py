@@ -4,7 +4,6 @@ import contextlib
 import json
 import pathlib
 import shutil
-import subprocess
 import sys
 import tempfile
 import time
@@ -16,36 +15,31 @@ try:
 except ImportError:
     sys.exit("the module websocket isn't there: Debian's python3-websocket")
 
-PATIENCE = 20
+from .processes import PATIENCE, Process, until
+
 LONGEST = 120
 
 
-class Browser:
-    """Chromium without a window, with a profile of its own; ended behind a `with`."""
+class Browser(Process):
+    """Chromium without a window, with a profile of its own."""
 
-    def __enter__(self):
+    def __init__(self):
         if not shutil.which("chromium"):
             sys.exit("chromium isn't there: Debian's package chromium")
         self.profile = tempfile.mkdtemp(prefix="browser-")
-        self.process = subprocess.Popen(
-            ["chromium", "--headless=new", "--no-sandbox", "--disable-gpu", "--remote-debugging-port=0",
-             "--remote-allow-origins=*", f"--user-data-dir={self.profile}", "about:blank"],
-            stdout=subprocess.DEVNULL,
-            stderr=subprocess.DEVNULL,
-        )
-        told = pathlib.Path(self.profile) / "DevToolsActivePort"
-        end = time.monotonic() + PATIENCE
-        while not (told.exists() and told.read_text()):
-            if self.process.poll() is not None or time.monotonic() > end:
-                self.__exit__()
-                sys.exit("chromium doesn't start")
-            time.sleep(0.1)
-        self.port = int(told.read_text().split()[0])
-        return self
+        self.told = pathlib.Path(self.profile) / "DevToolsActivePort"
+        super().__init__(["chromium", "--headless=new", "--no-sandbox", "--disable-gpu", "--remote-debugging-port=0",
+                          "--remote-allow-origins=*", f"--user-data-dir={self.profile}", "about:blank"])
 
-    def __exit__(self, *_):
-        self.process.terminate()
-        self.process.wait()
+    def is_up(self):
+        return self.told.exists() and self.told.read_text()
+
+    @property
+    def port(self):
+        return int(self.told.read_text().split()[0])
+
+    def end(self, *how):
+        super().end(*how)
         shutil.rmtree(self.profile, ignore_errors=True)
 
 
@@ -86,12 +80,7 @@ class Page:
 
     def becomes(self, text, seconds=PATIENCE):
         """Whether an expression becomes true in time."""
-        end = time.monotonic() + seconds
-        while time.monotonic() < end:
-            if self.run(text):
-                return True
-            time.sleep(0.1)
-        return False
+        return bool(until(lambda: self.run(text), seconds))
 
     def close(self):
         with contextlib.suppress(OSError, websocket.WebSocketException):

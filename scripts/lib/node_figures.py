@@ -8,8 +8,8 @@ import time
 
 from .backends import NODE, TOP, until
 from .clients import Crowd
-from .nodes import Process
-from .processes import processor_time
+from .nodes import PLACES
+from .processes import Process
 from .service import Service
 
 LOAD = TOP / "scripts" / "load"
@@ -38,12 +38,10 @@ class Figures:
 
     async def app(self, nodes):
         """The demonstration app's `join` and `say` in JavaScript."""
-        name = f"relay_{len(self.service.others)}"
         urls, token_file = ",".join(node.url for node in nodes), nodes[0].folder / "token.txt"
         words = [*NODE, LOAD / "relay_backend.js", urls, token_file, self.service.library]
-        app = Process(name, self.service.folder, words)
-        self.service.others.append(app)
-        app.spawn()
+        app = Process(words, env=PLACES)
+        self.service.others.append(app.start())
         await asyncio.sleep(1)
         return app
 
@@ -51,10 +49,10 @@ class Figures:
         """Does the work. `shown` makes of what it gives the figures, and how many events it was; processor microseconds of each
         kind of process for one event come behind them."""
         kinds = {"a node": self.nodes, **others}
-        before = {kind: sum(processor_time(it.process.pid) for it in them) for kind, them in kinds.items()}
+        before = {kind: sum(it.processor_time() for it in them) for kind, them in kinds.items()}
         figures, events = shown(await work)
         for kind, them in kinds.items():
-            spent = sum(processor_time(it.process.pid) for it in them) - before[kind]
+            spent = sum(it.processor_time() for it in them) - before[kind]
             figures[f"us of {kind} an event"] = spent * 1e6 / len(them) / max(1, events)
         shown = ", ".join(f"{name} {value:,.0f}" for name, value in figures.items())
         print(f"{len(self.nodes)} nodes, {what}: {shown}", flush=True)
@@ -82,7 +80,7 @@ async def over_bridges(service, count):
     bridges = [service.bridge(f"relay{number}_of_{count}", node.url, "--relay", "r") for number, node in enumerate(figures.nodes)]
     service.others += bridges
     for bridge in bridges:
-        await bridge.start()
+        await asyncio.to_thread(bridge.start)
     apps = [await figures.app([node]) for node in figures.nodes]
     others = {"a bridge": bridges, "Redis": [service.redis]}
     if count > 1:

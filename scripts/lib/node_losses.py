@@ -2,10 +2,7 @@
 language."""
 import asyncio
 import contextlib
-import json
 import signal
-
-import aiohttp
 
 from .backends import HIGH, LOW, twice, until
 from .clients import Crowd
@@ -58,8 +55,7 @@ async def gone_for_a_while(process):
     await asyncio.sleep(BEFORE)
     process.end(signal.SIGKILL)
     await asyncio.sleep(AWAY)
-    if asyncio.iscoroutine(started := process.start()):
-        await started
+    await asyncio.to_thread(process.start)
 
 
 async def node_killed(checks, service, language):
@@ -147,40 +143,4 @@ def tell_of_apps(checks, clients, sent):
     checks(f"{uneven} of them came to some nodes alone, at most those of one moment", uneven <= 2 * len(low))
 
 
-# A session that comes back.
-
-class Raw:
-    """A client by WebSocket that names a session."""
-
-    def __init__(self, session, node):
-        self.session, self.node = session, node
-
-    async def open(self, payload):
-        self.ws = await self.session.ws_connect(self.node.url + "/socket.io/?EIO=4&transport=websocket")
-        await self.ws.receive_str()
-        await self.ws.send_str("40" + json.dumps(payload))
-        return json.loads((await self.ws.receive_str())[2:])
-
-    async def event(self):
-        return json.loads((await asyncio.wait_for(self.ws.receive_str(), 5))[2:])
-
-
-async def comes_back(checks, service, _):
-    async with aiohttp.ClientSession() as session:
-        first = Raw(session, service.nodes[0])
-        told = await first.open({})
-        await service.emitter.emit("tick", 1)
-        offset = (await first.event())[-1]
-        await first.ws.close()
-        await service.emitter.emit("tick", 2)
-        name = {"pid": told["pid"], "offset": offset}
-        other = Raw(session, service.nodes[1])
-        checks("at another node it is a new session", (await other.open(name))["sid"] != told["sid"])
-        await other.ws.close()
-        back = Raw(session, service.nodes[0])
-        checks.same("at its own node it comes back", (await back.open(name))["sid"], told["sid"])
-        checks.same("and is told what it missed", (await back.event())[:2], ["tick", 2])
-        await back.ws.close()
-
-
-LOSSES = {node_killed: BOTH, redis_killed: BOTH, app_killed: BOTH, comes_back: [""]}
+LOSSES = {node_killed: BOTH, redis_killed: BOTH, app_killed: BOTH}

@@ -3,6 +3,7 @@ import argparse
 import contextlib
 import os
 import pathlib
+import random
 import re
 import signal
 import socket
@@ -17,9 +18,12 @@ PATIENCE = 20
 
 
 def free_port():
-    with socket.socket() as it:
-        it.bind((HOST, 0))
-        return it.getsockname()[1]
+    """One that no connection gets from the system."""
+    while True:
+        port = random.randrange(10_000, 32_768)
+        with socket.socket() as it, contextlib.suppress(OSError):
+            it.bind((HOST, port))
+            return port
 
 
 def is_listening(port, host=HOST):
@@ -35,12 +39,6 @@ def until(holds, seconds=PATIENCE):
     while not (found := holds()) and time.monotonic() < end:
         time.sleep(0.05)
     return found
-
-
-def listens(port, process, seconds):
-    """Whether a program comes to listen at its port in time, and goes on."""
-    until(lambda: process.poll() is not None or is_listening(port), seconds)
-    return process.poll() is None and is_listening(port)
 
 
 def server_at(url):
@@ -61,25 +59,9 @@ def file_at(name):
     return path
 
 
-def end(process):
-    process.terminate()
-    try:
-        process.wait(PATIENCE)
-    except subprocess.TimeoutExpired:
-        process.kill()
-        process.wait()
-
-
-def memory(number, key="VmRSS"):
-    """What a process has, in MB; by VmHWM the most so far."""
-    status = pathlib.Path(f"/proc/{number}/status").read_text()
-    return int(re.search(rf"{key}:\s+(\d+) kB", status)[1]) / 1024
-
-
-def processor_time(number):
-    """The processor seconds of a process so far."""
-    fields = pathlib.Path(f"/proc/{number}/stat").read_text().rpartition(")")[2].split()
-    return (int(fields[11]) + int(fields[12])) / os.sysconf("SC_CLK_TCK")
+def free_memory():
+    """The memory that is free, in GB."""
+    return int(re.search(r"MemAvailable:\s+(\d+)", pathlib.Path("/proc/meminfo").read_text())[1]) / 1e6
 
 
 def parents():
@@ -114,24 +96,76 @@ def exit_on_signals(*numbers):
 
 
 class Process:
-    """A program that runs until it is ended; what it says is shown where it ends by itself."""
+    """A program that runs until it is ended, or in a `with`. Where it doesn't come up in time, that ends the script, with what the
+    program has said."""
 
-    def __init__(self, words, **more):
-        self.words, self.more = words, more
-        self.start()
+    def __init__(self, words, seconds=PATIENCE, **more):
+        self.words, self.seconds, self.more, self.process = words, seconds, more, None
 
-    def start(self):
-        self.log = tempfile.TemporaryFile("w+")
+    def spawn(self):
+        self.log = tempfile.TemporaryFile()
         usual = {"stdin": subprocess.DEVNULL, "stdout": self.log, "stderr": self.log}
         self.process = subprocess.Popen(self.words, **{**usual, **self.more})
 
-    def end(self):
+    def start(self):
+        self.spawn()
+        until(lambda: not self.goes_on() or self.is_up(), self.seconds)
+        if not self.goes_on() or not self.is_up():
+            sys.exit(f"{self.words[0]} doesn't start: {self.end() or self.output()[-2000:]}")
+        return self
+
+    def is_up(self):
+        return True
+
+    def goes_on(self):
+        return self.process is not None and self.process.poll() is None
+
+    def output(self):
+        """All that it has said since it was started."""
+        return os.pread(self.log.fileno(), os.fstat(self.log.fileno()).st_size, 0).decode(errors="replace")
+
+    def end(self, by=signal.SIGTERM):
+        """Answers what it said where it had ended by itself."""
+        if self.process is None:
+            return ""
         ended = self.process.poll()
-        end(self.process)
-        self.log.seek(0)
-        return "" if ended is None else f"status {ended}: {self.log.read()[-2000:]}"
+        self.process.send_signal(by)
+        try:
+            self.process.wait(PATIENCE)
+        except subprocess.TimeoutExpired:
+            self.process.kill()
+            self.process.wait()
+        return "" if ended is None else f"status {ended}: {self.output()[-2000:]}"
 
     def restarts(self):
         fault = self.end()
         self.start()
         return not fault
+
+    def memory(self, key="VmRSS"):
+        """What it has, in MB; by VmHWM the most so far."""
+        status = pathlib.Path(f"/proc/{self.process.pid}/status").read_text()
+        return int(re.search(rf"{key}:\s+(\d+) kB", status)[1]) / 1024
+
+    def processor_time(self):
+        """Its processor seconds so far."""
+        fields = pathlib.Path(f"/proc/{self.process.pid}/stat").read_text().rpartition(")")[2].split()
+        return (int(fields[11]) + int(fields[12])) / os.sysconf("SC_CLK_TCK")
+
+    def __enter__(self):
+        return self.start()
+
+    def __exit__(self, *_):
+        self.end()
+
+
+class Server(Process):
+    """One that is up once it listens at its port, which stands in its words for {port}."""
+
+    def __init__(self, words, seconds=PATIENCE, **more):
+        self.port = free_port()
+        self.url = f"http://{HOST}:{self.port}"
+        super().__init__([str(it).replace("{port}", str(self.port)) for it in words], seconds, **more)
+
+    def is_up(self):
+        return is_listening(self.port)

@@ -35,15 +35,11 @@ class Service:
 
     def bridge(self, name, url, *options):
         options = options or ("--python", "socketio", "--relay", RELAYED)
-        return Bridge(name, self.folder, url, self.token_file, self.redis.url, *options)
+        return Bridge(name, url, self.token_file, self.redis.url, *options)
 
     async def start(self):
-        await self.redis.start()
-        for node in self.nodes:
-            await asyncio.to_thread(node.start)
-            print(f"a node listens at {node.url}", flush=True)
-        for process in (*self.bridges, self.haproxy):
-            await process.start()
+        for process in (self.redis, *self.nodes, *self.bridges, self.haproxy):
+            await asyncio.to_thread(process.start)
             print(f"{process.name} is ready", flush=True)
         self.nginx = self.proxies.enter_context(Nginx(self.nodes))
         self.nginx_without_hash = self.proxies.enter_context(Nginx(self.nodes, HASH))
@@ -51,13 +47,12 @@ class Service:
 
     def ended(self):
         """Those that have, though they shouldn't."""
-        return [it for it in (self.redis, *self.nodes, *self.bridges, self.haproxy) if it.process.poll() is not None]
+        return [it.name for it in (self.redis, *self.nodes, *self.bridges, self.haproxy) if not it.goes_on()]
 
     def end(self):
         self.proxies.close()
         for process in (self.haproxy, *self.bridges, *self.others, *self.nodes, self.redis):
-            if process.process is not None and process.process.poll() is None:
-                process.end()
+            process.end()
 
     def app(self, language, nodes=None, digits=ALL):
         return Backend(nodes or self.nodes, language, digits)

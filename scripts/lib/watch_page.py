@@ -10,9 +10,9 @@ import urllib.request
 
 import websocket
 
-from lib.browser import Page
 from lib.front import Front
-from lib.processes import PATIENCE, Process, free_port, listens, until
+from lib.people import Person
+from lib.processes import PATIENCE, Server, until
 
 PAGE = pathlib.Path(__file__).resolve().parents[2] / "examples" / "watch"
 TITLES = ["Clients", "Messages a second", "Dropped a second", "Rooms"]
@@ -55,17 +55,14 @@ def number_of(text):
     return float(text.replace(",", "")) if re.fullmatch("[0-9,.]+", text) else None
 
 
-class Watcher:
+class Watcher(Person):
     """One who looks at the page, over a way that can be cut, or that has counts of its own."""
 
+    ready = "document.querySelector('#state')?.dataset.state === 'open'"
+
     def __init__(self, browser, port, width, script="", **files):
-        self.way = Front(("127.0.0.1", port), {f"/{name}": file for name, file in files.items()})
-        self.page = Page(browser, "about:blank", width)
-        self.page.call("Page.addScriptToEvaluateOnNewDocument", source=script)
-        self.page.call("Emulation.setFocusEmulationEnabled", enabled=True)
-        self.page.turn_to("light")
-        self.page.call("Page.navigate", url=f"http://127.0.0.1:{self.way.port}/")
-        self.page.becomes("document.querySelector('#state')?.dataset.state === 'open'")
+        way = Front(("127.0.0.1", port), {f"/{name}": file for name, file in files.items()})
+        super().__init__(browser, f"http://127.0.0.1:{way.port}/", width, way, script)
 
     def feed(self, **changed):
         self.way.files["/metrics"] = text_of(**changed)
@@ -272,13 +269,11 @@ def ends_there(watcher, title):
 
 def try_watch(browser, given, _, checks):
     """The page from the start of its server to its end."""
-    port = free_port()
     # None is pinged, so that none has to answer.
-    server = Process([given.program, "serve", "--port", str(port), "--page", PAGE, "--metrics", "/metrics", "--capacity", "100",
-                      "--ping-interval", "4000000"])
-    watchers, load = [], None
+    server = Server([given.program, "serve", "--port", "{port}", "--page", PAGE, "--metrics", "/metrics", "--capacity", "100",
+                     "--ping-interval", "4000000"]).start()
+    port, watchers, load = server.port, [], None
     try:
-        checks("the server listens", listens(port, server.process, PATIENCE))
         for script, check in (("", shows_made_up_counts), (FAST_CLOCK, draws_what_was_read)):
             watchers = [Watcher(browser, port, 960, script, metrics=text_of())]
             check(watchers[0], checks)

@@ -1,6 +1,6 @@
-// A small Socket.IO server with the demonstration app's events, on node's http, `ws` and `socket.io-parser`: what
-// node_server.js and node_cluster.js share. An upper bound for the `socket.io` package: it has no middleware and no
-// recovery. As that package does, it frames a broadcast once for all WebSockets, and writes each message by itself; with
+// A small Socket.IO server with the events of the load, `join` and `say`, on node's http, `ws` and `socket.io-parser`: what
+// node_server.js and node_cluster.js share. An upper bound for the `socket.io` package: it has no middleware, no upgrade and
+// no recovery. As that package does, it frames a broadcast once for all WebSockets, and writes each message by itself; with
 // `gathers` it writes once a turn of the event loop, which that package doesn't.
 'use strict';
 process.env.NODE_PATH = '/usr/share/nodejs';        // Debian's node-ws and node-socket.io-parser
@@ -14,7 +14,7 @@ const SEPARATOR = '\x1e';
 const TEXT = 1;
 const BINARY = 2;
 const clients = new Map();
-const spaces = { '/': new Map(), '/admin': new Map() };      // room -> Set of sockets
+const rooms = new Map();                                     // a room's clients
 const corked = new Set();                                    // streams
 const encoder = new Encoder();
 let next = 1;
@@ -44,15 +44,14 @@ class Message {
 
 class Client {
   constructor(ws) {
-    Object.assign(this, { sid: id(), ws, box: [], get: null, sockets: new Map(), decoder: new Decoder() });
+    Object.assign(this, { sid: id(), ws, box: [], get: null, rooms: new Set(), decoder: new Decoder() });
     this.decoder.on('decoded', (packet) => this.packet(packet));
     this.beat = setInterval(() => this.raw('2'), 25000);
     clients.set(this.sid, this);
   }
 
   open() {
-    const upgrades = this.ws ? [] : ['websocket'];
-    return '0' + JSON.stringify({ sid: this.sid, upgrades, pingInterval: 25000, pingTimeout: 20000, maxPayload: 1000000 });
+    return '0' + JSON.stringify({ sid: this.sid, upgrades: [], pingInterval: 25000, pingTimeout: 20000, maxPayload: 1000000 });
   }
 
   raw(text) {
@@ -67,18 +66,12 @@ class Client {
     this.flush();
   }
 
-  tell(packet) { this.send(new Message(encoder.encode(packet))); }
+  tell(packet) { this.send(new Message(encoder.encode({ nsp: '/', ...packet }))); }
 
   flush() {
     if (!this.get || !this.box.length) return;
     answer(this.get, 200, this.box.join(SEPARATOR));
     this.get = null;
-    this.box = [];
-  }
-
-  upgrade(ws) {
-    this.ws = ws;
-    for (const text of this.box) ws.send(text);
     this.box = [];
   }
 
@@ -96,30 +89,30 @@ class Client {
     }
   }
 
-  packet(packet) {
-    if (packet.type === PacketType.CONNECT) return this.connect(packet);
-    const socket = this.sockets.get(packet.nsp);
-    if (!socket) return this.close();
-    if (packet.type === PacketType.DISCONNECT) return end(socket);
-    if (packet.type !== PacketType.EVENT && packet.type !== PacketType.BINARY_EVENT) return;
-    happens(socket, packet.data);
-    if (packet.id !== undefined) this.tell({ type: PacketType.ACK, nsp: packet.nsp, id: packet.id, data: [] });
+  packet({ type, id: number, data }) {
+    if (type === PacketType.CONNECT) {
+      this.join(this.sid);
+      return this.tell({ type: PacketType.CONNECT, data: { sid: id(), pid: id() } });
+    }
+    if (type !== PacketType.EVENT && type !== PacketType.BINARY_EVENT) return;
+    if (data[0] === 'join') this.join(data[1]);
+    if (data[0] === 'say') cast(this, data);
+    if (number !== undefined) this.tell({ type: PacketType.ACK, id: number, data: [] });
   }
 
-  connect({ nsp, data }) {
-    if (!spaces[nsp]) return this.refuse(nsp, 'Invalid namespace');
-    if (data && data.token === 'no') return this.refuse(nsp, 'Not allowed');
-    const socket = { client: this, sid: id(), nsp, rooms: new Set() };
-    this.sockets.set(nsp, socket);
-    join(socket, socket.sid);
-    this.tell({ type: PacketType.CONNECT, nsp, data: { sid: socket.sid, pid: id() } });
+  join(room) {
+    if (!rooms.has(room)) rooms.set(room, new Set());
+    rooms.get(room).add(this);
+    this.rooms.add(room);
   }
-
-  refuse(nsp, message) { this.tell({ type: PacketType.CONNECT_ERROR, nsp, data: { message } }); }
 
   close() {
     clearInterval(this.beat);
-    for (const socket of [...this.sockets.values()]) end(socket);
+    for (const room of this.rooms) {
+      rooms.get(room).delete(this);
+      if (!rooms.get(room).size) rooms.delete(room);
+    }
+    this.rooms.clear();
     clients.delete(this.sid);
     if (this.get) answer(this.get, 200, '1');
     this.get = null;
@@ -145,59 +138,17 @@ function uncork() {
   corked.clear();
 }
 
-function happens(socket, data) {
-  const [name, room, other] = data;
-  const { client, nsp } = socket;
-  if (name === 'join') join(socket, room);
-  else if (name === 'leave') leave(socket, room);
-  else if (name === 'say' || name === 'quiet') cast(socket, data, [room], name === 'say');
-  else if (name === 'two') cast(socket, data, [room, other], true);
-  else if (name === 'all') cast(socket, data, null, true);
-  else if (name === 'ask') client.tell({ type: PacketType.EVENT, nsp, id: socket.asked = (socket.asked ?? -1) + 1, data });
-  else if (name === 'bye') {
-    client.tell({ type: PacketType.DISCONNECT, nsp });
-    end(socket);
-  }
-}
-
-function join(socket, room) {
-  const rooms = spaces[socket.nsp];
-  if (!rooms.has(room)) rooms.set(room, new Set());
-  rooms.get(room).add(socket);
-  socket.rooms.add(room);
-}
-
-function leave(socket, room) {
-  const members = spaces[socket.nsp].get(room);
-  socket.rooms.delete(room);
-  if (members && members.delete(socket) && !members.size) spaces[socket.nsp].delete(room);
-}
-
-function end(socket) {
-  for (const room of [...socket.rooms]) leave(socket, room);
-  socket.client.sockets.delete(socket.nsp);
-}
-
-// To the members of the rooms but the sender, or to all sockets of the namespace, the sender among them.
-function cast(sender, data, rooms, logged) {
-  const { nsp } = sender;
-  const parts = encoder.encode({ type: PacketType.EVENT, nsp, data: logged ? [...data, offset()] : data });
-  const sent = { nsp, rooms, parts };
-  deliver(sent, rooms ? sender : null);
+// To the members of the room but the sender.
+function cast(sender, data) {
+  const sent = { room: data[1], parts: encoder.encode({ type: PacketType.EVENT, nsp: '/', data: [...data, offset()] }) };
+  deliver(sent, sender);
   publish(sent);
 }
 
-// Gives what was cast, here or at another worker, to the sockets of this process.
-function deliver({ nsp, rooms, parts }, except = null) {
+// Gives what was cast, here or at another worker, to the clients of this process.
+function deliver({ room, parts }, except = null) {
   const message = new Message(parts);
-  for (const socket of addressed(spaces[nsp], rooms)) if (socket !== except) socket.client.send(message);
-}
-
-function addressed(all, rooms) {
-  if (rooms && rooms.length === 1) return all.get(rooms[0]) || [];
-  const sockets = new Set();
-  for (const room of rooms || all.keys()) for (const socket of all.get(room) || []) sockets.add(socket);
-  return sockets;
+  for (const client of rooms.get(room) || []) if (client !== except) client.send(message);
 }
 
 function answer(response, status, text) {
@@ -223,22 +174,12 @@ function polled(request, response) {
   });
 }
 
-function opened(ws, sid) {
-  const client = sid ? clients.get(sid) : new Client(ws);
-  if (!client) return ws.close();
-  if (!sid) ws.send(client.open());
-  ws.on('message', (message, isBinary) => isBinary ? client.decode(message) : heard(client, ws, message.toString()));
-  ws.on('close', () => { if (client.ws === ws) client.close(); });
+function opened(ws) {
+  const client = new Client(ws);
+  ws.send(client.open());
+  ws.on('message', (message, isBinary) => isBinary ? client.decode(message) : client.data(message.toString()));
+  ws.on('close', () => client.close());
   ws.on('error', () => {});                         // 'close' comes after it
-}
-
-function heard(client, ws, text) {
-  if (text === '2probe') {
-    ws.send('3probe');
-    if (client.get) answer(client.get, 200, '6');
-    client.get = null;
-  } else if (text === '5' && !client.ws) client.upgrade(ws);
-  else client.data(text);
 }
 
 // The server of this process, which listens nowhere yet. `options.digit` begins its ids, and `options.publish` is given
@@ -249,8 +190,7 @@ exports.createServer = (options = {}) => {
   const webSockets = new WebSocketServer({ noServer: true, perMessageDeflate: false });
   server.on('upgrade', (request, socket, head) => {
     socket.setNoDelay(true);
-    const sid = new URL(request.url, 'http://x').searchParams.get('sid');
-    webSockets.handleUpgrade(request, socket, head, (ws) => opened(ws, sid));
+    webSockets.handleUpgrade(request, socket, head, opened);
   });
   server.keepAliveTimeout = 60000;
   return server;

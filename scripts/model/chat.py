@@ -45,6 +45,35 @@ def parts_by(word):
     return [bytes(int(it) for it in part.split(".")) for part in word.split(",")] if word else []
 
 
+# What the lines come to that are one call, by their first words: of a chat, and of the word at each place. Methods of Chat play
+# the others.
+LINES = {
+    "at": lambda it, word: setattr(it, "now", number(word(1))),
+    "open": lambda it, word: it.hub.open(number(word(1)), it.now),
+    "park": lambda it, word: it.hub.park(number(word(1)), it.now),
+    "close": lambda it, word: it.hub.close(number(word(1)), it.now),
+    "end": lambda it, word: it.hub.end(number(word(1)), it.now),
+    "join": lambda it, word: it.hub.join(number(word(1)), room_by(word(2)), it.now),
+    "leave": lambda it, word: it.hub.leave(number(word(1)), room_by(word(2)), it.now),
+    "attach": lambda it, word: it.hub.attach(number(word(1)), word(2), number(word(3)), number(word(4)), it.now),
+    "tell": lambda it, word: it.hub.tell(number(word(1)), Entry(word(2), parts_by(word(3))), it.now),
+    "take": lambda it, word: "".join(map(entry_text, it.hub.take(number(word(1)), number(word(2)), it.now))),
+    "skip": lambda it, word: f"  {len(it.hub.take(number(word(1)), number(word(2)), it.now))}",
+    "recover": lambda it, word: f"  {it.hub.recover(number(word(1)), word(2), number(word(3)), number(word(4)), it.now)}",
+    "sweep": lambda it, _: "  {} {}".format(*it.hub.sweep(it.now)),
+    "seal": lambda it, _: f"  {it.hub.seal()}",
+    "audit": lambda *_: None,
+    "counted": lambda it, _: "  {} {}".format(*it.counted),
+    "totals": lambda it, _: "  " + " ".join(map(str, it.hub.totals())),
+    "members": lambda it, word: sids_text(it.hub.members(word(1), room_by(word(2)))),
+    "connected": lambda it, word: f"  {str(number(word(1)) in it.hub.sockets).lower()}",
+    "next": lambda it, _: f"  {some(it.hub.next)}",
+    "held": lambda it, _: f"  {it.hub.held()}",
+    "space": lambda it, word: f"  {str(word(1) in it.hub.limits['spaces']).lower()}",
+    "steps": lambda it, _: " ".join([f"  {len(it.hub.steps)}:", *it.hub.steps]),
+}
+
+
 class Chat:
     """A hub and its passes. A pass is how many commands and entries it has counted."""
 
@@ -60,39 +89,14 @@ class Chat:
         words = line.split(" ")
         take = lambda place: words[place] if place < len(words) else ""
         before = self.hub.counts["commands"], self.hub.counts["taken"]
+        plays = LINES.get(words[0]) or getattr(Chat, f"play_{words[0]}")
         try:
-            answer = getattr(self, f"play_{words[0]}")(take)
+            answer = plays(self, take)
         except Refused as refused:
             answer = f"  ! {refused}"
         self.counted[0] += self.hub.counts["commands"] - before[0]
         self.counted[1] += self.hub.counts["taken"] - before[1]
         return answer or ""
-
-    # Commands.
-
-    def play_open(self, word):
-        self.hub.open(number(word(1)), self.now)
-
-    def play_park(self, word):
-        self.hub.park(number(word(1)), self.now)
-
-    def play_close(self, word):
-        self.hub.close(number(word(1)), self.now)
-
-    def play_end(self, word):
-        self.hub.end(number(word(1)), self.now)
-
-    def play_join(self, word):
-        self.hub.join(number(word(1)), room_by(word(2)), self.now)
-
-    def play_leave(self, word):
-        self.hub.leave(number(word(1)), room_by(word(2)), self.now)
-
-    def play_attach(self, word):
-        self.hub.attach(number(word(1)), word(2), number(word(3)), number(word(4)), self.now)
-
-    def play_tell(self, word):
-        self.hub.tell(number(word(1)), Entry(word(2), parts_by(word(3))), self.now)
 
     def play_cast(self, word):
         before, is_logged = self.hub.counts["placed"], word(0) == "cast"
@@ -101,15 +105,6 @@ class Chat:
         return f"  {some(offset)} {self.hub.counts['placed'] - before} {dropped} {listed(reached)}"
 
     play_quiet = play_cast
-
-    def play_take(self, word):
-        return "".join(map(entry_text, self.hub.take(number(word(1)), number(word(2)), self.now)))
-
-    def play_skip(self, word):
-        return f"  {len(self.hub.take(number(word(1)), number(word(2)), self.now))}"
-
-    def play_recover(self, word):
-        return f"  {self.hub.recover(number(word(1)), word(2), number(word(3)), number(word(4)), self.now)}"
 
     def play_pull(self, word):
         change = self.hub.join_all if word(0) == "pull" else self.hub.leave_all
@@ -120,15 +115,6 @@ class Chat:
     def play_kick(self, word):
         ended, told = self.hub.end_all(word(1), rooms_by(word(2)), rooms_by(word(3)), self.now)
         return f"{sids_text(ended)} told {listed(told)}"
-
-    def play_sweep(self, _):
-        return "  {} {}".format(*self.hub.sweep(self.now))
-
-    def play_seal(self, _):
-        return f"  {self.hub.seal()}"
-
-    def play_at(self, word):
-        self.now = number(word(1))
 
     # Passes.
 
@@ -147,23 +133,9 @@ class Chat:
             self.counted = [one + other for one, other in zip(self.counted, self.other)]
             self.other = None
 
-    def play_audit(self, _):
-        pass
-
     def play_settle(self, _):
         lacks = [self.hub.counts["commands"] - self.counted[0], self.hub.counts["taken"] - self.counted[1]]
-        return "  lacks {} {}".format(*lacks) if any(lacks) else self.play_totals(None)
-
-    def play_counted(self, _):
-        return "  {} {}".format(*self.counted)
-
-    # What is seen.
-
-    def play_totals(self, _):
-        return "  " + " ".join(map(str, self.hub.totals()))
-
-    def play_members(self, word):
-        return sids_text(self.hub.members(word(1), room_by(word(2))))
+        return "  lacks {} {}".format(*lacks) if any(lacks) else LINES["totals"](self, None)
 
     def play_client(self, word):
         client = number(word(1))
@@ -179,21 +151,6 @@ class Chat:
     def play_front(self, word):
         client, place = self.hub.clients.get(number(word(1))), number(word(2))
         return f"  {client.outbox[place].text}" if client and place < len(client.outbox) else "  none"
-
-    def play_connected(self, word):
-        return f"  {str(number(word(1)) in self.hub.sockets).lower()}"
-
-    def play_next(self, _):
-        return f"  {some(self.hub.next)}"
-
-    def play_held(self, _):
-        return f"  {self.hub.held()}"
-
-    def play_space(self, word):
-        return f"  {str(word(1) in self.hub.limits['spaces']).lower()}"
-
-    def play_steps(self, _):
-        return " ".join([f"  {len(self.hub.steps)}:", *self.hub.steps])
 
     def play_ended(self, _):
         return "".join(f"  {it.client} {self.place(it.space)} {sid} {it.pid} {ending}"

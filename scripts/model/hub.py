@@ -1,4 +1,6 @@
 """A hub: clients with their outboxes, sockets in rooms, a log of broadcasts and saved sessions."""
+import collections
+
 from wire import MOST_ATTACHMENTS, connected_text, event_text, id_text, start, with_offset
 
 GREATEST = 2**64 - 1
@@ -13,26 +15,21 @@ class Refused(Exception):
     """Why a command is refused. It changed nothing."""
 
 
+def refuse_if(holds, why):
+    if holds:
+        raise Refused(why)
+
+
 class Entry:
     def __init__(self, text, parts=()):
         self.text, self.parts = text, tuple(parts)
         self.size = len(text.encode()) + sum(map(len, self.parts))
 
 
-class Client:
-    def __init__(self):
-        self.sockets, self.outbox = {}, []
-
-
-class Socket:
-    def __init__(self, client, space, pid):
-        self.client, self.space, self.pid = client, space, pid
-
-
-class Saved:
-    def __init__(self, sid, socket, rooms, lost_at):
-        self.sid, self.space, self.pid = sid, socket.space, socket.pid
-        self.rooms, self.lost_at = rooms, lost_at
+# A client has its sockets by their namespaces, and an outbox.
+Client = collections.namedtuple("Client", "sockets outbox")
+Socket = collections.namedtuple("Socket", "client space pid")
+Saved = collections.namedtuple("Saved", "sid space pid rooms lost_at")
 
 
 class Logged:
@@ -51,8 +48,7 @@ class Hub:
 
     def __init__(self, **limits):
         least = [limits[name] for name in ("clients", "capacity", "bytes", "log", "log_bytes", "first_offset")]
-        if 0 in least or limits["capacity"] > MOST_CAPACITY:
-            raise Refused("BadConfig")
+        refuse_if(0 in least or limits["capacity"] > MOST_CAPACITY, "BadConfig")
         self.limits, self.next, self.now = limits, limits["first_offset"], 0
         self.clients, self.sockets, self.rooms, self.saved, self.log = {}, {}, {}, {}, []
         self.counts = dict.fromkeys(("commands", "placed", "dropped", "taken", "discarded"), 0)
@@ -102,18 +98,15 @@ class Hub:
     # Why something is refused.
 
     def look_at_client(self, client):
-        if client not in self.clients:
-            raise Refused("UnknownClient")
+        refuse_if(client not in self.clients, "UnknownClient")
 
     def look_at_space(self, space):
-        if space not in self.limits["spaces"]:
-            raise Refused("UnknownNamespace")
+        refuse_if(space not in self.limits["spaces"], "UnknownNamespace")
 
     def look_at_seat(self, client, space):
         self.look_at_client(client)
         self.look_at_space(space)
-        if space in self.clients[client].sockets:
-            raise Refused("AlreadyConnected")
+        refuse_if(space in self.clients[client].sockets, "AlreadyConnected")
 
     def has_space(self, client, entries):
         outbox = self.clients[client].outbox
@@ -149,22 +142,18 @@ class Hub:
         self.counts["discarded"] += len(self.clients.pop(client).outbox)
 
     def open(self, client, now):
-        if client in self.clients:
-            raise Refused("IdTaken")
-        if len(self.clients) >= self.limits["clients"]:
-            raise Refused("TooManyClients")
-        self.clients[client] = Client()
+        refuse_if(client in self.clients, "IdTaken")
+        refuse_if(len(self.clients) >= self.limits["clients"], "TooManyClients")
+        self.clients[client] = Client({}, [])
         self.step("opened", now)
 
     def attach(self, client, space, sid, pid, now):
         self.look_at_seat(client, space)
         sids = {*self.sockets, *(it.sid for it in self.saved.values())}
         pids = {*(it.pid for it in self.sockets.values()), *self.saved}
-        if sid in sids or pid in pids:
-            raise Refused("IdTaken")
+        refuse_if(sid in sids or pid in pids, "IdTaken")
         answer = Entry(connected_text(space, sid, pid))
-        if not self.has_space(client, [answer]):
-            raise Refused("OutboxFull")
+        refuse_if(not self.has_space(client, [answer]), "OutboxFull")
         self.seat(client, space, sid, pid, ())
         self.put(client, answer)
         self.step("attached", now)
@@ -172,16 +161,12 @@ class Hub:
     def recover(self, client, space, pid, offset, now):
         self.look_at_seat(client, space)
         saved = self.saved.get(pid)
-        if saved is None or saved.space != space:
-            raise Refused("NotRecoverable(UnknownPid)")
-        if self.is_outdated(saved.lost_at, self.moment(now)):
-            raise Refused("NotRecoverable(Expired)")
+        refuse_if(saved is None or saved.space != space, "NotRecoverable(UnknownPid)")
+        refuse_if(self.is_outdated(saved.lost_at, self.moment(now)), "NotRecoverable(Expired)")
         missed = self.missed(offset, space, saved.rooms)
-        if missed is None:
-            raise Refused("NotRecoverable(OffsetGone)")
+        refuse_if(missed is None, "NotRecoverable(OffsetGone)")
         entries = [Entry(connected_text(space, saved.sid, pid)), *(it.entry for it in missed)]
-        if not self.has_space(client, entries):
-            raise Refused("OutboxFull")
+        refuse_if(not self.has_space(client, entries), "OutboxFull")
         del self.saved[pid]
         self.seat(client, space, saved.sid, pid, saved.rooms)
         for entry in entries:
@@ -190,22 +175,16 @@ class Hub:
         return saved.sid
 
     def join(self, sid, room, now):
-        if sid not in self.sockets:
-            raise Refused("UnknownSocket")
-        if room in self.rooms[sid]:
-            raise Refused("RoomRefused(AlreadyIn)")
-        if len(self.rooms[sid]) >= MOST_ROOMS:
-            raise Refused("RoomRefused(TooManyRooms)")
+        refuse_if(sid not in self.sockets, "UnknownSocket")
+        refuse_if(room in self.rooms[sid], "RoomRefused(AlreadyIn)")
+        refuse_if(len(self.rooms[sid]) >= MOST_ROOMS, "RoomRefused(TooManyRooms)")
         self.rooms[sid].add(room)
         self.step("joined", now)
 
     def leave(self, sid, room, now):
-        if sid not in self.sockets:
-            raise Refused("UnknownSocket")
-        if room == id_text(sid):
-            raise Refused("RoomRefused(OwnRoom)")
-        if room not in self.rooms[sid]:
-            raise Refused("RoomRefused(NotIn)")
+        refuse_if(sid not in self.sockets, "UnknownSocket")
+        refuse_if(room == id_text(sid), "RoomRefused(OwnRoom)")
+        refuse_if(room not in self.rooms[sid], "RoomRefused(NotIn)")
         self.rooms[sid].remove(room)
         self.step("left", now)
 
@@ -214,11 +193,9 @@ class Hub:
         and the id of a question or of an answer."""
         self.look_at_space(space)
         is_logged, has_id = form is True, form if isinstance(form, tuple) else ()
-        if "]" not in payload or len(parts) > MOST_ATTACHMENTS:
-            raise Refused("BadPayload")
+        refuse_if("]" not in payload or len(parts) > MOST_ATTACHMENTS, "BadPayload")
         offset = self.next if is_logged else None
-        if is_logged and offset is None:
-            raise Refused("Spent")
+        refuse_if(is_logged and offset is None, "Spent")
         payload = with_offset(payload, offset) if is_logged else payload
         entry = Entry(event_text(space, payload, len(parts), *has_id), parts)
         reached, dropped = [], 0
@@ -248,8 +225,7 @@ class Hub:
 
     def tell(self, client, entry, now):
         self.look_at_client(client)
-        if not self.has_space(client, [entry]):
-            raise Refused("OutboxFull")
+        refuse_if(not self.has_space(client, [entry]), "OutboxFull")
         self.put(client, entry)
         self.step("told", now, entry.size)
 
@@ -265,17 +241,15 @@ class Hub:
     def park(self, client, now):
         self.look_at_client(client)
         sids = self.clients[client].sockets.values()
-        if len(sids) > max(0, self.limits["saved"] - len(self.saved)):
-            raise Refused("SavedFull")
+        refuse_if(len(sids) > max(0, self.limits["saved"] - len(self.saved)), "SavedFull")
         for sid in sids:
-            saved = Saved(sid, self.sockets[sid], self.rooms[sid], self.moment(now))
-            self.saved[saved.pid] = saved
+            _, space, pid = self.sockets[sid]
+            self.saved[pid] = Saved(sid, space, pid, self.rooms[sid], self.moment(now))
         self.drop_client(client, "Saved")
         self.step("parked", now)
 
     def end(self, sid, now, side="Server"):
-        if sid not in self.sockets:
-            raise Refused("UnknownSocket")
+        refuse_if(sid not in self.sockets, "UnknownSocket")
         self.unseat(sid, f"Alone({side})")
         self.step("ended", now)
 
@@ -294,8 +268,7 @@ class Hub:
 
     def join_all(self, space, rooms, excepted, room, now):
         changed = [sid for sid in self.addressed(space, rooms, excepted) if room not in self.rooms[sid]]
-        if any(len(self.rooms[sid]) >= MOST_ROOMS for sid in changed):
-            raise Refused("RoomRefused(TooManyRooms)")
+        refuse_if(any(len(self.rooms[sid]) >= MOST_ROOMS for sid in changed), "RoomRefused(TooManyRooms)")
         for sid in changed:
             self.rooms[sid].add(room)
         self.step("all-joined", now, named(rooms, excepted) + ID * len(changed))
@@ -303,8 +276,7 @@ class Hub:
 
     def leave_all(self, space, rooms, excepted, room, now):
         changed = [sid for sid in self.addressed(space, rooms, excepted) if room in self.rooms[sid]]
-        if any(room == id_text(sid) for sid in changed):
-            raise Refused("RoomRefused(OwnRoom)")
+        refuse_if(any(room == id_text(sid) for sid in changed), "RoomRefused(OwnRoom)")
         for sid in changed:
             self.rooms[sid].remove(room)
         self.step("all-left", now, named(rooms, excepted) + ID * len(changed))

@@ -8,13 +8,6 @@ from server import Server
 USUAL = dict(capacity=64, clients=1024, bytes=8_388_608, log=1024, log_bytes=67_108_864, saved=4096, keep=120_000, first_offset=1)
 NAME = "([A-Za-z]{1,16})"
 NUMBER = "([0-9]+)"
-FORMS = {word: re.compile(form, re.S) for word, form in {
-    "config": f"config ([a-z-]+) {NUMBER}", "at": f"at {NUMBER}", "open": f"open {NAME}( socket)?",
-    "text": f"text {NAME} (.*)", "frame": f"frame {NAME} (.*)", "bytes": f"bytes {NAME} (.*)",
-    "get": f"get {NAME}", "unget": f"unget {NAME}", "take": f"take {NAME}(?: {NUMBER})?", "probe": f"probe {NAME}",
-    "upgrade": f"upgrade {NAME}", "unprobe": f"unprobe {NAME}", "lost": f"lost {NAME}", "tick": f"tick {NAME}",
-    "members": "members ([^ ]*) (.*)", "sweep": "sweep", "totals": "totals", "seal": "seal",
-}.items()}
 TOTALS = "commands {}, placed {}, dropped {}, taken {}, discarded {}, waiting {}"
 
 
@@ -40,7 +33,7 @@ class Script:
             return []
         try:
             self.begin()
-            return [] if word is None else getattr(self, f"play_{word}")(*parts)
+            return (LINES[word][1](self, *parts) or []) if word else self.bad()
         except BadLine:
             return ["bad line"]
         except Refused as refused:
@@ -54,36 +47,21 @@ class Script:
                 self.is_over = True
                 raise
 
+    def bad(self):
+        raise BadLine
+
     def client(self, name):
-        if name not in self.names:
-            raise BadLine
-        return self.names[name]
-
-    def play_bad(self):
-        raise BadLine
-
-    def play_config(self, *_):
-        raise BadLine
-
-    def play_at(self, moment):
-        self.now = moment
-        return []
+        return self.names[name] if name in self.names else self.bad()
 
     def play_open(self, name, is_socket):
         client, text = self.server.open(bool(is_socket), self.now)
         self.names[name] = client
         return [f"{name} {text}"]
 
-    def play_text(self, name, body):
-        return self.tell(self.server.post(self.client(name), body, self.now))
-
-    def play_frame(self, name, text):
-        return self.tell(self.server.frame(self.client(name), text, self.now))
-
     def play_bytes(self, name, digits):
         client = self.client(name)
         if not re.fullmatch("([0-9a-f]{2})*", digits):
-            raise BadLine
+            self.bad()
         return self.tell(self.server.bytes(client, bytes.fromhex(digits), self.now))
 
     @staticmethod
@@ -93,50 +71,42 @@ class Script:
         said += ", ignored" if done.is_ignored else ""
         return [said + (f", closed: {done.closed}" if done.closed else "")]
 
-    def play_get(self, name):
-        return ["ok" if self.server.get(self.client(name), self.now) else "closed: DoubleGet"]
-
-    def play_unget(self, name):
-        self.server.unget(self.client(name))
-        return ["ok"]
-
     def play_take(self, name, most):
         taken = self.server.take(self.client(name), 64 if most is None else most, self.now)
         if not isinstance(taken, list):
             return [f"{name} {'-' if taken is None else taken}"]
         return [f"{name} bytes {it.hex()}" if isinstance(it, bytes) else f"{name} text {it}" for it in taken]
 
-    def play_probe(self, name):
-        self.server.probe(self.client(name))
-        return [f"{name} 3probe"]
-
-    def play_upgrade(self, name):
-        self.server.upgrade(self.client(name))
-        return ["ok"]
-
-    def play_unprobe(self, name):
-        self.server.unprobe(self.client(name))
-        return ["ok"]
-
-    def play_lost(self, name):
-        return ["ok" if self.server.lose(self.client(name), self.now) else "ok, not saved: SavedFull"]
-
     def play_tick(self, name):
         due = self.server.tick(self.client(name), self.now)
         return [f"{name} {due}" if due in ("ping", "nothing") else f"{name} closed: {due}"]
-
-    def play_sweep(self):
-        return ["swept log {}, saved {}".format(*self.server.hub.sweep(self.now))]
 
     def play_members(self, space, room):
         sids = self.server.hub.members(space, room)
         return [" ".join(["members", *(f"{sid:032x}" for sid in sids)]) if sids else "members -"]
 
-    def play_totals(self):
-        return [TOTALS.format(*self.server.hub.totals())]
 
-    def play_seal(self):
-        return [f"sealed {self.server.hub.seal()}"]
+# Of each line, by its first word, its form, and what it prints: of the script, and of the parts.
+LINES = {
+    "config": (f"config ([a-z-]+) {NUMBER}", lambda it, *_: it.bad()),
+    "at": (f"at {NUMBER}", lambda it, moment: setattr(it, "now", moment)),
+    "open": (f"open {NAME}( socket)?", Script.play_open),
+    "text": (f"text {NAME} (.*)", lambda it, name, body: it.tell(it.server.post(it.client(name), body, it.now))),
+    "frame": (f"frame {NAME} (.*)", lambda it, name, text: it.tell(it.server.frame(it.client(name), text, it.now))),
+    "bytes": (f"bytes {NAME} (.*)", Script.play_bytes),
+    "get": (f"get {NAME}", lambda it, name: ["ok" if it.server.get(it.client(name), it.now) else "closed: DoubleGet"]),
+    "unget": (f"unget {NAME}", lambda it, name: it.server.unget(it.client(name)) or ["ok"]),
+    "take": (f"take {NAME}(?: {NUMBER})?", Script.play_take),
+    "probe": (f"probe {NAME}", lambda it, name: it.server.probe(it.client(name)) or [f"{name} 3probe"]),
+    "upgrade": (f"upgrade {NAME}", lambda it, name: it.server.upgrade(it.client(name)) or ["ok"]),
+    "unprobe": (f"unprobe {NAME}", lambda it, name: it.server.unprobe(it.client(name)) or ["ok"]),
+    "lost": (f"lost {NAME}", lambda it, name: ["ok" if it.server.lose(it.client(name), it.now) else "ok, not saved: SavedFull"]),
+    "tick": (f"tick {NAME}", Script.play_tick),
+    "members": ("members ([^ ]*) (.*)", Script.play_members),
+    "sweep": ("sweep", lambda it: ["swept log {}, saved {}".format(*it.server.hub.sweep(it.now))]),
+    "totals": ("totals", lambda it: [TOTALS.format(*it.server.hub.totals())]),
+    "seal": ("seal", lambda it: [f"sealed {it.server.hub.seal()}"]),
+}
 
 
 def as_text(line):
@@ -149,20 +119,18 @@ def as_text(line):
 def read(text):
     """The word of a line and its parts."""
     word = (text or "").partition(" ")[0]
-    found = FORMS[word].fullmatch(text) if word in FORMS else None
+    found = re.fullmatch(LINES[word][0], text, re.S) if word in LINES else None
     if not found:
-        return "bad", ()
+        return None, ()
     parts = list(found.groups())
     if word in ("config", "at", "take") and parts[-1] is not None:
         parts[-1] = int(parts[-1])
         if parts[-1] >= 2**64 or word == "take" and parts[-1] == 0:
-            return "bad", ()
+            return None, ()
     if word == "config":
         parts[0] = parts[0].replace("-", "_")
-    if word == "config" and parts[0] not in USUAL or word == "config" and "_" in found[1]:
-        return "bad", ()
-    if word == "members" and len(parts[1].encode()) > 64:
-        return "bad", ()
+    if word == "config" and parts[0] not in USUAL or word == "members" and len(parts[1].encode()) > 64:
+        return None, ()
     return word, parts
 
 

@@ -2,10 +2,11 @@
 import contextlib
 import itertools
 import json
+import types
 
-from hub import Entry, Hub, Refused
-from wire import (SEPARATOR, Fault, Header, event_text, id_text, named_session, open_text, read_packet, read_payload,
-                  start, write_base64)
+from hub import Entry, Hub, Refused, refuse_if
+from wire import (SEPARATOR, Fault, Header, event_text, fail_if, id_text, named_session, open_text, read_packet,
+                  read_payload, start, write_base64)
 
 GREATEST = 2**64 - 1
 PING_INTERVAL, PING_TIMEOUT, CONNECT_TIMEOUT = 25_000, 20_000, 45_000
@@ -61,8 +62,7 @@ class Line:
 
     def text(self, text):
         """The packet that is whole with this text, if one is."""
-        if self.awaited:
-            raise Fault("TextAwaitingBinary")
+        fail_if(self.awaited, "TextAwaitingBinary")
         header = Header(text)
         if not header.count:
             return header
@@ -70,11 +70,9 @@ class Line:
         return None
 
     def binary(self, part, most):
-        if not self.awaited:
-            raise Fault("BinaryUnawaited")
+        fail_if(not self.awaited, "BinaryUnawaited")
         packet = self.awaited
-        if sum(map(len, packet.parts)) + len(part) > most:
-            raise Fault("TooLong")
+        fail_if(sum(map(len, packet.parts)) + len(part) > most, "TooLong")
         packet.parts.append(part)
         if len(packet.parts) < packet.count:
             return None
@@ -96,13 +94,6 @@ class Line:
 PROBE = {"polling": "probing", "probing": "AlreadyProbing", "socket": "AlreadyUpgraded"}
 UPGRADE = {"polling": "NotProbing", "probing": "socket", "socket": "AlreadyUpgraded"}
 UNPROBE = {"polling": "NotProbing", "probing": "polling", "socket": "AlreadyUpgraded"}
-
-
-class Done:
-    """What came of a payload or of a frame."""
-
-    def __init__(self):
-        self.is_unread, self.skipped, self.is_ignored, self.closed = False, None, False, None
 
 
 def then_heard(event):
@@ -134,10 +125,8 @@ class Server:
 
     def line_of(self, client, *transports):
         """The line of an open client, whose transport has to be one of these where any is named."""
-        if client not in self.lines:
-            raise Refused("UnknownClient")
-        if transports and self.lines[client].transport not in transports:
-            raise Refused("WrongTransport")
+        refuse_if(client not in self.lines, "UnknownClient")
+        refuse_if(transports and self.lines[client].transport not in transports, "WrongTransport")
         return self.lines[client]
 
     def close(self, client, now):
@@ -158,8 +147,7 @@ class Server:
     def hear_of(self, ended, now):
         for sid, socket, rooms, ending in ended:
             for name, *words in self.app.left(sid, socket.space, sorted(rooms), ending):
-                if name != "emit":
-                    raise Refused("BadEffect")
+                refuse_if(name != "emit", "BadEffect")
                 self.emit(*words, now)
 
     # The events.
@@ -187,7 +175,8 @@ class Server:
         return self.hear(client, too_long if len(part) > LONGEST_FRAME else lambda: [("b", part)], now)
 
     def hear(self, client, read, now, is_payload=False):
-        done = Done()
+        """What came of a payload or of a frame."""
+        done = types.SimpleNamespace(is_unread=False, skipped=None, is_ignored=False, closed=False)
         try:
             packets = read()
         except Fault as fault:
@@ -340,8 +329,7 @@ class Server:
         """Does what the app wants. A room that can't be joined or left is skipped, and the first reason told."""
         refused_here = None
         for effect in effects:
-            if sid not in self.hub.sockets:
-                raise Refused("BadEffect")
+            refuse_if(sid not in self.hub.sockets, "BadEffect")
             try:
                 if effect == ("report",):
                     effect = ("reply", ["error", REFUSALS[refused_here]] if refused_here else ["ok"])
@@ -355,43 +343,37 @@ class Server:
 
     def do(self, client, sid, header, effect, now):
         hub, line, (name, *words), space = self.hub, self.lines[client], effect, header.space
-        if name in TO_MANY and words[0][0] not in hub.limits["spaces"]:
-            raise Refused("BadEffect")
-        if name == "join":
-            hub.join(sid, *words, now)
-        elif name == "leave":
-            hub.leave(sid, *words, now)
-        elif name == "emit":
-            self.emit(*words, now)
-        elif name == "pull":
-            hub.join_all(*words[0], words[1], now)
-        elif name == "push":
-            hub.leave_all(*words[0], words[1], now)
-        elif name == "end":
-            for ended in hub.end_all(*words[0], now)[0]:
-                for other in self.lines.values():
-                    other.questions.pop(ended, None)
-        elif name == "no array":
-            raise Refused("BadEffect")
-        elif name == "ask":
-            self.ask(client, line.questions[sid], space, *words, now)
-        elif name == "fetch":
-            self.reply(client, header, ["ok", [id_text(it) for it in hub.addressed(*words[0])]], now)
-        elif name == "reply":
-            self.reply(client, header, *words, now)
-        elif name == "bye":
-            farewell = Entry(f"1{start(space)}")
-            if hub.has_space(client, [farewell]):
-                hub.tell(client, farewell, now)
-            hub.end(sid, now)
-            del line.questions[sid]
+        refuse_if(name == "no array" or name in TO_MANY and words[0][0] not in hub.limits["spaces"], "BadEffect")
+        {
+            "join": lambda room: hub.join(sid, room, now),
+            "leave": lambda room: hub.leave(sid, room, now),
+            "emit": lambda *what: self.emit(*what, now),
+            "pull": lambda whom, room: hub.join_all(*whom, room, now),
+            "push": lambda whom, room: hub.leave_all(*whom, room, now),
+            "end": lambda whom: self.forget(hub.end_all(*whom, now)[0]),
+            "ask": lambda *what: self.ask(client, line.questions[sid], space, *what, now),
+            "fetch": lambda whom: self.reply(client, header, ["ok", [id_text(it) for it in hub.addressed(*whom)]], now),
+            "reply": lambda values: self.reply(client, header, values, now),
+            "bye": lambda: self.dismiss(client, sid, space, now),
+        }[name](*words)
+
+    def forget(self, ended):
+        """The questions of sockets that have ended."""
+        for sid, line in itertools.product(ended, self.lines.values()):
+            line.questions.pop(sid, None)
+
+    def dismiss(self, client, sid, space, now):
+        farewell = Entry(f"1{start(space)}")
+        if self.hub.has_space(client, [farewell]):
+            self.hub.tell(client, farewell, now)
+        self.hub.end(sid, now)
+        del self.lines[client].questions[sid]
 
     def emit(self, to, form, payload, parts, now):
         self.hub.cast(*to, form, payload, parts, now)
 
     def reply(self, client, header, values, now):
-        if header.id is None:
-            raise Refused("BadEffect")
+        refuse_if(header.id is None, "BadEffect")
         self.tell(client, f"3{start(header.space)}{header.id}{json.dumps(values, separators=(',', ':'))}", now)
 
     def ask(self, client, book, space, payload, wait, parts, now):

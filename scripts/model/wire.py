@@ -14,17 +14,20 @@ class Fault(Exception):
     """What is wrong with a text, by the name that the server tells."""
 
 
+def fail_if(holds, why):
+    if holds:
+        raise Fault(why)
+
+
 class Number(str):
     """A number of a JSON text, as it is written."""
 
 
 def read_base64(text):
     """The bytes of a standard base64 text with its padding, whose last bits are none that are left out."""
-    if not BASE64.fullmatch(text):
-        raise Fault("BadBase64")
+    fail_if(not BASE64.fullmatch(text), "BadBase64")
     found = base64.b64decode(text)
-    if write_base64(found) != text:
-        raise Fault("BadBase64")
+    fail_if(write_base64(found) != text, "BadBase64")
     return found
 
 
@@ -34,12 +37,10 @@ def write_base64(part):
 
 def read_packet(text):
     """A packet's type and its data: of a binary message `b` and its bytes."""
-    if not text:
-        raise Fault("Empty")
+    fail_if(not text, "Empty")
     if text[0] == "b":
         return "b", read_base64(text[1:])
-    if text[0] not in "0123456":
-        raise Fault("BadType")
+    fail_if(text[0] not in "0123456", "BadType")
     return text[0], text[1:]
 
 
@@ -69,8 +70,7 @@ def read_json(text):
         tree = json.loads(text, parse_int=Number, parse_float=Number, parse_constant=refuse_constant)
     except (ValueError, RecursionError):
         raise Fault("BadJson") from None
-    if SEPARATOR in text or not is_whole(tree):
-        raise Fault("BadJson")
+    fail_if(SEPARATOR in text or not is_whole(tree), "BadJson")
     return tree
 
 
@@ -79,14 +79,12 @@ class Header:
     that have come."""
 
     def __init__(self, text):
-        if text[:1] not in tuple("0123456"):
-            raise Fault("BadKind")
+        fail_if(text[:1] not in tuple("0123456"), "BadKind")
         self.kind, self.parts, rest = text[0], [], text[1:]
         self.count, rest = self.read_count(rest) if self.kind in "56" else (0, rest)
         self.space, rest = self.read_space(rest)
         digits = re.match("[0-9]*", rest)[0]
-        if len(digits) > 15:
-            raise Fault("BadId")
+        fail_if(len(digits) > 15, "BadId")
         self.id, self.payload = int(digits) if digits else None, rest[len(digits) :]
         self.tree = read_json(self.payload) if self.payload else None
         self.look_at_shape()
@@ -94,10 +92,8 @@ class Header:
     @staticmethod
     def read_count(text):
         digits = re.match("[0-9]*", text)[0]
-        if not 1 <= len(digits) <= 15 or text[len(digits) : len(digits) + 1] != "-":
-            raise Fault("BadCount")
-        if int(digits) > MOST_ATTACHMENTS:
-            raise Fault("TooMany")
+        fail_if(not 1 <= len(digits) <= 15 or text[len(digits) : len(digits) + 1] != "-", "BadCount")
+        fail_if(int(digits) > MOST_ATTACHMENTS, "TooMany")
         return int(digits), text[len(digits) + 1 :]
 
     @staticmethod
@@ -105,8 +101,7 @@ class Header:
         if not text.startswith("/"):
             return "/", text
         space, _, rest = text.partition(",")
-        if any(letter < " " for letter in space):
-            raise Fault("BadShape")
+        fail_if(any(letter < " " for letter in space), "BadShape")
         return space, rest
 
     def look_at_shape(self):
@@ -119,12 +114,9 @@ class Header:
             "3": is_array and self.id is not None,
             "4": self.id is None and (isinstance(tree, dict) or is_text(tree)),
         }
-        if not is_right[{"5": "2", "6": "3"}.get(self.kind, self.kind)]:
-            raise Fault("BadShape")
-        if self.kind in "25" and is_text(tree[0]) and tree[0] in RESERVED:
-            raise Fault("Reserved")
-        if self.kind in "56" and not has_places(tree, self.count):
-            raise Fault("BadPlaceholder")
+        fail_if(not is_right[{"5": "2", "6": "3"}.get(self.kind, self.kind)], "BadShape")
+        fail_if(self.kind in "25" and is_text(tree[0]) and tree[0] in RESERVED, "Reserved")
+        fail_if(self.kind in "56" and not has_places(tree, self.count), "BadPlaceholder")
 
 
 def is_text(tree):
