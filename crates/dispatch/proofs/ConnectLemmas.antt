@@ -25,6 +25,7 @@ use Rattle.effects.specs.Effects.{Scene, told_to, ActsInTurn, StopsAfter}
 use Rattle.effects.specs.Following.{is_clean}
 use Rattle.effects.specs.Runs.{Runs}
 use Rattle.effects.proofs.StepLemmas.{itself, open-still, connected-then, own-then}
+use Rattle.effects.specs.Scene.{visit_at}
 use Rattle.dispatch.specs.Packets.{Course, Upshot, refusal_entry, ClosesFor, Refuses, DoesAll, DrawsNone, MayRecover, AsksToConnect}
 
 -- ---- the text of a refusal holds no U+001E
@@ -104,7 +105,7 @@ drawn-two first second third once twice = twice ∙ ap (λ (ids : ℕ → ℕ). 
 
 -- the client is closed, since its outbox has no space for the refusal
 pub refuses-full : (c now : ℕ) (space message : List ℕ) (s : Scene) (result : Upshot) (t : Scene) → IsRefused s.history now (told_to c (refusal_entry space message)) hub.OutboxFull
-    → ClosesFor c now cause.OutboxFull s result t → Refuses c now space message s result t
+    → ClosesFor cause.OutboxFull (visit_at c now) s result t → Refuses space message (visit_at c now) s result t
 refuses-full c now space message s (Ok done) t refused closes = inr (refused, closes)
 refuses-full c now space message s (Err e) t refused (fails, stops) = (inr (refused, fails), stops)
 
@@ -143,13 +144,13 @@ none-mapped f (Some x) none = absurd (cc none)
 
 module _ (policy : Policy) (c : ℕ) (space payload : List ℕ) (now : ℕ) (s : Course) (result : Upshot) (t : Course) where
   -- a CONNECT to a namespace that isn't there
-  pub asks-nowhere : is_space s.scene.history.limits (place_of s.scene.history.limits space) ≡ false → DrawsNone (Refuses c now space (codes "Invalid namespace")) s result t
-      → AsksToConnect policy c space payload now s result t
+  pub asks-nowhere : is_space s.scene.history.limits (place_of s.scene.history.limits space) ≡ false → DrawsNone (Refuses space (codes "Invalid namespace") (visit_at c now)) s result t
+      → AsksToConnect policy space payload (visit_at c now) s result t
   asks-nowhere none refuses = rw (none, AsksToConnect) refuses
 
   -- one to a namespace that the client hasn't joined
   pub asks-free : is_space s.scene.history.limits (place_of s.scene.history.limits space) ≡ true
       → option_map sid_of (socket_of s.scene.history.base s.scene.history.journal c (place_of s.scene.history.limits space)) ≡ None
-      → MayRecover policy c space payload now s result t → AsksToConnect policy c space payload now s result t
+      → MayRecover policy space payload (visit_at c now) s result t → AsksToConnect policy space payload (visit_at c now) s result t
   asks-free there free comes =
       rw (there, none-mapped sid_of (socket_of s.scene.history.base s.scene.history.journal c (place_of s.scene.history.limits space)) free, AsksToConnect) comes

@@ -3,11 +3,9 @@
 use Rattle.std.proofs.Common.{◌≡◌, ℕ, ◌==◌, Bool, true, false, List, [], ◌∷◌, refl, sym, ◌∙◌, ap, subst, is_some, is_none, Option, None, Some, Ok, Err, IfOk, inl, inr}
 use Rattle.std.specs.List.{AllByRecursion}
 use Rattle.eio_wire.specs.Payload.{IsWhole}
-use Rattle.eio_wire.specs.declared.handshake.Numbers.{Numbers}
 use Rattle.eio_wire.specs.declared.packet.Packet.{Packet}
 use Rattle.connection.specs.declared.timing.Due.{Due}
 use Rattle.connection.specs.declared.timing.Due.TheVariants as due
-use Rattle.connection.specs.declared.timing.Timing.{Timing}
 use Rattle.connection.specs.declared.transport.Transport.{Transport}
 use Rattle.connection.specs.declared.transport.Transport.TheVariants.{Polling, Probing, Socket}
 use Rattle.connection.specs.History.{Call, GetBegan, GetEnded, Ticked, Probed, Upgraded, ProbeLost}
@@ -30,14 +28,16 @@ use Rattle.events.specs.declared.event.Event.TheVariants as event
 use Rattle.events.specs.declared.event.WsFrame.{WsFrame}
 use Rattle.events.specs.declared.outcome.Outcome.TheVariants as outcome
 use Rattle.events.specs.Answer.{Answer}
+use Rattle.effects.specs.Scene.{Visit, visit_at}
+use Rattle.dispatch.specs.declared.lines.Handshake.{Handshake}
 use Rattle.dispatch.specs.Answers.{Refused, KeepsWhileOpen, AdvancesLine, ClosesUnread, ForClient}
 use Rattle.dispatch.specs.Frames.{is_too_long}
 use Rattle.dispatch.specs.Handed.{Turn, Handed}
 use Rattle.dispatch.specs.Handed as handed
-use Rattle.dispatch.specs.Machine.{IsOf, listed, Opens, Begins, Ends, Takes, TakesFrames, Loses, opening, WorksOn, Posts, PostsFor, HearsFrame, Hears, HearsFor, Row}
+use Rattle.dispatch.specs.Machine.{IsOf, listed, Opens, Begins, Ends, Takes, TakesFrames, Loses, opening, WorksOn, Posts, PostsFor, ReadsFrame, Receives, ReceivesFor, Row}
 use Rattle.dispatch.specs.Packets.{Course, course}
 use Rattle.dispatch.specs.Parking.{ParksOrCloses}
-use Rattle.dispatch.specs.Holding.{Holding, line_of, holding, KeepsLines, HasLine, LosesLine, Agree}
+use Rattle.dispatch.specs.Holding.{Holding, line_of, holding, KeepsLines, HasLine, LosesLine, Agree, with_ids, standing}
 use Rattle.dispatch.specs.Upgrade.{Upgrades, LosesProbe, Probes, ProbesOn, EndsProbe, EndsProbeOn}
 use Rattle.dispatch.specs.Upkeep.{Ticks, TicksOn, Sweeps}
 use Rattle.dispatch.proofs.HandedLemmas.{Given, taken-given, sent-given, given-turn, handed-open, handed-work}
@@ -49,6 +49,10 @@ spares-more : (c : ℕ) (h g : History) (lists : List (List ℕ)) → Spares c h
 spares-more c h g lists spares = λ d other out. spares d other refl
 
 module _ (c now : ℕ) (h g : History) (old new : List (ℕ × PlainLine)) (agree : Agree h old) where
+  -- the event's visit
+  abbrev v : Visit
+  v = visit_at c now
+
   abbrev s : Holding
   s = holding h old
 
@@ -106,7 +110,7 @@ module _ (c now : ℕ) (h g : History) (old new : List (ℕ × PlainLine)) (agre
   parked : (answer : Answer) → Makes h now (what.Parked c) g → LosesLine c s t → Turned answer
   parked answer made lost = gone (what.Parked c) answer made (itself c) refl (work-on c h now (what.Parked c) h g made.1 (itself c) (itself c) refl tt [] (works-none c h [])) lost
 
-  closes-unread : (why : Cause) (answer : Answer) → ClosesUnread now c why s answer t → Turned answer
+  closes-unread : (why : Cause) (answer : Answer) → ClosesUnread why v s answer t → Turned answer
   closes-unread why (Ok (outcome.Done done)) (is, made, lost) = closed _ made lost
   closes-unread why (Ok _) none = absurd none
   closes-unread why (Err e) (fails, (is, same, lines)) = works (Err e) (unchanged same) (lines-kept same lines)
@@ -120,7 +124,7 @@ module _ (c now : ℕ) (h g : History) (old new : List (ℕ × PlainLine)) (agre
       on None none is = refused UnknownClient answer is
       on (Some line) is does = each line is does
 
-  begins : (answer : Answer) (line : PlainLine) → line_of old c ≡ Some line → Begins now c line s answer t → Turned answer
+  begins : (answer : Answer) (line : PlainLine) → line_of old c ≡ Some line → Begins v line s answer t → Turned answer
   begins answer line is (inl (on, refusal)) = refused _ answer refusal
   begins answer line is (inr (inl (polls, getting, closes))) = closes-unread cause.DoubleGet answer closes
   begins answer line is (inr (inr (polls, getting, said, advances))) = advanced line is (GetBegan ∷ []) answer advances
@@ -130,7 +134,7 @@ module _ (c now : ℕ) (h g : History) (old new : List (ℕ × PlainLine)) (agre
   ends (Ok _) line is none = absurd none
   ends (Err e) line is none = absurd none
 
-  loses : (answer : Answer) → Loses now c s answer t → Turned answer
+  loses : (answer : Answer) → Loses v s answer t → Turned answer
   loses (Ok (outcome.Lost true done)) (none, made, lost) = parked _ made lost
   loses (Ok (outcome.Lost false done)) (none, refusal, made, lost) = closed _ made lost
   loses (Ok _) none = absurd none
@@ -140,7 +144,7 @@ module _ (c now : ℕ) (h g : History) (old new : List (ℕ × PlainLine)) (agre
   parked-or-closed answer (inl made) lost = parked answer made lost
   parked-or-closed answer (inr (refusal, made)) lost = closed answer made lost
 
-  ticks-on : (d : Due) (answer : Answer) (line : PlainLine) → line_of old c ≡ Some line → TicksOn d now c line s answer t → Turned answer
+  ticks-on : (d : Due) (answer : Answer) (line : PlainLine) → line_of old c ≡ Some line → TicksOn d v line s answer t → Turned answer
   ticks-on due.Nothing answer line is (said, advances) = advanced line is (Ticked now due.Nothing ∷ []) answer advances
   ticks-on due.SendPing answer line is (said, advances) = advanced line is (Ticked now due.SendPing ∷ []) answer advances
   ticks-on due.PingTimeout (Ok o) line is (said, parks, lost) = parked-or-closed (Ok o) parks lost
@@ -148,7 +152,7 @@ module _ (c now : ℕ) (h g : History) (old new : List (ℕ × PlainLine)) (agre
   ticks-on due.ConnectTimeout (Ok o) line is (said, made, lost) = closed (Ok o) made lost
   ticks-on due.ConnectTimeout (Err e) line is (said, fails, advances) = advanced line is (Ticked now due.ConnectTimeout ∷ []) (Err e) advances
 
-  ticks : (answer : Answer) (line : PlainLine) → line_of old c ≡ Some line → Ticks now c line s answer t → Turned answer
+  ticks : (answer : Answer) (line : PlainLine) → line_of old c ≡ Some line → Ticks v line s answer t → Turned answer
   ticks answer line is (d, due, on) = ticks-on d answer line is on
 
   probes : (answer : Answer) (line : PlainLine) → line_of old c ≡ Some line → Probes c line s answer t → Turned answer
@@ -182,7 +186,7 @@ module _ (c now : ℕ) (h g : History) (old new : List (ℕ × PlainLine)) (agre
         on (Some why) (none, others) closed = agree-gone c h g old new agree (goes-turn c h g work) others none closed
         on None has open_still = agree-still c h g old new agree (goes-turn c h g work) has.1 (has-some _ has) open_still
 
-    works-on : (packets : List Packet) (answer : Answer) (line : PlainLine) → line_of old c ≡ Some line → WorksOn policy now c packets line s ids answer t left → Turned answer
+    works-on : (packets : List Packet) (answer : Answer) (line : PlainLine) → line_of old c ≡ Some line → WorksOn policy v packets line (with_ids s ids) answer (with_ids t left) → Turned answer
     works-on packets (Ok (outcome.Done done)) line is (m, run, said, there, keeps, drawn) =
         let after = all-after c now h policy packets (course (opening h line) ids) m run (start line is) in
         let work = subst (λ (k : History). Working c h k m.scene.done.clients) (sym there) after.has in
@@ -201,40 +205,40 @@ module _ (c now : ℕ) (h g : History) (old new : List (ℕ × PlainLine)) (agre
           agrees = agree-still c h g old new agree (goes-turn c h g work.goes) has.1 (has-some _ has) (ap (λ (k : History). is_open k.base k.journal c) there ∙ after.0);
         }
 
-    posts : (body : List ℕ) (answer : Answer) (line : PlainLine) → line_of old c ≡ Some line → Posts policy now c body line s ids answer t left → Turned answer
-    posts body answer line is (inl (on, refusal, drawn)) = refused _ answer refusal
+    posts : (body : List ℕ) (answer : Answer) (line : PlainLine) → line_of old c ≡ Some line → Posts policy v body line (with_ids s ids) answer (with_ids t left) → Turned answer
+    posts body answer line is (inl (on, (refusal, drawn))) = refused _ answer refusal
     posts body answer line is (inr (polls, inl (refusal, drawn))) = refused _ answer refusal
     posts body answer line is (inr (polls, inr (inl (packets, payload, does)))) = works-on packets answer line is does
-    posts body answer line is (inr (polls, inr (inr (fault, faulty, closes, drawn)))) = closes-unread _ answer closes
+    posts body answer line is (inr (polls, inr (inr (fault, faulty, (closes, drawn))))) = closes-unread _ answer closes
 
-    pub posts-for : (body : List ℕ) (answer : Answer) → PostsFor policy now c body s ids answer t left → Turned answer
+    pub posts-for : (body : List ℕ) (answer : Answer) → PostsFor policy v body (with_ids s ids) answer (with_ids t left) → Turned answer
     posts-for body answer does = on (line_of old c) refl does
       where
         on : (o : Option PlainLine) → line_of old c ≡ o
-            → elim o as (λ (o : Option PlainLine). Type 0) [ None ↦ Refused UnknownClient s answer t × (left ≡ ids) | Some line ↦ Posts policy now c body line s ids answer t left ] → Turned answer
+            → elim o as (λ (o : Option PlainLine). Type 0) [ None ↦ Refused UnknownClient s answer t × (left ≡ ids) | Some line ↦ Posts policy v body line (with_ids s ids) answer (with_ids t left) ] → Turned answer
         on None none (refusal, drawn) = refused _ answer refusal
         on (Some line) is does = posts body answer line is does
 
-    hears-frame : (frame : WsFrame) (answer : Answer) (line : PlainLine) → line_of old c ≡ Some line → HearsFrame policy now c frame line s ids answer t left → Turned answer
-    hears-frame frame answer line is (inl (refusal, drawn)) = refused _ answer refusal
-    hears-frame frame answer line is (inr (inl (packet, framed, does))) = works-on (packet ∷ []) answer line is does
-    hears-frame frame answer line is (inr (inr (fault, faulty, closes, drawn))) = closes-unread _ answer closes
+    reads-frame : (frame : WsFrame) (answer : Answer) (line : PlainLine) → line_of old c ≡ Some line → ReadsFrame policy v frame line (with_ids s ids) answer (with_ids t left) → Turned answer
+    reads-frame frame answer line is (inl (refusal, drawn)) = refused _ answer refusal
+    reads-frame frame answer line is (inr (inl (packet, framed, does))) = works-on (packet ∷ []) answer line is does
+    reads-frame frame answer line is (inr (inr (fault, faulty, (closes, drawn)))) = closes-unread _ answer closes
 
-    hears : (frame : WsFrame) (answer : Answer) (line : PlainLine) → line_of old c ≡ Some line → Hears policy now c frame line s ids answer t left → Turned answer
-    hears frame answer line is (inl (polls, refusal, drawn)) = refused _ answer refusal
-    hears frame answer line is (inr (on, does)) = by (is_too_long frame) does
+    receives : (frame : WsFrame) (answer : Answer) (line : PlainLine) → line_of old c ≡ Some line → Receives policy v frame line (with_ids s ids) answer (with_ids t left) → Turned answer
+    receives frame answer line is (inl (polls, (refusal, drawn))) = refused _ answer refusal
+    receives frame answer line is (inr (on, does)) = by (is_too_long frame) does
       where
-        by : (b : Bool) → elim b as (λ (b : Bool). Type 0) [ true ↦ ClosesUnread now c cause.TooLong s answer t × (left ≡ ids) | false ↦ HearsFrame policy now c frame line s ids answer t left ] → Turned answer
+        by : (b : Bool) → elim b as (λ (b : Bool). Type 0) [ true ↦ ClosesUnread cause.TooLong v s answer t × (left ≡ ids) | false ↦ ReadsFrame policy v frame line (with_ids s ids) answer (with_ids t left) ] → Turned answer
         by true (closes, drawn) = closes-unread cause.TooLong answer closes
-        by false does = hears-frame frame answer line is does
+        by false does = reads-frame frame answer line is does
 
-    pub hears-for : (frame : WsFrame) (answer : Answer) → HearsFor policy now c frame s ids answer t left → Turned answer
-    hears-for frame answer does = on (line_of old c) refl does
+    pub receives-for : (frame : WsFrame) (answer : Answer) → ReceivesFor policy v frame (with_ids s ids) answer (with_ids t left) → Turned answer
+    receives-for frame answer does = on (line_of old c) refl does
       where
         on : (o : Option PlainLine) → line_of old c ≡ o
-            → elim o as (λ (o : Option PlainLine). Type 0) [ None ↦ Refused UnknownClient s answer t × (left ≡ ids) | Some line ↦ Hears policy now c frame line s ids answer t left ] → Turned answer
+            → elim o as (λ (o : Option PlainLine). Type 0) [ None ↦ Refused UnknownClient s answer t × (left ≡ ids) | Some line ↦ Receives policy v frame line (with_ids s ids) answer (with_ids t left) ] → Turned answer
         on None none (refusal, drawn) = refused _ answer refusal
-        on (Some line) is does = hears frame answer line is does
+        on (Some line) is does = receives frame answer line is does
 
 -- what every event leaves
 pub record Applied (event : Event) (ids : ℕ → ℕ) (answer : Answer) (h g : History) (new : List (ℕ × PlainLine)) : Type 0 where
@@ -283,16 +287,16 @@ module _ (now : ℕ) (h g : History) (old new : List (ℕ × PlainLine)) (agree 
         each (Ok o) = spares-more c h g (listed o) given.2.leads.spares
         each (Err e) = tt
 
-  opens-applied : (timing : Timing) (numbers : Numbers) (socket : Bool) → Opens timing numbers now socket (ids 0) (holding h old) answer (holding g new) → Applied (event.Opened socket) ids answer h g new
-  opens-applied timing numbers socket does =
+  opens-applied : (told : Handshake) (socket : Bool) → Opens told socket (visit_at (ids 0) now) (holding h old) answer (holding g new) → Applied (event.Opened socket) ids answer h g new
+  opens-applied told socket does =
       let left = on answer does in
-      of-client (event.Opened socket) (ids 0) (λ d of. of) left.0.follows (each answer left.0.spares) left.1 (handed-open timing numbers now socket (ids 0) (holding h old) answer (holding g new) does)
+      of-client (event.Opened socket) (ids 0) (λ d of. of) left.0.follows (each answer left.0.spares) left.1 (handed-open told now socket (ids 0) (holding h old) answer (holding g new) does)
     where
       each : (answer : Answer) → Spares (ids 0) h g [] → IfOk answer (λ o. Spares (ids 0) h g (listed o))
       each (Ok o) spares = spares-more (ids 0) h g (listed o) spares
       each (Err e) spares = tt
 
-      on : (answer : Answer) → Opens timing numbers now socket (ids 0) (holding h old) answer (holding g new) → Leads (ids 0) h g × Agree g new
+      on : (answer : Answer) → Opens told socket (visit_at (ids 0) now) (holding h old) answer (holding g new) → Leads (ids 0) h g × Agree g new
       on (Ok (outcome.Opened o)) (client, told, made, has) =
           let leads = leads-on (ids 0) h h g now (what.Opened (ids 0)) made.1 (itself (ids 0)) refl tt (leads-none (ids 0) h h refl) in
           (leads, agree-still (ids 0) h g old new agree (goes-of (is_turn (ids 0)) h g leads.follows) has.1 (has-some (ids 0) now h g old new agree _ has) (opened-then h g now (ids 0) made.1))
@@ -335,30 +339,30 @@ module _ (now : ℕ) (h g : History) (old new : List (ℕ × PlainLine)) (agree 
           let has = each line does in
           agree-still c h g old new agree (goes-of (is_turn c) h g given.2.leads.follows) has.1.1 (has-some c now h g old new agree has.0 has.1) (stays ∙ known c now h g old new agree line is)
 
-  module _ (policy : Policy) (timing : Timing) (numbers : Numbers) (left : ℕ → ℕ) where
-    pub applied : (event : Event) → Row policy now timing numbers event (holding h old) ids answer (holding g new) left → Leaves event ids answer h g new
-    applied (event.Opened socket) (does, drawn) = leaves (event.Opened socket) (opens-applied timing numbers socket does)
+  module _ (policy : Policy) (told : Handshake) (left : ℕ → ℕ) where
+    pub applied : (event : Event) → Row policy told now event (standing h old ids) answer (standing g new left) → Leaves event ids answer h g new
+    applied (event.Opened socket) (does, drawn) = leaves (event.Opened socket) (opens-applied told socket does)
     applied (event.Post c body) does = of-work _ c (λ d of. of) (λ d. refl) (λ d. refl) (posts-for c now h g old new agree policy ids left body answer does)
-    applied (event.Frame c frame) does = of-work _ c (λ d of. of) (λ d. refl) (λ d. refl) (hears-for c now h g old new agree policy ids left frame answer does)
-    applied (event.PollBegin c) (does, drawn) = of-work _ c (λ d of. of) (λ d. refl) (λ d. refl) (for-client c now h g old new agree (Begins now c) answer (begins c now h g old new agree answer) does)
+    applied (event.Frame c frame) does = of-work _ c (λ d of. of) (λ d. refl) (λ d. refl) (receives-for c now h g old new agree policy ids left frame answer does)
+    applied (event.PollBegin c) (does, drawn) = of-work _ c (λ d of. of) (λ d. refl) (λ d. refl) (for-client c now h g old new agree (Begins (visit_at c now)) answer (begins c now h g old new agree answer) does)
     applied (event.PollEnd c) (does, drawn) = of-work _ c (λ d of. of) (λ d. refl) (λ d. refl) (for-client c now h g old new agree (Ends c) answer (ends c now h g old new agree answer) does)
     applied (event.PollTake c most) (does, drawn) =
         let given = taken-given now c most (holding h old) answer (holding g new) does in
-        of-take _ c (λ d of. of) (λ d. refl) (λ d. refl) (take-agrees c given (Takes now c most) (taken answer) (given.2.stays c) does) given
+        of-take _ c (λ d of. of) (λ d. refl) (λ d. refl) (take-agrees c given (Takes most (visit_at c now)) (taken answer) (given.2.stays c) does) given
       where
-        taken : (answer : Answer) (line : PlainLine) → Takes now c most line (holding h old) answer (holding g new) → (P : PlainLine → Type 0) × HasLine c P (holding h old) (holding g new)
+        taken : (answer : Answer) (line : PlainLine) → Takes most (visit_at c now) line (holding h old) answer (holding g new) → (P : PlainLine → Type 0) × HasLine c P (holding h old) (holding g new)
         taken (Ok o) line has = (_, has)
         taken (Err e) line (is, has) = (_, has)
     applied (event.FrameTake c most) (does, drawn) =
         let given = sent-given now c most (holding h old) answer (holding g new) does in
-        of-take _ c (λ d of. of) (λ d. refl) (λ d. refl) (take-agrees c given (TakesFrames now c most) (taken answer) (given.2.stays c) does) given
+        of-take _ c (λ d of. of) (λ d. refl) (λ d. refl) (take-agrees c given (TakesFrames most (visit_at c now)) (taken answer) (given.2.stays c) does) given
       where
-        taken : (answer : Answer) (line : PlainLine) → TakesFrames now c most line (holding h old) answer (holding g new) → (P : PlainLine → Type 0) × HasLine c P (holding h old) (holding g new)
+        taken : (answer : Answer) (line : PlainLine) → TakesFrames most (visit_at c now) line (holding h old) answer (holding g new) → (P : PlainLine → Type 0) × HasLine c P (holding h old) (holding g new)
         taken (Ok o) line has = (_, has)
         taken (Err e) line (is, has) = (_, has)
     applied (event.Probe c) (does, drawn) = of-work _ c (λ d of. of) (λ d. refl) (λ d. refl) (for-client c now h g old new agree (Probes c) answer (probes c now h g old new agree answer) does)
     applied (event.Upgraded c) (does, drawn) = of-work _ c (λ d of. of) (λ d. refl) (λ d. refl) (for-client c now h g old new agree (Upgrades c) answer (ends-probe c now h g old new agree Upgraded answer) does)
     applied (event.ProbeLost c) (does, drawn) = of-work _ c (λ d of. of) (λ d. refl) (λ d. refl) (for-client c now h g old new agree (LosesProbe c) answer (ends-probe c now h g old new agree ProbeLost answer) does)
-    applied (event.TransportLost c) (does, drawn) = of-work _ c (λ d of. of) (λ d. refl) (λ d. refl) (for-client c now h g old new agree (λ line. Loses now c) answer (λ line is row. loses c now h g old new agree answer row) does)
-    applied (event.Tick c) (does, drawn) = of-work _ c (λ d of. of) (λ d. refl) (λ d. refl) (for-client c now h g old new agree (Ticks now c) answer (ticks c now h g old new agree answer) does)
+    applied (event.TransportLost c) (does, drawn) = of-work _ c (λ d of. of) (λ d. refl) (λ d. refl) (for-client c now h g old new agree (λ line. Loses (visit_at c now)) answer (λ line is row. loses c now h g old new agree answer row) does)
+    applied (event.Tick c) (does, drawn) = of-work _ c (λ d of. of) (λ d. refl) (λ d. refl) (for-client c now h g old new agree (Ticks (visit_at c now)) answer (ticks c now h g old new agree answer) does)
     applied event.Sweep (does, drawn) = leaves event.Sweep (sweeps-applied does)

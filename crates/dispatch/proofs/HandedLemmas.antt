@@ -2,9 +2,7 @@
 use Rattle.std.proofs.Common.{inl, inr, ◌≡◌, ℕ, zero, suc, ◌+◌, ◌≤◌, ◌<◌, ◌==◌, Bool, true, false, List, [], ◌∷◌, ◌++◌, length, take, drop, get_or, refl, sym, ◌∙◌, ap, subst, arith, append-nil, append_assoc, length-append, Option, None, Some, Result, Ok, Err, OnOk}
 use Rattle.std.proofs.lemmas.Bool.Decides.{nat_tests}
 use Rattle.std.proofs.lemmas.List.{drop-append-le, drop-drop, length-take-le, take_more, take_all}
-use Rattle.eio_wire.specs.declared.handshake.Numbers.{Numbers}
 use Rattle.eio_wire.specs.declared.packet.Packet.{Packet}
-use Rattle.connection.specs.declared.timing.Timing.{Timing}
 use Rattle.connection.specs.declared.transport.Transport.{Transport}
 use Rattle.connection.specs.declared.transport.Transport.TheVariants.{Polling, Probing, Socket}
 use Rattle.terms.specs.declared.entry.Entry.{Entry}
@@ -28,6 +26,8 @@ use Rattle.events.specs.declared.event.Event.{Event}
 use Rattle.events.specs.declared.event.Event.TheVariants as event
 use Rattle.events.specs.declared.outcome.Outcome.TheVariants as outcome
 use Rattle.events.specs.Answer.{Answer}
+use Rattle.effects.specs.Scene.{visit_at}
+use Rattle.dispatch.specs.declared.lines.Handshake.{Handshake}
 use Rattle.dispatch.specs.Answers.{Refused, ForClient}
 use Rattle.dispatch.specs.Frames.{Sends, SendsFirst, SendsWaiting, SendsOn, SendsFor}
 use Rattle.dispatch.specs.Machine.{Opens, Takes, TakesFrames}
@@ -307,13 +307,13 @@ by-line c row X s t each has = by (t.lines c) has.0
     by None none = absurd none
     by (Some after) is = each after is
 
-take-given : (now c most : ℕ) (line : PlainLine) (s : Holding) (answer : Answer) (t : Holding) → Takes now c most line s answer t → Given c answer s.history t.history
+take-given : (now c most : ℕ) (line : PlainLine) (s : Holding) (answer : Answer) (t : Holding) → Takes most (visit_at c now) line s answer t → Given c answer s.history t.history
 take-given now c most line s (Ok o) t does =
     by-line c (λ after. TakesFor c most now (Ok o) s.history t.history line after) (Given c (Ok o) s.history t.history) s t (λ after row. takes-hands c most now (Ok o) s.history t.history line after row) does
 take-given now c most line s (Err e) t does =
     by-line c (λ after. TakesFor c most now (Err e.fault) s.history t.history line after) (Given c (Err e) s.history t.history) s t (λ after row. takes-hands c most now (Err e.fault) s.history t.history line after row) does.1
 
-frames-given : (now c most : ℕ) (line : PlainLine) (s : Holding) (answer : Answer) (t : Holding) → TakesFrames now c most line s answer t → Given c answer s.history t.history
+frames-given : (now c most : ℕ) (line : PlainLine) (s : Holding) (answer : Answer) (t : Holding) → TakesFrames most (visit_at c now) line s answer t → Given c answer s.history t.history
 frames-given now c most line s (Ok o) t does =
     by-line c (λ after. SendsFor c most now (Ok o) s.history t.history line after) (Given c (Ok o) s.history t.history) s t (λ after row. frames-hands c most now (Ok o) s.history t.history line after row) does
 frames-given now c most line s (Err e) t does =
@@ -352,16 +352,16 @@ given-turn named c answer h g opened none given d turns was = by (c == d) refl
       opened = rw (opened d) (given.2.begun d ∙ was.opened);
     }
 
-pub taken-given : (now c most : ℕ) (s : Holding) (answer : Answer) (t : Holding) → ForClient c (Takes now c most) s answer t → Given c answer s.history t.history
-taken-given now c most s answer t does = by-client c (Takes now c most) s answer t (λ line row. take-given now c most line s answer t row) does
+pub taken-given : (now c most : ℕ) (s : Holding) (answer : Answer) (t : Holding) → ForClient c (Takes most (visit_at c now)) s answer t → Given c answer s.history t.history
+taken-given now c most s answer t does = by-client c (Takes most (visit_at c now)) s answer t (λ line row. take-given now c most line s answer t row) does
 
-pub sent-given : (now c most : ℕ) (s : Holding) (answer : Answer) (t : Holding) → ForClient c (TakesFrames now c most) s answer t → Given c answer s.history t.history
-sent-given now c most s answer t does = by-client c (TakesFrames now c most) s answer t (λ line row. frames-given now c most line s answer t row) does
+pub sent-given : (now c most : ℕ) (s : Holding) (answer : Answer) (t : Holding) → ForClient c (TakesFrames most (visit_at c now)) s answer t → Given c answer s.history t.history
+sent-given now c most s answer t does = by-client c (TakesFrames most (visit_at c now)) s answer t (λ line row. frames-given now c most line s answer t row) does
 
-pub handed-open : (timing : Timing) (numbers : Numbers) (now : ℕ) (socket : Bool) (c : ℕ) (s : Holding) (answer : Answer) (t : Holding)
-    → Opens timing numbers now socket c s answer t → (d : ℕ) (turns : List Turn) → Handed d turns s.history → Handed d ((event.Opened socket, answer) ∷ turns) t.history
+pub handed-open : (told : Handshake) (now : ℕ) (socket : Bool) (c : ℕ) (s : Holding) (answer : Answer) (t : Holding)
+    → Opens told socket (visit_at c now) s answer t → (d : ℕ) (turns : List Turn) → Handed d turns s.history → Handed d ((event.Opened socket, answer) ∷ turns) t.history
 unfolding HandedOut
-handed-open timing numbers now socket c s (Ok (outcome.Opened o)) t does d turns was = by (c == d) refl
+handed-open told now socket c s (Ok (outcome.Opened o)) t does d turns was = by (c == d) refl
   where
     by : (b : Bool) → (c == d) ≡ b → Handed d ((event.Opened socket, Ok (outcome.Opened o)) ∷ turns) t.history
     by true same = record {
@@ -376,8 +376,8 @@ handed-open timing numbers now socket c s (Ok (outcome.Opened o)) t does d turns
       are = opened-others s.history t.history now c does.2 d other was.entries was.are;
       opened = rw (does.2.1, does.0, other) was.opened;
     }
-handed-open timing numbers now socket c s (Ok _) t does d turns was = absurd does
-handed-open timing numbers now socket c s (Err e) t does d turns was =
+handed-open told now socket c s (Ok _) t does d turns was = absurd does
+handed-open told now socket c s (Err e) t does d turns was =
     record { entries = was.entries; out = was.out; are = same-handed s.history t.history does.1.1 d was.entries was.are; opened = ap (λ (k : History). is_begun_in d k.journal) does.1.1 ∙ was.opened }
 
 -- ---- the events of a list

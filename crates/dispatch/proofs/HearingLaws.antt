@@ -2,9 +2,7 @@
 use Rattle.std.proofs.Common.{◌≡◌, ℕ, Bool, true, false, List, ◌∷◌, drop, length, refl, ◌++◌, sym, ◌∙◌, ap, subst, Option, None, Some, Result, Ok, Err, IfOk}
 use Rattle.std.specs.Prelude.{unwrap_or}
 use Rattle.std.specs.List.{AllByRecursion}
-use Rattle.eio_wire.specs.declared.handshake.Numbers.{Numbers}
 use Rattle.eio_wire.specs.Payload.{IsWhole}
-use Rattle.connection.specs.declared.timing.Timing.{Timing}
 use Rattle.connection.specs.Line.{PlainLine}
 use Rattle.terms.specs.declared.entry.Entry.{Entry}
 use Rattle.journal.specs.Plain.{Limits}
@@ -24,10 +22,11 @@ use Rattle.effects.specs.Hearing.{ended_since, HearsOfAll}
 use Rattle.effects.specs.Following.{is_turn, is_work, Follows, Spares}
 use Rattle.effects.specs.Broadcasting.{work}
 use Rattle.effects.proofs.HearingLemmas.{Onward, heard-open, heard-onward, heard-spares}
+use Rattle.dispatch.specs.declared.lines.Handshake.{Handshake}
 use Rattle.dispatch.specs.Handed.{Turn, opens, takes, HandsOut, HandedOut, Handed}
 use Rattle.dispatch.specs.Hearing.{done_of, with_done, done_before, answer_after, Hears, HearsAfter}
 use Rattle.dispatch.specs.Machine.{IsOf, listed, Row, Does}
-use Rattle.dispatch.specs.Holding.{Holding, holding, Agree}
+use Rattle.dispatch.specs.Holding.{Holding, holding, Agree, with_ids, standing}
 use Rattle.dispatch.proofs.EventLaws.{Applied, applied}
 use Rattle.dispatch.proofs.HandedLemmas.{work-hands-nothing, work-begins-none}
 use Rattle.dispatch.proofs.ServerLemmas.{of-some}
@@ -169,28 +168,28 @@ module _ (policy : Policy) (now : ℕ) (ended : List PlainEnded) (m g : History)
 -- ---- the whole event
 
 module _ (policy : Policy) (now : ℕ)
-    (h g : History) (old new : List (ℕ × PlainLine)) (agree : Agree h old) (ids left : ℕ → ℕ) (answer : Answer) (timing : Timing) (numbers : Numbers) (event : Event) where
+    (h g : History) (old new : List (ℕ × PlainLine)) (agree : Agree h old) (ids left : ℕ → ℕ) (answer : Answer) (told : Handshake) (event : Event) where
   abbrev DoesSo : Type 0
-  DoesSo = Does policy now timing numbers event (holding h old) ids answer (holding g new) left
+  DoesSo = Does policy told now event (standing h old ids) answer (standing g new left)
 
   -- a line stands for each open client
   pub agrees-still : DoesSo → Agree g new
   agrees-still (m, said, row, heard) = λ d.
-      (applied now h m old new agree ids said policy timing numbers left event row).agrees d
+      (applied now h m old new agree ids said policy told left event row).agrees d
       ∙ sym (after-open policy now (ended_since h m) m g said answer (client_of event) heard d)
 
   pub left-by : AllByRecursion IsWhole h.limits.spaces → DoesSo → Applied event ids answer h g new
   left-by names (m, said, row, heard) =
-      let does = (applied now h m old new agree ids said policy timing numbers left event row).applied names in
+      let does = (applied now h m old new agree ids said policy told left event row).applied names in
       let some = of-some event ids in
       let kept : AllByRecursion IsWhole m.limits.spaces = subst (λ (limits : Limits). AllByRecursion IsWhole limits.spaces) (sym (does.turns some.0 some.1).limits) names in
       left-heard policy now (ended_since h m) m g said answer event ids h new kept does (client_of event) refl heard
 
 -- the event is done as its row says, and then the app hears of the sockets that ended by that
-pub does-with : (policy : Policy) (now : ℕ) (timing : Timing) (numbers : Numbers) (event : Event) (s : Holding) (ids : ℕ → ℕ) (said : Answer) (h : History) (answer : Answer) (t : Holding) (ids' : ℕ → ℕ)
-    (before : List PlainEnded) (client : Option ℕ) → Row policy now timing numbers event s ids said (record t { history = h }) ids'
+pub does-with : (policy : Policy) (now : ℕ) (told : Handshake) (event : Event) (s : Holding) (ids : ℕ → ℕ) (said : Answer) (h : History) (answer : Answer) (t : Holding) (ids' : ℕ → ℕ)
+    (before : List PlainEnded) (client : Option ℕ) → Row policy told now event (with_ids s ids) said (with_ids (record t { history = h }) ids')
     → before ≡ ended_sockets s.history.base s.history.journal → client ≡ client_of event
-    → HearsAfter policy now client (drop (length before) (ended_sockets h.base h.journal)) h said answer t.history → Does policy now timing numbers event s ids answer t ids'
-does-with policy now timing numbers event s ids said h answer t ids' before client row all of hears =
+    → HearsAfter policy now client (drop (length before) (ended_sockets h.base h.journal)) h said answer t.history → Does policy told now event (with_ids s ids) answer (with_ids t ids')
+does-with policy now told event s ids said h answer t ids' before client row all of hears =
     let of-event = subst (λ (o : Option ℕ). HearsAfter policy now o (drop (length before) (ended_sockets h.base h.journal)) h said answer t.history) of hears in
     (h, said, row, subst (λ (xs : List PlainEnded). HearsAfter policy now (client_of event) (drop (length xs) (ended_sockets h.base h.journal)) h said answer t.history) all of-event)

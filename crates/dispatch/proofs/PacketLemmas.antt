@@ -26,6 +26,7 @@ use Rattle.effects.specs.Commands.{IsSeated}
 use Rattle.events.specs.declared.cause.Cause.{Cause}
 use Rattle.events.specs.declared.cause.Cause.TheVariants as cause
 use Rattle.effects.specs.Effects.{Scene}
+use Rattle.effects.specs.Scene.{visit_at}
 use Rattle.dispatch.specs.Packets.{Course, Upshot, ClosesFor, Serves, DrawsNone, AsksToConnect, ServesJoined, Works, GoesOn, with_line, RefusesFrame, TakesText, ReadsBinary, Handles, HandlesOrBreaks, begun}
 
 -- ---- questions
@@ -129,14 +130,14 @@ seated-at h who in_spaces is_open known = on (socket_of h.base h.journal who.cli
 pub joined : (policy : Policy) (c : ℕ) (p : SioPacket) (now : ℕ) (s : Scene) (result : Upshot) (t : Scene) (sid : ℕ)
     → Some sid ≡ option_map sid_of (socket_of s.history.base s.history.journal c (place_of s.history.limits p.header.space))
     → IsSeated (record { client = c; space = p.header.space; sid = sid }) s.history
-    → Serves policy p.header.kind (record { client = c; space = p.header.space; sid = sid }) p.header.id p.header.payload p.attachments now s result t
-    → ServesJoined policy c p now s result t
+    → Serves policy (record { client = c; space = p.header.space; sid = sid }) p.header.payload p.attachments p.header.kind p.header.id (visit_at c now) s result t
+    → ServesJoined policy p (visit_at c now) s result t
 joined policy c p now s result t sid known seated serves = on (socket_of s.history.base s.history.journal c (place_of s.history.limits p.header.space)) known
   where
     on : (o : Option Socket) → Some sid ≡ option_map sid_of o → elim o as (λ (o : Option Socket). Type 0) [
-      | None ↦ ClosesFor c now cause.NotJoined s result t
+      | None ↦ ClosesFor cause.NotJoined (visit_at c now) s result t
       | Some k ↦ IsSeated (record { client = c; space = p.header.space; sid = k.sid }) s.history
-          × Serves policy p.header.kind (record { client = c; space = p.header.space; sid = k.sid }) p.header.id p.header.payload p.attachments now s result t
+          × Serves policy (record { client = c; space = p.header.space; sid = k.sid }) p.header.payload p.attachments p.header.kind p.header.id (visit_at c now) s result t
     ]
     on None none = absurd (cc none)
     on (Some k) is = let same : sid ≡ k.sid = cc in (rw same at seated, rw same at serves)
@@ -144,10 +145,10 @@ joined policy c p now s result t sid known seated serves = on (socket_of s.histo
 -- ---- frames
 
 module _ (policy : Policy) where
-  pub works-joined : (c : ℕ) (p : SioPacket) (now : ℕ) (s : Course) (result : Upshot) (t : Course) → p.header.kind ≢ kind.Connect → DrawsNone (ServesJoined policy c p now) s result t → Works policy c p now s result t
+  pub works-joined : (c : ℕ) (p : SioPacket) (now : ℕ) (s : Course) (result : Upshot) (t : Course) → p.header.kind ≢ kind.Connect → DrawsNone (ServesJoined policy p (visit_at c now)) s result t → Works policy p (visit_at c now) s result t
   works-joined c p now s result t other serves = on p.header.kind other
     where
-      on : (k : Kind) → k ≢ kind.Connect → elim k as (λ (k : Kind). Type 0) [ kind.Connect ↦ AsksToConnect policy c p.header.space p.header.payload now s result t | _ ↦ DrawsNone (ServesJoined policy c p now) s result t ]
+      on : (k : Kind) → k ≢ kind.Connect → elim k as (λ (k : Kind). Type 0) [ kind.Connect ↦ AsksToConnect policy p.header.space p.header.payload (visit_at c now) s result t | _ ↦ DrawsNone (ServesJoined policy p (visit_at c now)) s result t ]
       on kind.Connect other = absurd (other refl)
       on _ other = serves
 
@@ -156,20 +157,20 @@ module _ (policy : Policy) where
 
   -- a frame for which there was no memory
   short-of : (c now : ℕ) (s : Course) (line : PlainLine) (e : SioError) (result : Upshot) (t : Course) → e ≡ sio.Memory → line ≡ s.scene.line
-      → GoesOn policy c (Err e) now (with_line policy s line) result t → GoesOn policy c (Err sio.Memory) now s result t
+      → GoesOn policy (Err e) (visit_at c now) (with_line s line) result t → GoesOn policy (Err sio.Memory) (visit_at c now) s result t
   short-of c now s line e result t is same on =
-      subst (λ (l : PlainLine). GoesOn policy c (Err sio.Memory) now (with_line policy s l) result t) same
-      (subst (λ (e : SioError). GoesOn policy c (Err e) now (with_line policy s line) result t) is on)
+      subst (λ (l : PlainLine). GoesOn policy (Err sio.Memory) (visit_at c now) (with_line s l) result t) same
+      (subst (λ (e : SioError). GoesOn policy (Err e) (visit_at c now) (with_line s line) result t) is on)
 
   refused-as : (c now : ℕ) (s : Course) (line : PlainLine) (e : SioError) (result : Upshot) (t : Course) → line ≡ record s.scene.line { assembler = Failed e }
-      → GoesOn policy c (Err e) now (with_line policy s line) result t → RefusesFrame policy c e now s result t
-  refused-as c now s line e result t is on = subst (λ (l : PlainLine). GoesOn policy c (Err e) now (with_line policy s l) result t) is on
+      → GoesOn policy (Err e) (visit_at c now) (with_line s line) result t → RefusesFrame policy e (visit_at c now) s result t
+  refused-as c now s line e result t is on = subst (λ (l : PlainLine). GoesOn policy (Err e) (visit_at c now) (with_line s l) result t) is on
 
   pub takes-text : (c : ℕ) (content : List ℕ) (now : ℕ) (s : Course) (line : PlainLine) (given : Result (Option SioPacket) SioError) (result : Upshot) (t : Course)
       → IfOk given (λ g. Accepts s.scene.line.assembler (text content) g line.assembler)
       → OnOk given (Advances s.scene.line (Framed (text content) ∷ []) line)
       → Fault s line (RefusesText s.scene.line.assembler content) given
-      → GoesOn policy c given now (with_line policy s line) result t → TakesText policy c content now s result t
+      → GoesOn policy given (visit_at c now) (with_line s line) result t → TakesText policy content (visit_at c now) s result t
   takes-text c content now s line (Ok given) result t accepts advances fault on = inr (inl (given, line, accepts, advances, on))
   takes-text c content now s line (Err e) result t accepts advances (inl (is, same)) on = inl (short-of c now s line e result t is same on)
   takes-text c content now s line (Err e) result t accepts advances (inr (refuses, is)) on = inr (inr (e, refuses, refused-as c now s line e result t is on))
@@ -178,25 +179,25 @@ module _ (policy : Policy) where
       → IfOk given (λ g. Accepts s.scene.line.assembler (binary content) g line.assembler)
       → OnOk given (Advances s.scene.line (Framed (binary content) ∷ []) line)
       → Fault s line (λ e. binary_refusal s.scene.line.assembler ≡ Some e) given
-      → GoesOn policy c given now (with_line policy s line) result t → ReadsBinary policy c content now s result t
+      → GoesOn policy given (visit_at c now) (with_line s line) result t → ReadsBinary policy content (visit_at c now) s result t
   reads-binary c content now s line (Ok given) result t accepts advances fault on = inr (inl (given, line, accepts, advances, on))
   reads-binary c content now s line (Err e) result t accepts advances (inl (is, same)) on = inl (short-of c now s line e result t is same on)
   reads-binary c content now s line (Err e) result t accepts advances (inr (refuses, is)) on = inr (inr (e, refuses, refused-as c now s line e result t is on))
 
   -- a packet in its turn, where the client wasn't closed
   pub in-turn : (c : ℕ) (packet : Packet) (now : ℕ) (s : Course) (result : Upshot) (t : Course) → is_some s.scene.done.closed ≡ false
-      → Handles policy c packet now (begun policy s) result t → HandlesOrBreaks policy c packet now s result t
+      → Handles policy packet (visit_at c now) (begun s) result t → HandlesOrBreaks policy (visit_at c now) packet s result t
   in-turn c packet now s result t none handles = on s.scene.done.closed none
     where
-      on : (o : Option Cause) → is_some o ≡ false → elim o as (λ (o : Option Cause). Type 0) [ Some why ↦ (result ≡ Ok tt) × (t ≡ s) | None ↦ Handles policy c packet now (begun policy s) result t ]
+      on : (o : Option Cause) → is_some o ≡ false → elim o as (λ (o : Option Cause). Type 0) [ Some why ↦ (result ≡ Ok tt) × (t ≡ s) | None ↦ Handles policy packet (visit_at c now) (begun s) result t ]
       on None none = handles
       on (Some why) none = absurd (cc none)
 
   -- and where it was
-  pub out-of-turn : (c : ℕ) (packet : Packet) (now : ℕ) (s : Course) → is_some s.scene.done.closed ≡ true → HandlesOrBreaks policy c packet now s (Ok tt) s
+  pub out-of-turn : (c : ℕ) (packet : Packet) (now : ℕ) (s : Course) → is_some s.scene.done.closed ≡ true → HandlesOrBreaks policy (visit_at c now) packet s (Ok tt) s
   out-of-turn c packet now s closed = on s.scene.done.closed closed
     where
-      on : (o : Option Cause) → is_some o ≡ true → elim o as (λ (o : Option Cause). Type 0) [ Some why ↦ (◌≡◌ {A = Upshot} (Ok tt) (Ok tt)) × (s ≡ s) | None ↦ Handles policy c packet now (begun policy s) (Ok tt) s ]
+      on : (o : Option Cause) → is_some o ≡ true → elim o as (λ (o : Option Cause). Type 0) [ Some why ↦ (◌≡◌ {A = Upshot} (Ok tt) (Ok tt)) × (s ≡ s) | None ↦ Handles policy packet (visit_at c now) (begun s) (Ok tt) s ]
       on None closed = absurd (cc closed)
       on (Some why) closed = (refl, refl)
 

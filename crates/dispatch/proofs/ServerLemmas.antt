@@ -6,8 +6,6 @@ use Rattle.std.proofs.lemmas.List.{take_more, take_all}
 use Rattle.std.proofs.lemmas.List.Elements.{All-nil, All-cons}
 use Rattle.eio_wire.specs.Payload.{IsWhole}
 use Rattle.terms.specs.Refusal.{first_refusal}
-use Rattle.eio_wire.specs.declared.handshake.Numbers.{Numbers}
-use Rattle.connection.specs.declared.timing.Timing.{Timing}
 use Rattle.connection.specs.Line.{PlainLine}
 use Rattle.journal.specs.declared.error.HubError.{HubError}
 use Rattle.journal.specs.declared.step.Step.{Step}
@@ -29,9 +27,10 @@ use Rattle.effects.specs.Following.{is_clean, is_turn, Follows}
 use Rattle.events.specs.declared.event.Event.{Event}
 use Rattle.events.specs.declared.event.Event.TheVariants as event
 use Rattle.events.specs.Answer.{Answer}
+use Rattle.dispatch.specs.declared.lines.Handshake.{Handshake}
 use Rattle.dispatch.specs.Counting.{TurnsFor}
 use Rattle.dispatch.specs.Machine.{Does, Machine, IsOf}
-use Rattle.dispatch.specs.Holding.{Holding, PlainCore, Agree, IsClean}
+use Rattle.dispatch.specs.Holding.{Standing, PlainCore, Agree, IsClean}
 
 -- ---- a new core
 
@@ -193,51 +192,43 @@ core-parts core old new same = ap (λ (n : ℕ). with_hub core (record { history
 
 -- ---- the machine
 
-module _ (policy : Policy) (timing : Timing) (numbers : Numbers) where
+module _ (policy : Policy) (told : Handshake) where
   -- the row of this event
-  pub does-as : (now : ℕ) (event named : Event) (s : Holding) (ids : ℕ → ℕ) (answer : Answer) (t : Holding) (left : ℕ → ℕ) → event ≡ named
-      → Does policy now timing numbers named s ids answer t left → Does policy now timing numbers event s ids answer t left
-  does-as now event named s ids answer t left is does = subst (λ (e : Event). Does policy now timing numbers e s ids answer t left) (sym is) does
+  pub does-as : (now : ℕ) (event named : Event) (s : Standing) (answer : Answer) (t : Standing) → event ≡ named
+      → Does policy told now named s answer t → Does policy told now event s answer t
+  does-as now event named s answer t is does = subst (λ (e : Event). Does policy told now e s answer t) (sym is) does
 
-  machine-none : (s : Holding) (ids : ℕ → ℕ) → Machine policy timing numbers [] [] s ids s ids
+  machine-none : (s : Standing) → Machine policy told [] [] s s
   unfolding Machine
-  machine-none s ids = (refl, refl)
+  machine-none s = refl
 
   -- one event more
-  machine-push : (turns : List (Event × ℕ)) (answers : List Answer) (turn : Event × ℕ) (answer : Answer) (s m t : Holding) (ids mid last : ℕ → ℕ)
-      → Machine policy timing numbers turns answers s ids m mid → Does policy turn.1 timing numbers turn.0 m mid answer t last
-      → Machine policy timing numbers (turns ++ turn ∷ []) (answers ++ answer ∷ []) s ids t last
+  machine-push : (turns : List (Event × ℕ)) (answers : List Answer) (turn : Event × ℕ) (answer : Answer) (s m t : Standing)
+      → Machine policy told turns answers s m → Does policy told turn.1 turn.0 m answer t
+      → Machine policy told (turns ++ turn ∷ []) (answers ++ answer ∷ []) s t
   unfolding Machine
-  machine-push [] [] turn answer s m t ids mid last run does = (
-    t,
-    last,
-    subst (λ (x : Holding). Does policy turn.1 timing numbers turn.0 x ids answer t last) run.0
-        (subst (λ (x : ℕ → ℕ). Does policy turn.1 timing numbers turn.0 m x answer t last) run.1 does),
-    (refl, refl),
-  )
-  machine-push (first ∷ turns) (said ∷ answers) turn answer s m t ids mid last run does =
-      (run.0, run.1, run.2, machine-push turns answers turn answer run.0 m t run.1 mid last run.3 does)
-  machine-push [] (said ∷ answers) turn answer s m t ids mid last run does = absurd run
-  machine-push (first ∷ turns) [] turn answer s m t ids mid last run does = absurd run
+  machine-push [] [] turn answer s m t run does = (t, subst (λ (x : Standing). Does policy told turn.1 turn.0 x answer t) run does, refl)
+  machine-push (first ∷ turns) (said ∷ answers) turn answer s m t run does = (run.0, run.1, machine-push turns answers turn answer run.0 m t run.2 does)
+  machine-push [] (said ∷ answers) turn answer s m t run does = absurd run
+  machine-push (first ∷ turns) [] turn answer s m t run does = absurd run
 
   -- no event was done
-  pub machine-start : (answers : List Answer) (s : Holding) (ids : ℕ → ℕ) → answers ≡ [] → Machine policy timing numbers [] answers s ids s ids
-  machine-start answers s ids none = rw none (machine-none s ids)
+  pub machine-start : (answers : List Answer) (s : Standing) → answers ≡ [] → Machine policy told [] answers s s
+  machine-start answers s none = rw none (machine-none s)
 
-  -- the event at an index is done, with the settings as they were
-  pub machine-next : (all : List (Event × ℕ)) (i : ℕ) (turn : Event × ℕ) (answers more : List Answer) (answer : Answer) (told : Timing) (sent : Numbers) (s m t : Holding) (ids mid last : ℕ → ℕ)
-      → i < length all → turn ≡ get_or all i turn → more ≡ answers ++ answer ∷ [] → told ≡ timing → sent ≡ numbers
-      → Machine policy timing numbers (take i all) answers s ids m mid → Does policy turn.1 told sent turn.0 m mid answer t last
-      → Machine policy timing numbers (take (i + 1) all) more s ids t last
-  machine-next all i turn answers more answer told sent s m t ids mid last within is pushed tolds sents run does =
+  -- the event at an index is done, with what is told as it was
+  pub machine-next : (all : List (Event × ℕ)) (i : ℕ) (turn : Event × ℕ) (answers more : List Answer) (answer : Answer) (still : Handshake) (s m t : Standing)
+      → i < length all → turn ≡ get_or all i turn → more ≡ answers ++ answer ∷ [] → still ≡ told
+      → Machine policy told (take i all) answers s m → Does policy still turn.1 turn.0 m answer t
+      → Machine policy told (take (i + 1) all) more s t
+  machine-next all i turn answers more answer still s m t within is pushed same run does =
       let next : take (i + 1) all ≡ take i all ++ turn ∷ [] = take_more all i turn within ∙ ap (λ (x : Event × ℕ). take i all ++ x ∷ []) (sym is) in
-      let done = subst (λ (x : Timing). Does policy turn.1 x sent turn.0 m mid answer t last) tolds does in
-      let right = subst (λ (x : Numbers). Does policy turn.1 timing x turn.0 m mid answer t last) sents done in
-      subst (λ (turns : List (Event × ℕ)). Machine policy timing numbers turns more s ids t last) (sym next)
-      (subst (λ (said : List Answer). Machine policy timing numbers (take i all ++ turn ∷ []) said s ids t last) (sym pushed)
-      (machine-push (take i all) answers turn answer s m t ids mid last run right))
+      let right = subst (λ (x : Handshake). Does policy x turn.1 turn.0 m answer t) same does in
+      subst (λ (turns : List (Event × ℕ)). Machine policy told turns more s t) (sym next)
+      (subst (λ (said : List Answer). Machine policy told (take i all ++ turn ∷ []) said s t) (sym pushed)
+      (machine-push (take i all) answers turn answer s m t run right))
 
   -- all were done
-  pub machine-whole : (all : List (Event × ℕ)) (i : ℕ) (answers : List Answer) (s t : Holding) (ids last : ℕ → ℕ) → length all ≤ i
-      → Machine policy timing numbers (take i all) answers s ids t last → Machine policy timing numbers all answers s ids t last
-  machine-whole all i answers s t ids last past run = subst (λ (turns : List (Event × ℕ)). Machine policy timing numbers turns answers s ids t last) (take_all i all past) run
+  pub machine-whole : (all : List (Event × ℕ)) (i : ℕ) (answers : List Answer) (s t : Standing) → length all ≤ i
+      → Machine policy told (take i all) answers s t → Machine policy told all answers s t
+  machine-whole all i answers s t past run = subst (λ (turns : List (Event × ℕ)). Machine policy told turns answers s t) (take_all i all past) run

@@ -19,9 +19,10 @@ use Rattle.events.specs.App.{Policy}
 use Rattle.effects.specs.Commands.{StopsAt}
 use Rattle.effects.specs.Following.{is_clean, is_cast, is_turn, is_work, AreMade, Follows, Spares, WorksFor}
 use Rattle.effects.proofs.StepLemmas.{follows-on, spares-on, Goes, goes-of, Working, working-of}
+use Rattle.effects.specs.Scene.{visit_at}
 use Rattle.dispatch.specs.Machine.{opening, WorksOn}
 use Rattle.dispatch.specs.Packets.{Course, course, BreaksAfter}
-use Rattle.dispatch.specs.Holding.{Holding, line_of, holding, KeepsOthers, Agree}
+use Rattle.dispatch.specs.Holding.{Holding, line_of, holding, KeepsOthers, Agree, with_ids}
 
 -- the steps of an event that puts nothing for other clients
 pub record Leads (c : ℕ) (h g : History) : Type 0 where
@@ -162,7 +163,7 @@ put-forgotten c old with_line new none gone put forgotten d = on (c == d) refl
 -- an event that ends with an error between two of its packets
 pub ends-with : (policy : Policy) (now c : ℕ) (packets : List Packet) (line : PlainLine)
     (s t : Holding) (ids left : ℕ → ℕ) (e : CoreError) (m : Course)
-    → BreaksAfter policy c now packets (course (opening s.history line) ids) e m
+    → BreaksAfter policy (visit_at c now) packets (course (opening s.history line) ids) e m
     → t.history ≡ m.scene.history → t.lines c ≡ Some m.scene.line → KeepsOthers c s t → left ≡ m.ids
-    → WorksOn policy now c packets line s ids (Err e) t left
+    → WorksOn policy (visit_at c now) packets line (with_ids s ids) (Err e) (with_ids t left)
 ends-with policy now c packets line s t ids left e m breaks history has others drawn = (m, breaks, history, (rw has refl, others), drawn)

@@ -8,6 +8,7 @@ use Rattle.journal.specs.declared.error.HubError.{HubError}
 use Rattle.journal.specs.declared.error.HubError.TheVariants as hub
 use Rattle.journal.specs.Journal.{History}
 use Rattle.events.specs.Answer.{Answer}
+use Rattle.effects.specs.Scene.{visit_at}
 use Rattle.dispatch.specs.Answers.{ForClient, AdvancesLine}
 use Rattle.dispatch.specs.Holding.{Holding, line_of, holding, KeepsOthers}
 use Rattle.dispatch.specs.Parking.{Parks, ParksOrCloses}
@@ -25,7 +26,7 @@ parked-or-closed false h g now c closed = inr closed
 
 -- what is due to a client that is known is done
 pub ticks : (now c : ℕ) (line : PlainLine) (h : History) (old : List (ℕ × PlainLine)) (answer : Answer) (t : Holding) (told due : Due) → line_of old c ≡ Some line → told ≡ due → IsDue told now line
-    → TicksOn due now c line (holding h old) answer t → ForClient c (Ticks now c) (holding h old) answer t
+    → TicksOn due (visit_at c now) line (holding h old) answer t → ForClient c (Ticks (visit_at c now)) (holding h old) answer t
 ticks now c line h old answer t told due known is says row = rw (known, ForClient) (due, rw is at says, row)
 
 -- the line with the tick on it

@@ -9,7 +9,7 @@ use Rattle.events.specs.declared.fault.CoreError.{CoreError}
 use Rattle.events.specs.declared.fault.CoreFault.{CoreFault}
 use Rattle.events.specs.declared.fault.CoreFault.TheVariants.{Memory, UnknownClient, BadConfig}
 use Rattle.journal.specs.Journal.{History}
-use Rattle.effects.specs.declared.scene.Visit.{Visit}
+use Rattle.effects.specs.Scene.{Visit}
 use Rattle.effects.specs.Commands.{Makes, StopsAt}
 use Rattle.events.specs.Plain.{PlainDone, nothing_done}
 use Rattle.events.specs.Answer.{Answer, at_once}
@@ -41,11 +41,11 @@ abbrev pub AdvancesLine : ℕ → PlainLine → List Call → Holding → Holdin
 AdvancesLine c line calls s t = (t.history ≡ s.history) × HasLine c (λ after. Advances line calls after) s t
 
 -- a client that is closed for a cause: nothing of what it sent was worked on
-abbrev pub ClosesUnread : ℕ → ℕ → Cause → Holding → Answer → Holding → Type 0
-ClosesUnread now c why s (Ok (outcome.Done done)) t =
-    (done ≡ record nothing_done { closed = Some why }) × Makes s.history now (what.Closed c) t.history × LosesLine c s t
-ClosesUnread now c why s (Ok _) t = ⊥
-ClosesUnread now c why s (Err e) t = StopsAt s.history now (what.Closed c) e.fault × ChangesNone e s t
+abbrev pub ClosesUnread : Cause → Visit → Holding → Answer → Holding → Type 0
+ClosesUnread why visit s (Ok (outcome.Done done)) t = (done ≡ record nothing_done { closed = Some why })
+    × Makes s.history visit.moment (what.Closed visit.client) t.history × LosesLine visit.client s t
+ClosesUnread why visit s (Ok _) t = ⊥
+ClosesUnread why visit s (Err e) t = StopsAt s.history visit.moment (what.Closed visit.client) e.fault × ChangesNone e s t
 
 -- an event of a client that has no line is refused
 abbrev pub ForClient : ℕ → (PlainLine → Holding → Answer → Holding → Type 0) → Holding → Answer → Holding → Type 0
@@ -55,9 +55,8 @@ ForClient c row s answer t = elim (s.lines c) [
 ]
 
 -- an event of a client at a moment
-abbrev pub ForVisit : Visit → (ℕ → ℕ → PlainLine → Holding → Answer → Holding → Type 0)
-    → History → List (ℕ × PlainLine) → Answer → History → List (ℕ × PlainLine) → Type 0
-ForVisit visit row h lines answer g after = ForClient visit.client (row visit.moment visit.client) (holding h lines) answer (holding g after)
+abbrev pub ForVisit : Visit → (Visit → PlainLine → Holding → Answer → Holding → Type 0) → Holding → Answer → Holding → Type 0
+ForVisit visit row s answer t = ForClient visit.client (row visit) s answer t
 
 -- an event of a client that concerns its line alone, whatever the hub's history is
 abbrev pub OnLine : (c : ℕ) → (ℕ → PlainLine → Holding → Answer → Holding → Type 0)

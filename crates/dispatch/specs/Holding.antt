@@ -4,9 +4,7 @@ use Rattle.std.specs.Ordering.{nat_cmp}
 use Rattle.std.specs.List.{AllByRecursion}
 use Rattle.std.specs.Map.{lookup}
 use Rattle.std.specs.BTreeMap.{is_at}
-use Rattle.eio_wire.specs.declared.handshake.Numbers.{Numbers}
 use Rattle.eio_wire.specs.Payload.{IsWhole}
-use Rattle.connection.specs.declared.timing.Timing.{Timing}
 use Rattle.connection.specs.Line.{PlainLine}
 use Rattle.journal.specs.Plain.{Limits}
 use Rattle.journal.specs.Config.{empty_base}
@@ -15,27 +13,26 @@ use Rattle.journal.specs.Membership.{is_open}
 use Rattle.journal.specs.Entries.{BringsOnly}
 use Rattle.hub_totals.specs.Pass.{new_pass, PlainHub, PlainPass}
 use Rattle.effects.specs.Following.{is_clean}
+use Rattle.dispatch.specs.declared.lines.Handshake.{Handshake}
 
 -- the hub, the lines by their clients, and what each new client is told
 pub record PlainCore : Type 0 where
   pub hub : PlainHub
   pub lines : List (ℕ × PlainLine)
-  pub timing : Timing
-  pub numbers : Numbers
+  pub told : Handshake
 
 -- with no clients
-abbrev pub new_core : Limits → Timing → Numbers → PlainCore
-new_core config timing numbers =
+abbrev pub new_core : Limits → Handshake → PlainCore
+new_core config told =
     record {
       hub = record { history = record { base = empty_base config.first_offset; limits = config; journal = [] }; rest = 65535 };
       lines = [];
-      timing = timing;
-      numbers = numbers;
+      told = told;
     }
 
 -- it was made for these settings, and its first pass has counted nothing
-abbrev pub IsNew : Limits → Timing → Numbers → PlainCore → PlainPass → Type 0
-IsNew config timing numbers core pass = (core ≡ new_core config timing numbers) × (pass ≡ new_pass)
+abbrev pub IsNew : Limits → Handshake → PlainCore → PlainPass → Type 0
+IsNew config told core pass = (core ≡ new_core config told) × (pass ≡ new_pass)
 
 -- the client's line
 abbrev pub line_of : List (ℕ × PlainLine) → ℕ → Option PlainLine
@@ -48,6 +45,17 @@ pub record Holding : Type 0 where
 
 abbrev pub holding : History → List (ℕ × PlainLine) → Holding
 holding history lines = record { history = history; lines = line_of lines }
+
+-- where the machine stands between two events: what the core holds, and the ids to come
+pub record Standing : Type 0 where
+  pub core : Holding
+  pub ids : ℕ → ℕ
+
+abbrev pub with_ids : Holding → (ℕ → ℕ) → Standing
+with_ids core ids = record { core = core; ids = ids }
+
+abbrev pub standing : History → List (ℕ × PlainLine) → (ℕ → ℕ) → Standing
+standing history lines ids = with_ids (holding history lines) ids
 
 -- the other clients' lines are as they were
 abbrev pub KeepsOthers : ℕ → Holding → Holding → Type 0

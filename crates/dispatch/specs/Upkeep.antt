@@ -10,6 +10,7 @@ use Rattle.journal.specs.declared.step.What.TheVariants as what
 use Rattle.events.specs.declared.cause.Cause.TheVariants as cause
 use Rattle.hub_totals.specs.Pass.{Drops}
 use Rattle.effects.specs.Commands.{Makes, StopsAt}
+use Rattle.effects.specs.Scene.{Visit}
 use Rattle.events.specs.declared.outcome.Outcome.TheVariants as outcome
 use Rattle.events.specs.Answer.{Answer, at_once}
 use Rattle.events.specs.Plain.{nothing_done}
@@ -25,21 +26,25 @@ IsDue what now line = ForEachHistory line (λ o h. what ≡ due o (clock_calls h
 
 -- a silent client's sessions are saved, one that joined nothing is closed; where the hub doesn't do so the line stays, but
 -- the tick stands in its history, with the questions that ran out forgotten
-abbrev pub TicksOn : Due → ℕ → ℕ → PlainLine → Holding → Answer → Holding → Type 0
-TicksOn Nothing now c line s answer t = (answer ≡ Ok (outcome.Ticked false nothing_done)) × AdvancesLine c line (Ticked now Nothing ∷ []) s t
-TicksOn SendPing now c line s answer t = (answer ≡ Ok (outcome.Ticked true nothing_done)) × AdvancesLine c line (Ticked now SendPing ∷ []) s t
-TicksOn PingTimeout now c line s (Ok o) t =
-    (o ≡ outcome.Ticked false (record nothing_done { closed = Some cause.PingTimeout })) × ParksOrCloses s.history now c t.history × LosesLine c s t
-TicksOn PingTimeout now c line s (Err e) t =
-    (e ≡ at_once e.fault) × FailsToPark s.history now c e.fault × AdvancesLine c line (Ticked now PingTimeout ∷ []) s t
-TicksOn ConnectTimeout now c line s (Ok o) t =
-    (o ≡ outcome.Ticked false (record nothing_done { closed = Some cause.ConnectTimeout })) × Makes s.history now (what.Closed c) t.history × LosesLine c s t
-TicksOn ConnectTimeout now c line s (Err e) t =
-    (e ≡ at_once e.fault) × StopsAt s.history now (what.Closed c) e.fault × AdvancesLine c line (Ticked now ConnectTimeout ∷ []) s t
+abbrev pub TicksOn : Due → Visit → PlainLine → Holding → Answer → Holding → Type 0
+TicksOn Nothing visit line s answer t = (answer ≡ Ok (outcome.Ticked false nothing_done))
+    × AdvancesLine visit.client line (Ticked visit.moment Nothing ∷ []) s t
+TicksOn SendPing visit line s answer t = (answer ≡ Ok (outcome.Ticked true nothing_done))
+    × AdvancesLine visit.client line (Ticked visit.moment SendPing ∷ []) s t
+TicksOn PingTimeout visit line s (Ok o) t = (o ≡ outcome.Ticked false (record nothing_done { closed = Some cause.PingTimeout }))
+    × ParksOrCloses s.history visit.moment visit.client t.history × LosesLine visit.client s t
+TicksOn PingTimeout visit line s (Err e) t = (e ≡ at_once e.fault)
+    × FailsToPark s.history visit.moment visit.client e.fault
+    × AdvancesLine visit.client line (Ticked visit.moment PingTimeout ∷ []) s t
+TicksOn ConnectTimeout visit line s (Ok o) t = (o ≡ outcome.Ticked false (record nothing_done { closed = Some cause.ConnectTimeout }))
+    × Makes s.history visit.moment (what.Closed visit.client) t.history × LosesLine visit.client s t
+TicksOn ConnectTimeout visit line s (Err e) t = (e ≡ at_once e.fault)
+    × StopsAt s.history visit.moment (what.Closed visit.client) e.fault
+    × AdvancesLine visit.client line (Ticked visit.moment ConnectTimeout ∷ []) s t
 
 -- what is due to the client is done
-abbrev pub Ticks : ℕ → ℕ → PlainLine → Holding → Answer → Holding → Type 0
-Ticks now c line s answer t = (what : Due) × IsDue what now line × TicksOn what now c line s answer t
+abbrev pub Ticks : Visit → PlainLine → Holding → Answer → Holding → Type 0
+Ticks visit line s answer t = (what : Due) × IsDue what visit.moment line × TicksOn what visit line s answer t
 
 -- ---- a sweep
 

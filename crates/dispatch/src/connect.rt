@@ -24,8 +24,7 @@ use terms::{Attachments, Entry, Sid, Text, read_id};
 /// Tells the client that it isn't connected, or closes it where its outbox has no space for that.
 fn refuse(scene: &mut Scene, space: &str, message: &str) -> Worked
     requires { IsOpenFor scene.old.visit.client (seen scene.old) }
-    ensures { let client = scene.old.visit.client in
-        Plays (λ now. Refuses client now space.now message.now) scene.old result scene.new }
+    ensures { Plays (Refuses space.now message.now) scene.old result scene.new }
 {
     let alloc = scene.visit.alloc;
     let Ok(text) = refused_text(alloc, space, message) else {
@@ -46,8 +45,8 @@ fn refuse(scene: &mut Scene, space: &str, message: &str) -> Worked
 fn ask_app<A: App, I: IdSource>(scene: &mut Scene, app: &A, ids: &mut I, header: Header) -> Worked
     requires ready { IsReady scene.old }
     requires free { IsFreeIn header.space scene.old.visit.client (seen scene.old) }
-    ensures { Draws (AsksApp (A.policy app.now) scene.old.visit.client header.space header.payload)
-        scene.old (I.stream ids.old) result scene.new (I.stream ids.new) }
+    ensures { Draws (AsksApp (A.policy app.now) header.space header.payload)
+        (scene.old, I.stream ids.old) result (scene.new, I.stream ids.new) }
 {
     let Header { space, payload, .. } = header;
     match app.connects(
@@ -110,9 +109,8 @@ fn accept<A: App, I: IdSource>(
 ) -> Worked
     requires ready { IsReady scene.old }
     requires free { IsFreeIn space scene.old.visit.client (seen scene.old) }
-    ensures { let client = scene.old.visit.client in Draws
-        (Connects (A.policy app.now) client space payload wanted.items)
-        scene.old (I.stream ids.old) result scene.new (I.stream ids.new) }
+    ensures { Draws (Connects (A.policy app.now) space payload wanted.items)
+        (scene.old, I.stream ids.old) result (scene.new, I.stream ids.new) }
 {
     let sid = Sid::new(ids.draw());
     let pid = Pid::new(ids.draw());
@@ -150,9 +148,8 @@ pub(crate) fn connect<A: App, I: IdSource>(
     header: Header,
 ) -> Worked
     requires { IsReady scene.old }
-    ensures { let client = scene.old.visit.client in Draws
-        (AsksToConnect (A.policy app.now) client header.space header.payload)
-        scene.old (I.stream ids.old) result scene.new (I.stream ids.new) }
+    ensures { Draws (AsksToConnect (A.policy app.now) header.space header.payload)
+        (scene.old, I.stream ids.old) result (scene.new, I.stream ids.new) }
 {
     let space = header.space.as_str();
     if !scene.state.has_space(space) {
@@ -174,9 +171,8 @@ fn recover_or_ask<A: App, I: IdSource>(
 ) -> Worked
     requires ready { IsReady scene.old }
     requires free { IsFreeIn header.space scene.old.visit.client (seen scene.old) }
-    ensures { let client = scene.old.visit.client in Draws
-        (MayRecover (A.policy app.now) client header.space header.payload)
-        scene.old (I.stream ids.old) result scene.new (I.stream ids.new) }
+    ensures { Draws (MayRecover (A.policy app.now) header.space header.payload)
+        (scene.old, I.stream ids.old) result (scene.new, I.stream ids.new) }
 {
     let Some(named) = named_in(scene.visit.alloc, header.payload.as_str())? else {
         return ask_app(scene, app, ids, header);

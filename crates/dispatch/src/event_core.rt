@@ -9,7 +9,7 @@ ghost use Rattle.journal.specs.Seal.{Seals};
 ghost use Rattle.hub_totals.specs.Pass.{AtLeast, GivesPass, IsBlankOf, Rises, Settles};
 ghost use Rattle.effects.specs.Following.{Spares};
 ghost use Rattle.connection.specs.Line.{PlainLine};
-ghost use Rattle.dispatch.specs.Holding.{line_of, holding, Agree, IsClean, IsNew};
+ghost use Rattle.dispatch.specs.Holding.{line_of, standing, Agree, IsClean, IsNew};
 ghost use Rattle.dispatch.specs.Takes.{IsOn};
 ghost use Rattle.events.specs.Answer.{at_once};
 ghost use Rattle.dispatch.specs.Answers.{fault_of_config};
@@ -19,7 +19,7 @@ ghost use Rattle.dispatch.specs.Machine.{Row, Does, Machine, IsOf, listed};
 
 use crate::hear_after::hear_after;
 use crate::lines::{Handshake, Lines, transport_of};
-use crate::{frames, losing, requests, upgrade};
+use crate::{clients, frames, losing, requests, upgrade};
 use connection::{Timing, Transport};
 use effects::Call;
 use eio_wire::Numbers;
@@ -57,8 +57,7 @@ impl<C: Ledger, T: Ledger> Model for Core<C, T> {
     ghost view = { λ c. record {
       hub = c.hub;
       lines = c.lines.entries;
-      timing = c.told.timing;
-      numbers = c.told.numbers;
+      told = c.told;
     } };
 
     ghost invariant = { λ c. Agree c.hub.history c.lines.entries × IsClean c.hub.history };
@@ -77,7 +76,8 @@ impl<C: Ledger, T: Ledger> Core<C, T> {
         requires commands { IsBlankOf C.name C.parts commands }
         requires taken { IsBlankOf T.name T.parts taken }
         ensures config { OnOk result (config_refusal config ≡ None) }
-        ensures made { IfOk result (λ made. IsNew config timing numbers made.0 made.1) }
+        ensures made { IfOk result (λ made.
+            IsNew config (record { timing = timing; numbers = numbers }) made.0 made.1) }
         ensures handed { IfOk result (λ made. (c : ℕ) → Handed c [] made.0.hub.history) }
         ensures err { IfErr result (λ e. e ≡ at_once (fault_of_config (config_refusal config))) }
     {
@@ -102,12 +102,10 @@ impl<C: Ledger, T: Ledger> Core<C, T> {
         now: u64,
         ids: &mut I,
     ) -> Answered
-        ensures does { Does (A.policy app.now) now
-            self.old.timing self.old.numbers event.now
-            (holding self.old.hub.history self.old.lines) (I.stream ids.old) result
-            (holding self.new.hub.history self.new.lines) (I.stream ids.new) }
-        ensures settings { (self.new.timing ≡ self.old.timing)
-            × (self.new.numbers ≡ self.old.numbers) }
+        ensures does { Does (A.policy app.now) self.old.told now event.now
+            (standing self.old.hub.history self.old.lines (I.stream ids.old)) result
+            (standing self.new.hub.history self.new.lines (I.stream ids.new)) }
+        ensures settings { self.new.told ≡ self.old.told }
         ensures handed { (c : ℕ) (turns : List Turn) → Handed c turns self.old.hub.history
             → Handed c ((event.now, result) ∷ turns) self.new.hub.history }
         ensures turns { (c : ℕ) → IsOf event.now (I.stream ids.old) c
@@ -136,17 +134,15 @@ impl<C: Ledger, T: Ledger> Core<C, T> {
         ids: &mut I,
     ) -> Result<Vec<Answered>, AllocError>
         ensures does { IfOk result (λ answers.
-            Machine (A.policy app.now) self.old.timing
-            self.old.numbers events.now answers.items
-            (holding self.old.hub.history self.old.lines) (I.stream ids.old)
-            (holding self.new.hub.history self.new.lines) (I.stream ids.new)) }
+            Machine (A.policy app.now) self.old.told events.now answers.items
+            (standing self.old.hub.history self.old.lines (I.stream ids.old))
+            (standing self.new.hub.history self.new.lines (I.stream ids.new))) }
         ensures handed { IfOk result (λ answers. (c : ℕ) (turns : List Turn)
             → Handed c turns self.old.hub.history
             → Handed c (turns_after turns events.now answers.items) self.new.hub.history) }
         ensures rises { Rises self.old.hub self.new.hub pass.old pass.new }
         ensures rest { self.new.hub.rest ≡ self.old.hub.rest }
-        ensures settings { (self.new.timing ≡ self.old.timing)
-            × (self.new.numbers ≡ self.old.numbers) }
+        ensures settings { self.new.told ≡ self.old.told }
         ensures unchanged { OnErr result
             ((self.new ≡ self.old) × (pass.new ≡ pass.old) × (ids.new ≡ ids.old)) }
     {
@@ -257,21 +253,20 @@ fn do_row<A: App, I: IdSource>(
 ) -> Answered
     requires agree { Agree state.old lines.old.entries }
     requires clean { IsClean state.old }
-    ensures { Row (A.policy app.now) call.moment
-        handshake.now.timing handshake.now.numbers event.now
-        (holding state.old lines.old.entries) (I.stream ids.old) result
-        (holding state.new lines.new.entries) (I.stream ids.new) }
+    ensures { Row (A.policy app.now) handshake.now call.moment event.now
+        (standing state.old lines.old.entries (I.stream ids.old)) result
+        (standing state.new lines.new.entries (I.stream ids.new)) }
 {
     match event {
         Event::Opened { socket } => {
             let visit = call.of(ids.draw());
-            requests::open(visit, state, lines, handshake, *socket)
+            clients::open(visit, state, lines, handshake, *socket)
         }
         Event::Post { client, body } => {
             requests::post(call.of(*client), state, lines, app, ids, body.as_str())
         }
         Event::Frame { client, frame } => {
-            frames::hear(call.of(*client), state, lines, app, ids, frame)
+            frames::receive(call.of(*client), state, lines, app, ids, frame)
         }
         Event::PollBegin { client } => requests::begin(call.of(*client), state, lines),
         Event::PollEnd { client } => requests::end(call.alloc, lines, *client),

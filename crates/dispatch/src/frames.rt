@@ -2,13 +2,14 @@
 
 ghost use Rattle.std.specs.Prelude.{◌≡◌, ◌≢◌, ◌⊎◌, true, IfOk, IfErr};
 ghost use Rattle.journal.specs.Membership.{is_open};
-ghost use Rattle.dispatch.specs.Answers.{ForClient};
+ghost use Rattle.effects.specs.Scene.{visit_of};
+ghost use Rattle.dispatch.specs.Answers.{ForVisit};
 ghost use Rattle.dispatch.specs.Frames.{is_too_long, IsFrameOf, IsNoFrame, SendsWaiting, SendsFor};
-ghost use Rattle.dispatch.specs.Machine.{HearsFor, TakesFrames};
-ghost use Rattle.dispatch.specs.Holding.{holding, Agree};
+ghost use Rattle.dispatch.specs.Machine.{ReceivesFor, TakesFrames};
+ghost use Rattle.dispatch.specs.Holding.{holding, standing, Agree};
 
+use crate::clients::{close_unread, work_on};
 use crate::lines::{Lines, transport_of};
-use crate::requests::{close_unread, work_on};
 use crate::takes::{Taken, count, fitting, outbox_of};
 use connection::{Line, Transport};
 use effects::Visit;
@@ -45,7 +46,7 @@ fn read_frame(alloc: Global, frame: &WsFrame) -> Result<Packet, WireError>
 }
 
 /// Works on a frame that the client sends.
-pub(crate) fn hear<A: App, I: IdSource>(
+pub(crate) fn receive<A: App, I: IdSource>(
     visit: Visit,
     state: &mut State,
     lines: &mut Lines,
@@ -54,9 +55,9 @@ pub(crate) fn hear<A: App, I: IdSource>(
     frame: &WsFrame,
 ) -> Answered
     requires { Agree state.old lines.old.entries }
-    ensures { HearsFor (A.policy app.now) visit.moment visit.client frame.now
-        (holding state.old lines.old.entries) (I.stream ids.old) result
-        (holding state.new lines.new.entries) (I.stream ids.new) }
+    ensures { ReceivesFor (A.policy app.now) (visit_of visit) frame.now
+        (standing state.old lines.old.entries (I.stream ids.old)) result
+        (standing state.new lines.new.entries (I.stream ids.new)) }
 {
     match transport_of(lines, visit.client) {
         None => return Err(CoreFault::UnknownClient.at_once()),
@@ -106,7 +107,7 @@ fn frame_take(visit: Visit, state: &mut State, line: &mut Line, most: usize) -> 
 /// Takes the frames for the client's WebSocket.
 pub(crate) fn take(visit: Visit, state: &mut State, lines: &mut Lines, most: usize) -> Answered
     requires { Agree state.old lines.old.entries }
-    ensures { ForClient visit.client (TakesFrames visit.moment visit.client most)
+    ensures { ForVisit (visit_of visit) (TakesFrames most)
         (holding state.old lines.old.entries) result (holding state.new lines.new.entries) }
 {
     let Some(line) = lines.get_mut(&visit.client) else {

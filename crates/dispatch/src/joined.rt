@@ -4,7 +4,7 @@
 ghost use Rattle.std.specs.Prelude.{◌≤◌};
 ghost use Rattle.effects.specs.Commands.{IsSeated};
 ghost use Rattle.effects.specs.Scene.{IsActing, Plays};
-ghost use Rattle.dispatch.specs.Packets.{IsReady, DecidesAfter, ClientDisconnects, TakesAck, HearsEvent, HearsStray, Serves, ServesJoined};
+ghost use Rattle.dispatch.specs.Packets.{IsReady, DecidesAfter, ClientDisconnects, TakesAck, ReceivesEvent, ReceivesStray, Serves, ServesJoined};
 
 use crate::packets::close_for;
 use effects::{Scene, act_all, commands};
@@ -54,10 +54,10 @@ fn disconnect(scene: &mut Scene, who: &Who) -> Worked
     Ok(())
 }
 
-/// Hears an answer to no question of its socket. It is noted as ignored.
-fn hear_stray<A: App>(scene: &mut Scene, app: &A, who: &Who, id: u64, said: Said) -> Worked
+/// Receives an answer to no question of its socket. It is noted as ignored.
+fn receive_stray<A: App>(scene: &mut Scene, app: &A, who: &Who, id: u64, said: Said) -> Worked
     requires { IsActing who.now scene.old }
-    ensures { Plays (HearsStray (A.policy app.now) who.now id said.payload said.attachments)
+    ensures { Plays (ReceivesStray (A.policy app.now) who.now said.payload said.attachments id)
         scene.old result scene.new }
 {
     scene.tally.ignore();
@@ -72,7 +72,7 @@ fn hear_stray<A: App>(scene: &mut Scene, app: &A, who: &Who, id: u64, said: Said
 /// Takes the answer to a question. One to a question that isn't open is a stray one.
 fn take_answer<A: App>(scene: &mut Scene, app: &A, who: &Who, said: Said) -> Worked
     requires { IsActing who.now scene.old }
-    ensures { Plays (TakesAck (A.policy app.now) who.now said.id said.payload said.attachments)
+    ensures { Plays (TakesAck (A.policy app.now) who.now said.payload said.attachments said.id)
         scene.old result scene.new }
 {
     let Some(id) = said.id else {
@@ -80,7 +80,7 @@ fn take_answer<A: App>(scene: &mut Scene, app: &A, who: &Who, said: Said) -> Wor
         return Ok(());
     };
     let Ok(tag) = scene.line.answer(who.sid, id) else {
-        return hear_stray(scene, app, who, id, said);
+        return receive_stray(scene, app, who, id, said);
     };
     let arrived = Arrived::Answer(Answer {
         tag,
@@ -90,10 +90,10 @@ fn take_answer<A: App>(scene: &mut Scene, app: &A, who: &Who, said: Said) -> Wor
     decide(scene, app, who, arrived, 0)
 }
 
-/// Hears an event of a socket. One with an id asks to be acknowledged.
-fn hear<A: App>(scene: &mut Scene, app: &A, who: &Who, said: Said) -> Worked
+/// Receives an event of a socket. One with an id asks to be acknowledged.
+fn receive<A: App>(scene: &mut Scene, app: &A, who: &Who, said: Said) -> Worked
     requires { IsActing who.now scene.old }
-    ensures { Plays (HearsEvent (A.policy app.now) who.now said.id said.payload said.attachments)
+    ensures { Plays (ReceivesEvent (A.policy app.now) who.now said.payload said.attachments said.id)
         scene.old result scene.new }
 {
     scene.tally.asked = said.id;
@@ -110,12 +110,12 @@ fn serve<A: App>(scene: &mut Scene, app: &A, who: &Who, said: Said) -> Worked
     requires acting { IsActing who.now scene.old }
     requires seated { IsSeated who.now scene.old.state.now }
     ensures { Plays
-        (Serves (A.policy app.now) said.kind who.now said.id said.payload said.attachments)
+        (Serves (A.policy app.now) who.now said.payload said.attachments said.kind said.id)
         scene.old result scene.new }
 {
     match said.kind {
         Kind::Disconnect => disconnect(scene, who),
-        Kind::Event | Kind::BinaryEvent => hear(scene, app, who, said),
+        Kind::Event | Kind::BinaryEvent => receive(scene, app, who, said),
         Kind::Ack | Kind::BinaryAck => take_answer(scene, app, who, said),
         Kind::Connect | Kind::ConnectError => Ok(()),
     }
@@ -125,8 +125,7 @@ fn serve<A: App>(scene: &mut Scene, app: &A, who: &Who, said: Said) -> Worked
 /// closes it.
 pub(crate) fn serve_joined<A: App>(scene: &mut Scene, app: &A, packet: SioPacket) -> Worked
     requires { IsReady scene.old }
-    ensures { Plays (ServesJoined (A.policy app.now) scene.old.visit.client packet)
-        scene.old result scene.new }
+    ensures { Plays (ServesJoined (A.policy app.now) packet) scene.old result scene.new }
 {
     let header = packet.header;
     // A hub's sockets are connected, each in one of its namespaces.

@@ -2,6 +2,7 @@
 //! of its clients.
 #![tactic(auto)]
 
+mod clients;
 mod connect;
 mod event_core;
 mod frames;

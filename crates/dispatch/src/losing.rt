@@ -5,6 +5,7 @@
 ghost use Rattle.std.specs.Prelude.{◌≡◌, ℕ, true, List};
 ghost use Rattle.journal.specs.Membership.{is_open};
 ghost use Rattle.connection.specs.Line.{PlainLine};
+ghost use Rattle.effects.specs.Scene.{visit_of};
 ghost use Rattle.dispatch.specs.Answers.{ForVisit};
 ghost use Rattle.dispatch.specs.Machine.{Loses};
 ghost use Rattle.dispatch.specs.Parking.{Parks};
@@ -21,7 +22,8 @@ use journal::HubError;
 /// Does what is due to the client now. Questions of its sockets that ran out are forgotten first.
 pub(crate) fn tick(visit: Visit, state: &mut State, lines: &mut Lines) -> Answered
     requires { Agree state.old lines.old.entries }
-    ensures { ForVisit visit Ticks state.old lines.old.entries result state.new lines.new.entries }
+    ensures { ForVisit (visit_of visit) Ticks
+        (holding state.old lines.old.entries) result (holding state.new lines.new.entries) }
 {
     let Some(line) = lines.get_mut(&visit.client) else {
         return Err(CoreFault::UnknownClient.at_once());
@@ -64,8 +66,8 @@ pub(crate) fn park_or_close(visit: Visit, state: &mut State) -> Result<bool, Cor
 /// closed.
 pub(crate) fn lose(visit: Visit, state: &mut State, lines: &mut Lines) -> Answered
     requires { Agree state.old lines.old.entries }
-    ensures { ForVisit visit (λ now c _. Loses now c)
-        state.old lines.old.entries result state.new lines.new.entries }
+    ensures { ForVisit (visit_of visit) (λ visit _. Loses visit)
+        (holding state.old lines.old.entries) result (holding state.new lines.new.entries) }
 {
     let Some(_) = lines.get(&visit.client) else {
         return Err(CoreFault::UnknownClient.at_once());

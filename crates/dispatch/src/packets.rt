@@ -5,7 +5,7 @@ ghost use Rattle.std.specs.Prelude.{◌≡◌, None, OnOk, IfOk, IfErr};
 ghost use Rattle.connection.specs.Line.{IsWholeIfGiven};
 ghost use Rattle.effects.specs.Effects.{IsOpenFor};
 ghost use Rattle.effects.specs.Runs.{Runs};
-ghost use Rattle.effects.specs.Scene.{seen, IsSameEvent, Plays};
+ghost use Rattle.effects.specs.Scene.{visit_of, seen, IsSameEvent, Plays};
 ghost use Rattle.dispatch.specs.Packets.{course, Draws, IsReady, ClosesFor, GoesOn, Handles, HandlesInTurn, BreaksAfter};
 
 use crate::connect::connect;
@@ -19,8 +19,7 @@ use sio_wire::{Kind, SioError, SioPacket};
 /// Closes the client for a cause.
 pub(crate) fn close_for(scene: &mut Scene, cause: Cause) -> Worked
     requires { IsOpenFor scene.old.visit.client (seen scene.old) }
-    ensures { let client = scene.old.visit.client in
-        Plays (λ now. ClosesFor client now cause) scene.old result scene.new }
+    ensures { Plays (ClosesFor cause) scene.old result scene.new }
 {
     Ok(effects::close_for(scene, cause)?)
 }
@@ -34,8 +33,8 @@ fn go_on<A: App, I: IdSource>(
 ) -> Worked
     requires ready { IsReady scene.old }
     requires whole { IfOk given IsWholeIfGiven }
-    ensures { Draws (GoesOn (A.policy app.now) scene.old.visit.client given)
-        scene.old (I.stream ids.old) result scene.new (I.stream ids.new) }
+    ensures { Draws (GoesOn (A.policy app.now) given)
+        (scene.old, I.stream ids.old) result (scene.new, I.stream ids.new) }
 {
     match given {
         Ok(Some(packet)) if packet.header.kind == Kind::Connect => {
@@ -51,8 +50,8 @@ fn go_on<A: App, I: IdSource>(
 /// What a packet does.
 fn handle<A: App, I: IdSource>(scene: &mut Scene, app: &A, ids: &mut I, packet: &Packet) -> Worked
     requires { IsReady scene.old }
-    ensures { Draws (Handles (A.policy app.now) scene.old.visit.client packet.now)
-        scene.old (I.stream ids.old) result scene.new (I.stream ids.new) }
+    ensures { Draws (Handles (A.policy app.now) packet.now)
+        (scene.old, I.stream ids.old) result (scene.new, I.stream ids.new) }
 {
     match packet {
         Packet::Close(_) => {
@@ -93,12 +92,13 @@ pub(crate) fn handle_each<A: App, I: IdSource>(
     requires open_client { IsOpenFor scene.old.visit.client (seen scene.old) }
     requires fresh { scene.old.tally.now.done.closed ≡ None }
     ensures same { IsSameEvent scene.old scene.new }
-    ensures ok { let visit = scene.old.visit in OnOk result (Runs
-        (HandlesInTurn (A.policy app.now) visit.client visit.moment) packets.now
+    ensures ok { OnOk result (Runs
+        (HandlesInTurn (A.policy app.now) (visit_of scene.old.visit)) packets.now
         (course (seen scene.old) (I.stream ids.old)) (course (seen scene.new) (I.stream ids.new))) }
-    ensures err { let visit = scene.old.visit in IfErr result (λ e. BreaksAfter
-        (A.policy app.now) visit.client visit.moment packets.now
-        (course (seen scene.old) (I.stream ids.old)) e (course (seen scene.new) (I.stream ids.new))) }
+    ensures err { IfErr result (λ e. BreaksAfter
+        (A.policy app.now) (visit_of scene.old.visit) packets.now
+        (course (seen scene.old) (I.stream ids.old)) e
+        (course (seen scene.new) (I.stream ids.new))) }
 {
     let mut count = 0;
     for packet in packets {

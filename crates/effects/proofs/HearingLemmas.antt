@@ -28,7 +28,7 @@ use Rattle.effects.proofs.StepLemmas.{follows-on, spares-cast, spares-others}
 or-fails-keeps : {S A E : Type 0} (R : S → A → Result (Unit {0}) E → S → Type 0) (P : A → Type 0) (K : S → Type 0) → ((s t : S) (x : A) (r : Result (Unit {0}) E) → P x → K s → R s x r t → K t)
     → (xs : List A) (s t : S) (r : Result (Unit {0}) E) → AllByRecursion P xs → K s → RunsOrFails R xs s r t → K t
 or-fails-keeps R P K keeps xs s t (Ok x) all was run = run-keeps (λ a x b. R a x (Ok tt) b) P K (λ a b x p k step. keeps a b x (Ok tt) p k step) xs s t all was run
-or-fails-keeps R P K keeps xs s t (Err e) all was (done, at, run, x, is, fails) =
+or-fails-keeps R P K keeps xs s t (Err e) all was (done, (at, run, x, is, fails)) =
     keeps at t x (Err e) (all-at P xs done x is all)
     (run-keeps (λ a x b. R a x (Ok tt) b) P K (λ a b x p k step. keeps a b x (Ok tt) p k step) (take done xs) s at (all-take P done xs all) was run) fails
 

@@ -74,7 +74,7 @@ runs-on {S} {A} R from i xs x s m t below is run step =
 
 pub run-fails : {S A E : Type 0} (R : S → A → Result (Unit {0}) E → S → Type 0) (from i : ℕ) (xs : List A) (x : A) (s m t : S) (e : E) → from ≤ i → slice_get xs i ≡ Some x
     → Runs (λ a x b. R a x (Ok tt) b) (take (i - from) (drop from xs)) s m → R m x (Err e) t → RunsOrFails R (drop from xs) s (Err e) t
-run-fails R from i xs x s m t e below is run fails = (i - from, m, run, x, get-from from i xs below ∙ is, fails)
+run-fails R from i xs x s m t e below is run fails = (i - from, (m, run, x, get-from from i xs below ∙ is, fails))
 
 pub run-ends : {S A : Type 0} (R : S → A → S → Type 0) (from i : ℕ) (xs : List A) (s t : S) → length xs ≤ i → Runs R (take (i - from) (drop from xs)) s t → Runs R (drop from xs) s t
 run-ends {S} {A} R from i xs s t past run =

@@ -154,6 +154,6 @@ module _ (who : Who) (now : ℕ) (f : History) where
   -- the effects until one ends the event: the client is open still
   pub stopped-works : (before : ℕ) (effects : List Effect) (s : Scene) (stopped : Stopped) (t : Scene) → AllClean effects → StandsWith who s → Has s
       → StopsAfter who now before effects s stopped t → (is_open t.history.base t.history.journal who.client ≡ true) × Has t
-  stopped-works before effects s stopped t clean stood was (done, number, at, run, effect, there, stops) =
+  stopped-works before effects s stopped t clean stood was (done, number, (at, run, effect, there, stops)) =
       let both = runs-work (take done effects) s at (all-take IsCleanEffect done effects clean) stood was run in
       (stopped-open who now at t effect stopped.fault both.0 stops, stop-works at t effect stopped.fault both.0 stops both.1)

@@ -1,6 +1,6 @@
 -- What the app's effects do (Socket.IO protocol 5, "Sending and receiving data", "Acknowledgement" and "Disconnection from
 -- a namespace"; Socket.IO server documentation, "Rooms" and "Utility methods").
-use Rattle.std.specs.Prelude.{◌≡◌, ◌⊎◌, ℕ, ◌+◌, ◌<◌, ◌^◌, ◌==◌, min, Bool, true, false, not, ◌||◌, List, [], ◌∷◌, length, nat_lt, is_none, Option, None, Some, Result, Ok, Err, slice_get, take, if◌then◌else◌}
+use Rattle.std.specs.Prelude.{◌≡◌, ◌⊎◌, ℕ, ◌+◌, ◌<◌, ◌^◌, ◌==◌, min, Bool, true, false, not, ◌||◌, List, [], ◌∷◌, length, nat_lt, is_none, Option, None, Some, Result, Ok, Err, if◌then◌else◌}
 use Rattle.std.specs.List.{list_any}
 use Rattle.room_maps.specs.declared.error.RoomError.{RoomError}
 use Rattle.terms.specs.declared.entry.Entry.{Entry}
@@ -43,7 +43,7 @@ use Rattle.effects.specs.Commands.{Makes, IsRefused, StopsAt, DoesOr, IsSeated}
 use Rattle.events.specs.declared.fault.Stopped.{Stopped}
 use Rattle.effects.specs.declared.scene.Tally.{Tally}
 use Rattle.events.specs.Plain.{PlainDone, one_more, noted, told}
-use Rattle.effects.specs.Runs.{Runs}
+use Rattle.effects.specs.Runs.{FailsAfter}
 use Rattle.effects.specs.Broadcasting.{work, Broadcasts, CannotBroadcast}
 
 -- where an event stands between two effects of a packet: the hub's history, the client's line, what was done of the event,
@@ -204,6 +204,10 @@ all_joined m room h = what.AllJoined (joining h (place_of h.limits m.space) m.ro
 abbrev pub all_left : PlainSelection → (room : List ℕ) → History → What
 all_left m room h = what.AllLeft (leaving h (place_of h.limits m.space) m.rooms m.excepted room)
 
+abbrev pub all_changed : (enters : Bool) → PlainSelection → (room : List ℕ) → History → What
+all_changed true m room h = all_joined m room h
+all_changed false m room h = all_left m room h
+
 abbrev pub dismissed : PlainSelection → History → PlainDismissal
 dismissed m h = dismissal h (place_of h.limits m.space) m.rooms m.excepted
 
@@ -254,10 +258,13 @@ FailsAt what now s fault t = StopsAt s.history now what fault × (t ≡ s)
 abbrev pub FailsToEmit : PlainEmission → Scene → CoreFault → Scene → Type 0
 FailsToEmit e s fault t = CannotBroadcast e s.history fault × (t ≡ s)
 
+-- an entry such as this isn't told: there is no memory to write it, or the client isn't told it
+abbrev pub FailsToTellSuch : (Entry → Type 0) → Who → ℕ → History → CoreFault → Type 0
+FailsToTellSuch IsSuch who now h fault = (fault ≡ Memory) ⊎ ((entry : Entry) × IsSuch entry × FailsToTell who now h entry fault)
+
 -- the event isn't acknowledged
 abbrev pub FailsToReply : Who → (id : ℕ) → reply.Reply → ℕ → Scene → CoreFault → Scene → Type 0
-FailsToReply who id r now s fault t = (t ≡ s)
-    × ((fault ≡ Memory) ⊎ ((entry : Entry) × IsReply who.space id r entry × FailsToTell who now s.history entry fault))
+FailsToReply who id r now s fault t = (t ≡ s) × FailsToTellSuch (IsReply who.space id r) who now s.history fault
 
 abbrev pub FailsToSay : Who → (text : List ℕ) → ℕ → Scene → CoreFault → Scene → Type 0
 FailsToSay who text now s fault t = (id : ℕ) × (s.asked ≡ Some id) × FailsToReply who id (record { payload = text; attachments = [] }) now s fault t
@@ -277,12 +284,19 @@ abbrev pub HasNoId : PlainLine → (sid : ℕ) → CoreFault → Type 0
 HasNoId line sid fault = (fault ≡ Memory)
     ⊎ ((fault ≡ Spent) × ForEachHistory line (λ o h. ask_refusal 0 (book_calls sid h) ≡ Some ack.Spent))
 
--- the question isn't asked, or is asked and forgotten, since nobody can be told
+-- the question isn't asked
+abbrev pub AsksNot : Who → PlainLine → CoreFault → PlainLine → Type 0
+AsksNot who line fault after = HasNoId line who.sid fault × Advances line [] after
+
+-- it is asked and forgotten, since nobody can be told
+abbrev pub AsksInVain : Who → inquiry.Inquiry → ℕ → Scene → CoreFault → PlainLine → Type 0
+AsksInVain who q now s fault after = (id : ℕ) × IsNextId s.line who.sid id × Advances s.line (asked_in_vain who now q id) after
+    × FailsToTellSuch (IsInquiry who.space id q) who now s.history fault
+
+-- the one or the other, and only the line has changed
 abbrev pub FailsToAsk : Who → inquiry.Inquiry → ℕ → Scene → CoreFault → Scene → Type 0
 FailsToAsk who q now s fault t = (t ≡ record s { line = t.line })
-    × ((HasNoId s.line who.sid fault × Advances s.line [] t.line)
-    ⊎ ((id : ℕ) × IsNextId s.line who.sid id × Advances s.line (asked_in_vain who now q id) t.line
-    × ((fault ≡ Memory) ⊎ ((entry : Entry) × IsInquiry who.space id q entry × FailsToTell who now s.history entry fault))))
+    × (AsksNot who s.line fault t.line ⊎ AsksInVain who q now s fault t.line)
 
 -- an effect that is allowed isn't done: for want of memory, or since a count or the offset would pass the greatest u64
 abbrev pub Fails : Who → ℕ → Scene → Effect → CoreFault → Scene → Type 0
@@ -305,9 +319,8 @@ Stops who now s effect fault t = (s.done.closed ≡ None)
 
 -- of a packet of which so many effects were done before, these were done in order until one ended the event
 abbrev pub StopsAfter : Who → ℕ → (before : ℕ) → List Effect → Scene → Stopped → Scene → Type 0
-StopsAfter who now before effects s stopped t =
-    (done : ℕ) × (stopped.effects ≡ before + done) × (at : Scene) × Runs (ActsInTurn who now) (take done effects) s at
-    × (effect : Effect) × (slice_get effects done ≡ Some effect) × Stops who now at effect stopped.fault t
+StopsAfter who now before effects s stopped t = (done : ℕ) × (stopped.effects ≡ before + done)
+    × FailsAfter (ActsInTurn who now) (λ a effect b. Stops who now a effect stopped.fault b) done effects s t
 
 -- the client is open unless it was closed, and its socket is connected unless it was disconnected
 pub record StandsWith (who : Who) (s : Scene) : Type 0 where

@@ -2,8 +2,20 @@
 use Rattle.std.specs.Prelude.{◌≡◌, ℕ, Result, OnOk, IfErr}
 use Rattle.events.specs.declared.fault.CoreFault.{CoreFault}
 use Rattle.effects.specs.declared.scene.Scene as values
+use Rattle.effects.specs.declared.scene.Visit as called
 use Rattle.events.specs.declared.app.Who.{Who}
 use Rattle.effects.specs.Effects.{Scene, scene, StandsWith}
+
+-- whose event it is, and when it came
+pub record Visit : Type 0 where
+  pub client : ℕ
+  pub moment : ℕ
+
+abbrev pub visit_at : (client moment : ℕ) → Visit
+visit_at client moment = record { client = client; moment = moment }
+
+abbrev pub visit_of : called.Visit → Visit
+visit_of visit = visit_at visit.client visit.moment
 
 -- where the event stands
 abbrev pub seen : values.Scene → Scene
@@ -27,6 +39,6 @@ pub record DoesOrFails (does : ℕ → Scene → Scene → Type 0) (fails : ℕ 
   pub ok : OnOk result (does old.visit.moment (seen old) (seen new))
   pub err : IfErr result (λ fault. fails old.visit.moment (seen old) fault (seen new))
 
--- the event goes on at its moment, and is answered so
-abbrev pub Plays : {R : Type 0} → (ℕ → Scene → R → Scene → Type 0) → values.Scene → R → values.Scene → Type 0
-Plays does old result new = IsSameEvent old new × does old.visit.moment (seen old) result (seen new)
+-- the event goes on, and is answered so
+abbrev pub Plays : {R : Type 0} → (Visit → Scene → R → Scene → Type 0) → values.Scene → R → values.Scene → Type 0
+Plays does old result new = IsSameEvent old new × does (visit_of old.visit) (seen old) result (seen new)

@@ -11,7 +11,7 @@ ghost use Rattle.effects.specs.Scene.{seen, IsActing, DoesOrFails, IsSameEvent};
 use crate::answering::{fetch, reply, report};
 use crate::ask::ask;
 use crate::broadcast::{broadcast, is_bad_emission, is_unsendable};
-use crate::rooms::{change, end_all, join_all, leave_all};
+use crate::rooms::{change, change_all, end_all};
 use crate::{Acted, Scene, Visit, commands};
 use events::{Cause, CoreFault, Effect, Stopped, Who, Worked};
 use hub_state::State;
@@ -138,8 +138,8 @@ fn act_allowed(scene: &mut Scene, who: &Who, effect: Effect) -> Acted
         Effect::Fetch(selection) => fetch(scene, who, &selection),
         Effect::EmitAsk(inquiry) => ask(scene, who, inquiry),
         Effect::Disconnect => disconnect(scene, who),
-        Effect::AllJoin(selection, room) => join_all(scene, selection, room),
-        Effect::AllLeave(selection, room) => leave_all(scene, selection, room),
+        Effect::AllJoin(selection, room) => change_all(scene, selection, room, true),
+        Effect::AllLeave(selection, room) => change_all(scene, selection, room, false),
         Effect::AllEnd(selection) => end_all(scene, who, selection),
     }
 }

@@ -8,7 +8,7 @@ ghost use Rattle.journal.specs.Command.{Does};
 ghost use Rattle.journal.specs.Membership.{is_space, place_of};
 ghost use Rattle.journal.specs.declared.step.What.{What};
 ghost use Rattle.effects.specs.Commands.{IsRoomChange};
-ghost use Rattle.effects.specs.Effects.{scene, is_among, all_joined, all_left, ChangesRooms, EndsAll, FailsAt, FailsToEndAll};
+ghost use Rattle.effects.specs.Effects.{scene, is_among, all_changed, ChangesRooms, EndsAll, FailsAt, FailsToEndAll};
 ghost use Rattle.effects.specs.Scene.{DoesOrFails};
 
 use crate::broadcast::retain_others;
@@ -38,13 +38,13 @@ pub(crate) fn change<X: Drop>(answer: Result<X, HubError>, tally: &mut Tally) ->
     Ok(())
 }
 
-/// All these sockets join a room, or none does.
-pub(crate) fn join_all(scene: &mut Scene, selection: Selection, room: Room) -> Acted
+/// All these sockets join a room, or leave it, or none does.
+pub(crate) fn change_all(scene: &mut Scene, selection: Selection, room: Room, enters: bool) -> Acted
     requires { let limits = scene.old.state.now.limits in
         is_space limits (place_of limits selection.space) ≡ true }
     ensures { DoesOrFails
-        (λ now s t. ChangesRooms (all_joined selection room s.history) now s t)
-        (λ now s f t. FailsAt (all_joined selection room s.history) now s f t)
+        (λ now s t. ChangesRooms (all_changed enters selection room s.history) now s t)
+        (λ now s f t. FailsAt (all_changed enters selection room s.history) now s f t)
         scene.old result scene.new }
 {
     let Visit { alloc, moment, .. } = scene.visit;
@@ -55,27 +55,10 @@ pub(crate) fn join_all(scene: &mut Scene, selection: Selection, room: Room) -> A
     } = selection;
     let space = space.as_str();
     let state = &mut *scene.state;
-    let answer = state.sockets_join(alloc, space, rooms, excepted, room, moment);
-    change(answer, scene.tally)
-}
-
-/// All these sockets leave a room, or none does.
-pub(crate) fn leave_all(scene: &mut Scene, selection: Selection, room: Room) -> Acted
-    requires { let limits = scene.old.state.now.limits in
-        is_space limits (place_of limits selection.space) ≡ true }
-    ensures { DoesOrFails
-        (λ now s t. ChangesRooms (all_left selection room s.history) now s t)
-        (λ now s f t. FailsAt (all_left selection room s.history) now s f t)
-        scene.old result scene.new }
-{
-    let Visit { alloc, moment, .. } = scene.visit;
-    let Selection {
-        space,
-        rooms,
-        excepted,
-    } = selection;
-    let space = space.as_str();
-    let state = &mut *scene.state;
+    if enters {
+        let answer = state.sockets_join(alloc, space, rooms, excepted, room, moment);
+        return change(answer, scene.tally);
+    }
     let answer = state.sockets_leave(alloc, space, rooms, excepted, room, moment);
     change(answer, scene.tally)
 }

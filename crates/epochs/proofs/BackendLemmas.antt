@@ -4,8 +4,6 @@ use Rattle.std.specs.Prelude.{bytes_eq, position, codes}
 use Rattle.std.proofs.lemmas.Bool.Decides.{nat_tests}
 use Rattle.std.proofs.lemmas.List.Quantifiers.{position-Some}
 use Rattle.std.proofs.lemmas.Slice.Eq.{bytes_eq-Decides}
-use Rattle.eio_wire.specs.declared.handshake.Numbers.{Numbers}
-use Rattle.connection.specs.declared.timing.Timing.{Timing}
 use Rattle.connection.specs.Line.{PlainLine}
 use Rattle.recovery.specs.SavedTable.{PlainSaved}
 use Rattle.journal.specs.declared.socket.Socket.{Socket}
@@ -22,8 +20,9 @@ use Rattle.guarded.specs.Entrance.{has_token}
 use Rattle.switchboard.specs.Digits.{digits_verdict}
 use Rattle.switchboard.specs.Switchboard.{verdict_of}
 use Rattle.switchboard.specs.Telling.{BACKENDS}
+use Rattle.dispatch.specs.declared.lines.Handshake.{Handshake}
 use Rattle.dispatch.specs.Machine.{Machine}
-use Rattle.dispatch.specs.Holding.{holding, new_core}
+use Rattle.dispatch.specs.Holding.{standing, new_core}
 use Rattle.epochs.specs.Backends.{CameByToken}
 use Rattle.epochs.specs.Epochs.{AreAlike, in_one}
 use Rattle.epochs.specs.LetIn.{Brings, Everyone, WasLetIn}
@@ -63,14 +62,14 @@ everyone-weaker Is These each h was = record {
   saved = all-to (λ (s : PlainSaved). Is s.sid s.space) (λ (s : PlainSaved). These s.sid s.space) (λ s is. each s.sid s.space is) (sessions h.base h.limits h.journal) was.saved;
 }
 
-module _ (token : List ℕ) (policy : Policy) (timing : Timing) (numbers : Numbers) (config : Limits) (there : is_space config (place_of config BACKENDS) ≡ true)
+module _ (token : List ℕ) (policy : Policy) (told : Handshake) (config : Limits) (there : is_space config (place_of config BACKENDS) ≡ true)
     (allows : (moment : ℕ) (space payload : List ℕ) (effects : List Effect) → policy.allows moment space payload (Accepted effects) → Accepted effects ≡ verdict_of token space payload) where
   pub backends-came : (events : List (Event × ℕ)) (answers : List Answer) (sealed : List History) (h : History) (lines : List (ℕ × PlainLine)) (ids left : ℕ → ℕ)
-      → Machine policy timing numbers events answers (holding (new_core config timing numbers).hub.history []) ids (holding (in_one sealed h) lines) left → AreAlike h (in_one sealed h)
+      → Machine policy told events answers (standing (new_core config told).hub.history [] ids) (standing (in_one sealed h) lines left) → AreAlike h (in_one sealed h)
       → Everyone (λ sid space. space ≡ place_of config BACKENDS → CameByToken token events (in_one sealed h).journal sid space) h
   backends-came events answers sealed h lines ids left run alike =
       everyone-weaker (WasLetIn policy config events (in_one sealed h).journal) (λ sid space. space ≡ place_of config BACKENDS → CameByToken token events (in_one sealed h).journal sid space) by-token h
-      (everyone-let-in policy timing numbers config events answers sealed h lines ids left run alike)
+      (everyone-let-in policy told config events answers sealed h lines ids left run alike)
     where
       by-token : (sid space : ℕ) → WasLetIn policy config events (in_one sealed h).journal sid space → space ≡ place_of config BACKENDS → CameByToken token events (in_one sealed h).journal sid space
       by-token sid space (k, inside, is, at, (turn, seen, (name, payload, brings, place, effects, allowed))) here =

@@ -1,7 +1,5 @@
 -- Whoever is in a namespace came through the entrance.
 use Rattle.std.proofs.Common.{◌≡◌, ℕ, List, [], refl, ◌∙◌}
-use Rattle.eio_wire.specs.declared.handshake.Numbers.{Numbers}
-use Rattle.connection.specs.declared.timing.Timing.{Timing}
 use Rattle.connection.specs.Line.{PlainLine}
 use Rattle.journal.specs.Plain.{Limits}
 use Rattle.journal.specs.Journal.{History}
@@ -13,8 +11,9 @@ use Rattle.guarded.specs.declared.entrance.Entrance.{Entrance}
 use Rattle.guarded.specs.declared.entrance.Pass.{Pass}
 use Rattle.guarded.specs.declared.entrance.Pass.TheVariants.{Granted, NotAllowed, Expired}
 use Rattle.guarded.specs.Guarded.{Admits, pass_into}
+use Rattle.dispatch.specs.declared.lines.Handshake.{Handshake}
 use Rattle.dispatch.specs.Machine.{Machine}
-use Rattle.dispatch.specs.Holding.{holding, new_core}
+use Rattle.dispatch.specs.Holding.{standing, new_core}
 use Rattle.epochs.specs.Entrances.{CameIn}
 use Rattle.epochs.specs.Epochs.{AreAlike, in_one}
 use Rattle.epochs.specs.LetIn.{Everyone, WasLetIn}
@@ -27,14 +26,14 @@ admitted Granted allows effects is = (refl, is)
 admitted NotAllowed allows effects is = absurd (cc is)
 admitted Expired allows effects is = absurd (cc is)
 
-module _ (entrance : Entrance) (apart : List (List ℕ)) (policy : Policy) (timing : Timing) (numbers : Numbers) (config : Limits)
+module _ (entrance : Entrance) (apart : List (List ℕ)) (policy : Policy) (told : Handshake) (config : Limits)
     (allows : (moment : ℕ) (space payload : List ℕ) (effects : List Effect) → policy.allows moment space payload (Accepted effects) → pass_into entrance apart moment space payload ≡ Granted) where
   pub everyone-in : (events : List (Event × ℕ)) (answers : List Answer) (sealed : List History) (h : History) (lines : List (ℕ × PlainLine)) (ids left : ℕ → ℕ)
-      → Machine policy timing numbers events answers (holding (new_core config timing numbers).hub.history []) ids (holding (in_one sealed h) lines) left → AreAlike h (in_one sealed h)
+      → Machine policy told events answers (standing (new_core config told).hub.history [] ids) (standing (in_one sealed h) lines left) → AreAlike h (in_one sealed h)
       → Everyone (CameIn entrance apart config events (in_one sealed h).journal) h
   everyone-in events answers sealed h lines ids left run alike =
       everyone-weaker (WasLetIn policy config events (in_one sealed h).journal) (CameIn entrance apart config events (in_one sealed h).journal) by-entrance h
-      (everyone-let-in policy timing numbers config events answers sealed h lines ids left run alike)
+      (everyone-let-in policy told config events answers sealed h lines ids left run alike)
     where
       by-entrance : (sid space : ℕ) → WasLetIn policy config events (in_one sealed h).journal sid space → CameIn entrance apart config events (in_one sealed h).journal sid space
       by-entrance sid space (k, inside, is, at, (turn, seen, (name, payload, brings, place, effects, allowed))) = (

@@ -1,7 +1,5 @@
 -- All epochs as one: what an event does there.
 use Rattle.std.proofs.Common.{◌≡◌, ℕ, true, List, [], ◌∷◌, ◌++◌, refl, sym, ◌∙◌, ap, subst, is_some, append_assoc, Option, Some}
-use Rattle.eio_wire.specs.declared.handshake.Numbers.{Numbers}
-use Rattle.connection.specs.declared.timing.Timing.{Timing}
 use Rattle.connection.specs.Line.{PlainLine}
 use Rattle.journal.specs.declared.step.Step.{Step}
 use Rattle.journal.specs.Journal.{History, history}
@@ -12,8 +10,9 @@ use Rattle.events.specs.App.{Policy}
 use Rattle.events.specs.declared.event.Event.{Event}
 use Rattle.events.specs.Answer.{Answer}
 use Rattle.epochs.specs.Epochs.{AreAlike, with_steps, in_one}
+use Rattle.dispatch.specs.declared.lines.Handshake.{Handshake}
 use Rattle.dispatch.specs.Machine.{Does, Machine}
-use Rattle.dispatch.specs.Holding.{Holding, holding, line_of, Agree}
+use Rattle.dispatch.specs.Holding.{Standing, standing, holding, line_of, Agree}
 use Rattle.dispatch.proofs.HearingLaws.{agrees-still}
 use Rattle.epochs.proofs.EpochSteps.{says-same-turned, alike-turned, StaysSound}
 use Rattle.epochs.proofs.EpochMachine.{does-alike}
@@ -54,52 +53,46 @@ sealed-alike sealed g h epoch alike seals fine =
 
 -- ---- an event
 
-module _ (keeps : StaysSound) (policy : Policy) (now : ℕ) (timing : Timing) (numbers : Numbers) (event : Event) (answer : Answer)
+module _ (keeps : StaysSound) (policy : Policy) (now : ℕ) (told : Handshake) (event : Event) (answer : Answer)
     (sealed : List History) (old new : List (ℕ × PlainLine)) (ids left : ℕ → ℕ) where
   abbrev DoesAt : History → History → Type 0
-  DoesAt h k = Does policy now timing numbers event (holding h old) ids answer (holding k new) left
+  DoesAt h k = Does policy told now event (standing h old ids) answer (standing k new left)
 
   has-open : (h : History) → Agree h old → (c : ℕ) (line : PlainLine) → line_of old c ≡ Some line → is_open h.base h.journal c ≡ true
   has-open h agree c line is = sym (agree c) ∙ ap (λ (o : Option PlainLine). is_some o) is
 
   pub does-in-one : (h k : History) → AreAlike h (in_one sealed h) → Agree h old → DoesAt h k → DoesAt (in_one sealed h) (in_one sealed k) × AreAlike k (in_one sealed k) × Agree k new
   does-in-one h k alike agree does =
-      let (m, grown, also) = does-alike keeps now (holding h old) (holding k new) (in_one sealed h) alike policy ids left (has-open h agree) timing numbers event answer does in
+      let (m, grown, also) = does-alike keeps now (holding h old) (holding k new) (in_one sealed h) alike policy ids left (has-open h agree) told event answer does in
       let is : m ≡ in_one sealed k = grown.other ∙ sym (one-with sealed grown.steps h) ∙ ap (in_one sealed) (sym grown.one) in
-      (subst (DoesAt (in_one sealed h)) is also, subst (AreAlike k) is grown.alike, agrees-still policy now h k old new agree ids left answer timing numbers event does)
+      (subst (DoesAt (in_one sealed h)) is also, subst (AreAlike k) is grown.alike, agrees-still policy now h k old new agree ids left answer told event does)
 
   pub does-in-present : (h m : History) → AreAlike h (in_one sealed h) → Agree h old → DoesAt (in_one sealed h) m → (k : History) × (m ≡ in_one sealed k) × DoesAt h k
   does-in-present h m alike agree does =
       let whole = in_one sealed h in
       let (k, grown, also) = does-alike keeps now (holding whole old) (holding m new) h (alike-turned h whole alike) policy ids left
-      (λ c line is. alike.same.same_open c ∙ has-open h agree c line is) timing numbers event answer does in
+      (λ c line is. alike.same.same_open c ∙ has-open h agree c line is) told event answer does in
       (k, grown.one ∙ sym (one-with sealed grown.steps h) ∙ ap (in_one sealed) (sym grown.other), also)
 
 -- ---- all events
 
 -- one event more
-machine-more : (policy : Policy) (timing : Timing) (numbers : Numbers) (now : ℕ) (event : Event) (answer : Answer)
-    (events : List (Event × ℕ)) (answers : List Answer) (s m t : Holding) (ids left rest : ℕ → ℕ)
-    → Machine policy timing numbers events answers s ids m left → Does policy now timing numbers event m left answer t rest
-    → Machine policy timing numbers (events ++ (event, now) ∷ []) (answers ++ answer ∷ []) s ids t rest
+machine-more : (policy : Policy) (told : Handshake) (now : ℕ) (event : Event) (answer : Answer)
+    (events : List (Event × ℕ)) (answers : List Answer) (s m t : Standing)
+    → Machine policy told events answers s m → Does policy told now event m answer t
+    → Machine policy told (events ++ (event, now) ∷ []) (answers ++ answer ∷ []) s t
 unfolding Machine
-machine-more policy timing numbers now event answer [] [] s m t ids left rest (there, drawn) does = (
-  t,
-  rest,
-  subst (λ (q : Holding). Does policy now timing numbers event q ids answer t rest) there
-      (subst (λ (drawn : ℕ → ℕ). Does policy now timing numbers event m drawn answer t rest) drawn does),
-  (refl, refl),
-)
-machine-more policy timing numbers now event answer [] (a ∷ answers) s m t ids left rest none does = absurd none
-machine-more policy timing numbers now event answer (e ∷ events) [] s m t ids left rest none does = absurd none
-machine-more policy timing numbers now event answer (e ∷ events) (a ∷ answers) s m t ids left rest (p, drawn, first, run) does =
-    (p, drawn, first, machine-more policy timing numbers now event answer events answers p m t drawn left rest run does)
+machine-more policy told now event answer [] [] s m t there does = (t, subst (λ (q : Standing). Does policy told now event q answer t) there does, refl)
+machine-more policy told now event answer [] (a ∷ answers) s m t none does = absurd none
+machine-more policy told now event answer (e ∷ events) [] s m t none does = absurd none
+machine-more policy told now event answer (e ∷ events) (a ∷ answers) s m t (p, first, run) does =
+    (p, first, machine-more policy told now event answer events answers p m t run does)
 
-pub account-more : (keeps : StaysSound) (policy : Policy) (timing : Timing) (numbers : Numbers) (now : ℕ) (event : Event) (answer : Answer)
-    (events : List (Event × ℕ)) (answers : List Answer) (s : Holding) (sealed : List History) (h k : History) (old new : List (ℕ × PlainLine)) (ids left rest : ℕ → ℕ)
+pub account-more : (keeps : StaysSound) (policy : Policy) (told : Handshake) (now : ℕ) (event : Event) (answer : Answer)
+    (events : List (Event × ℕ)) (answers : List Answer) (s : Standing) (sealed : List History) (h k : History) (old new : List (ℕ × PlainLine)) (left rest : ℕ → ℕ)
     → AreAlike h (in_one sealed h) → Agree h old
-    → Machine policy timing numbers events answers s ids (holding (in_one sealed h) old) left → Does policy now timing numbers event (holding h old) left answer (holding k new) rest
-    → Machine policy timing numbers (events ++ (event, now) ∷ []) (answers ++ answer ∷ []) s ids (holding (in_one sealed k) new) rest
-account-more keeps policy timing numbers now event answer events answers s sealed h k old new ids left rest alike agree run does =
-    machine-more policy timing numbers now event answer events answers s (holding (in_one sealed h) old) (holding (in_one sealed k) new) ids left rest run
-    (does-in-one keeps policy now timing numbers event answer sealed old new left rest h k alike agree does).0
+    → Machine policy told events answers s (standing (in_one sealed h) old left) → Does policy told now event (standing h old left) answer (standing k new rest)
+    → Machine policy told (events ++ (event, now) ∷ []) (answers ++ answer ∷ []) s (standing (in_one sealed k) new rest)
+account-more keeps policy told now event answer events answers s sealed h k old new left rest alike agree run does =
+    machine-more policy told now event answer events answers s (standing (in_one sealed h) old left) (standing (in_one sealed k) new rest) run
+    (does-in-one keeps policy now told event answer sealed old new left rest h k alike agree does).0

@@ -275,10 +275,10 @@ pub runs-or-fails-alike : {S A E : Type 0} (history_of : S → History) (put : S
     → (m : History) × Grown (history_of s) (history_of t) g m × RunsOrFails R xs (put s g) r (put t m)
 runs-or-fails-alike history_of put R each xs s (Ok x) t g alike run =
     runs-alike history_of put (λ a y b. R a y (Ok tt) b) (λ a y b k same does. each a y (Ok tt) b k same does) xs s t g alike run
-runs-or-fails-alike history_of put R each xs s (Err e) t g alike (done, at, run, x, there, fails) =
+runs-or-fails-alike history_of put R each xs s (Err e) t g alike (done, (at, run, x, there, fails)) =
     let (m, grown, also) = runs-alike history_of put (λ a y b. R a y (Ok tt) b) (λ a y b k same does. each a y (Ok tt) b k same does) (take done xs) s at g alike run in
     let (n, further, ends) = each at x (Err e) t m grown.alike fails in
-    (n, grown-on (history_of s) (history_of at) (history_of t) g m n grown further, (done, put at m, also, x, there, ends))
+    (n, grown-on (history_of s) (history_of at) (history_of t) g m n grown further, (done, (put at m, also, x, there, ends)))
 
 module _ (keeps : StaysSound) (now : ℕ) where
   pub effects-alike : (who : Who) (effects : List Effect) (s t : Scene) (g : History) → AreAlike s.history g → Runs (ActsInTurn who now) effects s t → Sim (Runs (ActsInTurn who now) effects) s t g
@@ -287,10 +287,10 @@ module _ (keeps : StaysSound) (now : ℕ) where
 
   pub stopped-alike : (who : Who) (before : ℕ) (effects : List Effect) (s : Scene) (stopped : Stopped) (t : Scene) (g : History) → AreAlike s.history g → StopsAfter who now before effects s stopped t
       → Sim (λ a b. StopsAfter who now before effects a stopped b) s t g
-  stopped-alike who before effects s stopped t g alike (done, number, at, run, effect, there, stops) =
+  stopped-alike who before effects s stopped t g alike (done, number, (at, run, effect, there, stops)) =
       let (m, grown, also) = effects-alike who (take done effects) s at g alike run in
       let (n, further, ends) = stop-alike keeps now who effect at stopped.fault t m grown.alike stops in
-      (n, grown-on s.history at.history t.history g m n grown further, (done, number, moved at m, also, effect, there, ends))
+      (n, grown-on s.history at.history t.history g m n grown further, (done, number, (moved at m, also, effect, there, ends)))
 
   -- ---- a seat
 

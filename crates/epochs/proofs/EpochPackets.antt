@@ -44,6 +44,7 @@ use Rattle.effects.specs.Commands.{Makes, IsRefused, StopsAt, CannotRecover, IsS
 use Rattle.effects.specs.Effects.{Scene, told_to, counted}
 use Rattle.effects.specs.Runs.{Runs}
 use Rattle.epochs.specs.Epochs.{AreAlike}
+use Rattle.effects.specs.Scene.{Visit, visit_at}
 use Rattle.dispatch.specs.Packets.{Course, Upshot, StopsFor, IsShortAfter, IsShort, DrawsNone, ClosesFor, ParksFor, refusal_entry, Refuses, DoesAll, ClientDisconnects, DecidesAfter, Decides, TakesAck, Serves, ServesJoined, socket_in, ConnectsAs, ComesBack, AsksApp, AsksToRecover, MayRecover, AsksToConnect, Works, GoesOn, with_line, TakesFrame, TakesText, ReadsBinary, TakesBinary, Handles, begun, HandlesOrBreaks, HandlesInTurn, BreaksAfter}
 use Rattle.dispatch.specs.Parking.{ParksOrCloses, FailsToPark}
 use Rattle.epochs.proofs.EpochSteps.{with-limits, Grown, grown-none, grown-on, StaysSound}
@@ -118,18 +119,18 @@ module _ (keeps : StaysSound) (now : ℕ) where
   short-alike : (s : Scene) (result : Upshot) (t : Scene) (g : History) → AreAlike s.history g → IsShort s result t → SimFor IsShort s result t g
   short-alike s result t g alike short = shorter-alike 0 s result t g alike short
 
-  closes-for : (c : ℕ) (why : Cause) (s : Scene) (result : Upshot) (t : Scene) (g : History) → AreAlike s.history g → ClosesFor c now why s result t → SimFor (ClosesFor c now why) s result t g
+  closes-for : (c : ℕ) (why : Cause) (s : Scene) (result : Upshot) (t : Scene) (g : History) → AreAlike s.history g → ClosesFor why (visit_at c now) s result t → SimFor (ClosesFor why (visit_at c now)) s result t g
   closes-for c why s (Ok done) t g alike closes = closes-alike keeps now c why s t g alike closes
   closes-for c why s (Err e) t g alike (fails, (is, same)) =
       (g, same-scene s t g alike same, (stops-alike keeps now s.history g alike (what.Closed c) e.fault fails, (is, ap (λ (u : Scene). moved u g) same)))
 
-  parks-for : (c : ℕ) (s : Scene) (result : Upshot) (t : Scene) (g : History) → AreAlike s.history g → ParksFor c now s result t → SimFor (ParksFor c now) s result t g
+  parks-for : (c : ℕ) (s : Scene) (result : Upshot) (t : Scene) (g : History) → AreAlike s.history g → ParksFor (visit_at c now) s result t → SimFor (ParksFor (visit_at c now)) s result t g
   parks-for c s (Ok done) t g alike (parks, is) =
       let (m, grown, also) = parks-or-closes c s.history g t.history alike parks in (m, grown, (also, ap (λ (u : Scene). moved u m) is))
   parks-for c s (Err e) t g alike (fails, (is, same)) =
       (g, same-scene s t g alike same, (fails-to-park c s.history g alike e.fault fails, (is, ap (λ (u : Scene). moved u g) same)))
 
-  refuses-alike : (c : ℕ) (space message : List ℕ) (s : Scene) (result : Upshot) (t : Scene) (g : History) → AreAlike s.history g → Refuses c now space message s result t → SimFor (Refuses c now space message) s result t g
+  refuses-alike : (c : ℕ) (space message : List ℕ) (s : Scene) (result : Upshot) (t : Scene) (g : History) → AreAlike s.history g → Refuses space message (visit_at c now) s result t → SimFor (Refuses space message (visit_at c now)) s result t g
   refuses-alike c space message s (Ok done) t g alike (inl (makes, is)) =
       let w = told_to c (refusal_entry space message) in
       let both = make-alike keeps now s.history g t.history alike w tt makes in
@@ -152,7 +153,7 @@ module _ (keeps : StaysSound) (now : ℕ) where
   does-all who before effects s (Ok done) t g alike run = effects-alike keeps now who effects s t g alike run
   does-all who before effects s (Err e) t g alike stops = stopped-alike keeps now who before effects s e t g alike stops
 
-  leaves-alike : (who : Who) (s : Scene) (result : Upshot) (t : Scene) (g : History) → AreAlike s.history g → ClientDisconnects who now s result t → SimFor (ClientDisconnects who now) s result t g
+  leaves-alike : (who : Who) (s : Scene) (result : Upshot) (t : Scene) (g : History) → AreAlike s.history g → ClientDisconnects who (visit_at who.client now) s result t → SimFor (ClientDisconnects who (visit_at who.client now)) s result t g
   leaves-alike who s (Ok done) t g alike (makes, advances, is) =
       let both = make-alike keeps now s.history g t.history alike (what.Ended who.sid side.Client) tt makes in
       let m = with_step g now (what.Ended who.sid side.Client) in
@@ -162,16 +163,16 @@ module _ (keeps : StaysSound) (now : ℕ) where
 
   module _ (policy : Policy) where
     decides-after-alike : (before : ℕ) (who : Who) (arrived : Arrived) (s : Scene) (result : Upshot) (t : Scene) (g : History) → AreAlike s.history g
-        → DecidesAfter policy before who arrived now s result t → SimFor (DecidesAfter policy before who arrived now) s result t g
+        → DecidesAfter policy before who arrived (visit_at who.client now) s result t → SimFor (DecidesAfter policy before who arrived (visit_at who.client now)) s result t g
     decides-after-alike before who arrived s result t g alike (inl short) = let (m, grown, also) = shorter-alike before s result t g alike short in (m, grown, inl also)
     decides-after-alike before who arrived s result t g alike (inr (effects, decided, clean, does)) =
         let (m, grown, also) = does-all who before effects s result t g alike does in (m, grown, inr (effects, decided, clean, also))
 
-    decides-alike : (who : Who) (arrived : Arrived) (s : Scene) (result : Upshot) (t : Scene) (g : History) → AreAlike s.history g → Decides policy who arrived now s result t → SimFor (Decides policy who arrived now) s result t g
+    decides-alike : (who : Who) (arrived : Arrived) (s : Scene) (result : Upshot) (t : Scene) (g : History) → AreAlike s.history g → Decides policy who arrived (visit_at who.client now) s result t → SimFor (Decides policy who arrived (visit_at who.client now)) s result t g
     decides-alike who arrived s result t g alike does = decides-after-alike 0 who arrived s result t g alike does
 
     ack-alike : (who : Who) (id : Option ℕ) (payload : List ℕ) (attachments : List (List ℕ)) (s : Scene) (result : Upshot) (t : Scene) (g : History) → AreAlike s.history g
-        → TakesAck policy who id payload attachments now s result t → SimFor (TakesAck policy who id payload attachments now) s result t g
+        → TakesAck policy who payload attachments id (visit_at who.client now) s result t → SimFor (TakesAck policy who payload attachments id (visit_at who.client now)) s result t g
     ack-alike who None payload attachments s result t g alike (is, same) =
         (g, grown-none s.history t.history g alike (ap (λ (u : Scene). u.history) same), (is, ap (λ (u : Scene). moved u g) same))
     ack-alike who (Some id) payload attachments s result t g alike (inl (line, none, advances, does)) =
@@ -180,7 +181,7 @@ module _ (keeps : StaysSound) (now : ℕ) where
         let (m, grown, also) = decides-alike who _ (record s { line = line }) result t g alike does in (m, grown, inr (question, line, asked, advances, also))
 
     serves-alike : (k : Kind) (who : Who) (id : Option ℕ) (payload : List ℕ) (attachments : List (List ℕ)) (s : Scene) (result : Upshot) (t : Scene) (g : History) → AreAlike s.history g
-        → Serves policy k who id payload attachments now s result t → SimFor (Serves policy k who id payload attachments now) s result t g
+        → Serves policy who payload attachments k id (visit_at who.client now) s result t → SimFor (Serves policy who payload attachments k id (visit_at who.client now)) s result t g
     serves-alike kind.Disconnect who id payload attachments s result t g alike does = leaves-alike who s result t g alike does
     serves-alike kind.Event who id payload attachments s result t g alike does = decides-alike who _ (record s { asked = id }) result t g alike does
     serves-alike kind.BinaryEvent who id payload attachments s result t g alike does = decides-alike who _ (record s { asked = id }) result t g alike does
@@ -192,12 +193,12 @@ module _ (keeps : StaysSound) (now : ℕ) where
     -- the row of a packet, by the client's socket in its namespace
     abbrev ServesAt : ℕ → SioPacket → Upshot → Option Socket → Scene → Scene → Type 0
     ServesAt c p result o a b = elim o as (λ (o : Option Socket). Type 0) [
-      | None ↦ ClosesFor c now cause.NotJoined a result b
+      | None ↦ ClosesFor cause.NotJoined (visit_at c now) a result b
       | Some k ↦ IsSeated (record { client = c; space = p.header.space; sid = k.sid }) a.history
-          × Serves policy p.header.kind (record { client = c; space = p.header.space; sid = k.sid }) p.header.id p.header.payload p.attachments now a result b
+          × Serves policy (record { client = c; space = p.header.space; sid = k.sid }) p.header.payload p.attachments p.header.kind p.header.id (visit_at c now) a result b
     ]
 
-    joined-alike : (c : ℕ) (p : SioPacket) (s : Scene) (result : Upshot) (t : Scene) (g : History) → AreAlike s.history g → ServesJoined policy c p now s result t → SimFor (ServesJoined policy c p now) s result t g
+    joined-alike : (c : ℕ) (p : SioPacket) (s : Scene) (result : Upshot) (t : Scene) (g : History) → AreAlike s.history g → ServesJoined policy p (visit_at c now) s result t → SimFor (ServesJoined policy p (visit_at c now)) s result t g
     joined-alike c p s result t g alike does =
         subst (λ (o : Option Socket). (m : History) × Grown s.history t.history g m × ServesAt c p result o (moved s g) (moved t m)) (sym (socket-alike s.history g alike c p.header.space))
         (on (socket_of s.history.base s.history.journal c (place_of s.history.limits p.header.space)) does)
@@ -214,7 +215,7 @@ module _ (keeps : StaysSound) (now : ℕ) where
   draws-none : (R : Scene → Upshot → Scene → Type 0) (s : Course) (result : Upshot) (t : Course) (g : History) → SimFor R s.scene result t.scene g → t.ids ≡ s.ids → SimFrom (DrawsNone R) s result t g
   draws-none R s result t g (m, grown, also) drawn = (m, grown, (also, drawn))
 
-  connects-as : (who : Who) (pid : ℕ) (effects : List Effect) (s : Scene) (result : Upshot) (t : Scene) (g : History) → AreAlike s.history g → ConnectsAs who pid effects now s result t → SimFor (ConnectsAs who pid effects now) s result t g
+  connects-as : (who : Who) (pid : ℕ) (effects : List Effect) (s : Scene) (result : Upshot) (t : Scene) (g : History) → AreAlike s.history g → ConnectsAs who pid effects (visit_at who.client now) s result t → SimFor (ConnectsAs who pid effects (visit_at who.client now)) s result t g
   connects-as who pid effects s result t g alike does =
       subst (λ (k : Socket). (m : History) × Grown s.history t.history g m × Attaches k (moved s g) (moved t m)) (ap (λ (l : Limits). record { client = who.client; space = place_of l who.space; sid = who.sid; pid = pid }) (sym alike.same.same_limits)) (on does)
     where
@@ -222,7 +223,7 @@ module _ (keeps : StaysSound) (now : ℕ) where
       Attaches k a b =
           ((between : Scene) × Makes a.history now (what.Attached k) between.history × Advances a.line (Connected who.sid ∷ []) between.line
           × (between ≡ record (counted a) { history = between.history; line = between.line }) × DoesAll who now 1 effects between result b)
-          ⊎ (IsRefused a.history now (what.Attached k) hub.OutboxFull × ClosesFor who.client now cause.OutboxFull a result b)
+          ⊎ (IsRefused a.history now (what.Attached k) hub.OutboxFull × ClosesFor cause.OutboxFull (visit_at who.client now) a result b)
           ⊎ ((e : Stopped) × (result ≡ Err e) × StopsAt a.history now (what.Attached k) e.fault × StopsFor e.fault a e b)
 
       on : Attaches (seat who pid s.history) s t → (m : History) × Grown s.history t.history g m × Attaches (seat who pid s.history) (moved s g) (moved t m)
@@ -243,8 +244,8 @@ module _ (keeps : StaysSound) (now : ℕ) where
   rooms-alike h g alike sid = ap (λ sets. rooms_rising sets sid) alike.same.same_rooms
 
   returns-alike : (policy : Policy) (c : ℕ) (space : List ℕ) (pid offset : ℕ) (s : Scene) (result : Upshot) (t : Scene) (g : History) → AreAlike s.history g
-      → ComesBack policy (what.Recovered (recovery_asked c space pid offset s.history)) (socket_in c space (recovery_asked c space pid offset s.history).socket.sid) now s result t
-      → SimFor (ComesBack policy (what.Recovered (recovery_asked c space pid offset s.history)) (socket_in c space (recovery_asked c space pid offset s.history).socket.sid) now) s result t g
+      → ComesBack policy (what.Recovered (recovery_asked c space pid offset s.history)) (socket_in c space (recovery_asked c space pid offset s.history).socket.sid) (visit_at c now) s result t
+      → SimFor (ComesBack policy (what.Recovered (recovery_asked c space pid offset s.history)) (socket_in c space (recovery_asked c space pid offset s.history).socket.sid) (visit_at c now)) s result t g
   returns-alike policy c space pid offset s result t g alike (between, makes, advances, is, decides) =
       let r = recovery_asked c space pid offset s.history in
       let w = what.Recovered r in
@@ -252,11 +253,11 @@ module _ (keeps : StaysSound) (now : ℕ) where
       let both = make-alike keeps now s.history g between.history alike w (return-right s.history now c space pid offset between.history makes) makes in
       let m = with_step g now w in
       let (n, grown, also) = decides-after-alike policy 1 who (arrived.Returned (rooms_rising (rooms_now between.history) who.sid)) between result t m both.0.alike decides in
-      let with_rooms = subst (λ (rooms : List (List ℕ)). DecidesAfter policy 1 who (arrived.Returned rooms) now (moved between m) result (moved t n)) (sym (rooms-alike between.history m both.0.alike who.sid)) also in
+      let with_rooms = subst (λ (rooms : List (List ℕ)). DecidesAfter policy 1 who (arrived.Returned rooms) (visit_at who.client now) (moved between m) result (moved t n)) (sym (rooms-alike between.history m both.0.alike who.sid)) also in
       (n, grown-on s.history between.history t.history g m n both.0 grown, (moved between m, both.1, advances, ap (λ (u : Scene). moved u m) is, with_rooms))
 
   module _ (policy : Policy) (c : ℕ) (space payload : List ℕ) (s : Course) (result : Upshot) (t : Course) (g : History) (alike : AreAlike s.scene.history g) where
-    asks-app : AsksApp policy c space payload now s result t → SimFrom (AsksApp policy c space payload now) s result t g
+    asks-app : AsksApp policy space payload (visit_at c now) s result t → SimFrom (AsksApp policy space payload (visit_at c now)) s result t g
     asks-app (inl (short, drawn)) = let (m, grown, also) = short-alike s.scene result t.scene g alike short in (m, grown, inl (also, drawn))
     asks-app (inr (inl (effects, allowed, clean, (drawn, inl short)))) =
         let (m, grown, also) = short-alike s.scene result t.scene g alike short in (m, grown, inr (inl (effects, allowed, clean, (drawn, inl also))))
@@ -269,11 +270,11 @@ module _ (keeps : StaysSound) (now : ℕ) where
     -- the session that is brought back, whichever recovery it is
     abbrev RecoversBy : PlainRecovery → Course → Course → Type 0
     RecoversBy r a b =
-        DrawsNone (ComesBack policy (what.Recovered r) (socket_in c space r.socket.sid) now) a result b
-        ⊎ (CannotRecover a.scene.history now (what.Recovered r) × AsksApp policy c space payload now a result b)
+        DrawsNone (ComesBack policy (what.Recovered r) (socket_in c space r.socket.sid) (visit_at c now)) a result b
+        ⊎ (CannotRecover a.scene.history now (what.Recovered r) × AsksApp policy space payload (visit_at c now) a result b)
         ⊎ ((e : Stopped) × (result ≡ Err e) × StopsAt a.scene.history now (what.Recovered r) e.fault × StopsFor e.fault a.scene e b.scene × (b.ids ≡ a.ids))
 
-    comes-back : (pid offset : ℕ) → AsksToRecover policy c space payload pid offset now s result t → SimFrom (AsksToRecover policy c space payload pid offset now) s result t g
+    comes-back : (pid offset : ℕ) → AsksToRecover policy space payload pid offset (visit_at c now) s result t → SimFrom (AsksToRecover policy space payload pid offset (visit_at c now)) s result t g
     comes-back pid offset does =
         subst (λ (r : PlainRecovery). (m : History) × Grown s.scene.history t.scene.history g m × RecoversBy r (shifted s g) (shifted t m)) (sym (return-alike s.scene.history g alike c space pid offset)) (on does)
       where
@@ -287,7 +288,7 @@ module _ (keeps : StaysSound) (now : ℕ) where
         on (inr (inr (e, is, stops, (none, same), drawn))) =
             (g, same-scene s.scene t.scene g alike same, inr (inr (e, is, stops-alike keeps now s.scene.history g alike (what.Recovered r) e.fault stops, (none, ap (λ (u : Scene). moved u g) same), drawn)))
 
-    may-come-back : MayRecover policy c space payload now s result t → SimFrom (MayRecover policy c space payload now) s result t g
+    may-come-back : MayRecover policy space payload (visit_at c now) s result t → SimFrom (MayRecover policy space payload (visit_at c now)) s result t g
     may-come-back (inl (short, drawn)) = let (m, grown, also) = short-alike s.scene result t.scene g alike short in (m, grown, inl (also, drawn))
     may-come-back (inr (inl (none, asks))) = let (m, grown, also) = asks-app asks in (m, grown, inr (inl (none, also)))
     may-come-back (inr (inr (named, names, comes))) = let (m, grown, also) = comes-back named.0 named.1 comes in (m, grown, inr (inr (named, names, also)))
@@ -295,14 +296,14 @@ module _ (keeps : StaysSound) (now : ℕ) where
     -- the row of a CONNECT, by the namespace and the client's socket in it
     abbrev FindsSocket : Option Socket → Course → Course → Type 0
     FindsSocket o a b = elim o as (λ (o : Option Socket). Type 0) [
-      | Some k ↦ DrawsNone (ClosesFor c now cause.AlreadyConnected) a result b
-      | None ↦ MayRecover policy c space payload now a result b
+      | Some k ↦ DrawsNone (ClosesFor cause.AlreadyConnected (visit_at c now)) a result b
+      | None ↦ MayRecover policy space payload (visit_at c now) a result b
     ]
 
     abbrev FindsSpace : Bool → Option Socket → Course → Course → Type 0
-    FindsSpace there o a b = elim there as (λ (there : Bool). Type 0) [ false ↦ DrawsNone (Refuses c now space (codes "Invalid namespace")) a result b | true ↦ FindsSocket o a b ]
+    FindsSpace there o a b = elim there as (λ (there : Bool). Type 0) [ false ↦ DrawsNone (Refuses space (codes "Invalid namespace") (visit_at c now)) a result b | true ↦ FindsSocket o a b ]
 
-    asks-to-connect : AsksToConnect policy c space payload now s result t → SimFrom (AsksToConnect policy c space payload now) s result t g
+    asks-to-connect : AsksToConnect policy space payload (visit_at c now) s result t → SimFrom (AsksToConnect policy space payload (visit_at c now)) s result t g
     asks-to-connect does =
         let h = s.scene.history in
         subst (λ (b : Bool). (m : History) × Grown h t.scene.history g m × FindsSpace b (socket_of g.base g.journal c (place_of g.limits space)) (shifted s g) (shifted t m)) (sym (space-alike h g alike space))
@@ -317,16 +318,20 @@ module _ (keeps : StaysSound) (now : ℕ) where
   -- ---- a packet
 
   module _ (policy : Policy) (c : ℕ) where
-    works-alike : (p : SioPacket) (s : Course) (result : Upshot) (t : Course) (g : History) → AreAlike s.scene.history g → Works policy c p now s result t → SimFrom (Works policy c p now) s result t g
+    -- the event's visit
+    abbrev v : Visit
+    v = visit_at c now
+
+    works-alike : (p : SioPacket) (s : Course) (result : Upshot) (t : Course) (g : History) → AreAlike s.scene.history g → Works policy p v s result t → SimFrom (Works policy p v) s result t g
     works-alike p s result t g alike does = on p.header.kind does
       where
-        joins : ServesJoined policy c p now s.scene result t.scene × (t.ids ≡ s.ids) → SimFrom (DrawsNone (ServesJoined policy c p now)) s result t g
+        joins : ServesJoined policy p v s.scene result t.scene × (t.ids ≡ s.ids) → SimFrom (DrawsNone (ServesJoined policy p v)) s result t g
         joins (does, drawn) = let (m, grown, also) = joined-alike policy c p s.scene result t.scene g alike does in (m, grown, (also, drawn))
 
         on : (k : Kind)
-            → elim k as (λ (k : Kind). Type 0) [ kind.Connect ↦ AsksToConnect policy c p.header.space p.header.payload now s result t | _ ↦ DrawsNone (ServesJoined policy c p now) s result t ]
+            → elim k as (λ (k : Kind). Type 0) [ kind.Connect ↦ AsksToConnect policy p.header.space p.header.payload v s result t | _ ↦ DrawsNone (ServesJoined policy p v) s result t ]
             → (m : History) × Grown s.scene.history t.scene.history g m
-            × elim k as (λ (k : Kind). Type 0) [ kind.Connect ↦ AsksToConnect policy c p.header.space p.header.payload now (shifted s g) result (shifted t m) | _ ↦ DrawsNone (ServesJoined policy c p now) (shifted s g) result (shifted t m) ]
+            × elim k as (λ (k : Kind). Type 0) [ kind.Connect ↦ AsksToConnect policy p.header.space p.header.payload v (shifted s g) result (shifted t m) | _ ↦ DrawsNone (ServesJoined policy p v) (shifted s g) result (shifted t m) ]
         on kind.Connect does = asks-to-connect policy c p.header.space p.header.payload s result t g alike does
         on kind.Disconnect does = joins does
         on kind.Event does = joins does
@@ -338,13 +343,13 @@ module _ (keeps : StaysSound) (now : ℕ) where
     same-course : (s t : Course) (g : History) → AreAlike s.scene.history g → t ≡ s → Grown s.scene.history t.scene.history g g
     same-course s t g alike is = grown-none s.scene.history t.scene.history g alike (ap (λ (u : Course). u.scene.history) is)
 
-    closes-one : (why : Cause) (s : Course) (result : Upshot) (t : Course) (g : History) → AreAlike s.scene.history g → DrawsNone (ClosesFor c now why) s result t → SimFrom (DrawsNone (ClosesFor c now why)) s result t g
+    closes-one : (why : Cause) (s : Course) (result : Upshot) (t : Course) (g : History) → AreAlike s.scene.history g → DrawsNone (ClosesFor why v) s result t → SimFrom (DrawsNone (ClosesFor why v)) s result t g
     closes-one why s result t g alike (closes, drawn) = let (m, grown, also) = closes-for c why s.scene result t.scene g alike closes in (m, grown, (also, drawn))
 
     short-one : (s : Course) (result : Upshot) (t : Course) (g : History) → AreAlike s.scene.history g → DrawsNone IsShort s result t → SimFrom (DrawsNone IsShort) s result t g
     short-one s result t g alike (short, drawn) = let (m, grown, also) = short-alike s.scene result t.scene g alike short in (m, grown, (also, drawn))
 
-    goes-on : (given : Result (Option SioPacket) SioError) (s : Course) (result : Upshot) (t : Course) (g : History) → AreAlike s.scene.history g → GoesOn policy c given now s result t → SimFrom (GoesOn policy c given now) s result t g
+    goes-on : (given : Result (Option SioPacket) SioError) (s : Course) (result : Upshot) (t : Course) (g : History) → AreAlike s.scene.history g → GoesOn policy given v s result t → SimFrom (GoesOn policy given v) s result t g
     goes-on (Ok None) s result t g alike (is, same) = (g, same-course s t g alike same, (is, ap (λ (u : Course). shifted u g) same))
     goes-on (Ok (Some p)) s result t g alike (whole, works) = let (m, grown, also) = works-alike p s result t g alike works in (m, grown, (whole, also))
     goes-on (Err sio.Memory) s result t g alike does = short-one s result t g alike does
@@ -359,27 +364,27 @@ module _ (keeps : StaysSound) (now : ℕ) where
     goes-on (Err sio.TextAwaitingBinary) s result t g alike does = closes-one _ s result t g alike does
     goes-on (Err sio.BinaryUnawaited) s result t g alike does = closes-one _ s result t g alike does
 
-    takes-frame : (frame : Frame) (s : Course) (result : Upshot) (t : Course) (g : History) → AreAlike s.scene.history g → TakesFrame policy c frame now s result t → SimFrom (TakesFrame policy c frame now) s result t g
+    takes-frame : (frame : Frame) (s : Course) (result : Upshot) (t : Course) (g : History) → AreAlike s.scene.history g → TakesFrame policy frame v s result t → SimFrom (TakesFrame policy frame v) s result t g
     takes-frame frame s result t g alike (given, line, accepts, advances, does) =
-        let (m, grown, also) = goes-on (Ok given) (with_line policy s line) result t g alike does in (m, grown, (given, line, accepts, advances, also))
+        let (m, grown, also) = goes-on (Ok given) (with_line s line) result t g alike does in (m, grown, (given, line, accepts, advances, also))
 
-    takes-text : (content : List ℕ) (s : Course) (result : Upshot) (t : Course) (g : History) → AreAlike s.scene.history g → TakesText policy c content now s result t → SimFrom (TakesText policy c content now) s result t g
+    takes-text : (content : List ℕ) (s : Course) (result : Upshot) (t : Course) (g : History) → AreAlike s.scene.history g → TakesText policy content v s result t → SimFrom (TakesText policy content v) s result t g
     takes-text content s result t g alike (inl short) = let (m, grown, also) = short-one s result t g alike short in (m, grown, inl also)
     takes-text content s result t g alike (inr (inl takes)) = let (m, grown, also) = takes-frame (text content) s result t g alike takes in (m, grown, inr (inl also))
     takes-text content s result t g alike (inr (inr (error, refuses, does))) =
-        let (m, grown, also) = goes-on (Err error) (with_line policy s (record s.scene.line { assembler = Failed error })) result t g alike does in (m, grown, inr (inr (error, refuses, also)))
+        let (m, grown, also) = goes-on (Err error) (with_line s (record s.scene.line { assembler = Failed error })) result t g alike does in (m, grown, inr (inr (error, refuses, also)))
 
-    reads-binary : (content : List ℕ) (s : Course) (result : Upshot) (t : Course) (g : History) → AreAlike s.scene.history g → ReadsBinary policy c content now s result t → SimFrom (ReadsBinary policy c content now) s result t g
+    reads-binary : (content : List ℕ) (s : Course) (result : Upshot) (t : Course) (g : History) → AreAlike s.scene.history g → ReadsBinary policy content v s result t → SimFrom (ReadsBinary policy content v) s result t g
     reads-binary content s result t g alike (inl short) = let (m, grown, also) = short-one s result t g alike short in (m, grown, inl also)
     reads-binary content s result t g alike (inr (inl takes)) = let (m, grown, also) = takes-frame (binary content) s result t g alike takes in (m, grown, inr (inl also))
     reads-binary content s result t g alike (inr (inr (error, refuses, does))) =
-        let (m, grown, also) = goes-on (Err error) (with_line policy s (record s.scene.line { assembler = Failed error })) result t g alike does in (m, grown, inr (inr (error, refuses, also)))
+        let (m, grown, also) = goes-on (Err error) (with_line s (record s.scene.line { assembler = Failed error })) result t g alike does in (m, grown, inr (inr (error, refuses, also)))
 
     -- the row of bytes, by whether they are too many
     abbrev FindsLong : List ℕ → Upshot → Bool → Course → Course → Type 0
-    FindsLong content result long a b = elim long as (λ (long : Bool). Type 0) [ true ↦ DrawsNone (ClosesFor c now cause.TooLong) a result b | false ↦ ReadsBinary policy c content now a result b ]
+    FindsLong content result long a b = elim long as (λ (long : Bool). Type 0) [ true ↦ DrawsNone (ClosesFor cause.TooLong v) a result b | false ↦ ReadsBinary policy content v a result b ]
 
-    takes-binary : (content : List ℕ) (s : Course) (result : Upshot) (t : Course) (g : History) → AreAlike s.scene.history g → TakesBinary policy c content now s result t → SimFrom (TakesBinary policy c content now) s result t g
+    takes-binary : (content : List ℕ) (s : Course) (result : Upshot) (t : Course) (g : History) → AreAlike s.scene.history g → TakesBinary policy content v s result t → SimFrom (TakesBinary policy content v) s result t g
     takes-binary content s result t g alike does =
         subst (λ (l : Limits). (m : History) × Grown s.scene.history t.scene.history g m × FindsLong content result (exceeds s.scene.line.assembler l.bytes (length content)) (shifted s g) (shifted t m)) (sym alike.same.same_limits)
         (on (exceeds s.scene.line.assembler s.scene.history.limits.bytes (length content)) does)
@@ -388,7 +393,7 @@ module _ (keeps : StaysSound) (now : ℕ) where
         on true does = closes-one cause.TooLong s result t g alike does
         on false does = reads-binary content s result t g alike does
 
-    handles-alike : (packet : Packet) (s : Course) (result : Upshot) (t : Course) (g : History) → AreAlike s.scene.history g → Handles policy c packet now s result t → SimFrom (Handles policy c packet now) s result t g
+    handles-alike : (packet : Packet) (s : Course) (result : Upshot) (t : Course) (g : History) → AreAlike s.scene.history g → Handles policy packet v s result t → SimFrom (Handles policy packet v) s result t g
     handles-alike (eio.Close content) s result t g alike (does, drawn) = let (m, grown, also) = parks-for c s.scene result t.scene g alike does in (m, grown, (also, drawn))
     handles-alike (eio.Ping content) s result t g alike does = closes-one cause.PingFromClient s result t g alike does
     handles-alike (eio.Pong content) s result t g alike (is, advances, same) =
@@ -399,20 +404,20 @@ module _ (keeps : StaysSound) (now : ℕ) where
     handles-alike (eio.Upgrade content) s result t g alike (is, same) = (g, same-course s t g alike same, (is, ap (λ (u : Course). shifted u g) same))
     handles-alike (eio.Noop content) s result t g alike (is, same) = (g, same-course s t g alike same, (is, ap (λ (u : Course). shifted u g) same))
 
-    pub packet-alike : (packet : Packet) (s : Course) (result : Upshot) (t : Course) (g : History) → AreAlike s.scene.history g → HandlesOrBreaks policy c packet now s result t → SimFrom (HandlesOrBreaks policy c packet now) s result t g
+    pub packet-alike : (packet : Packet) (s : Course) (result : Upshot) (t : Course) (g : History) → AreAlike s.scene.history g → HandlesOrBreaks policy v packet s result t → SimFrom (HandlesOrBreaks policy v packet) s result t g
     packet-alike packet s result t g alike does = on s.scene.done.closed does
       where
-        on : (o : Option Cause) → elim o as (λ (o : Option Cause). Type 0) [ Some why ↦ (result ≡ Ok tt) × (t ≡ s) | None ↦ Handles policy c packet now (begun policy s) result t ]
+        on : (o : Option Cause) → elim o as (λ (o : Option Cause). Type 0) [ Some why ↦ (result ≡ Ok tt) × (t ≡ s) | None ↦ Handles policy packet v (begun s) result t ]
             → (m : History) × Grown s.scene.history t.scene.history g m
-            × elim o as (λ (o : Option Cause). Type 0) [ Some why ↦ (result ≡ Ok tt) × (shifted t m ≡ shifted s g) | None ↦ Handles policy c packet now (begun policy (shifted s g)) result (shifted t m) ]
+            × elim o as (λ (o : Option Cause). Type 0) [ Some why ↦ (result ≡ Ok tt) × (shifted t m ≡ shifted s g) | None ↦ Handles policy packet v (begun (shifted s g)) result (shifted t m) ]
         on (Some why) (is, same) = (g, same-course s t g alike same, (is, ap (λ (u : Course). shifted u g) same))
-        on None handles = handles-alike packet (begun policy s) result t g alike handles
+        on None handles = handles-alike packet (begun s) result t g alike handles
 
-    pub packets-alike : (packets : List Packet) (s t : Course) (g : History) → AreAlike s.scene.history g → Runs (HandlesInTurn policy c now) packets s t → SimStage (Runs (HandlesInTurn policy c now) packets) s t g
+    pub packets-alike : (packets : List Packet) (s t : Course) (g : History) → AreAlike s.scene.history g → Runs (HandlesInTurn policy v) packets s t → SimStage (Runs (HandlesInTurn policy v) packets) s t g
     packets-alike packets s t g alike run =
-        runs-alike (λ (u : Course). u.scene.history) shifted (HandlesInTurn policy c now) (λ a packet b k same does. packet-alike packet a (Ok tt) b k same does) packets s t g alike run
+        runs-alike (λ (u : Course). u.scene.history) shifted (HandlesInTurn policy v) (λ a packet b k same does. packet-alike packet a (Ok tt) b k same does) packets s t g alike run
 
-    pub breaks-alike : (packets : List Packet) (s : Course) (e : CoreError) (t : Course) (g : History) → AreAlike s.scene.history g → BreaksAfter policy c now packets s e t → SimStage (λ a b. BreaksAfter policy c now packets a e b) s t g
+    pub breaks-alike : (packets : List Packet) (s : Course) (e : CoreError) (t : Course) (g : History) → AreAlike s.scene.history g → BreaksAfter policy v packets s e t → SimStage (λ a b. BreaksAfter policy v packets a e b) s t g
     breaks-alike packets s e t g alike (at, run, packet, there, breaks) =
         let (m, grown, also) = packets-alike (take e.packets packets) s at g alike run in
         let (n, further, ends) = packet-alike packet at (Err (record { fault = e.fault; effects = e.effects })) t m grown.alike breaks in

@@ -2,8 +2,6 @@
 use Rattle.std.proofs.Common.{◌≡◌, ℕ, List, [], ◌∷◌, ◌++◌, refl, sym, ◌∙◌, ap, subst, append_assoc, append-nil, Contains, None, Some}
 use Rattle.std.specs.List.{AllByRecursion}
 use Rattle.std.proofs.lemmas.List.Elements.{All-weaker, All-contains_itself, All-contains, All-from_recursion, recursion_from_All, Contains-append_left, Contains-append_right, Contains-push}
-use Rattle.eio_wire.specs.declared.handshake.Numbers.{Numbers}
-use Rattle.connection.specs.declared.timing.Timing.{Timing}
 use Rattle.connection.specs.Line.{PlainLine}
 use Rattle.journal.specs.declared.socket.Socket.{Socket}
 use Rattle.journal.specs.declared.step.Step.{Step}
@@ -18,8 +16,9 @@ use Rattle.events.specs.declared.event.Event.{Event}
 use Rattle.events.specs.Answer.{Answer}
 use Rattle.events.specs.App.{Policy}
 use Rattle.effects.specs.Commands.{seat}
+use Rattle.dispatch.specs.declared.lines.Handshake.{Handshake}
 use Rattle.dispatch.specs.Machine.{Does, Machine}
-use Rattle.dispatch.specs.Holding.{Holding, holding, new_core}
+use Rattle.dispatch.specs.Holding.{Standing, standing, new_core}
 use Rattle.dispatch.specs.Packets.{socket_in}
 use Rattle.epochs.specs.Epochs.{AreAlike, in_one, with_steps}
 use Rattle.epochs.specs.LetIn.{Brings, IsLetInBy, IsLetIn, attaches, attached, AttachesOnly, HaveHistories, Everyone, WasLetIn}
@@ -59,14 +58,14 @@ attaches-weaker Is These each h k was = record { steps = was.steps; goes = was.g
 
 -- ---- an event
 
-module _ (policy : Policy) (timing : Timing) (numbers : Numbers) where
-  pub event-lets : (now : ℕ) (happened : Event) (answer : Answer) (s t : Holding) (ids left : ℕ → ℕ) → HaveHistories s → Does policy now timing numbers happened s ids answer t left
-      → AttachesOnly (IsLetInBy policy s.history.limits (happened, now)) s.history t.history × HaveHistories t
-  event-lets now happened answer s t ids left lines does =
-      does-keeps Goes (λ h k at w none is was. attaches-step Only f h k at w (subst (AllByRecursion Only) (sym none) tt) is was) policy happened now lets s t (attaches-none Only f, lines) timing numbers answer ids left does
+module _ (policy : Policy) (told : Handshake) where
+  pub event-lets : (now : ℕ) (happened : Event) (answer : Answer) (s t : Standing) → HaveHistories s.core → Does policy told now happened s answer t
+      → AttachesOnly (IsLetInBy policy s.core.history.limits (happened, now)) s.core.history t.core.history × HaveHistories t.core
+  event-lets now happened answer s t lines does =
+      does-keeps Goes (λ h k at w none is was. attaches-step Only f h k at w (subst (AllByRecursion Only) (sym none) tt) is was) policy happened now lets s.core t.core (attaches-none Only f, lines) told answer s.ids t.ids does
     where
       f : History
-      f = s.history
+      f = s.core.history
 
       Only : Socket → Type 0
       Only = IsLetInBy policy f.limits (happened, now)
@@ -87,22 +86,22 @@ module _ (policy : Policy) (timing : Timing) (numbers : Numbers) where
   later : (limits : Limits) (turn : Event × ℕ) (turns : List (Event × ℕ)) (k : Socket) → IsLetIn policy limits turns k → IsLetIn policy limits (turn ∷ turns) k
   later limits turn turns k (other, inside, is) = (other, Contains-append_right (turn ∷ []) turns other inside, is)
 
-  pub run-lets : (events : List (Event × ℕ)) (answers : List Answer) (s t : Holding) (ids left : ℕ → ℕ) → HaveHistories s → Machine policy timing numbers events answers s ids t left
-      → AttachesOnly (IsLetIn policy s.history.limits events) s.history t.history × HaveHistories t
+  pub run-lets : (events : List (Event × ℕ)) (answers : List Answer) (s t : Standing) → HaveHistories s.core → Machine policy told events answers s t
+      → AttachesOnly (IsLetIn policy s.core.history.limits events) s.core.history t.core.history × HaveHistories t.core
   unfolding Machine
-  run-lets [] [] s t ids left lines (same, drawn) =
-      subst (λ (u : Holding). AttachesOnly (IsLetIn policy s.history.limits []) s.history u.history × HaveHistories u) (sym same) (attaches-none _ s.history, lines)
-  run-lets [] (answer ∷ answers) s t ids left lines none = absurd none
-  run-lets (turn ∷ turns) [] s t ids left lines none = absurd none
-  run-lets (turn ∷ turns) (answer ∷ answers) s t ids left lines (m, drawn, does, run) =
-      let limits = s.history.limits in
-      let first = event-lets turn.1 turn.0 answer s m ids drawn lines does in
-      let rest = run-lets turns answers m t drawn left first.1 run in
-      let same : m.history.limits ≡ limits = ap (λ (h : History). h.limits) first.0.goes in (
-        attaches-on (IsLetIn policy limits (turn ∷ turns)) s.history m.history t.history
-            (attaches-weaker (IsLetInBy policy limits turn) (IsLetIn policy limits (turn ∷ turns)) (sooner limits turn turns) s.history m.history first.0)
-            (attaches-weaker (IsLetIn policy m.history.limits turns) (IsLetIn policy limits (turn ∷ turns))
-            (λ k is. later limits turn turns k (subst (λ (l : Limits). IsLetIn policy l turns k) same is)) m.history t.history rest.0),
+  run-lets [] [] s t lines same =
+      subst (λ (u : Standing). AttachesOnly (IsLetIn policy s.core.history.limits []) s.core.history u.core.history × HaveHistories u.core) (sym same) (attaches-none _ s.core.history, lines)
+  run-lets [] (answer ∷ answers) s t lines none = absurd none
+  run-lets (turn ∷ turns) [] s t lines none = absurd none
+  run-lets (turn ∷ turns) (answer ∷ answers) s t lines (m, does, run) =
+      let limits = s.core.history.limits in
+      let first = event-lets turn.1 turn.0 answer s m lines does in
+      let rest = run-lets turns answers m t first.1 run in
+      let same : m.core.history.limits ≡ limits = ap (λ (h : History). h.limits) first.0.goes in (
+        attaches-on (IsLetIn policy limits (turn ∷ turns)) s.core.history m.core.history t.core.history
+            (attaches-weaker (IsLetInBy policy limits turn) (IsLetIn policy limits (turn ∷ turns)) (sooner limits turn turns) s.core.history m.core.history first.0)
+            (attaches-weaker (IsLetIn policy m.core.history.limits turns) (IsLetIn policy limits (turn ∷ turns))
+            (λ k is. later limits turn turns k (subst (λ (l : Limits). IsLetIn policy l turns k) same is)) m.core.history t.core.history rest.0),
         rest.1,
       )
 
@@ -119,13 +118,13 @@ module _ (policy : Policy) (timing : Timing) (numbers : Numbers) where
       (All-contains_itself ks))
 
   pub everyone-let-in : (config : Limits) (events : List (Event × ℕ)) (answers : List Answer) (sealed : List History) (h : History) (lines : List (ℕ × PlainLine)) (ids left : ℕ → ℕ)
-      → Machine policy timing numbers events answers (holding (new_core config timing numbers).hub.history []) ids (holding (in_one sealed h) lines) left → AreAlike h (in_one sealed h)
+      → Machine policy told events answers (standing (new_core config told).hub.history [] ids) (standing (in_one sealed h) lines left) → AreAlike h (in_one sealed h)
       → Everyone (WasLetIn policy config events (in_one sealed h).journal) h
   unfolding sockets
   everyone-let-in config events answers sealed h lines ids left run alike =
       let whole = in_one sealed h in
       let Is = WasLetIn policy config events whole.journal in
-      let were = (run-lets events answers (holding (new_core config timing numbers).hub.history []) (holding whole lines) ids left (λ c line is. absurd (none line is)) run).0 in
+      let were = (run-lets events answers (standing (new_core config told).hub.history [] ids) (standing whole lines left) (λ c line is. absurd (none line is)) run).0 in
       let journal : were.steps ≡ whole.journal = sym (append-nil were.steps) ∙ ap (λ (g : History). g.journal) (sym were.goes) in
       let base : empty_base config.first_offset ≡ whole.base = ap (λ (g : History). g.base) (sym were.goes) in
       alike-there Is h whole alike

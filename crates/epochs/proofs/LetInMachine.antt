@@ -3,12 +3,10 @@ use Rattle.std.proofs.Common.{◌≡◌, ℕ, ◌==◌, Bool, true, false, List,
 use Rattle.std.specs.List.{AllByRecursion}
 use Rattle.std.proofs.lemmas.Bool.Decides.{nat_tests}
 use Rattle.std.proofs.lemmas.List.Elements.{All-weaker, All-contains_itself, recursion_from_All}
-use Rattle.eio_wire.specs.declared.handshake.Numbers.{Numbers}
 use Rattle.eio_wire.specs.declared.packet.Packet.{Packet}
 use Rattle.eio_wire.specs.Payload.{Payload}
 use Rattle.connection.specs.declared.timing.Due.{Due}
 use Rattle.connection.specs.declared.timing.Due.TheVariants as due
-use Rattle.connection.specs.declared.timing.Timing.{Timing}
 use Rattle.connection.specs.declared.transport.Transport.{Transport}
 use Rattle.connection.specs.declared.transport.Transport.TheVariants.{Polling, Probing, Socket}
 use Rattle.connection.specs.History.{Call, GetBegan, GetEnded, Ticked, Probed, Upgraded, ProbeLost}
@@ -38,13 +36,14 @@ use Rattle.effects.specs.Effects.{is_bad_emission}
 use Rattle.effects.specs.Hearing.{Sends, HearsOf, ended_since}
 use Rattle.effects.specs.Runs.{RunsOrFails}
 use Rattle.effects.proofs.RunsLemmas.{run-keeps}
+use Rattle.effects.specs.Scene.{visit_at}
+use Rattle.dispatch.specs.declared.lines.Handshake.{Handshake}
 use Rattle.dispatch.specs.Answers.{Refused, KeepsWhileOpen, AdvancesLine, ClosesUnread, ForClient}
 use Rattle.dispatch.specs.Frames.{IsFrameOf, is_too_long, SendsFor, SendsOn, SendsFirst}
 use Rattle.dispatch.specs.Frames as frames
 use Rattle.dispatch.specs.Hearing.{done_before, Hears, HearsAfter}
-use Rattle.dispatch.specs.Holding.{Holding, KeepsOthers, KeepsLines, HasLine, LosesLine}
-use Rattle.dispatch.specs.Machine.{Opens, Begins, Ends, Takes, TakesFrames, Loses, opening, WorksOn, Posts, PostsFor, HearsFrame, HearsOne, HearsFor, Row, Does}
-use Rattle.dispatch.specs.Machine as machine
+use Rattle.dispatch.specs.Holding.{Holding, KeepsOthers, KeepsLines, HasLine, LosesLine, with_ids}
+use Rattle.dispatch.specs.Machine.{Opens, Begins, Ends, Takes, TakesFrames, Loses, opening, WorksOn, Posts, PostsFor, ReadsFrame, ReceivesOne, ReceivesFor, Row, Does, Receives}
 use Rattle.dispatch.specs.Packets.{course}
 use Rattle.dispatch.specs.Parking.{ParksOrCloses}
 use Rattle.dispatch.specs.Takes.{handed, carried, Take, Counts, IsShort, TellsNoop, Carries, FindsNothing, TakesFirst, TakesOn, TakesFor, ping_calls}
@@ -129,7 +128,7 @@ module _ (Is : History → Type 0) (quiet : KeptWhileQuiet Is) (now : ℕ) where
       → (xs : List A) (s : Work) (r : Result (Unit {0}) CoreFault) (t : Work) → RunsOrFails R xs s r t → Is s.history → Is t.history
   run-or-fails {A} R each xs s (Ok x) t run was =
       run-keeps (λ a x b. R a x (Ok tt) b) (λ (x : A). Unit {0}) (λ (u : Work). Is u.history) (λ a b x one has does. each a x (Ok tt) b does has) xs s t (any xs) was run
-  run-or-fails {A} R each xs s (Err e) t (done, at, run, x, there, fails) was =
+  run-or-fails {A} R each xs s (Err e) t (done, (at, run, x, there, fails)) was =
       each at x (Err e) t fails
       (run-keeps (λ a x b. R a x (Ok tt) b) (λ (x : A). Unit {0}) (λ (u : Work). Is u.history) (λ a b x one has does. each a x (Ok tt) b does has) (take done xs) s at (any (take done xs)) was run)
 
@@ -143,7 +142,7 @@ module _ (Is : History → Type 0) (quiet : KeptWhileQuiet Is) (now : ℕ) where
     hears-after None ended h said answer k (is, same) was = same-history h k same was
     hears-after (Some c) ended h said answer k heard was = on (done_before said) heard
       where
-        on : (o : Option PlainDone) → elim o as (λ (o : Option PlainDone). Type 0) [ None ↦ (answer ≡ said) × (k ≡ h) | Some before ↦ Hears policy c now ended h said answer k before ] → Is k
+        on : (o : Option PlainDone) → elim o as (λ (o : Option PlainDone). Type 0) [ None ↦ (answer ≡ said) × (k ≡ h) | Some before ↦ Receives policy c now ended h said answer k before ] → Is k
         on None (is, same) = same-history h k same was
         on (Some before) (r, after, run, is) = run-or-fails (HearsOf policy c now) (hears-of c) ended (work h before) r (work k after) run was
 
@@ -247,18 +246,18 @@ module _ (Is : History → Type 0) (quiet : KeptWhileQuiet Is) (now : ℕ) where
         on None none = absurd none
         on (Some line) does = (each line does).0
 
-    closes-unread : (c : ℕ) (why : Cause) (answer : Answer) → ClosesUnread now c why s answer t → Has t
+    closes-unread : (c : ℕ) (why : Cause) (answer : Answer) → ClosesUnread why (visit_at c now) s answer t → Has t
     closes-unread c why (Ok (outcome.Done done)) (said, makes, lost) = (made (what.Closed c) refl s.history t.history makes was.0, lines-lost c s t lost was.1)
     closes-unread c why (Ok _) never = absurd never
     closes-unread c why (Err e) (stops, (is, same, lines)) = (same-history s.history t.history same was.0, lines-kept s t lines was.1)
 
-    opens : (timing : Timing) (numbers : Numbers) (socket : Bool) (c : ℕ) (answer : Answer) → Opens timing numbers now socket c s answer t → Has t
-    opens timing numbers socket c (Ok (outcome.Opened o)) (client, said, makes, has) =
-        (made (what.Opened c) refl s.history t.history makes was.0, lines-has c _ s t (λ line leads. record { opening = record { now = now; timing = timing; socket = socket }; calls = []; leads = leads }) has was.1)
-    opens timing numbers socket c (Ok _) never = absurd never
-    opens timing numbers socket c (Err e) (stops, (is, same, lines)) = (same-history s.history t.history same was.0, lines-kept s t lines was.1)
+    opens : (told : Handshake) (socket : Bool) (c : ℕ) (answer : Answer) → Opens told socket (visit_at c now) s answer t → Has t
+    opens told socket c (Ok (outcome.Opened o)) (client, said, makes, has) =
+        (made (what.Opened c) refl s.history t.history makes was.0, lines-has c _ s t (λ line leads. record { opening = record { now = now; timing = told.timing; socket = socket }; calls = []; leads = leads }) has was.1)
+    opens told socket c (Ok _) never = absurd never
+    opens told socket c (Err e) (stops, (is, same, lines)) = (same-history s.history t.history same was.0, lines-kept s t lines was.1)
 
-    begins : (c : ℕ) (answer : Answer) (line : PlainLine) → HasHistory line → Begins now c line s answer t → Has t
+    begins : (c : ℕ) (answer : Answer) (line : PlainLine) → HasHistory line → Begins (visit_at c now) line s answer t → Has t
     begins c answer line history (inl (on, does)) = refused _ answer does
     begins c answer line history (inr (inl (polls, getting, does))) = closes-unread c _ answer does
     begins c answer line history (inr (inr (polls, getting, said, does))) = advances-line c line (GetBegan ∷ []) history does
@@ -268,11 +267,11 @@ module _ (Is : History → Type 0) (quiet : KeptWhileQuiet Is) (now : ℕ) where
     ends c (Ok _) line history never = absurd never
     ends c (Err e) line history never = absurd never
 
-    takes : (c most : ℕ) (answer : Answer) (line : PlainLine) → HasHistory line → Takes now c most line s answer t → Has t
+    takes : (c most : ℕ) (answer : Answer) (line : PlainLine) → HasHistory line → Takes most (visit_at c now) line s answer t → Has t
     takes c most (Ok o) line history has = takes-line c _ (λ after does. takes-for c s.history t.history line after was.0 history most (Ok o) does) has
     takes c most (Err e) line history (is, has) = takes-line c _ (λ after does. takes-for c s.history t.history line after was.0 history most (Err e.fault) does) has
 
-    takes-frames : (c most : ℕ) (answer : Answer) (line : PlainLine) → HasHistory line → TakesFrames now c most line s answer t → Has t
+    takes-frames : (c most : ℕ) (answer : Answer) (line : PlainLine) → HasHistory line → TakesFrames most (visit_at c now) line s answer t → Has t
     takes-frames c most (Ok o) line history has = takes-line c _ (λ after does. sends-for c s.history t.history line after was.0 history most (Ok o) does) has
     takes-frames c most (Err e) line history (is, has) = takes-line c _ (λ after does. sends-for c s.history t.history line after was.0 history most (Err e.fault) does) has
 
@@ -293,13 +292,13 @@ module _ (Is : History → Type 0) (quiet : KeptWhileQuiet Is) (now : ℕ) where
         by Probing (said, does) = advances-line c line (end ∷ []) history does
         by Socket does = refused _ answer does
 
-    loses : (c : ℕ) (answer : Answer) → Loses now c s answer t → Has t
+    loses : (c : ℕ) (answer : Answer) → Loses (visit_at c now) s answer t → Has t
     loses c (Ok (outcome.Lost true done)) (nothing, makes, lost) = (made (what.Parked c) refl s.history t.history makes was.0, lines-lost c s t lost was.1)
     loses c (Ok (outcome.Lost false done)) (nothing, refusal, makes, lost) = (made (what.Closed c) refl s.history t.history makes was.0, lines-lost c s t lost was.1)
     loses c (Ok _) never = absurd never
     loses c (Err e) ((is, same, lines), fails) = (same-history s.history t.history same was.0, lines-kept s t lines was.1)
 
-    ticks-on : (d : Due) (c : ℕ) (answer : Answer) (line : PlainLine) → HasHistory line → TicksOn d now c line s answer t → Has t
+    ticks-on : (d : Due) (c : ℕ) (answer : Answer) (line : PlainLine) → HasHistory line → TicksOn d (visit_at c now) line s answer t → Has t
     ticks-on due.Nothing c answer line history (said, does) = advances-line c line (Ticked now due.Nothing ∷ []) history does
     ticks-on due.SendPing c answer line history (said, does) = advances-line c line (Ticked now due.SendPing ∷ []) history does
     ticks-on due.PingTimeout c (Ok o) line history (said, does, lost) = (parks c s.history t.history does was.0, lines-lost c s t lost was.1)
@@ -307,7 +306,7 @@ module _ (Is : History → Type 0) (quiet : KeptWhileQuiet Is) (now : ℕ) where
     ticks-on due.ConnectTimeout c (Ok o) line history (said, makes, lost) = (made (what.Closed c) refl s.history t.history makes was.0, lines-lost c s t lost was.1)
     ticks-on due.ConnectTimeout c (Err e) line history (said, stops, does) = advances-line c line (Ticked now due.ConnectTimeout ∷ []) history does
 
-    ticks : (c : ℕ) (answer : Answer) (line : PlainLine) → HasHistory line → Ticks now c line s answer t → Has t
+    ticks : (c : ℕ) (answer : Answer) (line : PlainLine) → HasHistory line → Ticks (visit_at c now) line s answer t → Has t
     ticks c answer line history (d, is, does) = ticks-on d c answer line history does
 
     sweeps : (answer : Answer) → Sweeps now s answer t → Has t
@@ -325,7 +324,7 @@ module _ (Is : History → Type 0) (quiet : KeptWhileQuiet Is) (now : ℕ) where
           on (Some why) lost = lines-lost c s t lost was.1
           on None has = lines-has c _ s t (λ after same. subst HasHistory (sym same) history) has was.1
 
-      works-on : (packets : List Packet) (answer : Answer) (line : PlainLine) → HasHistory line → AllByRecursion (IsBrought Came) packets → WorksOn policy now c packets line s ids answer t left → Has t
+      works-on : (packets : List Packet) (answer : Answer) (line : PlainLine) → HasHistory line → AllByRecursion (IsBrought Came) packets → WorksOn policy (visit_at c now) packets line (with_ids s ids) answer (with_ids t left) → Has t
       works-on packets (Ok (outcome.Done done)) line history brought (m, run, said, there, keeps, drawn) =
           let after = all-packets Is quiet policy c now Came lets packets (course (opening s.history line) ids) m brought run (was.0, history) in
           (same-history m.scene.history t.history there after.0, keeps-open m.scene.done m.scene.line after.1 keeps)
@@ -335,40 +334,40 @@ module _ (Is : History → Type 0) (quiet : KeptWhileQuiet Is) (now : ℕ) where
           (same-history m.scene.history t.history there after.0, lines-has c _ s t (λ line same. subst HasHistory (sym same) after.1) has was.1)
 
       posts : (body : List ℕ) (answer : Answer) (line : PlainLine) → HasHistory line → ((packets : List Packet) → Payload packets body → AllByRecursion (IsBrought Came) packets)
-          → Posts policy now c body line s ids answer t left → Has t
-      posts body answer line history brings (inl (on, does, drawn)) = refused _ answer does
+          → Posts policy (visit_at c now) body line (with_ids s ids) answer (with_ids t left) → Has t
+      posts body answer line history brings (inl (on, (does, drawn))) = refused _ answer does
       posts body answer line history brings (inr (polls, inl (does, drawn))) = refused _ answer does
       posts body answer line history brings (inr (polls, inr (inl (packets, payload, does)))) = works-on packets answer line history (brings packets payload) does
-      posts body answer line history brings (inr (polls, inr (inr (fault, faulty, does, drawn)))) = closes-unread c _ answer does
+      posts body answer line history brings (inr (polls, inr (inr (fault, faulty, (does, drawn))))) = closes-unread c _ answer does
 
-      posts-for : (body : List ℕ) (answer : Answer) → ((packets : List Packet) → Payload packets body → AllByRecursion (IsBrought Came) packets) → PostsFor policy now c body s ids answer t left → Has t
+      posts-for : (body : List ℕ) (answer : Answer) → ((packets : List Packet) → Payload packets body → AllByRecursion (IsBrought Came) packets) → PostsFor policy (visit_at c now) body (with_ids s ids) answer (with_ids t left) → Has t
       posts-for body answer brings does = on (s.lines c) refl does
         where
-          on : (o : Option PlainLine) → s.lines c ≡ o → elim o as (λ (o : Option PlainLine). Type 0) [ None ↦ Refused UnknownClient s answer t × (left ≡ ids) | Some line ↦ Posts policy now c body line s ids answer t left ] → Has t
+          on : (o : Option PlainLine) → s.lines c ≡ o → elim o as (λ (o : Option PlainLine). Type 0) [ None ↦ Refused UnknownClient s answer t × (left ≡ ids) | Some line ↦ Posts policy (visit_at c now) body line (with_ids s ids) answer (with_ids t left) ] → Has t
           on None none (does, drawn) = refused UnknownClient answer does
           on (Some line) is does = posts body answer line (was.1 c line is) brings does
 
-      hears-frame : (frame : WsFrame) (answer : Answer) (line : PlainLine) → HasHistory line → ((packet : Packet) → IsFrameOf packet frame → IsBrought Came packet)
-          → HearsFrame policy now c frame line s ids answer t left → Has t
-      hears-frame frame answer line history brings (inl (does, drawn)) = refused _ answer does
-      hears-frame frame answer line history brings (inr (inl (packet, framed, does))) = works-on (packet ∷ []) answer line history (brings packet framed, tt) does
-      hears-frame frame answer line history brings (inr (inr (fault, faulty, does, drawn))) = closes-unread c _ answer does
+      reads-frame : (frame : WsFrame) (answer : Answer) (line : PlainLine) → HasHistory line → ((packet : Packet) → IsFrameOf packet frame → IsBrought Came packet)
+          → ReadsFrame policy (visit_at c now) frame line (with_ids s ids) answer (with_ids t left) → Has t
+      reads-frame frame answer line history brings (inl (does, drawn)) = refused _ answer does
+      reads-frame frame answer line history brings (inr (inl (packet, framed, does))) = works-on (packet ∷ []) answer line history (brings packet framed, tt) does
+      reads-frame frame answer line history brings (inr (inr (fault, faulty, (does, drawn)))) = closes-unread c _ answer does
 
-      hears-one : (frame : WsFrame) (answer : Answer) (line : PlainLine) → HasHistory line → ((packet : Packet) → IsFrameOf packet frame → IsBrought Came packet)
-          → HearsOne policy now c frame line s ids answer t left → Has t
-      hears-one frame answer line history brings does = by (is_too_long frame) does
+      receives-one : (frame : WsFrame) (answer : Answer) (line : PlainLine) → HasHistory line → ((packet : Packet) → IsFrameOf packet frame → IsBrought Came packet)
+          → ReceivesOne policy (visit_at c now) frame line (with_ids s ids) answer (with_ids t left) → Has t
+      receives-one frame answer line history brings does = by (is_too_long frame) does
         where
-          by : (b : Bool) → elim b as (λ (b : Bool). Type 0) [ true ↦ ClosesUnread now c cause.TooLong s answer t × (left ≡ ids) | false ↦ HearsFrame policy now c frame line s ids answer t left ] → Has t
+          by : (b : Bool) → elim b as (λ (b : Bool). Type 0) [ true ↦ ClosesUnread cause.TooLong (visit_at c now) s answer t × (left ≡ ids) | false ↦ ReadsFrame policy (visit_at c now) frame line (with_ids s ids) answer (with_ids t left) ] → Has t
           by true (does, drawn) = closes-unread c cause.TooLong answer does
-          by false does = hears-frame frame answer line history brings does
+          by false does = reads-frame frame answer line history brings does
 
-      hears-for : (frame : WsFrame) (answer : Answer) → ((packet : Packet) → IsFrameOf packet frame → IsBrought Came packet) → HearsFor policy now c frame s ids answer t left → Has t
-      hears-for frame answer brings does = on (s.lines c) refl does
+      receives-for : (frame : WsFrame) (answer : Answer) → ((packet : Packet) → IsFrameOf packet frame → IsBrought Came packet) → ReceivesFor policy (visit_at c now) frame (with_ids s ids) answer (with_ids t left) → Has t
+      receives-for frame answer brings does = on (s.lines c) refl does
         where
-          on : (o : Option PlainLine) → s.lines c ≡ o → elim o as (λ (o : Option PlainLine). Type 0) [ None ↦ Refused UnknownClient s answer t × (left ≡ ids) | Some line ↦ machine.Hears policy now c frame line s ids answer t left ] → Has t
+          on : (o : Option PlainLine) → s.lines c ≡ o → elim o as (λ (o : Option PlainLine). Type 0) [ None ↦ Refused UnknownClient s answer t × (left ≡ ids) | Some line ↦ Receives policy (visit_at c now) frame line (with_ids s ids) answer (with_ids t left) ] → Has t
           on None none (does, drawn) = refused UnknownClient answer does
-          on (Some line) is (inl (polls, does, drawn)) = refused _ answer does
-          on (Some line) is (inr (speaks, does)) = hears-one frame answer line (was.1 c line is) brings does
+          on (Some line) is (inl (polls, (does, drawn))) = refused _ answer does
+          on (Some line) is (inr (speaks, does)) = receives-one frame answer line (was.1 c line is) brings does
 
 -- ---- an event
 
@@ -377,7 +376,7 @@ module _ (Is : History → Type 0) (quiet : KeptWhileQuiet Is) (policy : Policy)
   abbrev Holds : Holding → Type 0
   Holds s = Is s.history × HaveHistories s
 
-  module _ (s t : Holding) (was : Holds s) (timing : Timing) (numbers : Numbers) (answer : Answer) (ids left : ℕ → ℕ) where
+  module _ (s t : Holding) (was : Holds s) (told : Handshake) (answer : Answer) (ids left : ℕ → ℕ) where
     posted : (c : ℕ) (body : List ℕ) → happened ≡ event.Post c body → (packets : List Packet) → Payload packets body
         → AllByRecursion (IsBrought (Brings happened c)) packets
     posted c body is packets spelled =
@@ -388,24 +387,24 @@ module _ (Is : History → Type 0) (quiet : KeptWhileQuiet Is) (policy : Policy)
         → IsBrought (Brings happened c) packet
     framed c frame is packet spelled space payload connect = subst (λ (e : Event). Brings e c space payload) (sym is) (refl, packet, spelled, connect)
 
-    row-keeps : (e : Event) → happened ≡ e → Row policy now timing numbers e s ids answer t left → Holds t
-    row-keeps (event.Opened socket) is (does, drawn) = opens Is quiet now s t was timing numbers socket (ids 0) answer does
+    row-keeps : (e : Event) → happened ≡ e → Row policy told now e (with_ids s ids) answer (with_ids t left) → Holds t
+    row-keeps (event.Opened socket) is (does, drawn) = opens Is quiet now s t was told socket (ids 0) answer does
     row-keeps (event.Post c body) is does = posts-for Is quiet now s t was policy ids left c (Brings happened c) (lets c) body answer (posted c body is) does
-    row-keeps (event.Frame c frame) is does = hears-for Is quiet now s t was policy ids left c (Brings happened c) (lets c) frame answer (framed c frame is) does
-    row-keeps (event.PollBegin c) is (does, drawn) = for-client Is quiet now s t was c (Begins now c) answer (λ line history row. begins Is quiet now s t was c answer line history row) does
+    row-keeps (event.Frame c frame) is does = receives-for Is quiet now s t was policy ids left c (Brings happened c) (lets c) frame answer (framed c frame is) does
+    row-keeps (event.PollBegin c) is (does, drawn) = for-client Is quiet now s t was c (Begins (visit_at c now)) answer (λ line history row. begins Is quiet now s t was c answer line history row) does
     row-keeps (event.PollEnd c) is (does, drawn) = for-client Is quiet now s t was c (Ends c) answer (λ line history row. ends Is quiet now s t was c answer line history row) does
-    row-keeps (event.PollTake c most) is (does, drawn) = for-client Is quiet now s t was c (Takes now c most) answer (λ line history row. takes Is quiet now s t was c most answer line history row) does
+    row-keeps (event.PollTake c most) is (does, drawn) = for-client Is quiet now s t was c (Takes most (visit_at c now)) answer (λ line history row. takes Is quiet now s t was c most answer line history row) does
     row-keeps (event.FrameTake c most) is (does, drawn) =
-        for-client Is quiet now s t was c (TakesFrames now c most) answer (λ line history row. takes-frames Is quiet now s t was c most answer line history row) does
+        for-client Is quiet now s t was c (TakesFrames most (visit_at c now)) answer (λ line history row. takes-frames Is quiet now s t was c most answer line history row) does
     row-keeps (event.Probe c) is (does, drawn) = for-client Is quiet now s t was c (Probes c) answer (λ line history row. probes Is quiet now s t was c answer line history row) does
     row-keeps (event.Upgraded c) is (does, drawn) = for-client Is quiet now s t was c (EndsProbe Upgraded c) answer (λ line history row. ends-probe Is quiet now s t was Upgraded c answer line history row) does
     row-keeps (event.ProbeLost c) is (does, drawn) = for-client Is quiet now s t was c (EndsProbe ProbeLost c) answer (λ line history row. ends-probe Is quiet now s t was ProbeLost c answer line history row) does
-    row-keeps (event.TransportLost c) is (does, drawn) = for-client Is quiet now s t was c (λ line. Loses now c) answer (λ line history row. loses Is quiet now s t was c answer row) does
-    row-keeps (event.Tick c) is (does, drawn) = for-client Is quiet now s t was c (Ticks now c) answer (λ line history row. ticks Is quiet now s t was c answer line history row) does
+    row-keeps (event.TransportLost c) is (does, drawn) = for-client Is quiet now s t was c (λ line. Loses (visit_at c now)) answer (λ line history row. loses Is quiet now s t was c answer row) does
+    row-keeps (event.Tick c) is (does, drawn) = for-client Is quiet now s t was c (Ticks (visit_at c now)) answer (λ line history row. ticks Is quiet now s t was c answer line history row) does
     row-keeps event.Sweep is (does, drawn) = sweeps Is quiet now s t was answer does
 
   -- what steps keep that attach no socket, or one that was let in, an event keeps
-  pub does-keeps : (s t : Holding) → Holds s → (timing : Timing) (numbers : Numbers) (answer : Answer) (ids left : ℕ → ℕ) → Does policy now timing numbers happened s ids answer t left → Holds t
-  does-keeps s t was timing numbers answer ids left (h, said, row, heard) =
-      let after = row-keeps s (record t { history = h }) was timing numbers said ids left happened refl row in
+  pub does-keeps : (s t : Holding) → Holds s → (told : Handshake) (answer : Answer) (ids left : ℕ → ℕ) → Does policy told now happened (with_ids s ids) answer (with_ids t left) → Holds t
+  does-keeps s t was told answer ids left (h, said, row, heard) =
+      let after = row-keeps s (record t { history = h }) was told said ids left happened refl row in
       (hears-after Is quiet now policy (client_of happened) (ended_since s.history h) h said answer t.history heard after.0, after.1)

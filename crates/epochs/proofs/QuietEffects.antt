@@ -140,5 +140,5 @@ module _ (Is : History → Type 0) (quiet : KeptWhileQuiet Is) (now : ℕ) where
   stops-has who effect s fault t (fresh, inr (fine, fails)) was = fails-has who effect s fault t fails was
 
   pub stopped-has : (who : Who) (before : ℕ) (effects : List Effect) (s : Scene) (e : Stopped) (t : Scene) → StopsAfter who now before effects s e t → Has Is s → Has Is t
-  stopped-has who before effects s e t (done, counts, at, run, effect, there, stops) was =
+  stopped-has who before effects s e t (done, counts, (at, run, effect, there, stops)) was =
       stops-has who effect at e.fault t stops (runs-has who (take done effects) s at run was)

@@ -2,8 +2,6 @@
 //! without.
 
 ghost use Rattle.std.specs.Prelude.{◌≡◌, ℕ, true, List, []};
-ghost use Rattle.eio_wire.specs.declared.handshake.Numbers.{Numbers};
-ghost use Rattle.connection.specs.declared.timing.Timing.{Timing};
 ghost use Rattle.connection.specs.Line.{PlainLine};
 ghost use Rattle.journal.specs.Plain.{Limits};
 ghost use Rattle.journal.specs.Journal.{History};
@@ -11,8 +9,9 @@ ghost use Rattle.journal.specs.Membership.{is_space, place_of};
 ghost use Rattle.events.specs.declared.event.Event.{Event};
 ghost use Rattle.events.specs.Answer.{Answer};
 ghost use Rattle.switchboard.specs.Telling.{BACKENDS};
+ghost use Rattle.dispatch.specs.declared.lines.Handshake.{Handshake};
 ghost use Rattle.dispatch.specs.Machine.{Machine};
-ghost use Rattle.dispatch.specs.Holding.{holding, new_core};
+ghost use Rattle.dispatch.specs.Holding.{standing, new_core};
 ghost use Rattle.epochs.specs.Epochs.{AreAlike, in_one};
 ghost use Rattle.epochs.specs.LetIn.{Everyone};
 ghost use Rattle.epochs.specs.Backends.{CameByToken};
@@ -26,13 +25,12 @@ use switchboard::Switchboard;
 /// has the token, or its session came back, and then the client that first had the session did. It
 /// has no effect.
 pub fn backends_came_by_token(app: &Guarded<Expiring<Switchboard>>)
-    ensures { (config : Limits) (timing : Timing) (numbers : Numbers)
+    ensures { (config : Limits) (told : Handshake)
         (events : List (Event × ℕ)) (answers : List Answer) (sealed : List History) (h : History)
         (lines : List (ℕ × PlainLine)) (ids left : ℕ → ℕ)
         → is_space config (place_of config BACKENDS) ≡ true
-        → Machine (⟦<Guarded<Expiring<Switchboard>> as App>⟧.policy app.now) timing numbers events answers
-        (holding (new_core config timing numbers).hub.history []) ids
-        (holding (in_one sealed h) lines) left
+        → Machine (⟦<Guarded<Expiring<Switchboard>> as App>⟧.policy app.now) told events answers
+        (standing (new_core config told).hub.history [] ids) (standing (in_one sealed h) lines left)
         → AreAlike h (in_one sealed h)
         → Everyone (λ sid space. space ≡ place_of config BACKENDS
         → CameByToken app.now.app.app.token events (in_one sealed h).journal sid space) h }

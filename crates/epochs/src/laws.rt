@@ -1,8 +1,6 @@
 //! Laws about all epochs together.
 
 ghost use Rattle.std.specs.Prelude.{◌≡◌, ℕ, true, false, List, [], ◌∷◌, ◌++◌};
-ghost use Rattle.eio_wire.specs.declared.handshake.Numbers.{Numbers};
-ghost use Rattle.connection.specs.declared.timing.Timing.{Timing};
 ghost use Rattle.terms.specs.declared.entry.Entry.{Entry};
 ghost use Rattle.connection.specs.Line.{PlainLine};
 ghost use Rattle.journal.specs.declared.step.What.{What};
@@ -17,8 +15,9 @@ ghost use Rattle.events.specs.Answer.{Answer};
 ghost use Rattle.epochs.specs.Epochs.{all_placements, BeginsAfter, HandedInAll, SparesInAll};
 ghost use Rattle.epochs.specs.Epochs.{AreAlike, in_one};
 ghost use Rattle.epochs.specs.LetIn.{IsLetInBy, IsLetIn, AttachesOnly, HaveHistories, Everyone, WasLetIn};
+ghost use Rattle.dispatch.specs.declared.lines.Handshake.{Handshake};
 ghost use Rattle.dispatch.specs.Machine.{Does, Machine};
-ghost use Rattle.dispatch.specs.Holding.{Holding, holding, new_core, Agree};
+ghost use Rattle.dispatch.specs.Holding.{Standing, standing, new_core, Agree};
 ghost use Rattle.dispatch.specs.Handed.{Turn, is_opened_in, Handed};
 
 use events::App;
@@ -67,35 +66,33 @@ pub fn does_in_all_epochs<A: App>(app: &A)
         → AreAlike h (in_one (g ∷ sealed) h) }
 
     // an event does the same in both, and leaves them so
-    ensures does { (now : ℕ) (timing : Timing) (numbers : Numbers) (event : Event) (answer : Answer)
+    ensures does { (now : ℕ) (told : Handshake) (event : Event) (answer : Answer)
         (sealed : List History) (h k : History) (old new : List (ℕ × PlainLine)) (ids left : ℕ → ℕ)
         → AreAlike h (in_one sealed h) → Agree h old
-        → Does (A.policy app.now) now timing numbers event
-        (holding h old) ids answer (holding k new) left
-        → Does (A.policy app.now) now timing numbers event
-        (holding (in_one sealed h) old) ids answer (holding (in_one sealed k) new) left
+        → Does (A.policy app.now) told now event (standing h old ids) answer (standing k new left)
+        → Does (A.policy app.now) told now event
+        (standing (in_one sealed h) old ids) answer (standing (in_one sealed k) new left)
         × AreAlike k (in_one sealed k) × Agree k new }
-    ensures back { (now : ℕ) (timing : Timing) (numbers : Numbers) (event : Event) (answer : Answer)
+    ensures back { (now : ℕ) (told : Handshake) (event : Event) (answer : Answer)
         (sealed : List History) (h m : History) (old new : List (ℕ × PlainLine)) (ids left : ℕ → ℕ)
         → AreAlike h (in_one sealed h) → Agree h old
-        → Does (A.policy app.now) now timing numbers event
-        (holding (in_one sealed h) old) ids answer (holding m new) left
+        → Does (A.policy app.now) told now event
+        (standing (in_one sealed h) old ids) answer (standing m new left)
         → (k : History) × (m ≡ in_one sealed k)
-        × Does (A.policy app.now) now timing numbers event
-        (holding h old) ids answer (holding k new) left }
+        × Does (A.policy app.now) told now event
+        (standing h old ids) answer (standing k new left) }
 
     // the account of all events so far, with one more
-    ensures account { (now : ℕ) (timing : Timing) (numbers : Numbers) (event : Event)
-        (answer : Answer) (events : List (Event × ℕ)) (answers : List Answer) (s : Holding)
+    ensures account { (now : ℕ) (told : Handshake) (event : Event)
+        (answer : Answer) (events : List (Event × ℕ)) (answers : List Answer) (s : Standing)
         (sealed : List History) (h k : History) (old new : List (ℕ × PlainLine))
-        (ids left rest : ℕ → ℕ) → AreAlike h (in_one sealed h) → Agree h old
-        → Machine (A.policy app.now) timing numbers
-        events answers s ids (holding (in_one sealed h) old) left
-        → Does (A.policy app.now) now timing numbers event
-        (holding h old) left answer (holding k new) rest
-        → Machine (A.policy app.now) timing numbers
+        (left rest : ℕ → ℕ) → AreAlike h (in_one sealed h) → Agree h old
+        → Machine (A.policy app.now) told events answers s (standing (in_one sealed h) old left)
+        → Does (A.policy app.now) told now event
+        (standing h old left) answer (standing k new rest)
+        → Machine (A.policy app.now) told
         (events ++ (event, now) ∷ []) (answers ++ answer ∷ [])
-        s ids (holding (in_one sealed k) new) rest }
+        s (standing (in_one sealed k) new rest) }
 {}
 
 /// Whoever is there was let in. An event attaches a socket only of its own client, by a CONNECT that
@@ -103,24 +100,23 @@ pub fn does_in_all_epochs<A: App>(app: &A)
 /// connected after any number of events and seals, or may come back, was attached so: with a session
 /// its socket comes back that was attached before. It has no effect.
 pub fn everyone_was_let_in<A: App>(app: &A)
-    ensures event { (now : ℕ) (timing : Timing) (numbers : Numbers) (event : Event) (answer : Answer)
-        (s t : Holding) (ids left : ℕ → ℕ) → HaveHistories s
-        → Does (A.policy app.now) now timing numbers event s ids answer t left
-        → AttachesOnly (IsLetInBy (A.policy app.now) s.history.limits (event, now)) s.history t.history
-        × HaveHistories t }
-    ensures events { (timing : Timing) (numbers : Numbers) (events : List (Event × ℕ))
-        (answers : List Answer) (s t : Holding) (ids left : ℕ → ℕ) → HaveHistories s
-        → Machine (A.policy app.now) timing numbers events answers s ids t left
-        → AttachesOnly (IsLetIn (A.policy app.now) s.history.limits events) s.history t.history
-        × HaveHistories t }
+    ensures event { (now : ℕ) (told : Handshake) (event : Event) (answer : Answer)
+        (s t : Standing) → HaveHistories s.core
+        → Does (A.policy app.now) told now event s answer t
+        → AttachesOnly (IsLetInBy (A.policy app.now) s.core.history.limits (event, now))
+        s.core.history t.core.history × HaveHistories t.core }
+    ensures events { (told : Handshake) (events : List (Event × ℕ))
+        (answers : List Answer) (s t : Standing) → HaveHistories s.core
+        → Machine (A.policy app.now) told events answers s t
+        → AttachesOnly (IsLetIn (A.policy app.now) s.core.history.limits events)
+        s.core.history t.core.history × HaveHistories t.core }
 
     // from a new core on, over all epochs
-    ensures everyone { (config : Limits) (timing : Timing) (numbers : Numbers)
+    ensures everyone { (config : Limits) (told : Handshake)
         (events : List (Event × ℕ)) (answers : List Answer) (sealed : List History) (h : History)
         (lines : List (ℕ × PlainLine)) (ids left : ℕ → ℕ)
-        → Machine (A.policy app.now) timing numbers events answers
-        (holding (new_core config timing numbers).hub.history []) ids
-        (holding (in_one sealed h) lines) left
+        → Machine (A.policy app.now) told events answers
+        (standing (new_core config told).hub.history [] ids) (standing (in_one sealed h) lines left)
         → AreAlike h (in_one sealed h)
         → Everyone (WasLetIn (A.policy app.now) config events (in_one sealed h).journal) h }
 {}

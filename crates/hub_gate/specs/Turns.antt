@@ -15,7 +15,7 @@ use Rattle.events.specs.Event.{client_of}
 use Rattle.dispatch.specs.Handed as core
 use Rattle.dispatch.specs.Handed.{Handed}
 use Rattle.dispatch.specs.Machine.{Does, IsOf, listed}
-use Rattle.dispatch.specs.Holding.{PlainCore, holding}
+use Rattle.dispatch.specs.Holding.{PlainCore, standing}
 use Rattle.events.specs.declared.peer.PeerFault.{PeerFault}
 use Rattle.hub_gate.specs.Facts.{IsSoundCore}
 use Rattle.events.specs.Loss.{AreTries}
@@ -34,9 +34,9 @@ module _ (policy : Policy) where
   -- steps that the pass counts
   pub record Applied (event : Event) (now : ℕ)
       (before : PlainCore) (old : Desk) (got : Answer) (after : PlainCore) (new : Desk) : Type 0 where
-    pub does : Does policy now before.timing before.numbers event
-        (holding before.hub.history before.lines) old.ids got (holding after.hub.history after.lines) new.ids
-    pub settings : (after.timing ≡ before.timing) × (after.numbers ≡ before.numbers)
+    pub does : Does policy before.told now event
+        (standing before.hub.history before.lines old.ids) got (standing after.hub.history after.lines new.ids)
+    pub settings : after.told ≡ before.told
     pub handed : (c : ℕ) (turns : List core.Turn) → Handed c turns before.hub.history → Handed c ((event, got) ∷ turns) after.hub.history
     pub turns : (c : ℕ) → IsOf event old.ids c → TurnsFor c before.hub after.hub old.pass new.pass
     pub spares : IfOk got (λ o. (c : ℕ) → IsOf event old.ids c → Spares c before.hub.history after.hub.history (listed o))

@@ -17,7 +17,7 @@ use Rattle.events.specs.declared.event.Event.TheVariants as event
 use Rattle.events.specs.declared.outcome.Outcome.TheVariants as outcome
 use Rattle.events.specs.Answer.{Answer}
 use Rattle.dispatch.specs.Machine.{Does}
-use Rattle.dispatch.specs.Holding.{PlainCore, line_of, holding}
+use Rattle.dispatch.specs.Holding.{PlainCore, line_of, standing}
 use Rattle.dispatch.specs.Takes.{IsOn}
 use Rattle.relay.specs.Counter.{counted_from}
 use Rattle.script.specs.declared.script_line.ScriptLine.{ScriptLine}
@@ -104,8 +104,7 @@ pub record Seals (s : PlainPlay) (said : List ℕ) (t : PlainPlay) : Type 0 wher
   pub said_is : said ≡ codes "sealed " ++ decimal (length s.core.hub.history.journal)
   pub sealed : IsSealed s.core.hub.history t.core.hub.history
   pub same_lines : t.core.lines ≡ s.core.lines
-  pub same_timing : t.core.timing ≡ s.core.timing
-  pub same_numbers : t.core.numbers ≡ s.core.numbers
+  pub same_told : t.core.told ≡ s.core.told
   pub same_clients : t.clients ≡ s.clients
   pub same_now : t.now ≡ s.now
   pub same_next : t.next ≡ s.next
@@ -126,10 +125,9 @@ module _ (policy : Policy) where
   -- the event happens to the server at its moment, as the machine's row says: the app answers what its policy
   -- allows, and the ids count up; no name stands for another client than before
   pub record Happens (s : PlainPlay) (event : Event) (answer : Answer) (t : PlainPlay) : Type 0 where
-    pub does : Does policy s.now s.core.timing s.core.numbers event
-        (holding s.core.hub.history s.core.lines) (counted_from s.next) answer (holding t.core.hub.history t.core.lines) (counted_from t.next)
-    pub same_timing : t.core.timing ≡ s.core.timing
-    pub same_numbers : t.core.numbers ≡ s.core.numbers
+    pub does : Does policy s.core.told s.now event
+        (standing s.core.hub.history s.core.lines (counted_from s.next)) answer (standing t.core.hub.history t.core.lines (counted_from t.next))
+    pub same_told : t.core.told ≡ s.core.told
     pub same_clients : t.clients ≡ s.clients
     pub same_now : t.now ≡ s.now
 

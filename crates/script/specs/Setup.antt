@@ -28,4 +28,4 @@ usual_numbers = record { ping_interval = 25000; ping_timeout = 20000; max_payloa
 
 -- a core with these limits, to which nothing has happened
 abbrev pub new_core : Limits → PlainCore
-new_core limits = core_with limits usual.timing usual_numbers
+new_core limits = core_with limits (record { timing = usual.timing; numbers = usual_numbers })

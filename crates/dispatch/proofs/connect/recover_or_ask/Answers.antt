@@ -3,7 +3,7 @@ use Rattle.journal.specs.Journal.{History}
 use Rattle.hub_state.specs.Recovering.{recovery_asked}
 use Rattle.effects.specs.Commands.{Recovers}
 use Rattle.effects.specs.Effects.{scene}
-use Rattle.effects.specs.Scene.{seen}
+use Rattle.effects.specs.Scene.{seen, visit_of}
 use Rattle.effects.specs.declared.scene.Tally.{Tally}
 use Rattle.effects.proofs.ActLemmas.{stands-seated}
 use Rattle.dispatch.specs.Packets.{course, socket_in, Names, AsksApp}
@@ -30,7 +30,7 @@ returns-in_default-2 g c =
     let names : Names c.args.header.payload (Some c.in-Some.named) = search rules in
     let back = subst (λ (x : List ℕ). Recovers (recovery_asked old.visit.client x c.in-Some.named.0 c.in-Some.named.1 old.state.now) old.state.now old.visit.moment (Ok c.in_ok-sid.field-0) c.recover.new.state) c.as_str-space.ensures c.in_ok-sid.ensures in
     let gone = subst (λ (o : Option ℕ). Recovers (recovery_asked old.visit.client c.args.header.space c.in-Some.named.0 c.in-Some.named.1 old.state.now) old.state.now old.visit.moment (Ok o) c.recover.new.state) c.in_default-2.is back in
-    let asks = subst (λ (h : History). AsksApp (g.A.App.policy c.args.app.now) old.visit.client c.args.header.space c.args.header.payload old.visit.moment (course (scene h old.line.now old.tally.now) ids)
+    let asks = subst (λ (h : History). AsksApp (g.A.App.policy c.args.app.now) c.args.header.space c.args.header.payload (visit_of old.visit) (course (scene h old.line.now old.tally.now) ids)
     c.ask_app-in_default-2.result (course (seen c.ask_app-in_default-2.new.scene) (g.I.IdSource.stream c.ask_app-in_default-2.new.ids))) gone.1 c.ask_app-in_default-2.ensures.1 in (
       search rules,
       inr (inr (c.in-Some.named, names, inr (inl (gone.0, asks)))),

@@ -1,6 +1,7 @@
 use Rattle.std.proofs.Common.{rules, ◌≡◌, Some, Err, refl, sym, subst}
 use Rattle.connection.specs.declared.timing.Due.TheVariants as due
 use Rattle.events.specs.Answer.{Answer, at_once}
+use Rattle.effects.specs.Scene.{visit_of}
 use Rattle.dispatch.specs.Answers.{ForVisit}
 use Rattle.dispatch.specs.Holding.{line_of, holding, KeepsOthers}
 use Rattle.dispatch.specs.Upkeep.{Ticks}
@@ -19,6 +20,6 @@ returns-in_err-park_or_close-in-PingTimeout c =
     let others : KeepsOthers c.args.visit.client (holding h old) (holding k new) = search rules in
     let failed : c.from_residual.result ≡ Err (at_once fault) = search rules in
     let stops = c.in_err-park_or_close-in-PingTimeout.ensures in
-    subst (λ (answer : Answer). ForVisit c.args.visit Ticks h old answer k new) (sym failed)
+    subst (λ (answer : Answer). ForVisit (visit_of c.args.visit) Ticks (holding h old) answer (holding k new)) (sym failed)
     (ticks c.args.visit.moment c.args.visit.client c.in-Some.line.now h old (Err (at_once fault)) (holding k new) c.tick-due.result due.PingTimeout known c.in-PingTimeout.is c.tick-due.ensures.due
     (refl, stops.0, ticked c.args.visit.moment c.args.visit.client c.in-Some.line.now c.tick-due.new.self h k old new c.tick-due.result due.PingTimeout stops.1 has others c.in-PingTimeout.is c.tick-due.ensures.advances))

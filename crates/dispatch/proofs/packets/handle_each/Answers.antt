@@ -2,7 +2,7 @@ use Rattle.std.proofs.Common.{◌+◌, ℕ, length, take, refl, sym, ◌∙◌, 
 use Rattle.std.proofs.lemmas.Option.{slice_get_read}
 use Rattle.events.specs.declared.cause.Cause.{Cause}
 use Rattle.effects.specs.declared.scene.Visit.{Visit}
-use Rattle.effects.specs.Scene.{seen}
+use Rattle.effects.specs.Scene.{seen, visit_of}
 use Rattle.effects.proofs.RunsLemmas.{runs-none}
 use Rattle.dispatch.specs.Packets.{Course, course, HandlesInTurn, HandlesOrBreaks}
 use Rattle.dispatch.proofs.PacketLaws.{all-after}
@@ -29,20 +29,19 @@ handle-requires g c =
 pub loop-packet-preserved : goal.loop-packet-preserved
 loop-packet-preserved g c =
     let policy = g.A.App.policy c.args.app.now in
-    let client = c.args.scene.now.visit.client in
-    let moment = c.args.scene.now.visit.moment in
+    let visit = visit_of c.args.scene.now.visit in
     let at = course (seen c.loop-packet.scene) (g.I.IdSource.stream c.loop-packet.ids) in
-    let more = λ (after : Course) (goes : HandlesOrBreaks policy client c.packet-item.result moment at (Ok tt) after).
-    runs-take (HandlesInTurn policy client moment) c.args.packets.now c.loop-packet.packet-index c.packet-item.result _ _ _ c.loop-packet-test.true c.packet-item.is c.loop-packet.invariant.run goes in
+    let more = λ (after : Course) (goes : HandlesOrBreaks policy visit c.packet-item.result at (Ok tt) after).
+    runs-take (HandlesInTurn policy visit) c.args.packets.now c.loop-packet.packet-index c.packet-item.result _ _ _ c.loop-packet-test.true c.packet-item.is c.loop-packet.invariant.run goes in
     elim c.if-not-is_closed.branch [
       | then-not-is_closed+in_default w ↦
           let after = course (seen w.handle.new.scene) (g.I.IdSource.stream w.handle.new.ids) in
-          let visit = c.loop-packet.scene.visit in
-          let turn = in-turn policy visit.client c.packet-item.result visit.moment at (Ok tt) after (sym c.is_closed.ensures ∙ w.if-not-is_closed.true) (rw w.begin.ensures at w.in_default.ensures.1) in
-          let goes = subst (λ (v : Visit). HandlesOrBreaks policy v.client c.packet-item.result v.moment at (Ok tt) after) c.loop-packet.invariant.same.visit turn in
+          let later = c.loop-packet.scene.visit in
+          let turn = in-turn policy later.client c.packet-item.result later.moment at (Ok tt) after (sym c.is_closed.ensures ∙ w.if-not-is_closed.true) (rw w.begin.ensures at w.in_default.ensures.1) in
+          let goes = subst (λ (v : Visit). HandlesOrBreaks policy (visit_of v) c.packet-item.result at (Ok tt) after) c.loop-packet.invariant.same.visit turn in
           rw (w.scene-is, w.ids-is) (record { same = search rules; run = more after goes; count = ap (λ (n : ℕ). n + 1) c.loop-packet.invariant.count })
       | else-not-is_closed w ↦
-          let goes = out-of-turn policy client c.packet-item.result moment at (sym c.is_closed.ensures ∙ w.if-not-is_closed.false) in
+          let goes = out-of-turn policy visit.client c.packet-item.result visit.moment at (sym c.is_closed.ensures ∙ w.if-not-is_closed.false) in
           rw (w.scene-is, w.ids-is) (record { same = c.loop-packet.invariant.same; run = more at goes; count = ap (λ (n : ℕ). n + 1) c.loop-packet.invariant.count })
     ]
 
@@ -54,5 +53,5 @@ returns-in-Err-clause-err g c =
     let visit = c.loop-packet.scene.visit in
     let next = slice_get_read c.args.packets.now (length c.args.packets.now) c.loop-packet.packet-index c.packet-item.result refl c.loop-packet-test.true c.packet-item.is in
     let turn = in-turn policy visit.client c.packet-item.result visit.moment at (Err c.in-Err.stopped) after (sym c.is_closed.ensures ∙ c.if-not-is_closed.true) (rw c.begin.ensures at c.in-Err.ensures.1) in
-    let breaks = subst (λ (v : Visit). HandlesOrBreaks policy v.client c.packet-item.result v.moment at (Err c.in-Err.stopped) after) c.loop-packet.invariant.same.visit turn in
+    let breaks = subst (λ (v : Visit). HandlesOrBreaks policy (visit_of v) c.packet-item.result at (Err c.in-Err.stopped) after) c.loop-packet.invariant.same.visit turn in
     rw c.loop-packet.invariant.count (_, c.loop-packet.invariant.run, c.packet-item.result, next, breaks)

@@ -8,10 +8,10 @@ use Rattle.epochs.proofs.WardenLemmas.{let_in_inside}
 use Rattle.epochs.proofs.backends.backends_came_by_token.Goals as goal
 
 pub returns : goal.returns
-returns c = λ config timing numbers events answers sealed h lines ids left there run alike.
+returns c = λ config told events answers sealed h lines ids left there run alike.
     let app = c.args.app.now in
     let token = app.app.app.token in
-    backends-came token _ timing numbers config there (λ moment space payload effects is.
+    backends-came token _ told config there (λ moment space payload effects is.
     let_in_inside app.app.token token space payload effects
     (admitted (pass_into app.entrance app.apart.items moment space payload) (λ verdict. Allows app.app.token space payload (λ v. v ≡ verdict_of token space payload) verdict) effects is).1)
     events answers sealed h lines ids left run alike

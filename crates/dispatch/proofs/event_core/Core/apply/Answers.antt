@@ -13,7 +13,7 @@ left : (g : Over) (c : goal.After-catch_up g)
 left g c =
     left-by (g.A.App.policy c.args.app.now) c.args.now c.hub.inside.state c.hear_after-answer.new.state
     c.self.inside.lines.entries c.do_row-said.new.lines.entries (rw (← c.hub.view_is) at c.self.invariant.0) (g.I.IdSource.stream c.args.ids.now) (g.I.IdSource.stream c.do_row-said.new.ids)
-    c.hear_after-answer.result c.self.inside.told.timing c.self.inside.told.numbers c.args.event.now (rw (← c.hub.view_is) at c.self.invariant.1).names (does-with (g.A.App.policy c.args.app.now) c.args.now c.self.inside.told.timing c.self.inside.told.numbers c.args.event.now (holding c.hub.inside.state c.self.inside.lines.entries) (g.I.IdSource.stream c.args.ids.now)
+    c.hear_after-answer.result c.self.inside.told c.args.event.now (rw (← c.hub.view_is) at c.self.invariant.1).names (does-with (g.A.App.policy c.args.app.now) c.args.now c.self.inside.told c.args.event.now (holding c.hub.inside.state c.self.inside.lines.entries) (g.I.IdSource.stream c.args.ids.now)
     c.do_row-said.result c.do_row-said.new.state c.hear_after-answer.result (holding c.hear_after-answer.new.state c.do_row-said.new.lines.entries) (g.I.IdSource.stream c.do_row-said.new.ids)
     c.ended_sockets-ended.result.now c.client.result c.do_row-said.ensures c.ended_sockets-ended.ensures.all c.client.ensures c.hear_after-answer.ensures)
 
@@ -23,7 +23,7 @@ catch_up-requires-clause-grown g c =
     let left =
     left-by (g.A.App.policy c.args.app.now) c.args.now c.hub.inside.state c.hear_after-answer.new.state
     c.self.inside.lines.entries c.do_row-said.new.lines.entries (rw (← c.hub.view_is) at c.self.invariant.0) (g.I.IdSource.stream c.args.ids.now) (g.I.IdSource.stream c.do_row-said.new.ids)
-    c.hear_after-answer.result c.self.inside.told.timing c.self.inside.told.numbers c.args.event.now (rw (← c.hub.view_is) at c.self.invariant.1).names (does-with (g.A.App.policy c.args.app.now) c.args.now c.self.inside.told.timing c.self.inside.told.numbers c.args.event.now (holding c.hub.inside.state c.self.inside.lines.entries) (g.I.IdSource.stream c.args.ids.now)
+    c.hear_after-answer.result c.self.inside.told c.args.event.now (rw (← c.hub.view_is) at c.self.invariant.1).names (does-with (g.A.App.policy c.args.app.now) c.args.now c.self.inside.told c.args.event.now (holding c.hub.inside.state c.self.inside.lines.entries) (g.I.IdSource.stream c.args.ids.now)
     c.do_row-said.result c.do_row-said.new.state c.hear_after-answer.result (holding c.hear_after-answer.new.state c.do_row-said.new.lines.entries) (g.I.IdSource.stream c.do_row-said.new.ids)
     c.ended_sockets-ended.result.now c.client.result c.do_row-said.ensures c.ended_sockets-ended.ensures.all c.client.ensures c.hear_after-answer.ensures) in
     grown some.0 c.hub.inside.state c.hear_after-answer.new.state (left.turns some.0 some.1) c.hub.inside.books.commands c.hub.inside.books.taken c.hub.invariant.0 c.hub.invariant.1
@@ -34,7 +34,7 @@ invariant_of-self g c =
     ((left g c).agrees, clean-after some.0 c.hub.inside.state c.hear_after-answer.new.state (rw (← c.hub.view_is) at c.self.invariant.1) ((left g c).turns some.0 some.1))
 
 pub returns-clause-does : goal.returns-clause-does
-returns-clause-does g c = rw (← c.self.view_is) (rw (← c.hub.view_is) (does-with (g.A.App.policy c.args.app.now) c.args.now c.self.inside.told.timing c.self.inside.told.numbers c.args.event.now (holding c.hub.inside.state c.self.inside.lines.entries) (g.I.IdSource.stream c.args.ids.now)
+returns-clause-does g c = rw (← c.self.view_is) (rw (← c.hub.view_is) (does-with (g.A.App.policy c.args.app.now) c.args.now c.self.inside.told c.args.event.now (holding c.hub.inside.state c.self.inside.lines.entries) (g.I.IdSource.stream c.args.ids.now)
     c.do_row-said.result c.do_row-said.new.state c.hear_after-answer.result (holding c.hear_after-answer.new.state c.do_row-said.new.lines.entries) (g.I.IdSource.stream c.do_row-said.new.ids)
     c.ended_sockets-ended.result.now c.client.result c.do_row-said.ensures c.ended_sockets-ended.ensures.all c.client.ensures c.hear_after-answer.ensures))
 

@@ -8,6 +8,6 @@ invariant_of-self g c = kept-history c.self.inside.lines.entries c.self.inside.h
 
 pub returns : goal.returns
 returns g c = rw (← c.self.view_is) (record {
-  same = (core-same (record { hub = c.self.inside.hub; lines = c.self.inside.lines.entries; timing = c.self.inside.told.timing; numbers = c.self.inside.told.numbers }) c.self.inside.hub c.audit.new.self c.audit.ensures.same.0, c.audit.ensures.same.1);
+  same = (core-same (record { hub = c.self.inside.hub; lines = c.self.inside.lines.entries; told = c.self.inside.told }) c.self.inside.hub c.audit.new.self c.audit.ensures.same.0, c.audit.ensures.same.1);
   at_least = c.audit.ensures.at_least;
 })

@@ -7,5 +7,5 @@ invariant_of-self g c = kept-history c.self.inside.lines.entries c.self.inside.h
 pub returns : goal.returns
 returns g c = rw (← c.self.view_is) (record {
   gives = c.new_pass.ensures.gives;
-  kept = core-history (record { hub = c.self.inside.hub; lines = c.self.inside.lines.entries; timing = c.self.inside.told.timing; numbers = c.self.inside.told.numbers }) c.self.inside.hub c.new_pass.new.self c.new_pass.ensures.kept;
+  kept = core-history (record { hub = c.self.inside.hub; lines = c.self.inside.lines.entries; told = c.self.inside.told }) c.self.inside.hub c.new_pass.new.self c.new_pass.ensures.kept;
 })

@@ -9,5 +9,5 @@ pub returns : goal.returns
 returns g c = rw (← c.self.view_is) (record {
   seals = c.seal.ensures.seals;
   handed = handed-sealed c.seal.result c.self.inside.hub.history c.seal.new.self.history c.seal.ensures.seals;
-  kept = core-parts (record { hub = c.self.inside.hub; lines = c.self.inside.lines.entries; timing = c.self.inside.told.timing; numbers = c.self.inside.told.numbers }) c.self.inside.hub c.seal.new.self c.seal.ensures.parts;
+  kept = core-parts (record { hub = c.self.inside.hub; lines = c.self.inside.lines.entries; told = c.self.inside.told }) c.self.inside.hub c.seal.new.self c.seal.ensures.parts;
 })

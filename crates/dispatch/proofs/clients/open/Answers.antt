@@ -4,7 +4,7 @@ use Rattle.journal.specs.declared.step.What.TheVariants as what
 use Rattle.effects.specs.Commands.{StopsAt}
 use Rattle.dispatch.specs.Holding.{line_of}
 use Rattle.dispatch.proofs.TurnLemmas.{not-again, put-forgotten}
-use Rattle.dispatch.proofs.requests.open.Goals as goal
+use Rattle.dispatch.proofs.clients.open.Goals as goal
 
 pub returns-in-Some : goal.returns-in-Some
 returns-in-Some c =

@@ -1,11 +1,11 @@
 use Rattle.std.proofs.Common.{rules, ◌≡◌, ◌∙◌, ap, Some, Err, refl, subst}
 use Rattle.connection.specs.Line.{PlainLine}
-use Rattle.effects.specs.Scene.{seen}
+use Rattle.effects.specs.Scene.{seen, visit_at}
 use Rattle.dispatch.specs.Machine.{opening}
 use Rattle.dispatch.specs.Packets.{course, BreaksAfter}
 use Rattle.dispatch.specs.Holding.{line_of, holding, KeepsOthers}
 use Rattle.dispatch.proofs.TurnLemmas.{ends-with}
-use Rattle.dispatch.proofs.requests.work_on.Goals as goal
+use Rattle.dispatch.proofs.clients.work_on.Goals as goal
 
 pub returns-in_err-handle_each : goal.returns-in_err-handle_each
 returns-in_err-handle_each g c = λ line known.
@@ -23,5 +23,5 @@ returns-in_err-handle_each g c = λ line known.
     let same : c.in-Some.line.now ≡ line = search rules in
     let failed : c.from_residual.result ≡ Err c.in_err-handle_each.field-0.0 = search rules in
     rw failed (ends-with policy c.args.visit.moment client c.args.packets.now line (holding c.args.state.now c.args.lines.now.entries) (holding state new) ids left c.in_err-handle_each.field-0.0 (course (seen worked) left)
-    (subst (λ (l : PlainLine). BreaksAfter policy client c.args.visit.moment c.args.packets.now (course (opening c.args.state.now l) ids) c.in_err-handle_each.field-0.0 (course (seen worked) left)) same (rw c.new-tally.ensures at c.in_err-handle_each.ensures.err))
+    (subst (λ (l : PlainLine). BreaksAfter policy (visit_at client c.args.visit.moment) c.args.packets.now (course (opening c.args.state.now l) ids) c.in_err-handle_each.field-0.0 (course (seen worked) left)) same (rw c.new-tally.ensures at c.in_err-handle_each.ensures.err))
     made (has ∙ ap (λ (l : PlainLine). Some l) kept) others refl)
