@@ -90,6 +90,11 @@ impl<'a, R: Clock + Drop> Connections<'a, R> {
         Some(&mut self.slots.get_mut(key)?.service)
     }
 
+    /// The stream of the connection with this key, if it is still here.
+    pub fn stream(&mut self, key: usize) -> Option<&mut Stream> {
+        self.service(key)?.stream()
+    }
+
     /// Takes a connection out.
     pub fn take(&mut self, key: usize) -> Option<Box<Connection<'a, R>>> {
         self.links.dismiss(key);
@@ -229,15 +234,17 @@ impl<'a, R: Clock + Drop> Connections<'a, R> {
 
     /// Whether a connection brought all that it read, and its stream has no more, as far as is known.
     pub fn has_brought_all(&mut self, key: usize) -> bool {
-        let stream = self.service(key).and_then(Service::stream);
-        stream.is_none_or(|stream| stream.unbrought == 0 && stream.drained)
+        match self.stream(key) {
+            Some(stream) => stream.unbrought == 0 && stream.drained,
+            None => true,
+        }
     }
 
     /// A stream is ready: its connection is queued, or its bytes are to be sent.
     pub fn note(&mut self, event: &readiness::Event) {
         let Token(key) = event.token();
         if event.is_readable() {
-            if let Some(stream) = self.service(key).and_then(Service::stream) {
+            if let Some(stream) = self.stream(key) {
                 stream.note_readable(event.is_read_closed());
             }
             self.links.roster.rota.call(key);

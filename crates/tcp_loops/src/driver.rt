@@ -12,7 +12,7 @@ use std::mem;
 use std::rt::Clock;
 use std::sync::Wait;
 use std::time::Duration;
-use tcp_connections::{Came, Connections, Service, Watch};
+use tcp_connections::{Came, Connections, Watch};
 use tcp_streams::{Accepted, Buffered, Ears, Handed, Inbox, Log, Rules, Shown, Stream};
 
 /// How many reports of streams one wait takes.
@@ -361,8 +361,11 @@ impl<'a, R: Wait + Clock + Copy + Drop, L: Log> Driver<'a, R, L> {
     /// What a connection has to send goes out at the end of the loop's round, or at once where that is
     /// much.
     fn send_soon(&mut self, key: usize) {
-        let stream = self.connections.service(key).and_then(Service::stream);
-        if stream.map_or(0, |stream| stream.unsent()) < MUCH_UNSENT {
+        let unsent = match self.connections.stream(key) {
+            Some(stream) => stream.unsent(),
+            None => 0,
+        };
+        if unsent < MUCH_UNSENT {
             return self.connections.links.note_unsent(key);
         }
         let now = self.now;

@@ -36,12 +36,14 @@ returns-in-Err-clause-err c =
     let now = c.args.scene.now.visit.moment in
     let at = seen c.loop-effect.scene in (
       length yielded,
-      c.loop-effect.invariant.count, (
-      at,
-      subst (λ (xs : List Effect). Runs (ActsInTurn c.args.who.now now) xs (seen c.args.scene.now) at) (sym (take-done c.args.wanted.items yielded _ c.loop-effect.invariant.split)) c.loop-effect.invariant.run,
-      c.in-Some.effect,
-      get-next c.args.wanted.items yielded _ c.next.new.self.rest.items c.in-Some.effect c.loop-effect.invariant.split c.in-Some.ensures.steps.0,
-      subst (λ (moment : ℕ). Stops c.args.who.now moment at c.in-Some.effect c.in-Err.fault (seen c.act.new.scene)) (ap (λ (v : Visit). v.moment) c.loop-effect.invariant.same.visit) c.in-Err.ensures.err),
+      c.loop-effect.invariant.count,
+      (
+        at,
+        subst (λ (xs : List Effect). Runs (ActsInTurn c.args.who.now now) xs (seen c.args.scene.now) at) (sym (take-done c.args.wanted.items yielded _ c.loop-effect.invariant.split)) c.loop-effect.invariant.run,
+        c.in-Some.effect,
+        get-next c.args.wanted.items yielded _ c.next.new.self.rest.items c.in-Some.effect c.loop-effect.invariant.split c.in-Some.ensures.steps.0,
+        subst (λ (moment : ℕ). Stops c.args.who.now moment at c.in-Some.effect c.in-Err.fault (seen c.act.new.scene)) (ap (λ (v : Visit). v.moment) c.loop-effect.invariant.same.visit) c.in-Err.ensures.err,
+      ),
     )
 
 pub act-requires : goal.act-requires

@@ -24,11 +24,13 @@ returns-in_err-send c =
     let l = c.loop-effect in
     let is : c.from_residual.result ≡ Err c.in_err-send.field-0.0 = search rules in
     rw is (
-      length l.yielded, (
-      work l.state l.done,
-      subst (λ (xs : List Effect). Runs (λ a x b. Sends c.args.visit.client c.args.visit.moment a x (Ok tt) b) xs (work c.args.state.now c.args.done.now) (work l.state l.done))
-          (sym (take-done c.args.effects.items l.yielded _ l.invariant.split)) l.invariant.run,
-      c.in-Some.effect,
-      get-next c.args.effects.items l.yielded _ c.next.new.self.rest.items c.in-Some.effect l.invariant.split c.in-Some.ensures.steps.0,
-      c.in_err-send.ensures),
+      length l.yielded,
+      (
+        work l.state l.done,
+        subst (λ (xs : List Effect). Runs (λ a x b. Sends c.args.visit.client c.args.visit.moment a x (Ok tt) b) xs (work c.args.state.now c.args.done.now) (work l.state l.done))
+            (sym (take-done c.args.effects.items l.yielded _ l.invariant.split)) l.invariant.run,
+        c.in-Some.effect,
+        get-next c.args.effects.items l.yielded _ c.next.new.self.rest.items c.in-Some.effect l.invariant.split c.in-Some.ensures.steps.0,
+        c.in_err-send.ensures,
+      ),
     )
