@@ -343,8 +343,11 @@ impl<'a, R: Wait + Clock + Copy + Drop, L: Log> Driver<'a, R, L> {
     /// Does what is to be done with a connection whose event was answered, or which brought none.
     pub(crate) fn obey(&mut self, key: usize, what: Do) {
         match what {
-            Do::GoOn if self.active.push_back(key).is_ok() => {}
-            Do::GoOn => self.rest(key, Pause::More),
+            Do::GoOn => {
+                if self.active.push_back(key).is_err() {
+                    self.rest(key, Pause::More);
+                }
+            }
             Do::Rest(pause) => self.rest(key, pause),
             Do::Send => self.send_soon(key),
             Do::End => self.close(key),
