@@ -142,7 +142,7 @@ module _ (Is : History → Type 0) (quiet : KeptWhileQuiet Is) (now : ℕ) where
     hears-after None ended h said answer k (is, same) was = same-history h k same was
     hears-after (Some c) ended h said answer k heard was = on (done_before said) heard
       where
-        on : (o : Option PlainDone) → elim o as (λ (o : Option PlainDone). Type 0) [ None ↦ (answer ≡ said) × (k ≡ h) | Some before ↦ Receives policy c now ended h said answer k before ] → Is k
+        on : (o : Option PlainDone) → elim o as (λ (o : Option PlainDone). Type 0) [ None ↦ (answer ≡ said) × (k ≡ h) | Some before ↦ Hears policy c now ended h said answer k before ] → Is k
         on None (is, same) = same-history h k same was
         on (Some before) (r, after, run, is) = run-or-fails (HearsOf policy c now) (hears-of c) ended (work h before) r (work k after) run was
 
