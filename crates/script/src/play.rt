@@ -121,10 +121,11 @@ impl<C: Ledger, T: Ledger> Play<C, T> {
         ensures err { IsOkUnless result Memory }
     {
         let (alloc, core) = (self.alloc, &mut self.core);
-        match core.apply(alloc, &mut self.pass, app, event, self.now, &mut self.ids) {
-            Err(error) if error.fault == CoreFault::Memory => Err(RunError::Memory),
-            answer => Ok(answer),
+        let answer = core.apply(alloc, &mut self.pass, app, event, self.now, &mut self.ids);
+        if matches!(&answer, Err(error) if error.fault == CoreFault::Memory) {
+            return Err(RunError::Memory);
         }
+        Ok(answer)
     }
 
     /// What the client of this name is answered at an event.
