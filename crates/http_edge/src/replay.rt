@@ -33,6 +33,13 @@ impl<S> Replay<S> {
         }
     }
 
+    /// The stream behind the bytes, to look at.
+    pub fn get_ref(&self) -> &S
+        ensures { result.now ≡ self.now.stream }
+    {
+        &self.stream
+    }
+
     /// The stream behind the bytes.
     pub fn get_mut(&mut self) -> &mut S
         ensures* writes_back { sem 𝓛 (Lends (the_row S.row) S.row self.entry result

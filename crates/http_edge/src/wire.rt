@@ -62,6 +62,13 @@ impl<S> OnStream<S> {
         }
     }
 
+    /// The stream, to look at.
+    pub fn get_ref(&self) -> &S
+        ensures { result.now ≡ self.now.stream }
+    {
+        &self.stream
+    }
+
     /// The stream. What is done with it counts as no read, and breaks nothing.
     pub fn get_mut(&mut self) -> &mut S
         ensures* writes_back { sem 𝓛 (Lends (the_row S.row) S.row self.entry result

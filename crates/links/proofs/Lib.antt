@@ -1,1 +1,2 @@
 pub mod DelayLemmas
+pub mod WokenLemmas

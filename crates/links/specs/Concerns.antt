@@ -2,6 +2,7 @@
 use Rattle.std.specs.Prelude.{◌≡◌, ◌⊎◌, ◌<◌, ℕ, Bool, true, false, cond, Option, None, Some, List, [], length, slice_index_or}
 use Rattle.events.specs.Plain.{PlainDone}
 use Rattle.loop_rules.specs.Rosters.{AreTold, IsWoken}
+use Rattle.loop_rules.specs.Rotas.{Waiting, look_of, will_look}
 use Rattle.loop_rules.specs.Takers.{taker_of}
 use Rattle.loop_rules.specs.declared.roster.Notes.{Notes}
 use Rattle.loop_rules.specs.declared.roster.Roster.{Roster}
@@ -19,6 +20,9 @@ IsListed client key t = (taker_of t client ≡ Some key) ⊎ ((taker_of t client
 -- the connection over which a client is told what is put for it will look
 abbrev pub IsWokenFor : (client : ℕ) → Roster → Type 0
 IsWokenFor client r = IsWoken (taker_of r.takers client) r.takers.unlisted r.rota.looks
+
+abbrev pub AllWillLook : Waiting → Type 0
+AllWillLook w = (key : ℕ) → key < length w.looks → will_look (look_of w.looks key) ≡ true
 
 -- all for whom an event put something are woken, or noted for their loop
 abbrev lists_of : PlainDone → List (List ℕ)

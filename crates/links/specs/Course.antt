@@ -1,7 +1,8 @@
 -- What a connection is about.
-use Rattle.std.specs.Prelude.{ℕ, Bool, true, false, Option, None, Some}
+use Rattle.std.specs.Prelude.{ℕ, Bool, true, false, Option, None, Some, cond, List}
 use Rattle.http_edge.specs.declared.routes.Target.{Target}
 use Rattle.http_edge.specs.declared.routes.Target.TheVariants as target
+use Rattle.loop_rules.specs.Packets.{carried}
 use Rattle.links.specs.declared.course.Course.{Course}
 use Rattle.links.specs.declared.course.Course.TheVariants as course
 use Rattle.links.specs.declared.course.Serving.{Serving}
@@ -13,6 +14,11 @@ serving_of (target.Post client) events from = serving.Post events
 serving_of target.OpenSocket events from = serving.Socket false 0
 serving_of (target.ProbeSocket client) events from = serving.Socket false 0
 serving_of _ events from = serving.Request from
+
+-- how many events of its client it brings, where they count
+abbrev pub events_in : Target → (body : List ℕ) → (count : Bool) → ℕ
+events_in (target.Post client) body count = cond count (carried body) 0
+events_in _ body count = 0
 
 -- whose it is, where it names a client
 abbrev pub client_of : Target → Option ℕ

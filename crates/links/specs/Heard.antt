@@ -42,6 +42,10 @@ found_beside is_dry _ = found.More
 abbrev pub found_by : (idle has_taken_all is_dry : Bool) → Answer → Found
 found_by idle has_taken_all is_dry got = cond (idle || (has_taken_all && is_dry)) found.Idle (found_beside is_dry got)
 
+-- the rest of a look was passed over, since nothing can be due that wasn't
+abbrev pub found_passed : (idle : Bool) → Found
+found_passed idle = cond idle found.Idle found.Quiet
+
 -- bytes that were read, and brought no event yet
 abbrev pub left_unbrought : (unbrought : ℕ) → Option ℕ → (is_post : Bool) → (read : ℕ) → ℕ
 left_unbrought unbrought (Some length) is_post read = min (left_after_message unbrought length) read
@@ -83,3 +87,8 @@ abbrev pub hides_whom : Concern → Bool
 hides_whom (concern.Gone has_done) = has_done
 hides_whom (concern.Fails has_done) = has_done
 hides_whom _ = false
+
+-- where a client is given up, it has ended once the core heard of its loss
+abbrev pub loss_concern : Answer → Concern
+loss_concern (Ok (outcome.Lost saved done)) = concern.Ends
+loss_concern _ = concern.Nobody

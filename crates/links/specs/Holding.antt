@@ -1,6 +1,7 @@
 -- Who isn't read on, where much of what comes isn't whole.
 use Rattle.std.specs.Prelude.{◌≡◌, ◌⊎◌, ℕ, Bool, false, Option, None, Some, List}
 use Rattle.loop_rules.specs.Receiving.{counted_of, overdue_of}
+use Rattle.loop_rules.specs.Rotas.{Waiting, called_at}
 use Rattle.loop_rules.specs.Takers.{taker_of}
 use Rattle.loop_rules.specs.declared.receiving.Receiving.{Receiving}
 use Rattle.loop_rules.specs.declared.receiving.Sender.{Sender}
@@ -33,6 +34,11 @@ pub record IsSettled (seen : Seen) (old new : Link) : Type 0 where
 abbrev pub IsCalled : Option ℕ → (old new : List Link) → Type 0
 IsCalled None old new = new ≡ old
 IsCalled (Some key) old new = new ≡ put_at key (record (link_at old key) { held = false }) old
+
+-- and has something to do
+abbrev pub called_if : Option ℕ → Waiting → Waiting
+called_if None w = w
+called_if (Some key) w = called_at key w
 
 -- the client of who goes on beyond the share for too long
 abbrev pub client_by : Option Sender → List Link → Option ℕ

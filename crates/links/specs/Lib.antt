@@ -8,5 +8,6 @@ pub mod Link
 pub mod Links
 pub mod Moments
 pub mod Pacing
+pub mod Rounds
 pub mod Sending
 pub mod Stints

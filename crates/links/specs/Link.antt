@@ -82,6 +82,18 @@ bytes_unfinished seen l = cond (is_receiving l.course) seen.unbrought 0
 abbrev pub most_of : (limit : ℕ) → Link → ℕ
 most_of limit l = cond (is_receiving l.course) limit 18446744073709551615
 
+-- one that is gone has no more, and nothing to bring
+abbrev pub seen_gone : Seen
+seen_gone = record {
+  unsent = 0;
+  unbrought = 0;
+  drained = true;
+  idle = true;
+  asks_due = false;
+  has_read_nothing = false;
+  has_more = false;
+}
+
 -- ## What it does next
 
 -- what is due to a client isn't asked again for 10 ms
@@ -100,6 +112,10 @@ serves_next (serving.Socket speaks asked) seen now l =
 abbrev pub is_full : Seen → Bool
 is_full seen = nat_lt 65536 seen.unsent
 
+-- all that was read was brought, and its stream has no more
+abbrev pub has_brought_all : Seen → Bool
+has_brought_all seen = nat_eq seen.unbrought 0 && seen.drained
+
 abbrev pub course_next : Course → Seen → (now : ℕ) → Link → Do
 course_next course.Gathers seen now l = what.Gather
 course_next (course.Serves s) seen now l = cond (is_full seen) (what.Rest pause.Full) (serves_next s seen now l)
@@ -113,7 +129,7 @@ next_of seen now l = course_next l.course seen now l
 -- all that came for a WebSocket was brought: nothing was read behind it, and its stream has no more, or isn't read
 abbrev pub is_dry : Seen → Link → Bool
 is_dry seen l =
-    is_socket l.course && ((l.waits || (nat_eq seen.unbrought 0 && seen.drained)) || seen.has_read_nothing)
+    is_socket l.course && ((l.waits || has_brought_all seen) || seen.has_read_nothing)
 
 -- ## The loss of its client
 

@@ -113,6 +113,12 @@ known_by key _ links = links
 abbrev pub decision_after : (key : ℕ) → Found → (full : Bool) → Links → Decision
 decision_after key f full l = decision_at key (link_at l.links.items key).left f full l.roster.rota
 
+-- so many events are left of its stint then
+abbrev pub followed_links : (key : ℕ) → Found → (full : Bool) → Links → List Link
+followed_links key f full l =
+    let one : Link = link_at l.links.items key in
+    put_at key (record one { left = left_after one.left (decision_after key f full l) }) l.links.items
+
 abbrev pub do_by : Decision → Do
 do_by decision.GoesOn = what.GoOn
 do_by _ = what.Send

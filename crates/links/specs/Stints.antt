@@ -1,12 +1,12 @@
 -- What a connection does in its stint.
-use Rattle.std.specs.Prelude.{◌≡◌, ◌⊎◌, ◌<◌, ◌||◌, ℕ, Bool, true, false, Option, None, Some, List, nat_lt}
+use Rattle.std.specs.Prelude.{◌≡◌, ◌⊎◌, ◌<◌, ◌||◌, ℕ, Bool, true, false, Option, None, Some, cond, List, nat_lt}
 use Rattle.loop_rules.specs.Paces.{allowance}
 use Rattle.loop_rules.specs.declared.looks.Pause.TheVariants as pause
 use Rattle.loop_rules.specs.declared.receiving.Receiving.{Receiving}
 use Rattle.loop_rules.specs.declared.receiving.Sender.{Sender}
 use Rattle.loop_rules.specs.declared.receiving.Sender.TheVariants as sender
 use Rattle.links.specs.Course.{events_next, is_post}
-use Rattle.links.specs.Link.{next_of, sender_of}
+use Rattle.links.specs.Link.{closed, failed, next_of, sender_of}
 use Rattle.links.specs.Links.{limit_for, put_at}
 use Rattle.links.specs.Pacing.{WaitsUntil}
 use Rattle.links.specs.declared.course.Course.{Course}
@@ -49,3 +49,10 @@ abbrev pub DoesNext : (pressed : Bool) → Option Pacing → (key : ℕ) → See
 DoesNext pressed p key seen now r l d old new =
     (ahead : Link) × LooksAhead pressed p key now l ahead
     × PostsOrNot (is_post ahead.course) key seen now r ahead d (put_at key ahead old) new
+
+-- its peer brings no event: where it has failed, its client is lost and the stint goes on; else it closes, and rests
+abbrev pub ended : Bool → (now : ℕ) → Link → Link
+ended has_failed now l = cond has_failed (failed now l) (closed now l)
+
+abbrev pub after_end : Bool → Do
+after_end has_failed = cond has_failed what.GoOn (what.Rest pause.Done)

@@ -1,6 +1,6 @@
 //! Whom the answer to an event of a connection concerns.
 
-ghost use Rattle.std.specs.Prelude.{◌≡◌, ◌≢◌, ◌⊎◌, ◌<◌, ℕ, None, Some, true, false};
+ghost use Rattle.std.specs.Prelude.{◌≡◌, ◌≢◌, ◌⊎◌, ◌<◌, ℕ, None, Some, true, false, IfSome, length, slice_index_or};
 ghost use Rattle.loop_rules.specs.Rosters.{Keeps};
 ghost use Rattle.links.specs.Link as one;
 ghost use Rattle.links.specs.Links as all;
@@ -11,7 +11,7 @@ ghost use Rattle.links.specs.Concerns as concerns;
 use crate::heard::{Concern, concern_of, done_of};
 use crate::link::Link;
 use crate::links::Links;
-use events::{Answered, Done, Outcome};
+use events::{Answered, CoreFault, Outcome};
 use loop_rules::Notes;
 use peers::is_noop;
 
@@ -55,14 +55,48 @@ impl Links {
     }
 
     /// An event put something for others: those of this loop are woken, and others are noted for theirs.
-    pub fn wake_for(&mut self, own: usize, loops: usize, done: &Done, notes: &mut Notes)
+    pub fn wake_for(&mut self, own: usize, loops: usize, got: &Answered, notes: &mut Notes)
         requires { 0 < loops }
-        ensures told { concerns.AreAllTold own loops done.now self.new.roster notes.new }
+        ensures told { IfSome (heard.done_of got.now)
+            (λ done. concerns.AreAllTold own loops done self.new.roster notes.new) }
         ensures links { self.new.links ≡ self.old.links }
         ensures takers { self.new.roster.takers ≡ self.old.roster.takers }
     {
-        self.roster
-            .wake_lists(own, loops, done.clients.lists(), notes);
+        if let Some(done) = done_of(got) {
+            self.roster
+                .wake_lists(own, loops, done.clients.lists(), notes);
+        }
+    }
+
+    /// Others put something for these clients.
+    pub fn wake_all(&mut self, clients: &[u128])
+        ensures woken { (k : ℕ) → k < length clients.now
+            → concerns.IsWokenFor (slice_index_or clients.now k 0) self.new.roster }
+        ensures links { self.new.links ≡ self.old.links }
+        ensures takers { self.new.roster.takers ≡ self.old.roster.takers }
+    {
+        for client in clients {
+            self.roster.wake(*client);
+        }
+    }
+
+    /// The core was told that a client is given up, and answered this. Answers whom that concerns.
+    pub fn hear_given_up(&mut self, client: u128, got: &Answered, now: u64) -> Concern
+        ensures concern { result ≡ heard.loss_concern got.now }
+        ensures links { self.new.links ≡ self.old.links }
+        ensures takers { self.new.roster.takers ≡ self.old.roster.takers }
+    {
+        match got {
+            Ok(Outcome::Lost { .. }) => {
+                self.note_end(client, now);
+                Concern::Ends
+            }
+            Err(error) if matches!(error.fault, CoreFault::UnknownClient) => {
+                self.note_attached(client, 0, now);
+                Concern::Nobody
+            }
+            _ => Concern::Nobody,
+        }
     }
 
     /// The answer to an event of a connection is told to whom it concerns beside those for whom it put

@@ -5,6 +5,7 @@ ghost use Rattle.links.specs.Course as courses;
 
 use events::Loss;
 use http_edge::Target;
+use loop_rules::carried;
 
 /// By what a connection is served.
 #[derive(Clone, Copy, Debug)]
@@ -46,6 +47,17 @@ impl Serving {
             },
             _ => Serving::Request { from },
         }
+    }
+}
+
+/// How many events of its client a request brings that has this body: as many as a POST has packets, where
+/// they count.
+pub fn events_in(target: Target, body: &str, count: bool) -> u64
+    ensures { result ≡ courses.events_in target body.now count }
+{
+    match target {
+        Target::Post(_) if count => carried(body),
+        _ => 0,
     }
 }
 

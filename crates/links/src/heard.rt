@@ -52,6 +52,14 @@ pub fn found_by(got: &Answered, idle: bool, has_taken_all: bool, is_dry: bool) -
     }
 }
 
+/// What is found by a look whose rest was passed over, where its peer has nothing to bring from then on or
+/// may have.
+pub fn found_passed(idle: bool) -> Found
+    ensures { result ≡ heard.found_passed idle }
+{
+    if idle { Found::Idle } else { Found::Quiet }
+}
+
 /// How many of the bytes that were read are left at the most that brought no event yet, once one was
 /// brought: by a message of so many bytes, behind which stands no more than one read brought; or by a
 /// POST, of which all was read.

@@ -60,6 +60,8 @@ impl Links {
     pub fn call_held(&mut self, now: u64)
         ensures takers { self.new.roster.takers ≡ self.old.roster.takers }
         ensures links { holding.IsCalled (all.next_held self.old.receiving) self.old.links.items self.new.links.items }
+        ensures rota { self.new.roster.rota
+            ≡ holding.called_if (all.next_held self.old.receiving) self.old.roster.rota }
     {
         let Some(key) = self.receiving.next() else {
             return;

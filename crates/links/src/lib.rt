@@ -12,12 +12,16 @@ mod link;
 mod links;
 mod moments;
 mod pacing;
+mod rounds;
 mod sending;
 mod stints;
 
-pub use course::{Course, Serving, client_of};
+pub use course::{Course, Serving, client_of, events_in};
 pub use delays::Delays;
-pub use heard::{Concern, concern_of, done_of, found_by, has_taken_all, left_unbrought};
+pub use heard::{
+    Concern, concern_of, done_of, found_by, found_passed, has_taken_all, left_unbrought,
+};
 pub use link::{Do, Link, Seen};
 pub use links::Links;
 pub use pacing::Pacing;
+pub use rounds::{Round, is_much_unsent};

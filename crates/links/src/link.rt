@@ -33,11 +33,33 @@ pub struct Seen {
 }
 
 impl Seen {
+    /// So is seen of one that is gone: it has no more, and nothing to bring.
+    pub fn gone() -> Seen
+        ensures { result ≡ links.seen_gone }
+    {
+        Seen {
+            unsent: 0,
+            unbrought: 0,
+            drained: true,
+            idle: true,
+            asks_due: false,
+            has_read_nothing: false,
+            has_more: false,
+        }
+    }
+
     /// Whether so much is unsent that it is not to be served.
     pub fn is_full(self) -> bool
         ensures { result ≡ links.is_full self }
     {
         self.unsent > MOST_UNSENT
+    }
+
+    /// Whether all that was read was brought, and its stream has no more, as far as is known.
+    pub fn has_brought_all(self) -> bool
+        ensures { result ≡ links.has_brought_all self }
+    {
+        self.unbrought == 0 && self.drained
     }
 }
 
@@ -242,7 +264,7 @@ impl Link {
     pub fn is_dry(self, seen: Seen) -> bool
         ensures { result ≡ links.is_dry seen self }
     {
-        let has_brought_all = self.waits || (seen.unbrought == 0 && seen.drained);
+        let has_brought_all = self.waits || seen.has_brought_all();
         self.course.is_socket() && (has_brought_all || seen.has_read_nothing)
     }
 

@@ -1,9 +1,7 @@
 //! What is due at moments: GETs that are served later, and connections that wait since their clients sent
 //! too fast.
 
-ghost use Rattle.std.specs.Prelude.{◌≡◌, ◌≤◌, None, true, IsTrue, ◌↔◌};
-ghost use Rattle.loop_rules.specs.Rotas.{IsQuiet};
-ghost use Rattle.links.specs.Links as all;
+ghost use Rattle.std.specs.Prelude.{◌≡◌, ◌≤◌, IsTrue};
 ghost use Rattle.links.specs.Moments as moments;
 
 use crate::links::Links;
@@ -11,7 +9,7 @@ use crate::links::Links;
 impl Links {
     /// Whether nobody has anything to do, nor may one that is held be read on.
     pub fn is_quiet(&self) -> bool
-        ensures { IsTrue result → (IsQuiet self.now.roster.rota) × (all.next_held self.now.receiving ≡ None) }
+        ensures { IsTrue result → moments.HasNothingToDo self.now }
     {
         self.receiving.next().is_none() && self.roster.rota.is_quiet()
     }
@@ -58,6 +56,7 @@ impl Links {
     /// A beat has come: who sent nothing lately is forgotten, and so is who wasn't told just so that nothing
     /// waits. Answers how often one has begun to wait since the last time.
     pub fn forget_old(&mut self, now: u64) -> u64
+        ensures pressure { self.new.pressure ≡ self.old.pressure }
         ensures links { self.new.links ≡ self.old.links }
         ensures roster { self.new.roster ≡ self.old.roster }
         ensures receiving { self.new.receiving ≡ self.old.receiving }

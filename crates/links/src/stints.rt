@@ -55,7 +55,7 @@ impl Links {
     }
 
     /// The peer of a connection has failed: its client is lost, if it has one.
-    pub fn fail(&mut self, key: usize, now: u64)
+    fn fail(&mut self, key: usize, now: u64)
         ensures links { self.new.links.items
             ≡ all.put_at key (one.failed now (link_at self.old.links.items key)) self.old.links.items }
         ensures rest { KeepsAllBut self.old self.new }
@@ -64,12 +64,29 @@ impl Links {
         self.put(key, link.fail(now));
     }
 
+    /// The peer of a connection brings no event: it has failed, or it has no more, and the connection
+    /// closes. Answers what follows.
+    pub fn finish(&mut self, key: usize, failed: bool, now: u64) -> Do
+        ensures what { result ≡ stints.after_end failed }
+        ensures links { self.new.links.items ≡ all.put_at key
+            (stints.ended failed now (link_at self.old.links.items key)) self.old.links.items }
+        ensures rest { KeepsAllBut self.old self.new }
+    {
+        if failed {
+            self.fail(key, now);
+            return Do::GoOn;
+        }
+        self.close(key, now);
+        Do::Rest(Pause::Done)
+    }
+
     /// What a connection does next. A POST brings its packets where its client needn't wait, where there
     /// is room for what isn't whole, and memory to count them.
     pub fn next(&mut self, key: usize, seen: Seen, now: u64) -> Do
         ensures next { stints.DoesNext (all.is_pressed (all.sender_at key self.old.links.items) now self.old.pressure)
             self.old.pacing key seen now self.old.receiving (link_at self.old.links.items key)
             result self.old.links.items self.new.links.items }
+        ensures others { (k : ℕ) → k ≢ key → link_at self.new.links.items k ≡ link_at self.old.links.items k }
         ensures roster { self.new.roster ≡ self.old.roster }
         ensures receiving { self.new.receiving ≡ self.old.receiving }
     {
@@ -175,6 +192,7 @@ impl Links {
     /// Answers what follows.
     pub fn follow(&mut self, key: usize, found: Found, full: bool) -> Do
         ensures what { result ≡ all.after_answer key found full self.old }
+        ensures links { self.new.links.items ≡ all.followed_links key found full self.old }
         ensures rota { self.new.roster.rota ≡ all.followed key found full self.old }
         ensures takers { self.new.roster.takers ≡ self.old.roster.takers }
         ensures receiving { self.new.receiving ≡ self.old.receiving }
@@ -199,6 +217,7 @@ impl Links {
     /// on whose the connection is.
     pub fn know(&mut self, key: usize, got: &Answered)
         ensures links { self.new.links.items ≡ all.known_by key got.now self.old.links.items }
+        ensures others { (k : ℕ) → k ≢ key → link_at self.new.links.items k ≡ link_at self.old.links.items k }
         ensures rest { KeepsAllBut self.old self.new }
     {
         if let Ok(Outcome::Opened(opening)) = got {

@@ -1,4 +1,5 @@
 pub mod Addresses
+pub mod Dealings
 pub mod Deadlines
 pub mod Frames
 pub mod Holds

@@ -2,7 +2,7 @@
 
 ghost use Rattle.std.specs.Prelude.{◌≡◌, ◌<◌, ◌%◌};
 ghost use Rattle.loop_rules.specs.Ids.{loop_of, marked};
-ghost use Rattle.loop_rules.specs.Owners.{dealt_to, owner_among};
+ghost use Rattle.loop_rules.specs.Owners.{owner_among};
 
 use http_edge::Target;
 
@@ -37,13 +37,4 @@ pub fn owner_of(target: Target, loops: usize, own: usize) -> usize
         Target::Poll(id) | Target::Post(id) | Target::ProbeSocket(id) => loop_of(id, loops),
         _ => own,
     }
-}
-
-/// The loop to which a connection is given, after so many others: each is given some together
-/// before the next one is.
-pub fn dealt_to(given: u64, together: u64, loops: usize) -> usize
-    ensures { result ≡ dealt_to loops together given }
-{
-    let rounds = given / together.max(1);
-    rounds.checked_rem(loops as u64).unwrap_or(0) as usize
 }

@@ -1,5 +1,5 @@
 -- The rounds of a WebSocket (Engine.IO protocol 4, "WebSocket" and "Upgrade"): a read, a take, and a look at the time.
-use Rattle.std.specs.Prelude.{ℕ, Bool, true, false, List, Option, None, Some, Result, Ok, Err, cond, codes, bytes_eq, length}
+use Rattle.std.specs.Prelude.{◌≡◌, ℕ, Bool, true, false, List, Option, None, Some, Result, Ok, Err, cond, codes, bytes_eq, length}
 use Rattle.events.specs.declared.event.Event.{Event}
 use Rattle.events.specs.declared.event.Event.TheVariants as event
 use Rattle.events.specs.declared.event.WsFrame.TheVariants as frame
@@ -87,6 +87,10 @@ next_of (stage.Takes c) came = without_fault (with_event (takes c false))
 next_of (stage.Ticks c idle) came = without_fault (with_event (ticks c phase.Speaks idle))
 next_of (stage.Loses c) came = (stage.Losing c, Ok (Some (event.ProbeLost c)))
 next_of other came = (other, Ok None)
+
+-- so it goes on by what was read
+abbrev pub MayFollow : (old new : SocketStage) → Result (Option Event) PeerFault → Type 0
+MayFollow old new given = (came : Incoming) × ((new, given) ≡ next_of old came)
 
 -- ---- what a driver asks
 

@@ -111,6 +111,13 @@ impl<W, M> PollPeer<W, M> {
         }
     }
 
+    /// The wire, to look at.
+    pub fn wire(&self) -> &W
+        ensures { result.now ≡ self.now.wire }
+    {
+        &self.wire
+    }
+
     /// The wire, which a driver may send or poll.
     pub fn wire_mut(&mut self) -> &mut W
         ensures* writes_back { sem 𝓛 (Lends (the_row W.row M.row) W.row self.entry result (λ wire. record self.old { wire = wire })) }

@@ -157,6 +157,13 @@ impl<S: Drop, M> SocketPeer<S, M> {
         };
     }
 
+    /// The socket, to look at.
+    pub fn socket(&self) -> &WebSocket<S, NoMask>
+        ensures { result.now ≡ self.now.socket }
+    {
+        &self.socket
+    }
+
     /// The socket, whose stream a driver may send or poll.
     pub fn socket_mut(&mut self) -> &mut WebSocket<S, NoMask>
         ensures* writes_back { sem 𝓛 (Lends (the_row S.row M.row) (socket_row S.row no_mask)

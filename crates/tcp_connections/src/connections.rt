@@ -1,14 +1,24 @@
 //! The connections of a loop: their streams, and who serves them.
 
+ghost use Rattle.std.specs.Prelude.{◌≡◌, ◌<◌, ℕ, None, true, false, length, IfSome, IfNone};
+ghost use Rattle.mio.specs.Event.{event_token, is_readable, is_writable};
+ghost use Rattle.links.specs.Link as one;
+ghost use Rattle.links.specs.Links.{IsReleased};
+ghost use Rattle.loop_rules.specs.Rotas.{look_of, will_look};
+ghost use Rattle.tcp_connections.specs.Comes.{ComesOf};
+ghost use Rattle.tcp_connections.specs.Connections as all;
+ghost use Rattle.tcp_connections.specs.Connections.{OnlyAt, connection_at, is_there, link_of};
+
 use crate::came::Came;
+use crate::change::Change;
 use crate::service::Service;
 use crate::watch::Watch;
-use events::{Answered, Event};
+use events::Answered;
 use http_edge::{Gathered, Request, Target};
-use links::{Do, Links, Serving, client_of, found_by, has_taken_all};
-use loop_rules::{Found, Pause, carried};
+use links::{Do, Links, Seen, Serving, client_of, events_in, found_passed};
+use loop_rules::Pause;
 use mio::{Interest, Registry, Token, event as readiness};
-use peers::message_length;
+use peers::{Response, message_length};
 use slab::Slab;
 use std::alloc::Global;
 use std::rt::Clock;
@@ -45,7 +55,10 @@ impl<R: Drop> Drop for Connections<'_, R> {
 
 impl<'a, R: Clock + Drop> Connections<'a, R> {
     /// None yet.
-    pub fn new(alloc: Global, links: Links) -> Connections<'a, R> {
+    pub fn new(alloc: Global, links: Links) -> Connections<'a, R>
+        ensures none { all.count_of result ≡ 0 }
+        ensures links { result.links ≡ links }
+    {
         let slots = Slab::new(alloc);
         Connections {
             alloc,
@@ -55,12 +68,16 @@ impl<'a, R: Clock + Drop> Connections<'a, R> {
     }
 
     /// How many there are.
-    pub fn len(&self) -> usize {
+    pub fn len(&self) -> usize
+        ensures { result ≡ all.count_of self.now }
+    {
         self.slots.len()
     }
 
     /// A bound of all keys.
-    pub fn keys_below(&self) -> usize {
+    pub fn keys_below(&self) -> usize
+        ensures { (k : ℕ) → is_there k self.now ≡ true → k < result }
+    {
         self.slots.capacity()
     }
 
@@ -72,7 +89,11 @@ impl<'a, R: Clock + Drop> Connections<'a, R> {
         mut stream: Stream,
         from: u128,
         now: u64,
-    ) -> Option<usize> {
+    ) -> Option<usize>
+        ensures added { IfSome result (λ key. all.Adds key now self.old self.new) }
+        ensures refused { IfNone result (all.SameConnections self.old self.new) }
+        ensures takers { self.new.links.roster.takers ≡ self.old.links.roster.takers }
+    {
         let key = self.slots.vacant_key();
         let (token, interests) = (Token(key), Interest::READABLE | Interest::WRITABLE);
         registry.register(&mut stream.inner, token, interests).ok()?;
@@ -85,20 +106,61 @@ impl<'a, R: Clock + Drop> Connections<'a, R> {
         self.slots.insert(connection).ok()
     }
 
-    /// The service of the connection with this key.
-    pub fn service(&mut self, key: usize) -> Option<&mut Service<'a, R>> {
-        Some(&mut self.slots.get_mut(key)?.service)
+    /// Whether there is a connection with this key.
+    pub fn has(&self, key: usize) -> bool
+        ensures { result ≡ is_there key self.now }
+    {
+        self.slots.get(key).is_some()
     }
 
-    /// The stream of the connection with this key, if it is still here.
-    pub fn stream(&mut self, key: usize) -> Option<&mut Stream> {
-        self.service(key)?.stream()
+    /// What is seen of the connection with this key.
+    pub fn seen(&self, key: usize) -> Seen
+        ensures { result ≡ all.seen_at key self.now }
+    {
+        match self.slots.get(key) {
+            Some(connection) => connection.service.seen(),
+            None => Seen::gone(),
+        }
+    }
+
+    /// Whether a connection brought all that it read, and its stream has no more, as far as is known.
+    pub fn has_brought_all(&self, key: usize) -> bool
+        ensures { result ≡ one.has_brought_all (all.seen_at key self.now) }
+    {
+        self.seen(key).has_brought_all()
     }
 
     /// Takes a connection out.
-    pub fn take(&mut self, key: usize) -> Option<Box<Connection<'a, R>>> {
+    pub fn take(&mut self, key: usize) -> Option<Box<Connection<'a, R>>>
+        ensures taken { result ≡ connection_at key self.old }
+        ensures none { connection_at key self.new ≡ None }
+        ensures over { link_of key self.new ≡ one.over }
+        ensures others { OnlyAt key self.old self.new }
+        ensures released { IsReleased key (link_of key self.old).client
+            self.new.links.roster.takers }
+    {
         self.links.dismiss(key);
         self.slots.try_remove(key)
+    }
+
+    /// Answers by this, if by anything, which pages of this origin may read. The connection ends then.
+    pub fn respond(
+        &mut self,
+        key: usize,
+        origin: &Option<String>,
+        response: Option<Response<'_>>,
+        now: u64,
+    )
+        ensures closes { is_there key self.old ≡ true → all.Closes key now
+            self.old.links.links.items self.new.links.links.items }
+        ensures others { OnlyAt key self.old self.new }
+        ensures roster { self.new.links.roster ≡ self.old.links.roster }
+    {
+        let alloc = self.alloc;
+        if let Some(connection) = self.slots.get_mut(key) {
+            connection.service.respond(alloc, origin, response);
+            self.links.close(key, now);
+        }
     }
 
     /// Has a request served, or answers it.
@@ -110,191 +172,220 @@ impl<'a, R: Clock + Drop> Connections<'a, R> {
         watch: Watch<R>,
         rules: &'a Rules,
         now: u64,
-    ) {
-        let is_counted = rules.pace.is_some() && matches!(target, Target::Post(_));
-        let events = if is_counted {
-            carried(request.body.as_str())
-        } else {
-            0
-        };
+    )
+        ensures served { is_there key self.old ≡ true → all.IsServedOrCloses key target now
+            self.old.links.links.items self.new.links.links.items }
+        ensures others { OnlyAt key self.old self.new }
+        ensures roster { self.new.links.roster ≡ self.old.links.roster }
+    {
+        let events = events_in(target, request.body.as_str(), rules.pace.is_some());
         let alloc = self.alloc;
-        let Some(service) = self.service(key) else {
+        let Some(connection) = self.slots.get_mut(key) else {
             return;
         };
-        if service.serve(alloc, request, target, watch, rules) {
-            let from = self.links.delays.delay(target, key, now);
-            self.links.serve(
-                key,
-                Serving::of(target, events, from),
-                client_of(target),
-                now,
-            );
-        } else {
+        if !connection
+            .service
+            .serve(alloc, request, target, watch, rules)
+        {
             self.links.close(key, now);
+            return self.links.note_whole(key);
         }
-        self.links.note_whole(key);
+        let from = self.links.delays.delay(target, key, now);
+        let serving = Serving::of(target, events, from);
+        self.links.serve(key, serving, client_of(target), now);
     }
 
     /// Does what a connection does next, for which it is read as far as there is room for what isn't
     /// whole, and counts what came.
-    pub fn go_on(&mut self, key: usize, now: u64) -> Came {
+    pub fn go_on(&mut self, key: usize, now: u64) -> Came
+        ensures gone { is_there key self.old ≡ false
+            → result ≡ Came.Nothing (Do.Rest Pause.Done) }
+        ensures others { OnlyAt key self.old self.new }
+        ensures takers { self.new.links.roster.takers ≡ self.old.links.roster.takers }
+    {
         let most = self.links.most(key);
-        let Some(service) = self.service(key) else {
+        let Some(connection) = self.slots.get_mut(key) else {
             return Came::Nothing(Do::Rest(Pause::Done));
         };
-        service.read_up_to(most);
-        let seen = service.seen();
+        connection.service.change(Change::ReadUpTo(most));
+        let seen = connection.service.seen();
         let what = self.links.next(key, seen, now);
         let came = self.act(key, what, now);
-        if let Some(service) = self.service(key) {
-            let seen = service.seen();
-            self.links.settle(key, seen, now);
-        }
+        let seen = self.seen(key);
+        self.links.settle(key, seen, now);
         came
     }
 
     /// Does what its link says.
-    fn act(&mut self, key: usize, what: Do, now: u64) -> Came {
+    fn act(&mut self, key: usize, what: Do, now: u64) -> Came
+        ensures came { is_there key self.old ≡ true → ComesOf what now result }
+        ensures others { OnlyAt key self.old self.new }
+        ensures takers { self.new.links.roster.takers ≡ self.old.links.roster.takers }
+    {
         let alloc = self.alloc;
-        let Some(service) = self.service(key) else {
+        let Some(connection) = self.slots.get_mut(key) else {
             return Came::Nothing(Do::Rest(Pause::Done));
         };
         match what {
-            Do::Gather => service.read(alloc).unwrap_or_else(Came::Refused),
+            Do::Gather => connection.service.read(alloc),
             Do::Bring { drains, reads } => self.bring(key, drains, reads, now),
-            Do::Pass => Came::Nothing(self.pass(key)),
+            Do::Pass => {
+                connection.service.skip_rest();
+                let seen = connection.service.seen();
+                let found = found_passed(seen.idle);
+                Came::Nothing(self.links.follow(key, found, seen.is_full()))
+            }
             Do::Tell(loss) => Came::Event(loss.event(), now),
-            Do::Drain => Came::Nothing(service.drain().map_or(Do::End, Do::Rest)),
+            Do::Drain => Came::Nothing(connection.service.drain().map_or(Do::End, Do::Rest)),
             other => Came::Nothing(other),
         }
     }
 
     /// The next event of a connection's peer. It closes where there is none any more.
-    fn bring(&mut self, key: usize, drains: bool, reads: bool, now: u64) -> Came {
+    fn bring(&mut self, key: usize, drains: bool, reads: bool, now: u64) -> Came
+        ensures came { ComesOf (Do.Bring drains reads) now result }
+        ensures others { OnlyAt key self.old self.new }
+        ensures roster { self.new.links.roster ≡ self.old.links.roster }
+    {
         let is_post = self.links.link(key).course.is_post();
-        let Some(service) = self.service(key) else {
+        let Some(connection) = self.slots.get_mut(key) else {
             return Came::Nothing(Do::Rest(Pause::Done));
         };
-        if drains && service.drain().is_none() {
-            self.links.fail(key, now);
-            return Came::Nothing(Do::GoOn);
+        if drains && connection.service.drain().is_none() {
+            return Came::Nothing(self.links.finish(key, true, now));
         }
-        match service.bring(reads) {
+        match connection.service.next(reads) {
             Ok(Some((event, moment))) => {
-                service.note_brought(message_length(&event), is_post);
+                let message = message_length(&event);
+                connection
+                    .service
+                    .change(Change::Brought { message, is_post });
                 self.links.note_brought(key, &event, moment);
                 Came::Event(event, moment)
             }
-            Ok(None) => {
-                self.links.close(key, now);
-                Came::Nothing(Do::Rest(Pause::Done))
-            }
-            Err(_) => {
-                self.links.fail(key, now);
-                Came::Nothing(Do::GoOn)
-            }
+            Ok(None) => Came::Nothing(self.links.finish(key, false, now)),
+            Err(_) => Came::Nothing(self.links.finish(key, true, now)),
         }
-    }
-
-    /// The rest of a WebSocket's round is passed over, since nothing can be due that wasn't.
-    fn pass(&mut self, key: usize) -> Do {
-        let Some(service) = self.service(key) else {
-            return Do::Nothing;
-        };
-        service.skip_rest();
-        let seen = service.seen();
-        let found = if seen.idle { Found::Idle } else { Found::Quiet };
-        self.links.follow(key, found, seen.is_full())
     }
 
     /// Hears the answer to the event of a connection, after which nothing waits for its client, as far as
     /// is known, or something may. Answers what follows.
-    pub fn hear(&mut self, key: usize, got: &Answered, rests: bool, now: u64) -> Do {
+    pub fn hear(&mut self, key: usize, got: &Answered, rests: bool, now: u64) -> Do
+        ensures loss { IfSome (one.after_loss (link_of key self.old).course got.now)
+            (λ pause. result ≡ Do.Rest pause) }
+        ensures others { OnlyAt key self.old self.new }
+        ensures takers { self.new.links.roster.takers ≡ self.old.links.roster.takers }
+    {
         if let Some(pause) = self.links.hear_loss(key, got, now) {
             return Do::Rest(pause);
         }
         self.links.know(key, got);
         let link = self.links.link(key);
-        let Some(service) = self.service(key) else {
+        let Some(connection) = self.slots.get_mut(key) else {
             return Do::Nothing;
         };
-        let is_dry = link.is_dry(service.seen());
-        if service.answer(got).is_err() {
-            self.links.fail(key, now);
-            return Do::GoOn;
-        }
-        let has_taken_all = has_taken_all(got, rests);
-        if has_taken_all {
-            service.skip_rest();
-        }
-        let seen = service.seen();
-        let found = found_by(got, seen.idle, has_taken_all, is_dry);
-        self.links.follow(key, found, seen.is_full())
-    }
-
-    /// Whether a connection brought all that it read, and its stream has no more, as far as is known.
-    pub fn has_brought_all(&mut self, key: usize) -> bool {
-        match self.stream(key) {
-            Some(stream) => stream.unbrought == 0 && stream.drained,
-            None => true,
+        match connection.service.hear(got, rests, link) {
+            Some((found, is_full)) => self.links.follow(key, found, is_full),
+            None => self.links.finish(key, true, now),
         }
     }
 
     /// A stream is ready: its connection is queued, or its bytes are to be sent.
-    pub fn note(&mut self, event: &readiness::Event) {
+    pub fn note(&mut self, event: &readiness::Event)
+        ensures others { OnlyAt (event_token event.now).0 self.old self.new }
+        ensures takers { self.new.links.roster.takers ≡ self.old.links.roster.takers }
+        ensures unready { is_readable event.now ≡ false → is_writable event.now ≡ false
+            → self.new ≡ self.old }
+    {
         let Token(key) = event.token();
         if event.is_readable() {
-            if let Some(stream) = self.stream(key) {
-                stream.note_readable(event.is_read_closed());
-            }
-            self.links.roster.rota.call(key);
+            self.note_readable(key, event.is_read_closed());
         }
         if event.is_writable() {
             self.links.note_unsent(key);
         }
     }
 
+    /// A stream was reported readable, and maybe that its other side has sent its last byte.
+    fn note_readable(&mut self, key: usize, ended: bool)
+        ensures looks { let looks = self.new.links.roster.rota.looks in
+            key < length self.old.links.roster.rota.looks → will_look (look_of looks key) ≡ true }
+        ensures others { OnlyAt key self.old self.new }
+        ensures takers { self.new.links.roster.takers ≡ self.old.links.roster.takers }
+    {
+        if let Some(connection) = self.slots.get_mut(key) {
+            connection.service.change(Change::Readable { ended });
+        }
+        self.links.roster.rota.call(key);
+    }
+
     /// Sends what a connection has to send. Answers whether it is over then.
-    pub fn send(&mut self, key: usize, now: u64) -> bool {
-        let Some(service) = self.service(key) else {
+    pub fn send(&mut self, key: usize, now: u64) -> bool
+        ensures sent { is_there key self.old ≡ true → all.IsSent key now
+            self.old.links.links.items self.new.links.links.items result }
+        ensures gone { is_there key self.old ≡ false → result ≡ false }
+        ensures others { OnlyAt key self.old self.new }
+        ensures takers { self.new.links.roster.takers ≡ self.old.links.roster.takers }
+    {
+        let Some(connection) = self.slots.get_mut(key) else {
             return false;
         };
+        let service = &mut connection.service;
         let (sent, is_request) = (service.send(), service.is_request());
         let seen = service.seen();
-        let what = match sent {
-            Ok(count) => self.links.note_sent(key, count, seen, is_request, now),
-            Err(_) => self.links.note_unsendable(key, is_request, now),
-        };
-        self.obey(key, what)
+        match sent {
+            Ok(count) => {
+                let what = self.links.note_sent(key, count, seen, is_request, now);
+                self.obey(key, what)
+            }
+            Err(_) => {
+                let what = self.links.note_unsendable(key, is_request, now);
+                self.obey(key, what)
+            }
+        }
     }
 
     /// A beat has come: a connection gives back its buffers where nobody uses them, and what takes too
     /// long is ended. Answers whether it is over.
-    pub fn keep_deadline(&mut self, key: usize, cutting: bool, now: u64) -> bool {
+    pub fn keep_deadline(&mut self, key: usize, cutting: bool, now: u64) -> bool
+        ensures kept { is_there key self.old ≡ true → all.KeepsDeadline key cutting now
+            self.old.links self.new.links.links.items result }
+        ensures gone { is_there key self.old ≡ false → result ≡ false }
+        ensures others { OnlyAt key self.old self.new }
+        ensures takers { self.new.links.roster.takers ≡ self.old.links.roster.takers }
+    {
         let (alloc, is_socket) = (self.alloc, self.links.link(key).course.is_socket());
-        let Some(service) = self.service(key) else {
+        let Some(connection) = self.slots.get_mut(key) else {
             return false;
         };
-        if service.stream().is_some_and(|stream| stream.give_back()) && is_socket {
-            service.renew(alloc);
-        }
-        let seen = service.seen();
+        connection.service.give_back(alloc, is_socket);
+        let seen = connection.service.seen();
         let what = self.links.keep_deadline(key, seen, cutting, now);
         self.obey(key, what)
     }
 
     /// Does what is to be done with a connection beside its stints. Answers whether it is over.
-    fn obey(&mut self, key: usize, what: Do) -> bool {
-        let Some(service) = self.service(key) else {
+    fn obey(&mut self, key: usize, what: Do) -> bool
+        ensures over { is_there key self.old ≡ true → all.IsOver what result }
+        ensures gone { is_there key self.old ≡ false → result ≡ false }
+        ensures others { OnlyAt key self.old self.new }
+        ensures links { self.new.links ≡ self.old.links }
+    {
+        let Some(connection) = self.slots.get_mut(key) else {
             return false;
         };
         match what {
-            Do::End => return true,
-            Do::Shut => return !service.shut(),
-            Do::Cut => service.cut(),
-            Do::GiveUp => service.give_up(),
-            _ => {}
+            Do::End => true,
+            Do::Shut => !connection.service.shut(),
+            Do::Cut => {
+                connection.service.change(Change::Cut);
+                false
+            }
+            Do::GiveUp => {
+                connection.service.give_up();
+                false
+            }
+            _ => false,
         }
-        false
     }
 }

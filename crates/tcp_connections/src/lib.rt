@@ -2,8 +2,11 @@
 //! `links`.
 #![tactic(auto)]
 
+mod answers;
 mod came;
+mod change;
 mod connections;
+mod request;
 mod service;
 mod watch;
 

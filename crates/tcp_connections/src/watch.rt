@@ -1,5 +1,8 @@
 //! The passing of time.
 
+ghost use Rattle.std.specs.Prelude.{◌≡◌};
+ghost use Rattle.tcp_connections.specs.Watch.{told_last};
+
 use peers::Moments;
 use std::rt::Clock;
 use std::time::Instant;
@@ -15,7 +18,9 @@ pub struct Watch<R> {
 
 impl<R: Clock> Watch<R> {
     /// The moment 0 was this instant.
-    pub fn new(rt: R, start: Instant) -> Watch<R> {
+    pub fn new(rt: R, start: Instant) -> Watch<R>
+        ensures { told_last result ≡ 0 }
+    {
         Watch { rt, start, last: 0 }
     }
 }

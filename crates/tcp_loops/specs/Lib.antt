@@ -1,2 +1,4 @@
 pub mod Drawn
+pub mod Fates
 pub mod Holding
+pub mod Turns

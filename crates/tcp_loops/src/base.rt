@@ -1,11 +1,69 @@
 //! What all workers go by.
 
+ghost use Rattle.std.specs.Prelude.{◌≡◌, ◌≢◌, ℕ, false, nat_eq};
+ghost use Rattle.std.specs.HashMap.{get};
+ghost use Rattle.tcp_loops.specs.Fates as fates;
+
+use events::Answered;
+use links::Concern;
 use loop_rules::Notes;
 use std::alloc::Global;
+use std::collections::HashMap;
 use std::mem;
 use std::sync::{Arc, Wait};
 use tcp_connections::Watch;
-use tcp_streams::{Ended, Ending, Log, Rules, Shared, Shown};
+use tcp_streams::{Ended, Ending, Log, News, Rules, Shared, Shown};
+
+/// What became of a client.
+#[derive(Clone, Copy, Debug)]
+pub enum Fate {
+    /// It was opened, over a WebSocket or not.
+    Opened { socket: bool },
+    /// It has come over to its WebSocket.
+    ComesOver,
+    Ended(Ending),
+}
+
+impl Fate {
+    /// What became of a client where the answer to an event concerns it so; over a WebSocket or not.
+    pub fn of(got: &Answered, concern: Concern, socket: bool) -> Option<Fate>
+        ensures { result ≡ fates.fate_of concern socket got.now }
+    {
+        match concern {
+            Concern::Opens => Some(Fate::Opened { socket }),
+            Concern::ComesOver => Some(Fate::ComesOver),
+            Concern::Ends | Concern::Gone { .. } => Some(Fate::Ended(Ending::of(got)?)),
+            _ => None,
+        }
+    }
+}
+
+/// This became of a client, which is one of those that are there or isn't: each since when, and whether
+/// over a WebSocket. Answers what was known of one that has ended. Where there is no memory for one that
+/// was opened, nothing is told of it.
+fn note_life(
+    lives: &mut HashMap<u128, (u64, bool)>,
+    client: u128,
+    fate: Fate,
+    now: u64,
+) -> Option<(u64, bool)>
+    ensures life { fates.Becomes fate now (get nat_eq lives.old client) (get nat_eq lives.new client) }
+    ensures ended { result ≡ fates.life_ended fate (get nat_eq lives.old client) }
+    ensures others { (c : ℕ) → c ≢ client → get nat_eq lives.new c ≡ get nat_eq lives.old c }
+{
+    match fate {
+        Fate::Opened { socket } => {
+            let _ = lives.insert(client, (now, socket));
+            None
+        }
+        Fate::ComesOver => {
+            let (since, _) = lives.get(&client).copied()?;
+            let _ = lives.insert(client, (since, true));
+            None
+        }
+        Fate::Ended(_) => lives.remove(&client),
+    }
+}
 
 /// What all workers go by: through it a loop, or the keeper, speaks to the others.
 #[derive(Drop)]
@@ -21,7 +79,9 @@ pub struct Base<'a, R, L> {
 
 impl<R: Wait, L: Log> Base<'_, R, L> {
     /// Tells each loop of its clients that were noted.
-    pub fn send(&self, notes: &mut Notes) {
+    pub fn send(&self, notes: &mut Notes)
+        ensures { notes.new.everyone ≡ false }
+    {
         if mem::replace(&mut notes.everyone, false) {
             self.shared.wake_everyone(self.rt);
         }
@@ -43,33 +103,19 @@ impl<R: Wait, L: Log> Base<'_, R, L> {
         }
     }
 
-    /// A client was opened. Where there is no memory for it, nothing is told of it.
-    pub fn note_opened(&self, client: u128, socket: bool, now: u64) {
-        if let Some(lives) = &self.shared.lives {
-            let _ = lives.lock(self.rt).insert(client, (now, socket));
-        }
-    }
-
-    /// A client has come over to its WebSocket.
-    pub fn note_upgraded(&self, client: u128) {
-        if let Some(lives) = &self.shared.lives {
-            if let Some((_, socket)) = lives.lock(self.rt).get_mut(&client) {
-                *socket = true;
-            }
-        }
-    }
-
-    /// A client has ended, of which the log is told.
-    pub fn note_end(&self, client: u128, ending: Ending, now: u64) {
-        let lives = self.shared.lives.as_ref();
-        let life = lives.and_then(|lives| lives.lock(self.rt).remove(&client));
-        if let Some((since, socket)) = life {
-            self.log.client_ended(&Ended {
+    /// This became of a client. The log is told of its end.
+    pub fn note(&self, client: u128, fate: Fate, now: u64) {
+        let Some(lives) = &self.shared.lives else {
+            return;
+        };
+        let life = note_life(&mut *lives.lock(self.rt), client, fate, now);
+        if let (Some((since, socket)), Fate::Ended(ending)) = (life, fate) {
+            self.log.tell(News::Ended(Ended {
                 client,
                 socket,
                 ending,
                 lived: now.saturating_sub(since),
-            });
+            }));
         }
     }
 }

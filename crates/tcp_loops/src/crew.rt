@@ -1,6 +1,6 @@
 //! Who works at a server: its loops, the keeper, and who accepts.
 
-ghost use Rattle.std.specs.Prelude.{◌≡◌, ◌<◌, IfOk, vec_len};
+ghost use Rattle.std.specs.Prelude.{◌≡◌, ◌<◌, ◌+◌, IfOk, vec_len};
 ghost use Rattle.loop_rules.specs.Ids.{LOOPS};
 
 use crate::base::Base;
@@ -73,7 +73,9 @@ pub fn workers_for<'a, R: Wait + Clock + Copy + Drop, L: Log, K: Drop>(
     base: &'a Base<'a, R, L>,
     ears: Vec<Ears>,
     keeper: K,
-) -> Result<Vec<Worker<'a, R, L, K>>, AllocError> {
+) -> Result<Vec<Worker<'a, R, L, K>>, AllocError>
+    ensures { IfOk result (λ workers. vec_len workers ≡ vec_len ears + 1) }
+{
     let mut workers = Vec::new(base.alloc);
     for own in ears {
         let number = workers.len();

@@ -1,8 +1,19 @@
 //! What a loop does with its connections: whose stint it is, what they bring, and when it sleeps.
 
+ghost use Rattle.std.specs.Prelude.{◌≡◌, ◌≤◌, ◌<◌, ◌/◌, false, true, [], IfOk, is_some};
+ghost use Rattle.std.specs.Bool.{OnTrue};
+ghost use Rattle.loop_rules.specs.Rotas as rotas;
+ghost use Rattle.links.specs.Concerns.{AllWillLook};
+ghost use Rattle.links.specs.Holding.{called_if};
+ghost use Rattle.links.specs.Links as all;
+ghost use Rattle.links.specs.Moments.{HasNothingToDo};
+ghost use Rattle.links.specs.Rounds as rounds;
+ghost use Rattle.links.specs.Sending.{others_of};
+ghost use Rattle.tcp_loops.specs.Turns as turns;
+
 use crate::base::Base;
-use events::{Event, Loss};
-use links::{Do, Links};
+use events::Event;
+use links::{Do, Links, Round, is_much_unsent};
 use loop_rules::{Mail, Notes, Pause, Pressure};
 use mio::Events;
 use peers::Moments;
@@ -21,19 +32,6 @@ const EVENTS: usize = 256;
 /// The most new connections that one round of the loop adds. Where more wait, it doesn't sleep.
 const STREAMS: usize = 256;
 
-/// So many bytes are sent when their connection's stint ends, while they are at hand in the processor's
-/// caches. Fewer wait for the end of the loop's round, so that more may go out with them.
-const MUCH_UNSENT: usize = 32_768;
-
-/// The most stints of connections in one round of the loop.
-const STINTS: usize = 1_024;
-
-/// For how long the digits of clients are kept, in milliseconds: a loop isn't told of all that end.
-const KEPT: u64 = 60_000;
-
-/// How long a loop sleeps at the most, in milliseconds.
-const BEAT: u64 = 1_000;
-
 /// What an event is of that the loop brings.
 #[derive(Clone, Copy)]
 pub(crate) enum Origin {
@@ -46,16 +44,6 @@ pub(crate) enum Origin {
 /// An event at its moment, with what it is of.
 pub(crate) type Brought = (Origin, Event, u64);
 
-/// What became of a step of a connection.
-#[derive(Drop)]
-pub(crate) enum Step {
-    Brought(Brought),
-    /// It goes on with its stint.
-    GoesOn,
-    /// Its stint is over.
-    Over,
-}
-
 /// The connections of a loop, and all that it knows beside them.
 #[derive(Drop)]
 pub(crate) struct Driver<'a, R, L> {
@@ -63,8 +51,7 @@ pub(crate) struct Driver<'a, R, L> {
     /// Which loop it is.
     pub(crate) number: usize,
     pub(crate) watch: Watch<R>,
-    /// The moment at which it looked at its watch last.
-    pub(crate) now: u64,
+    pub(crate) round: Round,
     pub(crate) ears: Ears,
     events: Events<Global>,
     pub(crate) connections: Connections<'a, R>,
@@ -73,26 +60,23 @@ pub(crate) struct Driver<'a, R, L> {
     pub(crate) notes: Notes,
     /// The connections whose stints go on, in order.
     active: VecDeque<usize>,
-    /// Clients are to be looked for that are given up.
-    pub(crate) gives_up: bool,
     /// What the last events showed.
     pub(crate) shown: Shown,
-    /// The other loops are to be told at once for whom something was put.
-    pub(crate) tells: bool,
-    /// How many stints of connections the loop's round has left.
-    stints_left: usize,
-    /// The moment of the next beat, 0 until the loop has begun.
-    beat: u64,
-    /// Some backend is pressed, as far as the loop knows.
-    pub(crate) is_pressed: bool,
-    /// The moment from which on the digits of clients are forgotten, where no backend is pressed.
-    forgets: u64,
 }
 
 /// No connections yet, of a loop that goes by these rules.
-fn connections_for<'a, R: Clock + Drop>(alloc: Global, rules: &Rules) -> Connections<'a, R> {
-    let links = Links::new(alloc, rules.share(), rules.stretch(), rules.pace);
-    Connections::new(alloc, links)
+fn links_for(alloc: Global, rules: &Rules) -> Links
+    ensures none { result.links.items ≡ [] }
+    ensures share { result.receiving.share ≡ rules.now.receiving / rules.now.loops }
+{
+    Links::new(alloc, rules.share(), rules.stretch(), rules.pace)
+}
+
+/// Streams are ready, as the last wait has told.
+fn note_ready<R: Clock + Drop>(events: &Events<Global>, connections: &mut Connections<'_, R>) {
+    for event in events.iter() {
+        connections.note(event);
+    }
 }
 
 impl<'a, R: Wait + Clock + Copy + Drop, L: Log> Driver<'a, R, L> {
@@ -102,108 +86,123 @@ impl<'a, R: Wait + Clock + Copy + Drop, L: Log> Driver<'a, R, L> {
         number: usize,
         ears: Ears,
         most: usize,
-    ) -> Result<Self, AllocError> {
+    ) -> Result<Self, AllocError>
+        ensures number { IfOk result (λ driver. driver.number ≡ number) }
+        ensures round { IfOk result (λ driver. driver.round ≡ rounds.first) }
+        ensures nobody { IfOk result (λ driver. driver.active.items ≡ []) }
+    {
         let alloc = base.alloc;
+        let events = Events::with_capacity(alloc, EVENTS)?;
+        let notes = Notes::new(alloc, base.rules.loops)?;
+        let active = VecDeque::with_capacity(alloc, most)?;
         Ok(Driver {
             base,
             number,
             watch: base.watch,
-            now: 0,
+            round: Round::first(),
             ears,
-            events: Events::with_capacity(alloc, EVENTS)?,
-            connections: connections_for(alloc, base.rules),
+            events,
+            connections: Connections::new(alloc, links_for(alloc, base.rules)),
             mail: Mail::new(alloc),
-            notes: Notes::new(alloc, base.rules.loops)?,
-            active: VecDeque::with_capacity(alloc, most)?,
-            gives_up: false,
+            notes,
+            active,
             shown: Shown::new(alloc),
-            tells: false,
-            stints_left: 0,
-            beat: 0,
-            is_pressed: false,
-            forgets: KEPT,
         })
     }
 
-    /// The loop is at work.
-    pub(crate) fn begin(&mut self) {
-        if self.beat == 0 {
-            self.base.shared.begun.note(self.base.rt);
-        }
-    }
-
-    /// Looks at its watch. A moment holds until the answers to the next events are there.
-    pub(crate) fn look_at_watch(&mut self) {
-        self.now = self.watch.now();
-    }
-
     /// The next connection in its stint; none where the round's stints are over.
-    pub(crate) fn next(&mut self) -> Option<usize> {
+    pub(crate) fn next(&mut self) -> Option<usize>
+        ensures key { result ≡ turns.key_next self.old.active.items self.old.round.stints
+            (called_if (all.next_held self.old.connections.links.receiving)
+            self.old.connections.links.roster.rota).ready }
+        ensures active { self.new.active.items ≡ others_of self.old.active.items }
+        ensures stints { self.new.round.stints
+            ≡ turns.stints_after self.old.active.items result self.old.round.stints }
+    {
         if let Some(key) = self.active.pop_front() {
             return Some(key);
         }
-        let links = &mut self.connections.links;
-        if links.receiving.next().is_some() {
-            self.now = self.watch.now();
-            links.call_held(self.now);
-        }
-        if self.stints_left == 0 {
+        self.call_held();
+        if self.round.stints == 0 {
             return None;
         }
-        let key = links.begin()?;
-        self.stints_left -= 1;
+        let key = self.connections.links.begin()?;
+        self.round.stints -= 1;
         Some(key)
     }
 
-    /// Tells of a client that is given up that it is lost, if there is one.
-    pub(crate) fn give_up(&mut self) -> Option<Brought> {
-        if !self.gives_up {
+    /// Calls the first connection that is held, if it may be read on now.
+    fn call_held(&mut self)
+        ensures rota { self.new.connections.links.roster.rota
+            ≡ called_if (all.next_held self.old.connections.links.receiving)
+            self.old.connections.links.roster.rota }
+        ensures stints { self.new.round.stints ≡ self.old.round.stints }
+        ensures active { self.new.active ≡ self.old.active }
+    {
+        if self.connections.links.receiving.next().is_some() {
+            self.round.now = self.watch.now();
+            self.connections.links.call_held(self.round.now);
+        }
+    }
+
+    /// A client that is given up, if one is looked for.
+    pub(crate) fn give_up(&mut self) -> Option<u128>
+        ensures asked { self.old.round.gives_up ≡ false → result ≡ None }
+        ensures again { self.new.round.gives_up ≡ is_some result }
+        ensures links { self.new.connections.links.links ≡ self.old.connections.links.links }
+        ensures roster { self.new.connections.links.roster ≡ self.old.connections.links.roster }
+    {
+        if !self.round.gives_up {
             return None;
         }
-        let now = self.now;
-        let found = self.connections.links.find_given_up(now);
-        self.gives_up = found.is_some();
-        let client = found?;
-        Some((Origin::Loss { client }, Loss::new(client).event(), now))
+        let found = self.connections.links.find_given_up(self.round.now);
+        self.round.gives_up = found.is_some();
+        found
     }
 
     /// Nobody has anything to do in this round: it ends, and the next begins once the loop has waited for
     /// streams, for what others hand in, or for the next moment at which something is due. Answers
     /// whether the loop goes on.
-    pub(crate) fn turn(&mut self) -> bool {
+    pub(crate) fn turn(&mut self) -> bool
+        ensures stints { OnTrue result (self.new.round.stints ≡ 1024) }
+    {
+        if self.round.beat == 0 {
+            self.base.shared.begun.note(self.base.rt);
+        }
         self.connections.links.roster.rota.begin_round();
         self.send_all();
-        if self.connections.len() == 0 && self.base.shared.standing(self.base.rt).is_over() {
+        if self.connections.len() == 0 && self.base.shared.standing.lock(self.base.rt).is_over() {
             return false;
         }
-        self.stints_left = STINTS;
+        self.round = self.round.next();
         let timeout = Duration::from_millis(self.time_to_sleep());
         let waited = self.ears.poll.poll(&mut self.events, Some(timeout));
         if waited.is_err() {
             return false;
         }
-        self.look_at_watch();
-        for event in self.events.iter() {
-            self.connections.note(event);
-        }
+        self.round.now = self.watch.now();
+        note_ready(&self.events, &mut self.connections);
         self.take_in();
         true
     }
 
     /// Tells the other loops whom something was put for, and sends what connections have to send.
-    fn send_all(&mut self) {
+    fn send_all(&mut self)
+        ensures round { self.new.round ≡ self.old.round }
+    {
         self.base.send(&mut self.notes);
-        let now = self.now;
         for _ in 0..u64::MAX {
             let Some(key) = self.connections.links.pop_unsent() else {
                 break;
             };
-            self.send(key, now);
+            self.send(key);
         }
     }
 
     /// What is still open is closed. That is nothing, but where the system failed to wait.
-    pub(crate) fn close_all(&mut self) {
+    pub(crate) fn close_all(&mut self)
+        ensures round { self.new.round ≡ self.old.round }
+    {
         for key in 0..self.connections.keys_below() {
             self.close(key);
         }
@@ -211,72 +210,123 @@ impl<'a, R: Wait + Clock + Copy + Drop, L: Log> Driver<'a, R, L> {
     }
 
     /// The time until something is due: none where something is to be done, or was handed in.
-    fn time_to_sleep(&mut self) -> u64 {
-        let inbox = self.base.shared.inboxes.get(self.number);
-        let sleeps = |inbox: &Inbox| inbox.falls_asleep(self.base.rt);
-        if !self.connections.links.is_quiet() || !inbox.is_none_or(sleeps) {
+    fn time_to_sleep(&mut self) -> u64
+        ensures beat { result ≤ 1000 }
+        ensures quiet { 0 < result → HasNothingToDo self.old.connections.links }
+        ensures stints { self.new.round.stints ≡ self.old.round.stints }
+    {
+        if !self.connections.links.is_quiet() {
             return 0;
         }
-        let due = self.connections.links.first_due(self.beat);
-        due.saturating_sub(self.watch.now()).min(BEAT)
+        let inbox = self.base.shared.inboxes.get(self.number);
+        let sleeps = |inbox: &Inbox| inbox.falls_asleep(self.base.rt);
+        if !inbox.is_none_or(sleeps) {
+            return 0;
+        }
+        self.round.now = self.watch.now();
+        let due = self.connections.links.first_due(self.round.beat);
+        self.round.sleep(due)
     }
 
     /// Takes in what was handed in, and does what is due.
-    fn take_in(&mut self) {
-        if let Some(inbox) = self.base.shared.inboxes.get(self.number) {
-            inbox.take(self.base.rt, &mut self.mail);
-        }
+    fn take_in(&mut self)
+        ensures stints { self.new.round.stints ≡ self.old.round.stints }
+    {
+        self.take_mail();
         self.add_streams();
-        for client in self.mail.woken.drain(..) {
-            self.connections.links.roster.wake(client);
-        }
-        let everyone = mem::replace(&mut self.mail.everyone, false);
-        if everyone {
-            // So it is where a backend is pressed no more; the next event shows which still are.
-            let now = self.now;
-            self.connections.links.pressure.press(0, now);
-            self.is_pressed = false;
-            self.connections.links.roster.rota.call_all();
-        }
+        self.take_over();
+        let everyone = self.wake();
         self.do_due(everyone);
     }
 
-    /// Does what is due. Once a beat, or where all are to be looked at, each connection's deadline is.
-    fn do_due(&mut self, everyone: bool) {
-        let now = self.now;
-        self.connections.links.call_due(now);
-        if now < self.beat && !everyone {
-            return;
+    /// Takes what was handed in.
+    fn take_mail(&mut self)
+        ensures round { self.new.round ≡ self.old.round }
+    {
+        if let Some(inbox) = self.base.shared.inboxes.get(self.number) {
+            inbox.mailbox.lock(self.base.rt).take(&mut self.mail);
         }
-        self.beat = now.saturating_add(BEAT);
-        self.gives_up = true;
-        let times = self.connections.links.forget_old(now);
+    }
+
+    /// Has those look that others woke. Answers whether these are all. So it is where a backend is pressed
+    /// no more: the next event shows which still are.
+    fn wake(&mut self) -> bool
+        ensures everyone { result ≡ self.old.mail.everyone }
+        ensures look { OnTrue result (AllWillLook self.new.connections.links.roster.rota) }
+        ensures stints { self.new.round.stints ≡ self.old.round.stints }
+    {
+        let everyone = mem::replace(&mut self.mail.everyone, false);
+        let woken = self.mail.woken.as_slice();
+        self.connections.links.wake_all(woken);
+        self.mail.woken.clear();
+        if !everyone {
+            return false;
+        }
+        self.press(Some(0));
+        self.connections.links.roster.rota.call_all();
+        true
+    }
+
+    /// The backends of these digits are pressed now, if that was shown.
+    pub(crate) fn press(&mut self, pressed: Option<u16>)
+        ensures round { self.new.round ≡ rounds.pressed_by pressed self.old.round }
+        ensures pressure { self.new.connections.links.pressure
+            ≡ turns.pressed_to pressed self.old.round.now self.old.connections.links.pressure }
+    {
+        self.round = self.round.press(pressed);
+        if let Some(digits) = pressed {
+            let now = self.round.now;
+            self.connections.links.pressure.press(digits, now);
+        }
+    }
+
+    /// Does what is due. Once a beat, or where all are to be looked at, each connection's deadline is.
+    fn do_due(&mut self, everyone: bool)
+        ensures round { self.new.round ≡ turns.after_due everyone self.old.round }
+        ensures stints { self.new.round.stints ≡ self.old.round.stints }
+    {
+        self.connections.links.call_due(self.round.now);
+        if self.round.is_beat(everyone) {
+            self.forget();
+            self.keep_deadlines();
+        }
+    }
+
+    /// A beat has come: what is old is forgotten.
+    fn forget(&mut self)
+        ensures round { self.new.round ≡ rounds.after_beat self.old.round }
+        ensures digits { turns.Forgets (rounds.forgets_digits self.old.round)
+            self.old.connections.links.pressure self.new.connections.links.pressure }
+    {
+        let base = self.base;
+        let times = self.connections.links.forget_old(self.round.now);
         if times > 0 {
-            let base = self.base;
             base.shared.counts.lock(base.rt).note_paced(times);
         }
-        self.forget_digits(now);
-        let cutting = self.base.shared.standing(self.base.rt).cutting;
+        let forgets_digits = self.round.forgets_digits();
+        self.round = self.round.after_beat();
+        if forgets_digits {
+            self.connections.links.pressure = Pressure::new(base.alloc, base.rules.stretch());
+        }
+    }
+
+    /// Closes each connection that took too long.
+    fn keep_deadlines(&mut self)
+        ensures round { self.new.round ≡ self.old.round }
+    {
+        let cutting = self.base.shared.standing.lock(self.base.rt).cutting;
         for key in 0..self.connections.keys_below() {
+            let now = self.round.now;
             if self.connections.keep_deadline(key, cutting, now) {
                 self.close(key);
             }
         }
     }
 
-    /// Once a minute the digits of clients are forgotten. Those that are still there are known again by
-    /// their next events.
-    fn forget_digits(&mut self, now: u64) {
-        if self.is_pressed || now < self.forgets {
-            return;
-        }
-        let base = self.base;
-        self.forgets = now.saturating_add(KEPT);
-        self.connections.links.pressure = Pressure::new(base.alloc, base.rules.stretch());
-    }
-
-    /// Adds the new connections, and takes over the requests that other loops handed on.
-    fn add_streams(&mut self) {
+    /// Adds the new connections.
+    fn add_streams(&mut self)
+        ensures round { self.new.round ≡ self.old.round }
+    {
         for _ in 0..STREAMS {
             let base = self.base;
             let Ok(Accepted { stream, from }) = self.ears.streams.try_recv(base.rt) else {
@@ -287,9 +337,15 @@ impl<'a, R: Wait + Clock + Copy + Drop, L: Log> Driver<'a, R, L> {
             let stream = Buffered::new(base.alloc, stream);
             let _ = self.add(Box::new(base.alloc, stream).ok(), from);
         }
+    }
+
+    /// Takes over the requests that other loops handed on.
+    fn take_over(&mut self)
+        ensures round { self.new.round ≡ self.old.round }
+    {
         for _ in 0..usize::MAX {
             let Some(handed) = self.mail.handed.pop() else {
-                return;
+                break;
             };
             if let Some(key) = self.add(Some(handed.stream), handed.from) {
                 self.serve(key, handed.request, handed.target);
@@ -300,8 +356,10 @@ impl<'a, R: Wait + Clock + Copy + Drop, L: Log> Driver<'a, R, L> {
 
     /// Adds a stream, where there was memory for it, and has its readiness told. One that can't be
     /// added is closed.
-    fn add(&mut self, stream: Option<Stream>, from: u128) -> Option<usize> {
-        let now = self.now;
+    fn add(&mut self, stream: Option<Stream>, from: u128) -> Option<usize>
+        ensures round { self.new.round ≡ self.old.round }
+    {
+        let now = self.round.now;
         let registry = self.ears.poll.registry();
         let key = stream.and_then(|stream| self.connections.add(registry, stream, from, now));
         if key.is_none() {
@@ -310,38 +368,36 @@ impl<'a, R: Wait + Clock + Copy + Drop, L: Log> Driver<'a, R, L> {
         key
     }
 
-    /// A step of a connection in its stint.
-    fn step(&mut self, key: usize) -> Step {
-        match self.connections.go_on(key, self.now) {
-            Came::Request(request) => self.direct(key, request),
-            Came::Refused(fault) => self.refuse(key, fault),
-            Came::Event(event, moment) => {
-                let comes_over = matches!(event, Event::Upgraded { .. });
-                return Step::Brought((Origin::Stint { key, comes_over }, event, moment));
-            }
-            Came::Nothing(Do::GoOn) => {}
-            Came::Nothing(what) => {
-                self.obey(key, what);
-                return Step::Over;
-            }
-        }
-        Step::GoesOn
-    }
-
     /// A connection goes on with its stint until it brings an event; none where the stint is over.
-    pub(crate) fn drive(&mut self, key: usize) -> Option<Brought> {
+    pub(crate) fn drive(&mut self, key: usize) -> Option<Brought>
+        ensures round { self.new.round ≡ self.old.round }
+    {
         for _ in 0..u64::MAX {
-            match self.step(key) {
-                Step::Brought(brought) => return Some(brought),
-                Step::GoesOn => {}
-                Step::Over => break,
+            match self.connections.go_on(key, self.round.now) {
+                Came::Request(request) => {
+                    if let Err(fault) = self.direct(key, request) {
+                        self.refuse(key, fault);
+                    }
+                }
+                Came::Refused(fault) => self.refuse(key, fault),
+                Came::Event(event, moment) => {
+                    let comes_over = matches!(event, Event::Upgraded { .. });
+                    return Some((Origin::Stint { key, comes_over }, event, moment));
+                }
+                Came::Nothing(Do::GoOn) => {}
+                Came::Nothing(what) => {
+                    self.obey(key, what);
+                    return None;
+                }
             }
         }
         None
     }
 
     /// Does what is to be done with a connection whose event was answered, or which brought none.
-    pub(crate) fn obey(&mut self, key: usize, what: Do) {
+    pub(crate) fn obey(&mut self, key: usize, what: Do)
+        ensures round { self.new.round ≡ self.old.round }
+    {
         match what {
             Do::GoOn => {
                 if self.active.push_back(key).is_err() {
@@ -356,34 +412,43 @@ impl<'a, R: Wait + Clock + Copy + Drop, L: Log> Driver<'a, R, L> {
     }
 
     /// The stint of a connection is over, and what it has to send goes out.
-    fn rest(&mut self, key: usize, pause: Pause) {
+    fn rest(&mut self, key: usize, pause: Pause)
+        ensures round { self.new.round ≡ self.old.round }
+        ensures active { self.new.active ≡ self.old.active }
+    {
         self.connections.links.rest(key, pause);
         self.send_soon(key);
     }
 
     /// What a connection has to send goes out at the end of the loop's round, or at once where that is
     /// much.
-    fn send_soon(&mut self, key: usize) {
-        let unsent = match self.connections.stream(key) {
-            Some(stream) => stream.unsent(),
-            None => 0,
-        };
-        if unsent < MUCH_UNSENT {
-            return self.connections.links.note_unsent(key);
+    fn send_soon(&mut self, key: usize)
+        ensures round { self.new.round ≡ self.old.round }
+        ensures active { self.new.active ≡ self.old.active }
+    {
+        if is_much_unsent(self.connections.seen(key).unsent) {
+            self.send(key);
+        } else {
+            self.connections.links.note_unsent(key);
         }
-        let now = self.now;
-        self.send(key, now);
     }
 
     /// Sends the bytes of a connection, which may be over then.
-    fn send(&mut self, key: usize, now: u64) {
+    fn send(&mut self, key: usize)
+        ensures round { self.new.round ≡ self.old.round }
+        ensures active { self.new.active ≡ self.old.active }
+    {
+        let now = self.round.now;
         if self.connections.send(key, now) {
             self.close(key);
         }
     }
 
     /// A connection is over.
-    fn close(&mut self, key: usize) {
+    fn close(&mut self, key: usize)
+        ensures round { self.new.round ≡ self.old.round }
+        ensures active { self.new.active ≡ self.old.active }
+    {
         if let Some(connection) = self.connections.take(key) {
             self.base.shared.note_closed(self.base.rt, connection.from);
         }

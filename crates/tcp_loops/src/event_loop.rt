@@ -1,11 +1,12 @@
 //! A loop that serves many connections: one peer, which brings the events of all of their clients.
 
-ghost use Rattle.std.specs.Prelude.{◌≡◌};
+ghost use Rattle.std.specs.Prelude.{◌≡◌, ◌+◌, ◌<◌, ◌≤◌, false, None, IfOk, IsSome, OnSome};
+ghost use Rattle.loop_rules.specs.Holds as holds;
 ghost use Rattle.tcp_loops.specs.Holding as holding;
 
 use crate::base::Base;
-use crate::driver::{Driver, Origin};
-use events::{Answered, Event};
+use crate::driver::{Brought, Driver, Origin};
+use events::{Answered, Event, Loss};
 use loop_rules::Hold;
 use std::alloc::AllocError;
 use std::rt::Clock;
@@ -35,7 +36,14 @@ fn says(event: &Event) -> bool
 
 impl<'a, R: Wait + Clock + Copy + Drop, L: Log> EventLoop<'a, R, L> {
     /// A loop without connections.
-    pub fn new(base: &'a Base<'a, R, L>, number: usize, ears: Ears) -> Result<Self, AllocError> {
+    pub(crate) fn new(
+        base: &'a Base<'a, R, L>,
+        number: usize,
+        ears: Ears,
+    ) -> Result<Self, AllocError>
+        ensures number { IfOk result (λ own. own.driver.number ≡ number) }
+        ensures hold { IfOk result (λ own. own.hold ≡ holds.nothing_held 32) }
+    {
         Ok(EventLoop {
             hold: Hold::new(base.alloc, EVENTS)?,
             driver: Driver::new(base, number, ears, EVENTS)?,
@@ -43,8 +51,9 @@ impl<'a, R: Wait + Clock + Copy + Drop, L: Log> EventLoop<'a, R, L> {
     }
 
     /// The next event, or none where the loop has ended.
-    pub(crate) fn next(&mut self) -> Option<(Event, u64)> {
-        self.driver.begin();
+    pub(crate) fn next(&mut self) -> Option<(Event, u64)>
+        ensures { OnSome result (IsSome self.new.hold.asked) }
+    {
         for _ in 0..u64::MAX {
             if let Some(brought) = self.hold.next() {
                 return Some(brought);
@@ -60,17 +69,24 @@ impl<'a, R: Wait + Clock + Copy + Drop, L: Log> EventLoop<'a, R, L> {
     }
 
     /// Whether another event was gathered.
-    pub(crate) fn has_next(&self) -> bool {
+    pub(crate) fn has_next(&self) -> bool
+        ensures { result ≡ holds.has_next self.now.hold }
+    {
         self.hold.has_next()
     }
 
     /// Its event was answered, which is heard once all were that were gathered with it.
-    pub(crate) fn note(&mut self, got: Answered) {
+    pub(crate) fn note(&mut self, got: Answered)
+        ensures hold { self.new.hold ≡ holds.after_answer self.old.hold.asked got self.old.hold }
+        ensures driver { self.new.driver ≡ self.old.driver }
+    {
         self.hold.hear(got);
     }
 
     /// Its event was answered, which is heard at once.
-    pub(crate) fn hear(&mut self, got: &Answered) {
+    pub(crate) fn hear(&mut self, got: &Answered)
+        ensures { self.new.hold ≡ record self.old.hold { asked = None } }
+    {
         if let Some(of) = self.hold.forget() {
             self.driver.heed();
             self.driver.settle(of, got);
@@ -78,32 +94,54 @@ impl<'a, R: Wait + Clock + Copy + Drop, L: Log> EventLoop<'a, R, L> {
     }
 
     /// Gathers what connections bring, one event of each, for the next hold of the lock.
-    fn gather(&mut self) {
-        let mut saying = SAYING;
+    fn gather(&mut self)
+        ensures few { holding.saying_count self.new.hold.brought
+            ≤ holding.saying_count self.old.hold.brought + 4 }
+        ensures asked { self.new.hold.asked ≡ self.old.hold.asked }
+        ensures heard { self.new.hold.heard ≡ self.old.hold.heard }
+    {
+        let (mut saying, mut left) = (SAYING, self.driver.round.together(EVENTS));
         for _ in 0..u64::MAX {
-            if saying == 0 || self.hold.is_full() {
+            if left == 0 || saying == 0 || self.hold.is_full() {
                 return;
             }
             let Some(key) = self.driver.next() else {
                 break;
             };
-            if let Some((of, event, moment)) = self.driver.drive(key) {
-                if says(&event) {
-                    saying -= 1;
-                }
-                self.hold.add(of, (event, moment));
+            if let Some(brought) = self.driver.drive(key) {
+                saying = self.add(brought, saying);
+                left -= 1;
             }
         }
         if self.hold.is_full() {
             return;
         }
-        if let Some((of, event, moment)) = self.driver.give_up() {
-            self.hold.add(of, (event, moment));
+        if let Some(client) = self.driver.give_up() {
+            let event = (Loss::new(client).event(), self.driver.round.now);
+            self.hold.add(Origin::Loss { client }, event);
         }
     }
 
+    /// Adds an event, where so many may be added that bring packets. Answers how many may be yet.
+    fn add(&mut self, brought: Brought, saying: usize) -> usize
+        requires room { holds.is_full self.old.hold ≡ false }
+        requires some { 0 < saying }
+        ensures saying { holding.saying_count self.new.hold.brought + result
+            ≡ holding.saying_count self.old.hold.brought + saying }
+        ensures asked { self.new.hold.asked ≡ self.old.hold.asked }
+        ensures heard { self.new.hold.heard ≡ self.old.hold.heard }
+    {
+        let (of, event, moment) = brought;
+        let left = if says(&event) { saying - 1 } else { saying };
+        self.hold.add(of, (event, moment));
+        left
+    }
+
     /// Hears the answers of the last hold.
-    fn hear_all(&mut self) {
+    fn hear_all(&mut self)
+        ensures asked { self.new.hold.asked ≡ self.old.hold.asked }
+        ensures brought { self.new.hold.brought ≡ self.old.hold.brought }
+    {
         let Some((of, got)) = self.hold.pop() else {
             return;
         };

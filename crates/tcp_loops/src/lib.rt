@@ -8,6 +8,6 @@ mod crew;
 mod driver;
 mod event_loop;
 
-pub use base::Base;
+pub use base::{Base, Fate};
 pub use crew::{Worker, sources, start_accepting, workers_for};
 pub use tcp_connections::Watch;

@@ -1,20 +1,24 @@
 -- What the keeper brings, and whom it tells of the answers.
-use Rattle.std.specs.Prelude.{ℕ, ◌-◌, ◌&&◌, ◌||◌, Bool, true, false, Option, None, Some, is_some, Ok, Err, nat_lt, nat_le, if◌then◌else◌}
+use Rattle.std.specs.Prelude.{◌≡◌, ℕ, ◌<◌, ◌||◌, Bool, true, false, List, length, slice_index_or, Option, None, Some, is_some, Ok, Err, nat_lt}
 use Rattle.events.specs.declared.event.Event.{Event}
 use Rattle.events.specs.declared.event.Event.TheVariants as event
 use Rattle.events.specs.declared.fault.CoreFault.{CoreFault}
 use Rattle.events.specs.declared.fault.CoreFault.TheVariants as fault
 use Rattle.events.specs.Answer.{Answer}
 use Rattle.events.specs.Plain.{PlainDone}
+use Rattle.loop_rules.specs.declared.roster.Notes.{Notes}
+use Rattle.loop_rules.specs.Ids.{loop_of}
+use Rattle.loop_rules.specs.Notes.{is_noted}
+use Rattle.tcp_server.specs.declared.round.Round.{Round}
 
 -- it is asked what is due to the client; where there is none, the hub sweeps
 abbrev pub event_of : Option ℕ → Event
 event_of (Some c) = event.Tick c
 event_of None = event.Sweep
 
--- how many more there are than were told, where there are more, and the moment has come
-abbrev pub more_to_tell : (sum told now from : ℕ) → Option ℕ
-more_to_tell sum told now from = if nat_lt told sum && nat_le from now then Some (sum - told) else None
+-- the hub was asked too, once all of its clients were asked about
+abbrev pub is_over : Round → Bool
+is_over r = nat_lt (length r.clients.items) r.asked
 
 -- a ping is due to the client, or it has ended
 abbrev pub has_news : (ping : Bool) → PlainDone → Bool
@@ -29,3 +33,8 @@ is_other_fault _ = true
 abbrev pub hides_whom : Answer → Bool
 hides_whom (Ok outcome) = false
 hides_whom (Err e) = is_other_fault e.fault
+
+-- each client is noted for its loop
+abbrev pub AreNoted : (loops : ℕ) → (clients : List ℕ) → Notes → Type 0
+AreNoted loops clients notes =
+    (k : ℕ) → k < length clients → is_noted (loop_of (slice_index_or clients k 0) loops) (slice_index_or clients k 0) notes ≡ true

@@ -1,8 +1,16 @@
--- How the end of a client is told.
-use Rattle.std.specs.Prelude.{ℕ, Bool, List, [], codes, if◌then◌else◌}
+-- What is told, and how the end of a client is.
+use Rattle.std.specs.Prelude.{ℕ, Bool, true, List, [], codes, if◌then◌else◌}
 use Rattle.events.specs.Cause.{cause_name}
 use Rattle.tcp_streams.specs.declared.log.Ending.{Ending}
 use Rattle.tcp_streams.specs.declared.log.Ending.TheVariants as ending
+use Rattle.tcp_streams.specs.declared.log.News.{News}
+use Rattle.tcp_streams.specs.declared.log.News.TheVariants as news
+
+-- who hears of clients is told all, and anybody else the totals, and that the warden lost its client
+abbrev pub is_told : (verbose : Bool) → News → Bool
+is_told verbose news.WardenLost = true
+is_told verbose (news.Totals totals) = true
+is_told verbose _ = verbose
 
 -- the transport over which a client spoke last
 abbrev pub transport_name : (socket : Bool) → List ℕ

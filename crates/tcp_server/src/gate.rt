@@ -1,6 +1,7 @@
 //! A gate that looks, after each event, at what the hub's state says of those whom it concerns.
 
-ghost use Rattle.std.specs.Prelude.{◌≡◌};
+ghost use Rattle.std.specs.Prelude.{◌≡◌, ◌||◌, Some, OnOk};
+ghost use Rattle.backend_watch.specs.Watching.{digits_listed};
 ghost use Rattle.tcp_server.specs.Gates as gates;
 
 use backend_watch::{Pressed, Sight, digits_together};
@@ -9,7 +10,7 @@ use events::{Answered, Event, Outcome};
 use expiry::EXPIRY;
 use hub_gate::Turnstile;
 use hub_state::State;
-use std::alloc::Global;
+use std::alloc::{AllocError, Global};
 use std::sync::ledger::Ledger;
 use std::sync::{Mutex, Wait};
 use tcp_streams::{Backends, Shared, Shown, Sign};
@@ -35,9 +36,84 @@ fn is_served(event: &Event, got: &Answered) -> bool
     is_done && matches!(event, Event::Frame { .. })
 }
 
+/// The client that is looked at after an event, if one is: where there may be backends, whoever it is of.
+fn looked_at(has_backends: bool, event: &Event, got: &Answered) -> Option<u128>
+    ensures { result ≡ gates.looked_at has_backends event.now got.now }
+{
+    if has_backends || is_served(event, got) {
+        event.client()
+    } else {
+        None
+    }
+}
+
+/// Whether nothing waits for the client of a message that was served.
+fn rests(state: &State, client: u128, event: &Event, got: &Answered) -> bool
+    ensures { result ≡ gates.rests state.now client event.now got.now }
+{
+    is_served(event, got) && state.waiting(client) == Some(0)
+}
+
+/// What is shown of a client after its event, if something is.
+fn sign_of(client: u128, rests: bool, digits: Option<u16>) -> Option<Sign>
+    ensures { result ≡ gates.sign_of client rests digits }
+{
+    (rests || digits.is_some()).then(|| Sign {
+        client,
+        rests,
+        digits,
+    })
+}
+
+/// What the state says, of backends of which this is known.
+fn sight_of<'a>(alloc: Global, backends: &'a Backends, state: &'a State) -> Sight<'a>
+    ensures { gates.IsSightOf backends.now state.now result }
+{
+    Sight {
+        alloc,
+        state,
+        space: backends.space.as_str(),
+        others: backends.others.as_slice(),
+        capacity: backends.capacity,
+        bytes: backends.bytes,
+    }
+}
+
+/// Takes a client off the list that is pressed no more, and lists the backends that its event pressed.
+fn watch(
+    sight: &Sight,
+    client: u128,
+    got: &Answered,
+    pressed: &mut Vec<Pressed>,
+    shown: &mut Shown,
+) -> Result<(), AllocError>
+    ensures listed { OnOk result
+        (gates.Lists sight.now client got.now pressed.old.items pressed.new.items) }
+    ensures relieved { shown.new.relieved ≡ (shown.old.relieved
+        || gates.is_relieved sight.now client pressed.old.items) }
+    ensures pressed { shown.new.pressed ≡ Some (digits_listed pressed.new.items) }
+    ensures signs { shown.new.signs ≡ shown.old.signs }
+{
+    shown.relieved |= sight.relieve(client, pressed);
+    let listed = sight.press(client, got, pressed);
+    shown.pressed = Some(digits_together(pressed.as_slice()));
+    listed
+}
+
+/// How many broadcasts of a client's event went to no backend. What the warden is told of those that it
+/// ends itself isn't for backends.
+fn unheard(sight: &Sight, client: u128, got: &Answered, has_warden: bool) -> u64
+    ensures { result ≡ gates.unheard sight.now.state.now sight.now.space.now client got.now has_warden }
+{
+    if has_warden && sight.state.socket_of(client, EXPIRY).is_some() {
+        return 0;
+    }
+    sight.unheard(client, got)
+}
+
 impl<R: Wait> Gate<'_, R> {
-    /// What an event of a client showed of the backends: the digits of its sockets, if it brought
-    /// messages.
+    /// Looks at the backends after an event of a client, and answers the digits of its sockets, if it
+    /// brought messages.
     fn look(
         &self,
         backends: &Backends,
@@ -47,40 +123,22 @@ impl<R: Wait> Gate<'_, R> {
         got: &Answered,
         shown: &mut Shown,
     ) -> Option<u16> {
-        let sight = Sight {
-            alloc: self.alloc,
-            state,
-            space: backends.space.as_str(),
-            others: backends.others.as_slice(),
-            capacity: backends.capacity,
-            bytes: backends.bytes,
-        };
+        let sight = sight_of(self.alloc, backends, state);
         let mut pressed = self.pressed.lock(self.rt);
-        shown.relieved |= sight.relieve(client, &mut *pressed);
         // Where one isn't listed for want of memory, its clients are read on.
-        let _ = sight.press(client, got, &mut *pressed);
-        shown.pressed = Some(digits_together(pressed.as_slice()));
-        // What the warden is told of those that it ends itself isn't for backends.
-        let is_warden = self.has_warden && state.socket_of(client, EXPIRY).is_some();
-        if !is_warden {
-            backends.note_unheard(self.rt, sight.unheard(client, got));
-        }
+        let _ = watch(&sight, client, got, &mut *pressed, shown);
+        backends.note_unheard(self.rt, unheard(&sight, client, got, self.has_warden));
         sight.digits_brought(client, event)
     }
 
     /// Shows what an event of a client showed.
     fn show(&self, state: &State, client: u128, event: &Event, got: &Answered, shown: &mut Shown) {
-        let rests = is_served(event, got) && state.waiting(client) == Some(0);
         let digits = match &self.shared.backends {
             Some(backends) => self.look(backends, state, client, event, got, shown),
             None => None,
         };
-        if rests || digits.is_some() {
-            shown.add(Sign {
-                client,
-                rests,
-                digits,
-            });
+        if let Some(sign) = sign_of(client, rests(state, client, event, got), digits) {
+            shown.add(sign);
         }
     }
 }
@@ -95,12 +153,9 @@ impl<R: Wait> Turnstile for Gate<'_, R> {
         event: &Event,
         got: &Answered,
     ) {
-        let Some(client) = event.client() else {
+        let Some(client) = looked_at(self.shared.backends.is_some(), event, got) else {
             return;
         };
-        if self.shared.backends.is_none() && !is_served(event, got) {
-            return;
-        }
         let state = core.hub().state();
         match self.shared.showing.of(worker) {
             Some(place) => {

@@ -1,30 +1,22 @@
 //! A server as a program: it tells where it listens, serves any app, and tells what it did and how it
 //! ended.
 
-ghost use Rattle.std.specs.Prelude.{◌≡◌, ◌<◌, ◌≤◌};
+ghost use Rattle.std.specs.Prelude.{◌≡◌, None, OnOk, IfOk};
+ghost use Rattle.std.specs.Result.{result_unwrap_or};
+ghost use Rattle.settings.specs.Wrong.{wrong_setting};
 ghost use Rattle.tcp_server.specs.Telling as telling;
 
 use crate::server::Server;
 use events::App;
-use hub_gate::Report;
-use journal::Totals;
 use settings::Settings;
 use std::fmt::Display;
 use std::net::Net;
 use std::process::ExitCode;
 use std::random::RandomSource;
 use std::rt::Clock;
-use std::sync::{Arc, Wait};
+use std::sync::Wait;
 use std::thread::Threads;
-use std::time::Duration;
-use std::{io, thread};
-use tcp_streams::{Ended, Ending, Log, ServerFault, Shared};
-
-/// How long what is open may take to end once standard input has ended, in milliseconds.
-const GRACE: u64 = 5_000;
-
-/// The most threads that serve where nobody says how many.
-const MOST_WORKERS: usize = 8;
+use tcp_streams::{Ending, Log, News, ServerFault};
 
 /// Tells standard error of a server. Where that fails, nothing is told.
 #[derive(Drop)]
@@ -54,36 +46,40 @@ fn words_of(ending: Ending) -> (&'static str, &'static str)
     }
 }
 
+/// Whether this is told: the end of each client, and what went to no backend or had too many
+/// connections, only where all is to be.
+fn is_told(verbose: bool, news: News) -> bool
+    ensures { result ≡ telling.is_told verbose news }
+{
+    verbose || matches!(news, News::WardenLost | News::Totals(_))
+}
+
 impl<R: Eprint> Log for ErrorLog<R> {
     fn hears_clients(&self) -> bool {
         self.verbose
     }
 
-    fn client_ended(&self, ended: &Ended) {
-        let (id, lived) = (ended.client, ended.lived);
-        let transport = transport_name(ended.socket);
-        let (how, cause) = words_of(ended.ending);
-        let _ = eprintln!(self.rt; "client {id:032x}, {transport}, {how}{cause}, after {lived} ms");
-    }
-
-    fn unheard(&self, count: u64) {
-        if self.verbose {
-            let _ = eprintln!(self.rt; "went to no backend: {count}");
+    fn tell(&self, news: News) {
+        if !is_told(self.verbose, news) {
+            return;
         }
-    }
-
-    fn crowded(&self, count: u64) {
-        if self.verbose {
-            let _ = eprintln!(self.rt; "connections from addresses with too many: {count}");
-        }
-    }
-
-    fn warden_lost(&self) {
-        let _ = eprintln!(self.rt; "the warden lost its client: who came meanwhile isn't ended");
-    }
-
-    fn totals(&self, totals: Totals) {
-        let _ = eprintln!(self.rt; "{totals}");
+        let rt = &self.rt;
+        let _ = match news {
+            News::Ended(ended) => {
+                let (id, lived) = (ended.client, ended.lived);
+                let transport = transport_name(ended.socket);
+                let (how, cause) = words_of(ended.ending);
+                eprintln!(rt; "client {id:032x}, {transport}, {how}{cause}, after {lived} ms")
+            }
+            News::Unheard(count) => eprintln!(rt; "went to no backend: {count}"),
+            News::Crowded(count) => {
+                eprintln!(rt; "connections from addresses with too many: {count}")
+            }
+            News::WardenLost => {
+                eprintln!(rt; "the warden lost its client: who came meanwhile isn't ended")
+            }
+            News::Totals(totals) => eprintln!(rt; "{totals}"),
+        };
     }
 }
 
@@ -92,7 +88,9 @@ pub fn listen<R: Net + Print + Eprint + AllocGlobal + Copy + Drop + Sync>(
     rt: &R,
     settings: Settings,
     verbose: bool,
-) -> Result<Server<ErrorLog<R>>, ServerFault> {
+) -> Result<Server<ErrorLog<R>>, ServerFault>
+    ensures { OnOk result (wrong_setting settings ≡ None) }
+{
     let alloc = rt.alloc();
     let address = format!(in alloc; "{}:{}", settings.host, settings.port)?;
     let log = ErrorLog { rt: *rt, verbose };
@@ -101,7 +99,7 @@ pub fn listen<R: Net + Print + Eprint + AllocGlobal + Copy + Drop + Sync>(
     Ok(server)
 }
 
-/// Serves an app until the server is to end, tells what it did, and answers the program's status.
+/// Serves an app until the server is to end, and tells what it did, and then what each worker did of it.
 pub fn serve<R, A: App + Sync>(
     rt: &R,
     server: Server<ErrorLog<R>>,
@@ -110,27 +108,17 @@ pub fn serve<R, A: App + Sync>(
 where
     R: Threads + Wait + Clock + RandomSource + Print + Eprint + AllocGlobal,
     R: Copy + Drop + Sync + Send + 'static,
+    ensures { IfOk result (λ status. status ≡ ExitCode.SUCCESS) }
 {
     let report = server.run(rt, rt.alloc(), app)?;
-    print_report(rt, &report).map_err(|_| ServerFault::Writing)?;
-    Ok(ExitCode::SUCCESS)
-}
-
-/// Tells what the server did, and then what each worker did of it.
-fn print_report<R: Print>(rt: &R, report: &Report) -> io::Result<()> {
-    println!(rt; "{}", report.totals)?;
+    println!(rt; "{}", report.totals).map_err(|_| ServerFault::Writing)?;
     for (number, worker) in report.workers.iter().enumerate() {
         let (commands, taken) = (worker.commands, worker.taken);
-        println!(rt; "worker {number}: commands {commands}, taken {taken}")?;
+        println!(rt; "worker {number}: commands {commands}, taken {taken}").map_err(
+            |_| ServerFault::Writing,
+        )?;
     }
-    Ok(())
-}
-
-/// Reads standard input to its end, and has the server end then.
-pub fn wait_for_end<R: Wait + Clock + Input>(rt: &R, shared: &Arc<Shared>) {
-    // An input that fails has ended too.
-    let _ = io::copy(&mut rt.reader(), &mut io::sink());
-    shared.stop(rt, Duration::from_millis(GRACE));
+    Ok(ExitCode::SUCCESS)
 }
 
 /// The status of a program of this name. Why it failed is told on standard error.
@@ -138,18 +126,15 @@ pub fn end_with<R: Eprint, E: Display + Drop>(
     rt: &R,
     name: &str,
     done: Result<ExitCode, E>,
-) -> ExitCode {
-    done.unwrap_or_else(|fault| {
-        // Where standard error fails too, the status alone tells of the fault.
-        let _ = eprintln!(rt; "{name}: {fault}");
-        ExitCode::FAILURE
-    })
-}
-
-/// How many threads serve where nobody says how many.
-pub fn processors(rt: &impl Threads) -> usize
-    ensures some { 0 < result }
-    ensures few { result ≤ 8 }
+) -> ExitCode
+    ensures { result ≡ result_unwrap_or done ExitCode.FAILURE }
 {
-    thread::available_parallelism(rt).map_or(1, |number| number.get().min(MOST_WORKERS))
+    match done {
+        Ok(status) => status,
+        Err(fault) => {
+            // Where standard error fails too, the status alone tells of the fault.
+            let _ = eprintln!(rt; "{name}: {fault}");
+            ExitCode::FAILURE
+        }
+    }
 }

@@ -1,6 +1,7 @@
 //! A server, from its listening to its totals.
 
 ghost use Rattle.std.specs.Prelude.{◌≡◌, ◌+◌, None, Err, IfOk, IfSome, OnOk, sum_by};
+ghost use Rattle.std.specs.Arc.{arc_value};
 ghost use Rattle.hub_totals.specs.Pass.{IsBlankOf};
 ghost use Rattle.settings.specs.Wrong.{wrong_setting};
 ghost use Rattle.tcp_server.specs.Faults.{fault_of_core, fault_of_serving};
@@ -28,7 +29,6 @@ use std::time::Instant;
 use tcp_loops::{Base, Watch, Worker, sources, start_accepting, workers_for};
 use tcp_streams::{
     Acceptor, Ears, Log, Rules, ServerFault, Shared, acceptor_for, backends_for, ears_for,
-    rules_and_limits,
 };
 use terms::let_go;
 
@@ -54,6 +54,8 @@ impl<L: Drop> Drop for Server<L> {
 }
 
 impl<L: Log + Sync + Drop> Server<L> {
+    ghost use Rattle.tcp_server.specs.Servers.{port, shared_by};
+
     /// Begins to listen. The log is told of what happens.
     pub fn listen<R: Net>(
         rt: &R,
@@ -72,7 +74,7 @@ impl<L: Log + Sync + Drop> Server<L> {
         let backends = backends_for(alloc, &settings)?;
         let (hears, most) = (log.hears_clients(), settings.connections_from);
         let shared = Shared::new(alloc, inboxes, bell, backends, hears, most)?;
-        let (rules, hub) = rules_and_limits(alloc, settings)?;
+        let (rules, hub) = Rules::with_limits(alloc, settings)?;
         Ok(Server {
             log,
             port,
@@ -85,12 +87,16 @@ impl<L: Log + Sync + Drop> Server<L> {
     }
 
     /// The port at which it listens: where the settings name port 0, one that the system chose.
-    pub fn port(&self) -> u16 {
+    pub fn port(&self) -> u16
+        ensures { result ≡ port self.now }
+    {
         self.port
     }
 
     /// What all threads share, by which the server can be stopped.
-    pub fn shared(&self) -> Result<Arc<Shared>, ServerFault> {
+    pub fn shared(&self) -> Result<Arc<Shared>, ServerFault>
+        ensures { IfOk result (λ shared. arc_value shared ≡ shared_by self.now) }
+    {
         Ok(Arc::try_clone(&self.shared)?)
     }
 

@@ -1,1 +1,2 @@
+pub mod AcceptorLemmas
 pub mod OutputLemmas

@@ -1,4 +1,10 @@
+pub mod Acceptors
+pub mod Backends
 pub mod Ending
+pub mod Inboxes
 pub mod Outputs
 pub mod Rules
+pub mod Settled
+pub mod Sharing
 pub mod Shown
+pub mod Standings

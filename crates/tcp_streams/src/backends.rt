@@ -1,5 +1,8 @@
 //! What the threads of a server know of its backends, and what went to none.
 
+ghost use Rattle.std.specs.Prelude.{◌≡◌, ◌≤◌, IfOk, option_map};
+ghost use Rattle.tcp_streams.specs.Backends as backends;
+
 use settings::Settings;
 use std::alloc::{AllocError, Global};
 use std::sync::{Mutex, Wait};
@@ -19,7 +22,9 @@ pub struct Backends {
 }
 
 /// Copies of these names but for one.
-fn others_than(alloc: Global, space: &str, names: &[Text]) -> Result<Vec<Text>, AllocError> {
+fn others_than(alloc: Global, space: &str, names: &[Text]) -> Result<Vec<Text>, AllocError>
+    ensures { IfOk result (λ others. others.items ≡ backends.others_than space.now names.now) }
+{
     let mut others = Vec::new(alloc);
     for name in names {
         if name.as_str() != space {
@@ -30,7 +35,10 @@ fn others_than(alloc: Global, space: &str, names: &[Text]) -> Result<Vec<Text>, 
 }
 
 /// What is known of the backends before one has come, if there may be some.
-pub fn backends_for(alloc: Global, settings: &Settings) -> Result<Option<Backends>, AllocError> {
+pub fn backends_for(alloc: Global, settings: &Settings) -> Result<Option<Backends>, AllocError>
+    ensures { IfOk result (λ known. option_map backends.known_of known
+        ≡ option_map (backends.known_by settings.now.hub) settings.now.backends) }
+{
     let Some(space) = &settings.backends else {
         return Ok(None);
     };
@@ -44,16 +52,12 @@ pub fn backends_for(alloc: Global, settings: &Settings) -> Result<Option<Backend
 }
 
 impl Backends {
-    /// So many events of clients went to no backend.
-    pub fn note_unheard(&self, rt: &impl Wait, unheard: u64) {
-        if unheard > 0 {
-            let mut sum = self.unheard.lock(rt);
-            *sum = sum.saturating_add(unheard);
-        }
-    }
-
-    /// How many events of clients went to no backend.
-    pub fn unheard(&self, rt: &impl Wait) -> u64 {
-        *self.unheard.lock(rt)
+    /// So many more events of clients went to no backend. Answers how many have, these among them.
+    pub fn note_unheard(&self, rt: &impl Wait, more: u64) -> u64
+        ensures { more ≤ result }
+    {
+        let mut unheard = self.unheard.lock(rt);
+        *unheard = unheard.saturating_add(more);
+        *unheard
     }
 }

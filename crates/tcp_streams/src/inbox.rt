@@ -1,10 +1,14 @@
 //! What a loop waits with, and what others hand to it.
 
+ghost use Rattle.std.specs.Prelude.{◌≡◌, IfOk, vec_len};
+ghost use Rattle.std.specs.Fn.{FnOnceReturnsAtMut};
+ghost use Rattle.tcp_streams.specs.Inboxes.{IsPutBy};
+
 use crate::buffered::Stream;
 use crate::fault::ServerFault;
 use crossbeam_channel::{Receiver, Sender, bounded};
 use http_edge::{Request, Target};
-use loop_rules::{Mail, Mailbox};
+use loop_rules::Mailbox;
 use mio::net::TcpStream;
 use mio::{Poll, Token, Waker};
 use std::alloc::Global;
@@ -44,7 +48,8 @@ pub struct Handed {
 pub struct Inbox {
     /// Where new connections are sent.
     streams: Sender<Accepted>,
-    mailbox: Mutex<Mailbox<Handed>>,
+    /// What was handed in beside these; its loop takes it here.
+    pub mailbox: Mutex<Mailbox<Handed>>,
     waker: Waker,
 }
 
@@ -61,7 +66,10 @@ pub fn ears_for<R: Net>(
     rt: &R,
     alloc: Global,
     workers: usize,
-) -> Result<(Vec<Ears>, Vec<Inbox>), ServerFault> {
+) -> Result<(Vec<Ears>, Vec<Inbox>), ServerFault>
+    ensures ears { IfOk result (λ made. vec_len made.0 ≡ workers) }
+    ensures inboxes { IfOk result (λ made. vec_len made.1 ≡ workers) }
+{
     let mut ears = Vec::new(alloc);
     let mut inboxes = Vec::new(alloc);
     for _worker in 0..workers {
@@ -82,6 +90,7 @@ impl Inbox {
     /// Puts something into the mailbox, and rings the bell of a loop that slept.
     pub fn put<T, F: FnOnce(&mut Mailbox<Handed>) -> T>(&self, rt: &impl Wait, put: F) -> T
         requires { F.IsAlwaysCallable put }
+        ensures { IsPutBy (FnOnceReturnsAtMut F.FnOnce put) result }
     {
         let mut mailbox = self.mailbox.lock(rt);
         let slept = mailbox.rouse();
@@ -107,10 +116,5 @@ impl Inbox {
     /// Whether nothing was handed in, so that the loop may sleep until its bell is rung.
     pub fn falls_asleep(&self, rt: &impl Wait) -> bool {
         self.mailbox.lock(rt).fall_asleep(self.streams.is_empty())
-    }
-
-    /// Takes all that was handed in, into a mail that is empty.
-    pub fn take(&self, rt: &impl Wait, mail: &mut Mail<Handed>) {
-        self.mailbox.lock(rt).take(mail);
     }
 }

@@ -11,20 +11,23 @@ pub trait Log {
     /// Whether it hears of clients.
     fn hears_clients(&self) -> bool;
 
+    /// It is told this.
+    fn tell(&self, news: News);
+}
+
+/// What a server tells of itself.
+#[derive(Clone, Copy)]
+pub enum News {
     /// A client has ended.
-    fn client_ended(&self, ended: &Ended);
-
+    Ended(Ended),
     /// So many more events of clients went to no backend.
-    fn unheard(&self, count: u64);
-
+    Unheard(u64),
     /// So many more connections were refused, since their addresses had as many as one may have.
-    fn crowded(&self, count: u64);
-
+    Crowded(u64),
     /// The warden has lost its client, and what it would have been told meanwhile.
-    fn warden_lost(&self);
-
+    WardenLost,
     /// What the server has counted so far.
-    fn totals(&self, totals: Totals);
+    Totals(Totals),
 }
 
 /// How a client ended.
@@ -58,7 +61,7 @@ impl Ending {
 }
 
 /// A client that has ended.
-#[derive(Drop)]
+#[derive(Clone, Copy)]
 pub struct Ended {
     pub client: u128,
     /// It spoke over a WebSocket.

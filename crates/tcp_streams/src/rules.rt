@@ -1,6 +1,6 @@
 //! What a server's settings come to.
 
-ghost use Rattle.std.specs.Prelude.{◌≡◌, ◌<◌, ◌*◌, ◌/◌};
+ghost use Rattle.std.specs.Prelude.{◌≡◌, ◌<◌, ◌*◌, ◌/◌, IfOk, option_copied, option_map, string_bytes};
 ghost use Rattle.tcp_streams.specs.Rules as rules;
 
 use connection::Timing;
@@ -62,13 +62,18 @@ impl Rules {
     }
 
     /// Whether a request asks for the counts.
-    pub fn asks_for_counts(&self, request: &Request) -> bool {
-        let path = self.metrics.as_ref().map(String::as_str);
-        request.method.as_str() == "GET" && path == Some(request.path.as_str())
+    pub fn asks_for_counts(&self, request: &Request) -> bool
+        ensures { result ≡ rules.asks_for_counts
+            (option_map string_bytes self.now.metrics) request.now }
+    {
+        let is_get = request.method.as_str() == "GET";
+        is_get && matches!(&self.metrics, Some(path) if path.as_str() == request.path.as_str())
     }
 
     /// The file of the page that a request asks for (RFC 9110, sections 9.3.1 and 9.3.2).
-    pub fn file_for(&self, request: &Request) -> Option<&File> {
+    pub fn file_for(&self, request: &Request) -> Option<&File>
+        ensures { option_copied result ≡ rules.file_for self.now.page request.now }
+    {
         match request.method.as_str() {
             "GET" | "HEAD" => self.page.look_up(request.path.as_str()),
             _ => None,
@@ -91,27 +96,34 @@ fn pace_of(settings: &Settings) -> Option<Pace>
     })
 }
 
-/// What the loops go by, and the limits of the hub.
-pub fn rules_and_limits(
-    alloc: Global,
-    settings: Settings,
-) -> Result<(Box<Rules>, Box<Config>), AllocError>
-    requires { 0 < settings.workers }
-{
-    let pace = pace_of(&settings);
-    let rules = Rules {
-        pace,
-        numbers: settings.numbers(),
-        timing: settings.timing,
-        loops: settings.workers,
-        poll_entries: settings.poll_entries,
-        receiving: settings.receiving,
-        origins: settings.origins,
-        page: settings.page,
-        metrics: settings.metrics,
-        report: settings.report,
-        warding: settings.warding,
-        keep: settings.hub.keep,
-    };
-    Ok((Box::new(alloc, rules)?, Box::new(alloc, settings.hub)?))
+impl Rules {
+    ghost use Rattle.std.specs.Box.{box_value};
+    ghost use Rattle.tcp_streams.specs.Settled.{GoesBy};
+
+    /// What the loops go by, and the limits of the hub.
+    pub fn with_limits(
+        alloc: Global,
+        settings: Settings,
+    ) -> Result<(Box<Rules>, Box<Config>), AllocError>
+        requires { 0 < settings.workers }
+        ensures rules { IfOk result (λ made. GoesBy settings (box_value made.0)) }
+        ensures limits { IfOk result (λ made. box_value made.1 ≡ settings.hub) }
+    {
+        let pace = pace_of(&settings);
+        let rules = Rules {
+            pace,
+            numbers: settings.numbers(),
+            timing: settings.timing,
+            loops: settings.workers,
+            poll_entries: settings.poll_entries,
+            receiving: settings.receiving,
+            origins: settings.origins,
+            page: settings.page,
+            metrics: settings.metrics,
+            report: settings.report,
+            warding: settings.warding,
+            keep: settings.hub.keep,
+        };
+        Ok((Box::new(alloc, rules)?, Box::new(alloc, settings.hub)?))
+    }
 }

@@ -1,13 +1,15 @@
 //! What all threads of a server share, beside the core.
 
-ghost use Rattle.std.specs.Prelude.{◌≡◌, ◌&&◌, ◌==◌};
+ghost use Rattle.std.specs.Prelude.{◌≡◌, IsTrue, IfOk};
+ghost use Rattle.std.specs.Arc.{arc_value};
+ghost use Rattle.tcp_streams.specs.Sharing.{Begins};
 
 use crate::backends::Backends;
 use crate::fault::ServerFault;
 use crate::inbox::Inbox;
 use crate::shown::Showing;
-use loop_rules::Addresses;
-use metrics::{Metrics, Reason};
+use crate::standing::Standing;
+use metrics::Metrics;
 use mio::Waker;
 use std::alloc::Global;
 use std::collections::HashMap;
@@ -30,9 +32,8 @@ pub struct Shared {
     pub backends: Option<Backends>,
     /// What the core's state showed to each loop, and to the keeper.
     pub showing: Showing,
-    standing: Mutex<Standing>,
-    /// How many connections are open from each address, if that is bounded.
-    addresses: Option<Mutex<Addresses>>,
+    /// How far the server is.
+    pub standing: Mutex<Standing>,
     /// The workers that have begun, the keeper among them, and the warden, if there is one.
     pub begun: Arrivals,
     /// The loops that have ended.
@@ -42,27 +43,7 @@ pub struct Shared {
 /// Written out, so that a crate above takes the drop of all that lies in it by this one call.
 impl Drop for Shared {
     fn drop(self) {
-        let_go!(self; inboxes, acceptor, lives, counts, backends, showing, standing, addresses, begun, ended);
-    }
-}
-
-/// How far a server is.
-#[derive(Clone, Copy, Default)]
-pub struct Standing {
-    /// The connections that are open, those on their way to a loop among them.
-    pub open: u64,
-    /// No more connections are accepted.
-    pub closing: bool,
-    /// What is still open is to end.
-    pub cutting: bool,
-}
-
-impl Standing {
-    /// Whether nothing is open, and nothing more will be.
-    pub fn is_over(self) -> bool
-        ensures { result ≡ (self.closing && self.open == 0) }
-    {
-        self.closing && self.open == 0
+        let_go!(self; inboxes, acceptor, lives, counts, backends, showing, standing, begun, ended);
     }
 }
 
@@ -82,7 +63,9 @@ impl Arrivals {
     }
 
     /// Waits until so many have, but no longer than so, and tells whether they have.
-    pub fn wait_for<R: Wait + Clock>(&self, rt: &R, number: usize, most: Duration) -> bool {
+    pub fn wait_for<R: Wait + Clock>(&self, rt: &R, number: usize, most: Duration) -> bool
+        ensures { number ≡ 0 → IsTrue result }
+    {
         let guard = self.count.lock(rt);
         let lacks = |count: &mut usize| *count < number;
         let (_, ended) = self.changed.wait_timeout_while(rt, guard, most, lacks);
@@ -100,7 +83,9 @@ impl Shared {
         backends: Option<Backends>,
         hears_clients: bool,
         connections_from: Option<u64>,
-    ) -> Result<Arc<Shared>, ServerFault> {
+    ) -> Result<Arc<Shared>, ServerFault>
+        ensures { IfOk result (λ s. Begins inboxes backends hears_clients (arc_value s)) }
+    {
         let shared = Shared {
             counts: Mutex::new(Metrics::new(alloc, inboxes.len())?),
             showing: Showing::new(alloc, inboxes.len().saturating_add(1))?,
@@ -108,39 +93,16 @@ impl Shared {
             acceptor,
             backends,
             lives: hears_clients.then(|| Mutex::new(HashMap::new(alloc))),
-            standing: Mutex::default(),
-            addresses: connections_from.map(|most| Mutex::new(Addresses::new(alloc, most))),
+            standing: Mutex::new(Standing::new(alloc, connections_from)),
             begun: Arrivals::default(),
             ended: Arrivals::default(),
         };
         Ok(Arc::new(alloc, shared)?)
     }
 
-    /// A connection was accepted from an address. Answers why it has no space, among so many or among
-    /// those of its address, if it has none.
-    pub fn note_accepted(&self, rt: &impl Wait, most: u64, from: u128) -> Result<(), Reason> {
-        if self.standing.lock(rt).open >= most {
-            return Err(Reason::NoPlace);
-        }
-        let addresses = self.addresses.as_ref();
-        if addresses.is_some_and(|addresses| !addresses.lock(rt).admit(from)) {
-            return Err(Reason::ManyFromAddress);
-        }
-        // One thread accepts, so there is still space.
-        let mut standing = self.standing.lock(rt);
-        standing.open = standing.open.saturating_add(1);
-        Ok(())
-    }
-
     /// A connection from an address was closed.
     pub fn note_closed(&self, rt: &impl Wait, from: u128) {
-        if let Some(addresses) = &self.addresses {
-            addresses.lock(rt).release(from);
-        }
-        let mut standing = self.standing.lock(rt);
-        standing.open = standing.open.saturating_sub(1);
-        let is_over = standing.is_over();
-        drop(standing);
+        let is_over = self.standing.lock(rt).leave(from);
         if is_over {
             self.wake_everyone(rt);
         }
@@ -160,11 +122,6 @@ impl Shared {
         self.ended.wait_for(rt, self.inboxes.len(), grace);
         self.standing.lock(rt).cutting = true;
         self.wake_everyone(rt);
-    }
-
-    /// How far it is now.
-    pub fn standing(&self, rt: &impl Wait) -> Standing {
-        *self.standing.lock(rt)
     }
 
     /// Has each loop look at all of its connections.

@@ -1,7 +1,8 @@
 //! What the core's state showed after the events of a worker, until the worker heeds it.
 
-ghost use Rattle.std.specs.Prelude.{◌≡◌, ◌⊎◌, ◌++◌, ◌∷◌, [], None, false};
+ghost use Rattle.std.specs.Prelude.{◌≡◌, ◌⊎◌, ◌++◌, ◌∷◌, [], None, false, IfOk, IfNone, option_copied};
 ghost use Rattle.tcp_streams.specs.Shown as shown;
+ghost use Rattle.tcp_streams.specs.Shown.{ShowsNothing, place_of, places_of};
 
 use std::alloc::{AllocError, Global};
 use std::mem;
@@ -31,7 +32,7 @@ pub struct Shown {
 impl Shown {
     /// Nothing was shown yet.
     pub fn new(alloc: Global) -> Shown
-        ensures { shown.ShowsNothing result }
+        ensures { ShowsNothing result }
     {
         Shown {
             signs: Vec::new(alloc),
@@ -61,7 +62,7 @@ impl Shown {
 
     /// All of it was heeded.
     pub fn clear(&mut self)
-        ensures { shown.ShowsNothing self.new }
+        ensures { ShowsNothing self.new }
     {
         self.signs.clear();
         self.pressed = None;
@@ -77,7 +78,9 @@ pub struct Showing {
 
 impl Showing {
     /// Nothing was shown to so many workers yet.
-    pub fn new(alloc: Global, workers: usize) -> Result<Showing, AllocError> {
+    pub fn new(alloc: Global, workers: usize) -> Result<Showing, AllocError>
+        ensures { IfOk result (λ showing. places_of showing ≡ workers) }
+    {
         let mut places = Vec::new(alloc);
         for _worker in 0..workers {
             places.push(Mutex::new(Shown::new(alloc)))?;
@@ -86,14 +89,19 @@ impl Showing {
     }
 
     /// Where what is shown to a worker lies, if something is.
-    pub fn of(&self, worker: usize) -> Option<&Mutex<Shown>> {
+    pub fn of(&self, worker: usize) -> Option<&Mutex<Shown>>
+        ensures { option_copied result ≡ place_of worker self.now }
+    {
         self.places.get(worker)
     }
 
-    /// Takes what was shown to a worker, and leaves this in its place, of which all was heeded.
-    pub fn take(&self, rt: &impl Wait, worker: usize, shown: &mut Shown) {
+    /// Takes what was shown to a worker, and leaves this in its place, of which all was heeded. To one
+    /// that has no place nothing was shown.
+    pub fn take(&self, rt: &impl Wait, worker: usize, shown: &mut Shown)
+        ensures { IfNone (place_of worker self.now) (ShowsNothing shown.new) }
+    {
         shown.clear();
-        if let Some(place) = self.places.get(worker) {
+        if let Some(place) = self.of(worker) {
             mem::swap(&mut *place.lock(rt), shown);
         }
     }

@@ -5,7 +5,6 @@ use crate::loops::site::Site;
 use crate::vague::Vague;
 use events::App;
 use hub_gate::Report;
-use journal::Totals;
 use relay::RelayApp;
 use settings::Settings;
 use std::alloc::Global;
@@ -16,7 +15,7 @@ use std::sync::Wait;
 use std::thread;
 use std::thread::Threads;
 use std::time::Duration;
-use tcp_server::{Ended, Log, Server, Shared};
+use tcp_server::{Log, News, Server, Shared};
 
 /// How many loops a server has.
 const LOOPS: usize = 4;
@@ -38,15 +37,7 @@ impl Log for Deaf {
         false
     }
 
-    fn client_ended(&self, _ended: &Ended) {}
-
-    fn crowded(&self, _count: u64) {}
-
-    fn unheard(&self, _count: u64) {}
-
-    fn warden_lost(&self) {}
-
-    fn totals(&self, _totals: Totals) {}
+    fn tell(&self, _news: News) {}
 }
 
 /// A server of which each loop has every fourth connection, until so many have come.

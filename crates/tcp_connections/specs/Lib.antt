@@ -1,0 +1,5 @@
+pub mod Comes
+pub mod Connections
+pub mod Sent
+pub mod Services
+pub mod Watch

@@ -1,0 +1,2 @@
+mod ProgressLemmas
+mod NotingLemmas
