@@ -4,7 +4,7 @@ use Rattle.std.specs.Option.{SomeIff, option_map_or}
 use Rattle.std.specs.Str.Parse.{IsNumeral, digits_value, without_leading_plus}
 use Rattle.clap.specs.Matches.{first_value, matched_of, one_text, raw_values}
 use Rattle.clap.specs.declared.parser.matches.Found.{Found}
-use Rattle.connection.specs.declared.timing.Timing.{Timing}
+use Rattle.connection.specs.declared.clock.Timing.{Timing}
 use Rattle.journal.specs.Plain.{Limits}
 use Rattle.settings.specs.Usual as usual
 use Rattle.settings.specs.declared.settings.Pace.{Pace}

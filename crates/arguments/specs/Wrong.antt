@@ -1,5 +1,5 @@
 -- Of which options no server is made.
-use Rattle.std.specs.Prelude.{◌≡◌, ◌-◌, ◌++◌, drop, if◌then◌else◌, ◌&&◌, ◌||◌, ◌==◌, ℕ, Bool, true, false, List, [], ◌∷◌, Option, None, Some, Result, Ok, Err, bytes_eq, codes, is_none, is_some, length, map, nat_lt, not, option_map, slice_index, string_bytes}
+use Rattle.std.specs.Prelude.{◌≡◌, ◌-◌, ◌++◌, drop, if◌then◌else◌, ◌&&◌, ◌||◌, ◌==◌, ℕ, Bool, true, false, List, [], ◌∷◌, Option, None, Some, Result, Ok, Err, bytes_eq, codes, is_some, length, map, nat_lt, not, option_map, slice_index, string_bytes}
 use Rattle.std.specs.Char.{is_ascii_digit, is_ascii_graphic, is_ascii_lowercase}
 use Rattle.std.specs.List.{after_first, before_first, list_any, position_or_len}
 use Rattle.terms.specs.Refusal.{first_refusal}
@@ -66,13 +66,17 @@ abbrev pub is_right_path : Option (List ℕ) → Bool
 is_right_path None = true
 is_right_path (Some path) = is_path path
 
+-- something is asked for, and what it needs isn't there
+abbrev pub need_refusal : (is_asked is_there : Bool) → Wrong → Option Wrong
+need_refusal is_asked is_there wrong = first_refusal ((is_asked && not is_there, wrong) ∷ [])
+
 -- how many at once is said, and not how many a second
 abbrev pub burst_refusal : Option ℕ → Option ℕ → Option Wrong
-burst_refusal rate burst = first_refusal ((is_none rate && is_some burst, wrong.BurstAlone) ∷ [])
+burst_refusal rate burst = need_refusal (is_some burst) (is_some rate) wrong.BurstAlone
 
 -- sockets are to be ended by tokens, and no token is verified
 abbrev pub expiry_refusal : Bool → Bool → Option Wrong
-expiry_refusal ends has_keys = first_refusal ((ends && not has_keys, wrong.NothingExpires) ∷ [])
+expiry_refusal ends has_keys = need_refusal ends has_keys wrong.NothingExpires
 
 abbrev pub same_token : Option (List ℕ) → Option (List ℕ) → Bool
 same_token (Some a) (Some b) = bytes_eq a b

@@ -5,10 +5,9 @@ ghost use Rattle.clap.specs.Words.{found_of};
 ghost use Rattle.arguments.specs.Asked as asked;
 ghost use Rattle.arguments.specs.Asked.{AsksHub, AsksLimits, AsksNumbers, AsksPace, AsksTexts, AsksTiming, IsSaid, IsSaidIn, IsSaidUnless0, Says};
 
-use crate::names;
 use clap::ArgMatches;
 use connection::Timing;
-use expiry::EXPIRY;
+use guarded::EXPIRY;
 use journal::Config;
 use settings::usual::UsualLimits;
 use settings::{Pace, Settings, usual};
@@ -38,13 +37,13 @@ fn limits(matches: &ArgMatches<'_>) -> UsualLimits
 {
     let usual = usual::LIMITS;
     UsualLimits {
-        clients: size(matches, names::CLIENTS, usual.clients),
-        capacity: size(matches, names::CAPACITY, usual.capacity),
-        bytes: size(matches, names::BYTES, usual.bytes),
-        log: size(matches, names::LOG, usual.log),
-        log_bytes: size(matches, names::LOG_BYTES, usual.log_bytes),
-        saved: size(matches, names::SAVED, usual.saved),
-        keep: number(matches, names::KEEP, usual.keep),
+        clients: size(matches, "clients", usual.clients),
+        capacity: size(matches, "capacity", usual.capacity),
+        bytes: size(matches, "bytes", usual.bytes),
+        log: size(matches, "log", usual.log),
+        log_bytes: size(matches, "log-bytes", usual.log_bytes),
+        saved: size(matches, "saved", usual.saved),
+        keep: number(matches, "keep", usual.keep),
         first_offset: usual.first_offset,
     }
 }
@@ -55,27 +54,18 @@ fn timing(matches: &ArgMatches<'_>) -> Timing
 {
     let usual = usual::TIMING;
     Timing {
-        ping_interval: number(matches, names::PING_INTERVAL, usual.ping_interval),
-        ping_timeout: number(matches, names::PING_TIMEOUT, usual.ping_timeout),
-        connect_timeout: number(matches, names::CONNECT_TIMEOUT, usual.connect_timeout),
+        ping_interval: number(matches, "ping-interval", usual.ping_interval),
+        ping_timeout: number(matches, "ping-timeout", usual.ping_timeout),
+        connect_timeout: number(matches, "connect-timeout", usual.connect_timeout),
     }
 }
 
-/// A number of which 0 says never.
-fn unless_0(number: u64) -> Option<u64>
-    ensures { result ≡ asked.unless_0 number }
+/// The number that an option says, if it isn't 0, which says never.
+fn unless_0(matches: &ArgMatches<'_>, name: &str) -> Option<u64>
+    ensures { IsSaidUnless0 (found_of matches.now) name.now result }
 {
+    let number = number(matches, name, 0);
     (number != 0).then_some(number)
-}
-
-/// How fast one client may send, if that is bounded: as many events at once as a second where that
-/// isn't said.
-fn pace(rate: Option<u64>, burst: Option<u64>) -> Option<Pace>
-    ensures { result ≡ asked.pace_of rate burst }
-{
-    let rate = rate?;
-    let burst = burst.unwrap_or(rate);
-    Some(Pace { rate, burst })
 }
 
 /// The number that an option says, if it says one.
@@ -85,18 +75,22 @@ fn said(matches: &ArgMatches<'_>, name: &str) -> Option<u64>
     matches.get_one(name)
 }
 
-/// How fast one client may send, as it is asked for.
-fn asked_pace(matches: &ArgMatches<'_>) -> Option<Pace>
+/// How fast one client may send, if that is bounded: as many events at once as a second where that
+/// isn't said.
+fn pace(matches: &ArgMatches<'_>) -> Option<Pace>
     ensures { AsksPace (found_of matches.now) result }
 {
-    pace(said(matches, names::PACE), said(matches, names::BURST))
+    let (rate, burst) = (said(matches, "pace"), said(matches, "burst"));
+    let rate = rate?;
+    let burst = burst.unwrap_or(rate);
+    Some(Pace { rate, burst })
 }
 
 /// The port that is asked for; the parse refuses arguments without one.
 fn port(matches: &ArgMatches<'_>) -> u16
     ensures { IsSaidIn 16 (found_of matches.now) (codes "port") 0 result }
 {
-    matches.get_one(names::PORT).unwrap_or(0)
+    matches.get_one("port").unwrap_or(0)
 }
 
 /// How many clients there may be at a time: a warden has one more.
@@ -140,8 +134,8 @@ fn hub(alloc: Global, matches: &ArgMatches<'_>, has_warden: bool) -> Result<Conf
     ensures { IfOk result (AsksHub (found_of matches.now) has_warden) }
 {
     let limits = limits(matches);
-    let has_backends = matches.get_str(names::BACKEND_TOKEN).is_some();
-    let named = matches.get_strs(names::SPACE).unwrap_or(&[]);
+    let has_backends = matches.get_str("backend-token").is_some();
+    let named = matches.get_strs("space").unwrap_or(&[]);
     let spaces = spaces(alloc, named, has_backends, has_warden)?;
     Ok(Config {
         clients: clients(limits.clients, has_warden),
@@ -154,13 +148,6 @@ fn hub(alloc: Global, matches: &ArgMatches<'_>, has_warden: bool) -> Result<Conf
         first_offset: limits.first_offset,
         spaces,
     })
-}
-
-/// The number that an option says, if it isn't 0.
-fn number_unless_0(matches: &ArgMatches<'_>, name: &str) -> Option<u64>
-    ensures { IsSaidUnless0 (found_of matches.now) name.now result }
-{
-    unless_0(number(matches, name, 0))
 }
 
 /// Takes the numbers that are asked for.
@@ -178,15 +165,15 @@ fn set_numbers(matches: &ArgMatches<'_>, settings: &mut Settings)
       connections_from = settings.new.connections_from;
     } }
 {
-    settings.connections = number_unless_0(matches, names::CONNECTIONS);
+    settings.connections = unless_0(matches, "connections");
     settings.timing = timing(matches);
-    settings.max_payload = number(matches, names::MAX_PAYLOAD, usual::MAX_PAYLOAD);
-    settings.receiving = size(matches, names::RECEIVING, usual::RECEIVING);
-    settings.together = number(matches, names::TOGETHER, usual::TOGETHER);
-    settings.poll_entries = size(matches, names::POLL_ENTRIES, usual::POLL_ENTRIES);
-    settings.report = number_unless_0(matches, names::REPORT);
-    settings.pace = asked_pace(matches);
-    settings.connections_from = said(matches, names::CONNECTIONS_FROM);
+    settings.max_payload = number(matches, "max-payload", usual::MAX_PAYLOAD);
+    settings.receiving = size(matches, "receiving", usual::RECEIVING);
+    settings.together = number(matches, "together", usual::TOGETHER);
+    settings.poll_entries = size(matches, "poll-entries", usual::POLL_ENTRIES);
+    settings.report = unless_0(matches, "report");
+    settings.pace = pace(matches);
+    settings.connections_from = said(matches, "connections-from");
 }
 
 /// Copies of texts.
@@ -237,12 +224,12 @@ fn set_texts(
       backends = settings.new.backends;
     } }
 {
-    let host = matches.get_str(names::HOST).unwrap_or(usual::HOST);
-    let origins = matches.get_strs(names::ORIGIN).unwrap_or(&[]);
-    let has_backends = matches.get_str(names::BACKEND_TOKEN).is_some();
+    let host = matches.get_str("host").unwrap_or(usual::HOST);
+    let origins = matches.get_strs("origin").unwrap_or(&[]);
+    let has_backends = matches.get_str("backend-token").is_some();
     settings.host = String::from_str(alloc, host)?;
     settings.origins = copies(alloc, origins)?;
-    settings.metrics = copy_of(alloc, matches.get_str(names::METRICS))?;
+    settings.metrics = copy_of(alloc, matches.get_str("metrics"))?;
     settings.backends = backend_space(alloc, has_backends)?;
     Ok(())
 }
@@ -264,7 +251,7 @@ pub(crate) fn read_settings(
     ensures texts { IfOk result (AsksTexts (found_of matches.now)) }
     ensures later { IfOk result (λ settings. (settings.page ≡ []) × (settings.warding ≡ None)) }
 {
-    let workers = size(matches, names::WORKERS, processors);
+    let workers = size(matches, "workers", processors);
     let mut settings = Settings::usual(alloc, port(matches), workers)?;
     set_texts(alloc, matches, &mut settings)?;
     settings.hub = hub(alloc, matches, has_warden)?;

@@ -3,12 +3,10 @@
 #![tactic(auto)]
 
 mod asked;
-mod keys;
-mod names;
+mod files;
 pub mod options;
 pub mod refused;
 pub mod task;
-mod token;
 mod wrong;
 
 pub use asked::BACKENDS;

@@ -1,9 +1,9 @@
 //! The options of a program that serves.
 
-use crate::names;
 use crate::options::Usually::{Nothing, Number, Words};
 use clap::builder::ValueParser;
 use clap::{Arg, ArgAction, Command};
+use settings::usual::{LIMITS, TIMING};
 use settings::{LEAST_RECEIVING, MOST_BYTES, MOST_RATE, Settings, usual};
 use std::alloc::{AllocError, Global};
 use terms::Text;
@@ -51,10 +51,10 @@ const MANY: u64 = 4_294_967_295;
 /// A table of options, with the help of each.
 macro_rules! options {
     ($(
-        $name:ident $act:ident $kind:ident $(($from:expr, $to:expr))?, $usual:expr, $help:literal;
+        $name:literal $act:ident $kind:ident $(($from:expr, $to:expr))?, $usual:expr, $help:literal;
     )*) => {
         [$(OptionRow {
-            name: names::$name,
+            name: $name,
             action: ArgAction::$act,
             parser: ValueParser::$kind $(($from, $to))?,
             usual: $usual,
@@ -65,61 +65,59 @@ macro_rules! options {
 
 /// The options, in the order in which help tells them.
 static OPTIONS: [OptionRow; 34] = options! {
-    PORT Set Unsigned(1, 65_535), Nothing, "The port to listen at";
-    HOST Set String, Words(usual::HOST), "The address to listen at";
-    WORKERS Set Unsigned(1, 1_023), Nothing,
+    "port" Set Unsigned(1, 65_535), Nothing, "The port to listen at";
+    "host" Set String, Words(usual::HOST), "The address to listen at";
+    "workers" Set Unsigned(1, 1_023), Nothing,
         "The threads that serve [default: one a processor, at most 8]";
-    CONNECTIONS Set Unsigned(0, u64::MAX), Number(0), "Ends after so many connections; 0: never";
-    CLIENTS Set Unsigned(1, MANY), Number(usual::LIMITS.clients as u64),
-        "The most clients at a time";
-    CAPACITY Set Unsigned(1, 65_536), Number(usual::LIMITS.capacity as u64),
+    "connections" Set Unsigned(0, u64::MAX), Number(0), "Ends after so many connections; 0: never";
+    "clients" Set Unsigned(1, MANY), Number(LIMITS.clients as u64), "The most clients at a time";
+    "capacity" Set Unsigned(1, 65_536), Number(LIMITS.capacity as u64),
         "The most entries that wait for a client";
-    BYTES Set Unsigned(1, MANY), Number(usual::LIMITS.bytes as u64),
+    "bytes" Set Unsigned(1, MANY), Number(LIMITS.bytes as u64),
         "The most bytes that wait for a client";
-    LOG Set Unsigned(1, MANY), Number(usual::LIMITS.log as u64),
-        "The most broadcasts that are logged";
-    LOG_BYTES Set Unsigned(1, MANY), Number(usual::LIMITS.log_bytes as u64),
+    "log" Set Unsigned(1, MANY), Number(LIMITS.log as u64), "The most broadcasts that are logged";
+    "log-bytes" Set Unsigned(1, MANY), Number(LIMITS.log_bytes as u64),
         "The most bytes of these together";
-    SAVED Set Unsigned(0, MANY), Number(usual::LIMITS.saved as u64),
-        "The most sessions that are saved";
-    KEEP Set Unsigned(0, u64::MAX), Number(usual::LIMITS.keep),
+    "saved" Set Unsigned(0, MANY), Number(LIMITS.saved as u64), "The most sessions that are saved";
+    "keep" Set Unsigned(0, u64::MAX), Number(LIMITS.keep),
         "How long these are kept, in milliseconds";
-    TOGETHER Set Unsigned(1, u64::MAX), Number(usual::TOGETHER),
+    "together" Set Unsigned(1, u64::MAX), Number(usual::TOGETHER),
         "How many connections, one after another, one thread is given";
-    POLL_ENTRIES Set Unsigned(1, 65_536), Number(usual::POLL_ENTRIES as u64),
+    "poll-entries" Set Unsigned(1, 65_536), Number(usual::POLL_ENTRIES as u64),
         "The most entries of one answer to a GET";
-    SPACE Append String, Words(usual::SPACE), "A namespace beside /; may come again";
-    PING_INTERVAL Set Unsigned(1, u64::MAX), Number(usual::TIMING.ping_interval),
+    "space" Append String, Words(usual::SPACE), "A namespace beside /; may come again";
+    "ping-interval" Set Unsigned(1, u64::MAX), Number(TIMING.ping_interval),
         "How often a client is pinged, in milliseconds";
-    PING_TIMEOUT Set Unsigned(1, u64::MAX), Number(usual::TIMING.ping_timeout),
+    "ping-timeout" Set Unsigned(1, u64::MAX), Number(TIMING.ping_timeout),
         "How long it may take to answer, in milliseconds";
-    CONNECT_TIMEOUT Set Unsigned(1, u64::MAX), Number(usual::TIMING.connect_timeout),
+    "connect-timeout" Set Unsigned(1, u64::MAX), Number(TIMING.connect_timeout),
         "How long it may take to join a namespace, in milliseconds";
-    MAX_PAYLOAD Set Unsigned(1, MOST_BYTES), Number(usual::MAX_PAYLOAD),
+    "max-payload" Set Unsigned(1, MOST_BYTES), Number(usual::MAX_PAYLOAD),
         "How many bytes clients are told that a payload may have";
-    RECEIVING Set Unsigned(LEAST_RECEIVING, MANY), Number(usual::RECEIVING as u64),
+    "receiving" Set Unsigned(LEAST_RECEIVING, MANY), Number(usual::RECEIVING as u64),
         "The most bytes of all that is being received, together";
-    PACE Set Unsigned(1, MOST_RATE), Nothing,
+    "pace" Set Unsigned(1, MOST_RATE), Nothing,
         "The most events of one client a second; beyond it the client isn't read";
-    BURST Set Unsigned(1, MANY), Nothing, "How many of them at once [default: as --pace]";
-    CONNECTIONS_FROM Set Unsigned(1, MANY), Nothing,
+    "burst" Set Unsigned(1, MANY), Nothing, "How many of them at once [default: as --pace]";
+    "connections-from" Set Unsigned(1, MANY), Nothing,
         "The most connections at a time from one address";
-    REPORT Set Unsigned(0, MANY), Number(0),
+    "report" Set Unsigned(0, MANY), Number(0),
         "Tells the totals on standard error every so many seconds; 0: never";
-    ORIGIN Append String, Nothing,
+    "origin" Append String, Nothing,
         "Serves only pages of this origin, * for any, and tells browsers so; may come again";
-    TOKEN_FILE Set String, Nothing, "A file with the token that clients need";
-    JWT_KEY Append String, Nothing,
+    "token-file" Set String, Nothing, "A file with the token that clients need";
+    "jwt-key" Append String, Nothing,
         "A file with a key that the tokens of clients are signed with, by HS256; may come again";
-    JWT_AUDIENCE Set String, Nothing, "For whom these tokens have to be made";
-    END_EXPIRED SetTrue Bool, Nothing, "Ends the sockets of such tokens once these have expired";
-    BACKEND_TOKEN Set String, Nothing,
+    "jwt-audience" Set String, Nothing, "For whom these tokens have to be made";
+    "end-expired" SetTrue Bool, Nothing, "Ends the sockets of such tokens once these have expired";
+    "backend-token" Set String, Nothing,
         "A file with the token by which backends join /backend, in place of the demonstration app";
-    PAGE Set String, Nothing, "A folder whose files are served beside the socket's path";
-    METRICS Set String, Nothing, "A path at which a GET is answered by the counts, for Prometheus";
-    TELL_LEFT SetTrue Bool, Nothing, "Tells the rooms of a socket that has ended that it left";
-    UNTIL_EOF SetTrue Bool, Nothing, "Ends once standard input does";
-    VERBOSE SetTrue Bool, Nothing, "Tells on standard error of each client that ends";
+    "page" Set String, Nothing, "A folder whose files are served beside the socket's path";
+    "metrics" Set String, Nothing,
+        "A path at which a GET is answered by the counts, for Prometheus";
+    "tell-left" SetTrue Bool, Nothing, "Tells the rooms of a socket that has ended that it left";
+    "until-eof" SetTrue Bool, Nothing, "Ends once standard input does";
+    "verbose" SetTrue Bool, Nothing, "Tells on standard error of each client that ends";
 };
 
 /// What holds where an option isn't there, as text; empty where nothing does. One for each option.
@@ -146,13 +144,13 @@ pub(crate) fn server<'a>(
 ) -> Result<Command<'a>, AllocError> {
     let mut server = Command::new(alloc, name).about(about);
     for (entry, usual) in OPTIONS.iter().zip(usual) {
-        if matches!(entry.name, names::BACKEND_TOKEN | names::END_EXPIRED) && !has_backends {
+        if matches!(entry.name, "backend-token" | "end-expired") && !has_backends {
             continue;
         }
         let option = Arg::new(alloc, entry.name)
             .long(entry.name)
             .help(entry.help)
-            .required(entry.name == names::PORT)
+            .required(entry.name == "port")
             .action(entry.action)
             .value_parser(entry.parser);
         server = server.arg(match entry.usual {

@@ -33,11 +33,8 @@ pub fn print_refused<R: Print + Eprint>(rt: &R, refused: &Error) -> Result<ExitC
     if refused.kind() == ErrorKind::OutOfMemory {
         return Err(PrintFault::Memory);
     }
-    let shown = refused.print(rt);
-    if refused.use_stderr() {
-        return Ok(ExitCode::from(2));
-    }
-    match shown {
+    match refused.print(rt) {
+        _ if refused.use_stderr() => Ok(ExitCode::from(2)),
         Ok(()) => Ok(ExitCode::SUCCESS),
         Err(_) => Err(PrintFault::Writing),
     }

@@ -6,20 +6,15 @@ ghost use Rattle.clap.specs.Words.{kind_of};
 ghost use Rattle.arguments.specs.Options.{FilesAgree, IsRightTask, IsToldOf, MakesServer};
 
 use crate::asked::read_settings;
-use crate::keys::read_verifier;
-use crate::names;
+use crate::files::{read_verifier, token_in};
 use crate::options::{Options, server, usual_texts};
-use crate::token::token_in;
-use crate::wrong::{Wrong, check_backend, check_expiry, check_settings};
+use crate::wrong::{Wrong, check_backend, check_need, check_settings};
 use clap::error::ErrorKind;
 use clap::{ArgMatches, Command, Error};
 use page::{FolderError, Page, read_folder};
 use std::alloc::{AllocError, Global};
 use std::rt::{Env, Files};
 use std::{env, io};
-
-/// What is told of arguments that can't be read as text.
-const NOT_UTF8: &str = "invalid UTF-8 was detected in one or more arguments";
 
 /// What the arguments of `event_server` ask for.
 #[derive(Drop)]
@@ -42,19 +37,30 @@ enum Program {
 impl Program {
     /// The command, with the texts of what is usual.
     fn command<'a>(self, alloc: Global, usual: &'a [String]) -> Result<Command<'a>, AllocError> {
-        match self {
-            Program::EventServer => event_server(alloc, usual),
-            Program::Server(name, about) => server(alloc, name, about, false, usual),
+        if let Program::Server(name, about) = self {
+            return server(alloc, name, about, false, usual);
         }
+        let script = Command::new(alloc, "script").about(
+            "Serves the clients of a script from standard input, and prints the answers",
+        );
+        let program = Command::new(alloc, "event_server")
+            .about("A Socket.IO server")
+            .subcommand_required(true)
+            .subcommand(script)?;
+        let serve = "Serves browsers and other clients over TCP";
+        program.subcommand(server(alloc, "serve", serve, true, usual)?)
     }
 
     /// The error of arguments that can't be taken.
-    fn refusal(self, alloc: Global, message: &str) -> Result<Error, AllocError>
+    fn refusal(self, alloc: Global, wrong: Wrong) -> Result<Error, AllocError>
         ensures { IfOk result (λ error. kind_of error ≡ ErrorKind.InvalidValue) }
     {
-        let usual = usual_texts(alloc)?;
+        if let Wrong::Memory(refused) = wrong {
+            return Err(refused);
+        }
+        let (told, usual) = (format!(in alloc; "{wrong}")?, usual_texts(alloc)?);
         let mut command = self.command(alloc, usual.as_slice())?;
-        command.error(ErrorKind::InvalidValue, message)
+        command.error(ErrorKind::InvalidValue, told.as_str())
     }
 }
 
@@ -97,11 +103,10 @@ pub fn read_server_arguments<R: Env + Files + AllocGlobal + Clone + Drop>(
 
 /// The arguments as text, the program's name first.
 fn words<R: Env + AllocGlobal>(rt: &R, program: Program) -> Result<Vec<String>, Error> {
-    let alloc = rt.alloc();
     match env::args(rt) {
-        Ok(words) => Ok(words.collect(alloc)?),
+        Ok(words) => Ok(words.collect(rt.alloc())?),
         Err(error) if error.kind() == io::ErrorKind::OutOfMemory => Err(Error::from(AllocError)),
-        Err(_) => Err(program.refusal(alloc, NOT_UTF8)?),
+        Err(_) => Err(program.refusal(rt.alloc(), Wrong::NotUtf8)?),
     }
 }
 
@@ -118,11 +123,7 @@ fn right_options<R: Files + AllocGlobal + Clone + Drop>(
 {
     match read_options(rt, matches, processors) {
         Ok(options) => Ok(options),
-        Err(Wrong::Memory(refused)) => Err(Error::from(refused)),
-        Err(wrong) => {
-            let told = format!(in rt.alloc(); "{wrong}")?;
-            Err(program.refusal(rt.alloc(), told.as_str())?)
-        }
+        Err(wrong) => Err(program.refusal(rt.alloc(), wrong)?),
     }
 }
 
@@ -134,20 +135,20 @@ fn read_options<R: Files + AllocGlobal + Clone + Drop>(
 ) -> Result<Box<Options>, Wrong>
     ensures { IfOk result (λ options. MakesServer (box_value options)) }
 {
-    let end_expired = matches.get_flag(names::END_EXPIRED);
+    let end_expired = matches.get_flag("end-expired");
     let options = Options {
         settings: read_settings(rt.alloc(), matches, processors, end_expired)?,
         token: None,
         signed: None,
         end_expired,
         backend: None,
-        tell_left: matches.get_flag(names::TELL_LEFT),
-        until_eof: matches.get_flag(names::UNTIL_EOF),
-        verbose: matches.get_flag(names::VERBOSE),
+        tell_left: matches.get_flag("tell-left"),
+        until_eof: matches.get_flag("until-eof"),
+        verbose: matches.get_flag("verbose"),
     };
     let mut options = Box::new(rt.alloc(), options)?;
-    let (rate, burst) = (matches.get_one(names::PACE), matches.get_one(names::BURST));
-    check_settings(rt.alloc(), &mut options.settings, rate, burst)?;
+    let (rate, burst) = (matches.get_one("pace"), matches.get_one("burst"));
+    check_settings(&mut options.settings, rate, burst)?;
     read_files(rt, matches, &mut options)?;
     Ok(options)
 }
@@ -166,18 +167,18 @@ fn read_files<R: Files + AllocGlobal + Clone + Drop>(
       backend = options.new.backend;
     } }
 {
-    if let Some(folder) = matches.get_str(names::PAGE) {
+    if let Some(folder) = matches.get_str("page") {
         options.settings.page = page_in(rt, folder)?;
     }
-    options.token = token_in(rt, names::TOKEN_FILE, matches.get_str(names::TOKEN_FILE))?;
-    let files = matches.get_strs(names::JWT_KEY).unwrap_or(&[]);
-    options.signed = read_verifier(rt, files, matches.get_str(names::JWT_AUDIENCE))?;
-    check_expiry(options.end_expired, options.signed.is_some())?;
-    options.backend = token_in(
-        rt,
-        names::BACKEND_TOKEN,
-        matches.get_str(names::BACKEND_TOKEN),
+    options.token = token_in(rt, "token-file", matches.get_str("token-file"))?;
+    let files = matches.get_strs("jwt-key").unwrap_or(&[]);
+    options.signed = read_verifier(rt, files, matches.get_str("jwt-audience"))?;
+    check_need(
+        options.end_expired,
+        options.signed.is_some(),
+        Wrong::NothingExpires,
     )?;
+    options.backend = token_in(rt, "backend-token", matches.get_str("backend-token"))?;
     check_backend(&options.backend, &options.token, options.tell_left)
 }
 
@@ -188,17 +189,4 @@ fn page_in<R: Files + AllocGlobal + Clone + Drop>(rt: &R, folder: &str) -> Resul
         Err(FolderError::Memory(refused)) => Err(Wrong::Memory(refused)),
         Err(fault) => Err(Wrong::Page(String::from_str(rt.alloc(), folder)?, fault)),
     }
-}
-
-/// `event_server` with its subcommands.
-fn event_server<'a>(alloc: Global, usual: &'a [String]) -> Result<Command<'a>, AllocError> {
-    let script = Command::new(alloc, "script").about(
-        "Serves the clients of a script from standard input, and prints the answers",
-    );
-    let program = Command::new(alloc, "event_server")
-        .about("A Socket.IO server")
-        .subcommand_required(true)
-        .subcommand(script)?;
-    let serve = "Serves browsers and other clients over TCP";
-    program.subcommand(server(alloc, "serve", serve, true, usual)?)
 }

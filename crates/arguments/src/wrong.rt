@@ -6,28 +6,24 @@ ghost use Rattle.terms.specs.Refusal.{ok_unless};
 ghost use Rattle.arguments.specs.Wrong as rules;
 ghost use Rattle.arguments.specs.Wrong.{IsFirstBad};
 
-use crate::keys::KeyError;
-use crate::token::TokenError;
+use crate::files::FileError;
 use journal::Config;
 use page::FolderError;
 use settings::{Setting, Settings};
-use std::alloc::{AllocError, Global};
+use std::alloc::AllocError;
 use terms::Text;
 use thiserror::Error;
 
-/// What is told of a namespace.
+/// What is told of a namespace, an origin, a path, and of a token that clients and backends have.
 const WRONG_SPACE: &str =
     "it begins without /, has a comma or a control character, or is there already, as / is";
 
-/// What is told of an origin.
 const WRONG_ORIGIN: &str =
     "it is none that a browser names, as http://localhost:8080 is one; * stands for all";
 
-/// What is told of a path.
 const WRONG_PATH: &str =
     "it begins without /, has a ?, a #, a blank or no ASCII, or is the socket's";
 
-/// What is told of a token that clients and backends have.
 const ONE_TOKEN: &str = "it has the token of --token-file, by which clients would be backends";
 
 /// Why no server is made by these options.
@@ -35,6 +31,8 @@ const ONE_TOKEN: &str = "it has the token of --token-file, by which clients woul
 pub(crate) enum Wrong {
     #[error("out of memory")]
     Memory(#[from(alloc)] AllocError),
+    #[error("invalid UTF-8 was detected in one or more arguments")]
+    NotUtf8,
     #[error("--space {:?}: {WRONG_SPACE}", .0.as_str())]
     Space(Text),
     #[error("bad {0}")]
@@ -48,9 +46,7 @@ pub(crate) enum Wrong {
     #[error("--page {0}: {1}")]
     Page(String, FolderError),
     #[error("--{0} {1}: {2}")]
-    Token(&'static str, String, TokenError),
-    #[error("--jwt-key {0}: {1}")]
-    Key(String, KeyError),
+    File(&'static str, String, FileError),
     #[error("--jwt-audience: without --jwt-key no token is verified")]
     AudienceAlone,
     #[error("--end-expired: without --jwt-key no token expires")]
@@ -78,28 +74,19 @@ fn has_strange_part(bytes: &[u8]) -> bool
     bytes.iter().any(|byte| !is_part_byte(*byte))
 }
 
-/// Whether this is a scheme with its colon.
-fn is_scheme(bytes: &[u8]) -> bool
-    ensures { result ≡ rules.is_scheme bytes.now }
-{
-    bytes.len() > 1 && bytes[bytes.len() - 1] == b':' && !has_strange_part(bytes)
-}
-
-/// Whether this is a slash with a host behind it.
-fn is_host(bytes: &[u8]) -> bool
-    ensures { result ≡ rules.is_host bytes.now }
-{
-    bytes.len() > 1 && bytes[0] == b'/' && !has_strange_part(&bytes[1..])
-}
-
-/// Whether a browser may name this origin (RFC 6454, section 6.2), or it is `*`, which stands for all.
+/// Whether a browser may name this origin (RFC 6454, section 6.2): a scheme with its colon, a slash and
+/// another one with a host behind it; or `*`, which stands for all, or `null`.
 fn is_origin(text: &str) -> bool
     ensures { result ≡ rules.is_origin text.now }
 {
-    match text.split_once('/') {
-        Some((scheme, host)) => is_scheme(scheme.as_bytes()) && is_host(host.as_bytes()),
-        None => text == "*" || text == "null",
-    }
+    let Some((scheme, host)) = text.split_once('/') else {
+        return text == "*" || text == "null";
+    };
+    let (scheme, host) = (scheme.as_bytes(), host.as_bytes());
+    let is_scheme = scheme.len() > 1
+        && scheme[scheme.len() - 1] == b':'
+        && !has_strange_part(scheme);
+    is_scheme && host.len() > 1 && host[0] == b'/' && !has_strange_part(&host[1..])
 }
 
 /// Whether a path may have this byte.
@@ -161,47 +148,35 @@ fn check_setting(settings: &mut Settings) -> Result<(), Wrong>
 }
 
 /// Refuses an origin that no browser names, the first one.
-fn check_origins(alloc: Global, origins: &[String]) -> Result<(), Wrong>
+fn check_origins(origins: &[String]) -> Result<(), Wrong>
     ensures right { OnOk result (rules.are_origins (map string_bytes origins.now) ≡ true) }
     ensures wrong { OnErr result (origins.now ≢ []) }
 {
     for origin in origins {
         if !is_origin(origin.as_str()) {
-            return Err(Wrong::Origin(String::from_str(alloc, origin.as_str())?));
+            return Err(Wrong::Origin(origin.clone()?));
         }
     }
     Ok(())
 }
 
 /// Refuses a path that no request has, or that is the socket's.
-fn check_path(alloc: Global, path: &Option<String>) -> Result<(), Wrong>
+fn check_path(path: &Option<String>) -> Result<(), Wrong>
     ensures right { OnOk result (rules.is_right_path (option_map string_bytes path.now) ≡ true) }
     ensures wrong { OnErr result (rules.is_right_path (option_map string_bytes path.now) ≡ false) }
 {
     match path {
-        Some(path) if !is_path(path.as_str()) => {
-            Err(Wrong::Metrics(String::from_str(alloc, path.as_str())?))
-        }
+        Some(path) if !is_path(path.as_str()) => Err(Wrong::Metrics(path.clone()?)),
         _ => Ok(()),
     }
 }
 
-/// Refuses events that come at once where it isn't said how many come a second.
-fn check_burst(rate: Option<u64>, burst: Option<u64>) -> Result<(), Wrong>
-    ensures { result ≡ ok_unless (rules.burst_refusal rate burst) }
+/// Refuses what is asked for where what it needs isn't there.
+pub(crate) fn check_need(is_asked: bool, is_there: bool, wrong: Wrong) -> Result<(), Wrong>
+    ensures { result ≡ ok_unless (rules.need_refusal is_asked is_there wrong) }
 {
-    if rate.is_none() && burst.is_some() {
-        return Err(Wrong::BurstAlone);
-    }
-    Ok(())
-}
-
-/// Refuses that sockets are ended by tokens of which none is verified.
-pub(crate) fn check_expiry(ends_expired: bool, has_keys: bool) -> Result<(), Wrong>
-    ensures { result ≡ ok_unless (rules.expiry_refusal ends_expired has_keys) }
-{
-    if ends_expired && !has_keys {
-        return Err(Wrong::NothingExpires);
+    if is_asked && !is_there {
+        return Err(wrong);
     }
     Ok(())
 }
@@ -225,7 +200,6 @@ pub(crate) fn check_backend(
 /// Refuses settings of which no server is made, by the first that is wrong, and then a burst without
 /// a pace.
 pub(crate) fn check_settings(
-    alloc: Global,
     settings: &mut Settings,
     rate: Option<u64>,
     burst: Option<u64>,
@@ -234,7 +208,7 @@ pub(crate) fn check_settings(
     ensures same { OnOk result (settings.new ≡ settings.old) }
 {
     check_setting(settings)?;
-    check_origins(alloc, &settings.origins)?;
-    check_path(alloc, &settings.metrics)?;
-    check_burst(rate, burst)
+    check_origins(&settings.origins)?;
+    check_path(&settings.metrics)?;
+    check_need(burst.is_some(), rate.is_some(), Wrong::BurstAlone)
 }

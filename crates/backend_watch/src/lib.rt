@@ -2,8 +2,6 @@
 //! clients they are told, and how much went to none.
 #![tactic(auto)]
 
-mod digits;
-mod receivers;
 mod sight;
 
 pub use sight::{Pressed, Sight, digits_together};

@@ -1,16 +1,16 @@
-//! What a hub's state says of its backends.
+//! What a hub's state says of its backends, and who got something of an event.
 
-ghost use Rattle.std.specs.Prelude.{◌≡◌, ◌&&◌, Some, None, OnOk, OnErr, vec_items, if◌then◌else◌};
+ghost use Rattle.std.specs.Prelude.{◌≡◌, ◌&&◌, Some, None, OnOk, filter, if◌then◌else◌, length, map};
+ghost use Rattle.backend_watch.specs.Digits as digits;
+ghost use Rattle.backend_watch.specs.Receivers as receivers;
 ghost use Rattle.backend_watch.specs.Watching as watching;
 ghost use Rattle.backend_watch.specs.Watching.{IsToldOf, Lists, ListsAll, ListsReceivers};
 
-use crate::digits::{first_digit, named_digit};
-use crate::receivers::{count_unheard, lists_of};
-use events::{Answered, Event};
+use events::{Answered, Event, Outcome};
 use hub_state::State;
 use loop_rules::Backlog;
 use std::alloc::{AllocError, Global};
-use terms::{Sid, Text};
+use terms::{Room, Sid, Text};
 
 /// A backend that is pressed, as a client, with the digits that it is told of, a bit each.
 #[derive(Clone, Copy)]
@@ -71,27 +71,20 @@ impl Sight<'_> {
         self.backend(client).is_some()
     }
 
-    /// The digit with which a client's session in a namespace begins, if it has one there.
-    fn digit_in(&self, client: u128, name: &Text) -> u16
-        ensures { result ≡ watching.digit_in self.now.state.now client name.now }
-    {
-        let session = self.state.socket_of(client, name.as_str());
-        session.map_or(0, first_digit)
-    }
-
     /// The digits with which a client's sessions in the other namespaces begin.
     fn digits_of(&self, client: u128) -> u16
         ensures { result ≡ watching.digits_of self.now.state.now client self.now.others.now }
     {
         let (mut digits, others) = (0, self.others);
         for name in others {
-            digits |= self.digit_in(client, name);
+            let session = self.state.socket_of(client, name.as_str());
+            digits |= session.map_or(0, first_digit);
         }
         digits
     }
 
-    /// The digits that a backend is told of, which are rooms that it is in; all where there is no memory
-    /// to list them.
+    /// The digits that a backend is told of, which are rooms that it is in; all where there is no
+    /// memory to list them.
     fn digits_told(&self, backend: Sid) -> u16
         ensures { IsToldOf self.now.state.now backend result }
     {
@@ -132,8 +125,8 @@ impl Sight<'_> {
         }
     }
 
-    /// Whether a client isn't to be listed any more: it is no backend, or less than half waits for it of
-    /// what may.
+    /// Whether a client isn't to be listed any more: it is no backend, or less than half waits for
+    /// it of what may.
     fn is_over(&self, client: u128) -> bool
         ensures { result ≡ watching.is_over self.now.state.now self.now.space.now
             self.now.capacity self.now.bytes client }
@@ -141,8 +134,8 @@ impl Sight<'_> {
         !self.is_backend(client) || self.backlog(client).is_low()
     }
 
-    /// A client that is listed may be pressed no more, since it took something, or ended. Answers whether
-    /// that is so.
+    /// A client that is listed may be pressed no more, since it took something, or ended. Answers
+    /// whether that is so.
     pub fn relieve(&self, client: u128, listed: &mut Vec<Pressed>) -> bool
         ensures over { result ≡ (watching.is_listed client listed.old.items
             && watching.is_over self.now.state.now self.now.space.now
@@ -184,8 +177,9 @@ impl Sight<'_> {
         Ok(())
     }
 
-    /// Lists the backends that are pressed, of those that got something of a client's event. Where a
-    /// backend brought it, none is listed. Where there is no memory for one, the rest isn't listed.
+    /// Lists the backends that are pressed, of those that got something of a client's event. Where
+    /// a backend brought it, none is listed. Where there is no memory for one, the rest isn't
+    /// listed.
     pub fn press(
         &self,
         client: u128,
@@ -214,4 +208,57 @@ impl Sight<'_> {
         }
         count_unheard(got)
     }
+}
+
+/// The digit with which a session id begins, of the sixteen, which have a bit each.
+fn first_digit(sid: Sid) -> u16
+    ensures { result ≡ digits.first_digit sid }
+{
+    1 << ((sid.number() >> 124) as u32)
+}
+
+/// The digit with this character, if there is one.
+fn digit_of(character: u8) -> u16
+    ensures { result ≡ digits.digit_of character }
+{
+    match character {
+        b'0'..=b'9' => 1 << u32::from(character - b'0'),
+        b'a'..=b'f' => 1 << u32::from(character - b'a' + 10),
+        _ => 0,
+    }
+}
+
+/// The digit that a room is named by, if it is.
+fn named_digit(room: Room) -> u16
+    ensures { result ≡ digits.named_digit room }
+{
+    match room.bytes() {
+        [character] => digit_of(*character),
+        _ => 0,
+    }
+}
+
+/// The clients that got something, one list for each broadcast, without the event's own client.
+fn lists_of(got: &Answered) -> &[Vec<u128>]
+    ensures { map (λ ids. ids.items) result.now ≡ receivers.lists_of got.now }
+{
+    match got {
+        Ok(Outcome::Done(done) | Outcome::Lost { done, .. } | Outcome::Ticked { done, .. }) => {
+            done.clients.lists()
+        }
+        _ => &[],
+    }
+}
+
+fn count_empty(lists: &[Vec<u128>]) -> usize
+    ensures { result ≡ length (filter (λ ids. receivers.is_empty ids.items) lists.now) }
+{
+    lists.iter().filter(|ids| ids.is_empty()).count()
+}
+
+/// How many broadcasts of an event got to nobody but its own client.
+fn count_unheard(got: &Answered) -> u64
+    ensures { result ≡ length (filter receivers.is_empty (receivers.lists_of got.now)) }
+{
+    count_empty(lists_of(got)) as u64
 }

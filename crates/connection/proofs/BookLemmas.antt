@@ -7,8 +7,8 @@ use Rattle.std.proofs.lemmas.Bool.Decides.{nat_tests}
 use Rattle.std.proofs.lemmas.List.Filters.{length-filter_both}
 use Rattle.std.proofs.lemmas.List.Sums.{length-filter}
 use Rattle.connection.specs.declared.ack_book.Question.{Question}
-use Rattle.connection.specs.declared.ack_error.AckError.{AckError}
-use Rattle.connection.specs.declared.ack_error.AckError.TheVariants.{Memory, Spent}
+use Rattle.connection.specs.declared.ack_book.AckError.{AckError}
+use Rattle.connection.specs.declared.ack_book.AckError.TheVariants.{Memory, Spent}
 use Rattle.connection.specs.Questions.{Call, Asked, Answered, Expired, asks, next_id, open_questions, question_at}
 use Rattle.connection.specs.BookContents.{Contents}
 use Rattle.connection.specs.Book.{IsLegal, LeadsTo, ForEachHistory, HasHistory, Asks, ask_refusal, last_id}

@@ -1,7 +1,7 @@
 -- No moment that a clock holds is later than its last one.
 use Rattle.std.proofs.Common.{◌≡◌, ℕ, ◌≤◌, max, List, [], ◌∷◌, Option, None, Some, arith, sym, ◌∙◌, subst}
 use Rattle.std.specs.Prelude.{IfSome}
-use Rattle.connection.specs.declared.timing.Due.TheVariants.{Nothing, SendPing, PingTimeout, ConnectTimeout}
+use Rattle.connection.specs.declared.clock.Due.TheVariants.{Nothing, SendPing, PingTimeout, ConnectTimeout}
 use Rattle.connection.specs.ClockHistory.{Opening, Call, Ticked, Ponged, Joined, Probed, Upgraded, ProbeLost, moment}
 use Rattle.connection.specs.Heartbeat.{awaited_ping, interval_start}
 use Rattle.connection.specs.ClockContents.{Contents}

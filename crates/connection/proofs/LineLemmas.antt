@@ -13,13 +13,13 @@ use Rattle.std.specs.Map.Calls.{RetainsPairs}
 use Rattle.std.specs.BTreeMap.{is_at}
 use Rattle.sio_wire.specs.Frames.{Frame, text, binary, Groups, Accepted, Accepts, text_refusal, binary_refusal}
 use Rattle.connection.specs.ClockHistory as clock_history
-use Rattle.connection.specs.declared.clock_error.ClockError.{ClockError}
+use Rattle.connection.specs.declared.clock.ClockError.{ClockError}
 use Rattle.connection.specs.Clock as clock
-use Rattle.connection.specs.declared.timing.Due.{Due}
-use Rattle.connection.specs.declared.timing.Due.TheVariants.{Nothing, SendPing, PingTimeout, ConnectTimeout}
+use Rattle.connection.specs.declared.clock.Due.{Due}
+use Rattle.connection.specs.declared.clock.Due.TheVariants.{Nothing, SendPing, PingTimeout, ConnectTimeout}
 use Rattle.connection.specs.ClockContents as clock_contents
 use Rattle.connection.specs.Questions as questions
-use Rattle.connection.specs.declared.ack_error.AckError.{AckError}
+use Rattle.connection.specs.declared.ack_book.AckError.{AckError}
 use Rattle.connection.specs.declared.ack_book.Question.{Question}
 use Rattle.connection.specs.Book as book
 use Rattle.connection.specs.BookContents as book_contents

@@ -2,8 +2,8 @@
 use Rattle.std.specs.Prelude.{◌≡◌, ◌≢◌, ℕ, nat_lt, List, [], ◌∷◌, Option, None, Some, Result, Ok, Err, All, IsSome, IfSome, IfOk, IfErr, OnOk, OnErr}
 use Rattle.terms.specs.Refusal.{first_refusal}
 use Rattle.connection.specs.declared.ack_book.Question.{Question}
-use Rattle.connection.specs.declared.ack_error.AckError.{AckError}
-use Rattle.connection.specs.declared.ack_error.AckError.TheVariants.{Memory, UnknownId, Spent}
+use Rattle.connection.specs.declared.ack_book.AckError.{AckError}
+use Rattle.connection.specs.declared.ack_book.AckError.TheVariants.{Memory, UnknownId, Spent}
 use Rattle.connection.specs.Questions.{Call, Asked, Answered, Expired, next_id, open_questions, question_at}
 use Rattle.connection.specs.BookContents.{Contents}
 

@@ -1,9 +1,9 @@
 -- Which histories lead to what a clock holds.
 use Rattle.std.specs.Prelude.{◌≡◌, List, [], ◌∷◌, is_some, Option, None, Result, OnOk, OnErr}
 use Rattle.terms.specs.Refusal.{ok_unless}
-use Rattle.connection.specs.declared.clock_error.ClockError.{ClockError}
-use Rattle.connection.specs.declared.transport.Transport.{Transport}
-use Rattle.connection.specs.declared.transport.ClockState.{ClockState}
+use Rattle.connection.specs.declared.clock.ClockError.{ClockError}
+use Rattle.connection.specs.declared.clock.Transport.{Transport}
+use Rattle.connection.specs.declared.clock.ClockState.{ClockState}
 use Rattle.connection.specs.ClockHistory.{Opening, Call, Ticked, Probed, Upgraded, ProbeLost, moment, was_joined}
 use Rattle.connection.specs.Heartbeat.{awaited_ping, interval_start, due}
 use Rattle.connection.specs.Upgrade.{transport, probe_refusal, unprobed_refusal}

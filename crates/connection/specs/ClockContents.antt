@@ -1,7 +1,7 @@
 -- What a clock holds.
 use Rattle.std.specs.Prelude.{ℕ, Bool, Option}
-use Rattle.connection.specs.declared.timing.Timing.{Timing}
-use Rattle.connection.specs.declared.transport.Transport.{Transport}
+use Rattle.connection.specs.declared.clock.Timing.{Timing}
+use Rattle.connection.specs.declared.clock.Transport.{Transport}
 
 -- the moments of the opening, of the newest call, of the ping that is awaited, and from which
 -- the ping interval counts

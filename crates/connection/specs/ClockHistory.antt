@@ -1,7 +1,7 @@
 -- The calls on a clock so far, and their moments. The newest call stands first.
 use Rattle.std.specs.Prelude.{ℕ, max, Bool, true, false, List, [], ◌∷◌}
-use Rattle.connection.specs.declared.timing.Timing.{Timing}
-use Rattle.connection.specs.declared.timing.Due.{Due}
+use Rattle.connection.specs.declared.clock.Timing.{Timing}
+use Rattle.connection.specs.declared.clock.Due.{Due}
 
 -- how a clock was opened: when, with which intervals, and whether over a WebSocket
 pub record Opening : Type 0 where

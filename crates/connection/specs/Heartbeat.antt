@@ -1,8 +1,8 @@
 -- What is due to a client after a history (Engine.IO protocol 4, "Heartbeat").
 use Rattle.std.specs.Prelude.{ℕ, ◌-◌, max, nat_le, Bool, false, not, ◌&&◌, if◌then◌else◌, List, [], ◌∷◌, Option, None, Some, is_some, is_none}
 use Rattle.std.specs.Option.{option_map_or}
-use Rattle.connection.specs.declared.timing.Due.{Due}
-use Rattle.connection.specs.declared.timing.Due.TheVariants.{Nothing, SendPing, PingTimeout, ConnectTimeout}
+use Rattle.connection.specs.declared.clock.Due.{Due}
+use Rattle.connection.specs.declared.clock.Due.TheVariants.{Nothing, SendPing, PingTimeout, ConnectTimeout}
 use Rattle.connection.specs.ClockHistory.{Opening, Call, Ticked, Ponged, moment, was_joined}
 
 -- the moment of the ping whose pong is awaited: a tick answered SendPing then, and no pong followed

@@ -2,8 +2,8 @@
 use Rattle.std.specs.Prelude.{◌≡◌, ℕ, ◌==◌, Bool, true, false, if◌then◌else◌, List, [], ◌∷◌, ◌++◌, Option, None, Some}
 use Rattle.sio_wire.specs.declared.error.SioError.{SioError}
 use Rattle.sio_wire.specs.Frames.{Frame}
-use Rattle.connection.specs.declared.timing.Due.{Due}
-use Rattle.connection.specs.declared.timing.Due.TheVariants.{SendPing}
+use Rattle.connection.specs.declared.clock.Due.{Due}
+use Rattle.connection.specs.declared.clock.Due.TheVariants.{SendPing}
 use Rattle.connection.specs.ClockHistory as clock
 use Rattle.connection.specs.Questions as book
 

@@ -11,8 +11,8 @@ use Rattle.sio_wire.specs.declared.error.SioError.{SioError}
 use Rattle.sio_wire.specs.declared.error.SioError.TheVariants.{Memory}
 use Rattle.sio_wire.specs.Frames.{Frame, Accepted, Accepts}
 use Rattle.terms.specs.Refusal.{ok_unless}
-use Rattle.connection.specs.declared.clock_error.ClockError.{ClockError}
-use Rattle.connection.specs.declared.transport.Transport.{Transport}
+use Rattle.connection.specs.declared.clock.ClockError.{ClockError}
+use Rattle.connection.specs.declared.clock.Transport.{Transport}
 use Rattle.connection.specs.Upgrade.{transport}
 use Rattle.connection.specs.ClockHistory.{Opening}
 use Rattle.connection.specs.Clock as clock

@@ -1,9 +1,9 @@
 -- The transport after a history (Engine.IO protocol 4, "Upgrade").
 use Rattle.std.specs.Prelude.{if◌then◌else◌, List, [], ◌∷◌, Option, None, Some}
-use Rattle.connection.specs.declared.transport.Transport.{Transport}
-use Rattle.connection.specs.declared.transport.Transport.TheVariants.{Polling, Probing, Socket}
-use Rattle.connection.specs.declared.clock_error.ClockError.{ClockError}
-use Rattle.connection.specs.declared.clock_error.ClockError.TheVariants.{NotProbing, AlreadyProbing, AlreadyUpgraded}
+use Rattle.connection.specs.declared.clock.Transport.{Transport}
+use Rattle.connection.specs.declared.clock.Transport.TheVariants.{Polling, Probing, Socket}
+use Rattle.connection.specs.declared.clock.ClockError.{ClockError}
+use Rattle.connection.specs.declared.clock.ClockError.TheVariants.{NotProbing, AlreadyProbing, AlreadyUpgraded}
 use Rattle.connection.specs.ClockHistory.{Opening, Call, Probed, Upgraded, ProbeLost}
 
 -- by the last probe, upgrade or lost probe; before any, as the clock was opened

@@ -1,16 +1,25 @@
-//! Questions that wait for an acknowledgement (Socket.IO protocol 5, "Acknowledgement"): those to
-//! one socket, and to all sockets of a client.
+//! Questions that wait for an acknowledgement (Socket.IO protocol 5, "Acknowledgement").
 
 ghost use Rattle.std.specs.Prelude.{◌≡◌, ℕ, ◌==◌, false, nat_le, length, count_by, [], Some, IfOk, OnOk};
 ghost use Rattle.connection.specs.Questions.{Expired, open_questions, question_at};
 ghost use Rattle.connection.specs.Line.{book_in};
 ghost use Rattle.connection.specs.Book.{LeadsTo, ForEachHistory, Advances, Answers, Asks, HasHistory, IsUnanswered};
 
-use crate::AckError;
 use std::alloc::Global;
 use std::collections::BTreeMap;
 use std::marker::Model;
 use terms::Sid;
+
+/// Why a question isn't asked, or an answer isn't taken.
+#[derive(Clone, Copy, PartialEq, Eq, Debug)]
+pub enum AckError {
+    /// An allocation was refused.
+    Memory,
+    /// No open question has this id: it was never asked, was answered, or ran out.
+    UnknownId,
+    /// The greatest id was used.
+    Spent,
+}
 
 /// The greatest acknowledgement id: one has at most fifteen digits.
 const LAST_ID: u64 = 999_999_999_999_999;

@@ -8,8 +8,67 @@ ghost use Rattle.connection.specs.Heartbeat.{due, due_at};
 ghost use Rattle.connection.specs.Upgrade.{probe_refusal, unprobed_refusal};
 ghost use Rattle.connection.specs.Clock.{LeadsTo, ForEachHistory, Advances, HasHistory, StepsBy, state_after};
 
-use crate::{ClockError, ClockState, Due, Timing, Transport};
 use std::marker::Model;
+
+/// The intervals of a heartbeat, in milliseconds (Engine.IO protocol 4, "Heartbeat").
+#[derive(Clone, Copy, PartialEq, Eq, Debug)]
+pub struct Timing {
+    /// From the opening, and from each pong that was awaited, to the next ping.
+    pub ping_interval: u64,
+    /// How long the pong to a ping may take. At the end of it the client is given up.
+    pub ping_timeout: u64,
+    /// How long a client may take to join its first namespace (Socket.IO server documentation,
+    /// "connectTimeout").
+    pub connect_timeout: u64,
+}
+
+/// What the server owes a client at a tick.
+#[derive(Clone, Copy, PartialEq, Eq, Debug)]
+pub enum Due {
+    /// Nothing yet.
+    Nothing,
+    /// A ping is to be sent. Its pong is awaited from this moment on.
+    SendPing,
+    /// The awaited pong didn't come in time.
+    PingTimeout,
+    /// No namespace was joined in time.
+    ConnectTimeout,
+}
+
+/// How a client speaks with the server (Engine.IO protocol 4, "Transports" and "Upgrade").
+#[derive(Clone, Copy, PartialEq, Eq, Debug)]
+pub enum Transport {
+    /// Over HTTP long-polling.
+    Polling,
+    /// Over HTTP long-polling, while a probe tries a WebSocket.
+    Probing,
+    /// Over a WebSocket. A client never goes back from here.
+    Socket,
+}
+
+/// What a clock shows of itself.
+#[derive(Clone, Copy, PartialEq, Eq, Debug)]
+pub struct ClockState {
+    /// How the client speaks.
+    pub transport: Transport,
+    /// Whether the pong to a ping is awaited.
+    pub awaiting: bool,
+    /// Whether a namespace was joined.
+    pub joined: bool,
+    /// The greatest moment that was handed in so far, in milliseconds.
+    pub last: u64,
+}
+
+/// Why a change of transport is refused.
+#[derive(Clone, Copy, PartialEq, Eq, Debug)]
+pub enum ClockError {
+    /// The client polls and sent no probe, so there is nothing to upgrade and no probe to lose.
+    NotProbing,
+    /// A probe runs already.
+    AlreadyProbing,
+    /// The client speaks over a WebSocket, from the start or since its upgrade.
+    AlreadyUpgraded,
+}
 
 /// One client's heartbeat, connection timeout and transport. All moments are milliseconds of one
 /// clock; one that is earlier than the last that was handed in counts as that last one.

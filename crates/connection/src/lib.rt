@@ -5,17 +5,9 @@
 #![tactic(auto)]
 
 mod ack_book;
-mod ack_error;
 mod clock;
-mod clock_error;
 mod line;
-mod timing;
-mod transport;
 
-pub use ack_book::AckBook;
-pub use ack_error::AckError;
-pub use clock::Clock;
-pub use clock_error::ClockError;
+pub use ack_book::{AckBook, AckError};
+pub use clock::{Clock, ClockError, ClockState, Due, Timing, Transport};
 pub use line::{Line, frames_tell};
-pub use timing::{Due, Timing};
-pub use transport::{ClockState, Transport};

@@ -130,8 +130,7 @@ impl Line {
         self.clock.pong(now);
     }
 
-    /// Forgets the questions that ran out, and answers what is due now. `SendPing` makes a ping
-    /// due.
+    /// Forgets the questions that ran out, and answers what is due. `SendPing` makes a ping due.
     pub fn tick(&mut self, now: u64) -> Due
         ensures due { ForEachHistory self.old (λ o h. result ≡ due o (clock_calls h) now) }
         ensures advances { Advances self.old (Ticked now result ∷ []) self.new }
@@ -189,8 +188,7 @@ impl Line {
         self.ping = false;
     }
 
-    /// A socket was connected: the connection timeout is over, and none of its questions is
-    /// open.
+    /// A socket was connected: the connection timeout is over, and it has no open question.
     pub fn connect(&mut self, sid: Sid)
         ensures { Advances self.old (Connected sid ∷ []) self.new }
     {
@@ -231,9 +229,8 @@ impl Line {
     }
 }
 
-/// What an assembler holds is told by the frames that it took and by the one that it refused: where
-/// no frame came it waits for nothing, and calls without a frame leave it as it was. It has no
-/// effect.
+/// What an assembler holds is told by the frames that it took and the one that it refused: where no
+/// frame came it waits for nothing. It has no effect.
 pub fn frames_tell()
     ensures told { (o : Opening) (g h : List Call) (k l : PlainLine) → LeadsTo o g k → LeadsTo o h l
         → frames g ≡ frames h → failure g ≡ failure h → k.assembler ≡ l.assembler }

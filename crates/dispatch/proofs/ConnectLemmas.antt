@@ -20,12 +20,12 @@ use Rattle.events.specs.declared.app.Effect.{Effect}
 use Rattle.events.specs.declared.app.Who.{Who}
 use Rattle.events.specs.declared.cause.Cause.TheVariants as cause
 use Rattle.events.specs.App.{Policy}
-use Rattle.effects.specs.Commands.{Makes, IsRefused, IsSeated, seat}
-use Rattle.effects.specs.Effects.{Scene, told_to, ActsInTurn, StopsAfter}
-use Rattle.effects.specs.Following.{is_clean}
-use Rattle.effects.specs.Runs.{Runs}
-use Rattle.effects.proofs.StepLemmas.{itself, open-still, connected-then, own-then}
-use Rattle.effects.specs.Scene.{visit_at}
+use Rattle.dispatch.specs.Commands.{Makes, IsRefused, IsSeated, seat}
+use Rattle.dispatch.specs.Effects.{Scene, told_to, ActsInTurn, StopsAfter}
+use Rattle.dispatch.specs.Following.{is_clean}
+use Rattle.dispatch.specs.Runs.{Runs}
+use Rattle.dispatch.proofs.StepLemmas.{itself, open-still, connected-then, own-then}
+use Rattle.dispatch.specs.Scene.{visit_at}
 use Rattle.dispatch.specs.Packets.{Course, Upshot, refusal_entry, ClosesFor, Refuses, DoesAll, DrawsNone, MayRecover, AsksToConnect}
 
 -- ---- the text of a refusal holds no U+001E

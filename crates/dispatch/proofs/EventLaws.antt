@@ -4,10 +4,10 @@ use Rattle.std.proofs.Common.{◌≡◌, ℕ, ◌==◌, Bool, true, false, List,
 use Rattle.std.specs.List.{AllByRecursion}
 use Rattle.eio_wire.specs.Payload.{IsWhole}
 use Rattle.eio_wire.specs.declared.packet.Packet.{Packet}
-use Rattle.connection.specs.declared.timing.Due.{Due}
-use Rattle.connection.specs.declared.timing.Due.TheVariants as due
-use Rattle.connection.specs.declared.transport.Transport.{Transport}
-use Rattle.connection.specs.declared.transport.Transport.TheVariants.{Polling, Probing, Socket}
+use Rattle.connection.specs.declared.clock.Due.{Due}
+use Rattle.connection.specs.declared.clock.Due.TheVariants as due
+use Rattle.connection.specs.declared.clock.Transport.{Transport}
+use Rattle.connection.specs.declared.clock.Transport.TheVariants.{Polling, Probing, Socket}
 use Rattle.connection.specs.History.{Call, GetBegan, GetEnded, Ticked, Probed, Upgraded, ProbeLost}
 use Rattle.connection.specs.Line.{PlainLine}
 use Rattle.journal.specs.declared.step.What.{What}
@@ -19,17 +19,17 @@ use Rattle.events.specs.declared.cause.Cause.TheVariants as cause
 use Rattle.events.specs.declared.fault.CoreFault.{CoreFault}
 use Rattle.events.specs.declared.fault.CoreFault.TheVariants.{UnknownClient, AlreadyProbing, AlreadyUpgraded, NotProbing}
 use Rattle.events.specs.App.{Policy}
-use Rattle.effects.specs.Commands.{Makes}
-use Rattle.effects.specs.Following.{is_turn, is_work, Follows, Spares, WorksFor}
+use Rattle.dispatch.specs.Commands.{Makes}
+use Rattle.dispatch.specs.Following.{is_turn, is_work, Follows, Spares, WorksFor}
 use Rattle.events.specs.Plain.{PlainDone}
-use Rattle.effects.proofs.StepLemmas.{itself, open-no-more, opened-then, work-on, Goes, goes-of, Working}
+use Rattle.dispatch.proofs.StepLemmas.{itself, open-no-more, opened-then, work-on, Goes, goes-of, Working}
 use Rattle.events.specs.declared.event.Event.{Event}
 use Rattle.events.specs.declared.event.Event.TheVariants as event
 use Rattle.events.specs.declared.event.WsFrame.{WsFrame}
 use Rattle.events.specs.declared.outcome.Outcome.TheVariants as outcome
 use Rattle.events.specs.Answer.{Answer}
-use Rattle.effects.specs.Scene.{Visit, visit_at}
-use Rattle.dispatch.specs.declared.lines.Handshake.{Handshake}
+use Rattle.dispatch.specs.Scene.{Visit, visit_at}
+use Rattle.dispatch.specs.declared.clients.Handshake.{Handshake}
 use Rattle.dispatch.specs.Answers.{Refused, KeepsWhileOpen, AdvancesLine, ClosesUnread, ForClient}
 use Rattle.dispatch.specs.Frames.{is_too_long}
 use Rattle.dispatch.specs.Handed.{Turn, Handed}

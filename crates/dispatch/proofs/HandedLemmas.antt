@@ -1,10 +1,10 @@
 -- What an event adds to what a client was handed.
-use Rattle.std.proofs.Common.{inl, inr, ◌≡◌, ℕ, zero, suc, ◌+◌, ◌≤◌, ◌<◌, ◌==◌, Bool, true, false, List, [], ◌∷◌, ◌++◌, length, take, drop, get_or, refl, sym, ◌∙◌, ap, subst, arith, append-nil, append_assoc, length-append, Option, None, Some, Result, Ok, Err, OnOk}
+use Rattle.std.proofs.Common.{inl, inr, ◌≡◌, ℕ, zero, suc, ◌+◌, ◌≤◌, ◌==◌, Bool, true, false, List, [], ◌∷◌, ◌++◌, length, take, drop, refl, sym, ◌∙◌, ap, subst, arith, append-nil, append_assoc, length-append, Option, None, Some, Result, Ok, Err, OnOk}
 use Rattle.std.proofs.lemmas.Bool.Decides.{nat_tests}
-use Rattle.std.proofs.lemmas.List.{drop-append-le, drop-drop, length-take-le, take_more, take_all}
+use Rattle.std.proofs.lemmas.List.{drop-append-le, drop-drop}
 use Rattle.eio_wire.specs.declared.packet.Packet.{Packet}
-use Rattle.connection.specs.declared.transport.Transport.{Transport}
-use Rattle.connection.specs.declared.transport.Transport.TheVariants.{Polling, Probing, Socket}
+use Rattle.connection.specs.declared.clock.Transport.{Transport}
+use Rattle.connection.specs.declared.clock.Transport.TheVariants.{Polling, Probing, Socket}
 use Rattle.terms.specs.declared.entry.Entry.{Entry}
 use Rattle.connection.specs.Line.{PlainLine}
 use Rattle.journal.specs.declared.error.HubError.{HubError}
@@ -20,20 +20,20 @@ use Rattle.journal.proofs.EpochsSocketsLemmas.{is_open-step}
 use Rattle.journal.specs.Outboxes.{put, entries_for, begins, taken_by, placements, taken, waiting}
 use Rattle.events.specs.declared.fault.CoreFault.{CoreFault}
 use Rattle.events.specs.declared.fault.CoreFault.TheVariants.{UnknownClient, WrongTransport}
-use Rattle.effects.specs.Commands.{Makes}
-use Rattle.effects.specs.Following.{is_work, AreMade, Follows}
+use Rattle.dispatch.specs.Commands.{Makes}
+use Rattle.dispatch.specs.Following.{is_work, AreMade, Follows}
 use Rattle.events.specs.declared.event.Event.{Event}
 use Rattle.events.specs.declared.event.Event.TheVariants as event
 use Rattle.events.specs.declared.outcome.Outcome.TheVariants as outcome
 use Rattle.events.specs.Answer.{Answer}
-use Rattle.effects.specs.Scene.{visit_at}
-use Rattle.dispatch.specs.declared.lines.Handshake.{Handshake}
+use Rattle.dispatch.specs.Scene.{visit_at}
+use Rattle.dispatch.specs.declared.clients.Handshake.{Handshake}
 use Rattle.dispatch.specs.Answers.{Refused, ForClient}
 use Rattle.dispatch.specs.Frames.{Sends, SendsFirst, SendsWaiting, SendsOn, SendsFor}
 use Rattle.dispatch.specs.Machine.{Opens, Takes, TakesFrames}
 use Rattle.dispatch.specs.Holding.{Holding, HasLine}
 use Rattle.dispatch.specs.Takes.{Take, handed, carried, Counts, IsShort, TellsNoop, Carries, FindsNothing, TakesFirst, TakesWaiting, TakesOn, TakesFor}
-use Rattle.dispatch.specs.Handed.{Turn, turns_after, opens, takes, Holds, HandsOut, HandedOut, AreHanded, is_begun_in, Handed}
+use Rattle.dispatch.specs.Handed.{Turn, opens, takes, Holds, HandsOut, HandedOut, AreHanded, is_begun_in, Handed}
 use Rattle.dispatch.proofs.TurnLemmas.{Leads, leads-none, leads-on, as-before}
 
 -- entries that are handed out are no more than were put
@@ -379,38 +379,6 @@ handed-open told now socket c s (Ok (outcome.Opened o)) t does d turns was = by 
 handed-open told now socket c s (Ok _) t does d turns was = absurd does
 handed-open told now socket c s (Err e) t does d turns was =
     record { entries = was.entries; out = was.out; are = same-handed s.history t.history does.1.1 d was.entries was.are; opened = ap (λ (k : History). is_begun_in d k.journal) does.1.1 ∙ was.opened }
-
--- ---- the events of a list
-
--- one event more, which has its answer as those before it
-turns-more : (turns : List Turn) (events : List (Event × ℕ)) (answers : List Answer) (event : Event × ℕ) (answer : Answer) → length events ≡ length answers
-    → turns_after turns (events ++ event ∷ []) (answers ++ answer ∷ []) ≡ (event.0, answer) ∷ turns_after turns events answers
-turns-more turns [] [] event answer long = refl
-turns-more turns (first ∷ events) (said ∷ answers) event answer long = turns-more ((first.0, said) ∷ turns) events answers event answer (omega (arith, long))
-turns-more turns [] (said ∷ answers) event answer long = absurd (omega (arith, long))
-turns-more turns (first ∷ events) [] event answer long = absurd (omega (arith, long))
-
--- what is handed out in each turn of a list, after those before it
-abbrev pub HandsOn : List (Event × ℕ) → List Answer → (h g : History) → Type 0
-HandsOn events answers h g = (c : ℕ) (turns : List Turn) → Handed c turns h → Handed c (turns_after turns events answers) g
-
--- no event was done
-pub hands-start : (answers : List Answer) (h : History) → answers ≡ [] → HandsOn [] answers h h
-hands-start answers h none c turns was = was
-
--- the event at an index is done
-pub hands-next : (all : List (Event × ℕ)) (i : ℕ) (event : Event × ℕ) (answers more : List Answer) (answer : Answer) (h m g : History)
-    → i < length all → event ≡ get_or all i event → more ≡ answers ++ answer ∷ [] → length answers ≡ i
-    → HandsOn (take i all) answers h m → ((c : ℕ) (turns : List Turn) → Handed c turns m → Handed c ((event.0, answer) ∷ turns) g)
-    → HandsOn (take (i + 1) all) more h g
-hands-next all i event answers more answer h m g within is pushed long run does c turns was =
-    let next : take (i + 1) all ≡ take i all ++ event ∷ [] = take_more all i event within ∙ ap (λ (x : Event × ℕ). take i all ++ x ∷ []) (sym is) in
-    let same : length (take i all) ≡ length answers = length-take-le i all (omega (arith, within)) ∙ sym long in
-    rw (next, pushed, turns-more turns (take i all) answers event answer same) (does c (turns_after turns (take i all) answers) (run c turns was))
-
--- all were done
-pub hands-whole : (all : List (Event × ℕ)) (i : ℕ) (answers : List Answer) (h g : History) → length all ≤ i → HandsOn (take i all) answers h g → HandsOn all answers h g
-hands-whole all i answers h g past run = subst (λ (events : List (Event × ℕ)). HandsOn events answers h g) (take_all i all past) run
 
 -- ---- a new core, and one whose account begins anew
 

@@ -18,11 +18,11 @@ use Rattle.events.specs.Answer.{Answer}
 use Rattle.events.specs.App.{Policy}
 use Rattle.events.specs.Event.{client_of}
 use Rattle.events.specs.Plain.{PlainDone, nothing_done}
-use Rattle.effects.specs.Hearing.{ended_since, HearsOfAll}
-use Rattle.effects.specs.Following.{is_turn, is_work, Follows, Spares}
-use Rattle.effects.specs.Broadcasting.{work}
-use Rattle.effects.proofs.HearingLemmas.{Onward, heard-open, heard-onward, heard-spares}
-use Rattle.dispatch.specs.declared.lines.Handshake.{Handshake}
+use Rattle.dispatch.specs.Hearing.{ended_since, HearsOfAll}
+use Rattle.dispatch.specs.Following.{is_turn, is_work, Follows, Spares}
+use Rattle.dispatch.specs.Broadcasting.{work}
+use Rattle.dispatch.proofs.HearingLemmas.{Onward, heard-open, heard-onward, heard-spares}
+use Rattle.dispatch.specs.declared.clients.Handshake.{Handshake}
 use Rattle.dispatch.specs.Handed.{Turn, opens, takes, HandsOut, HandedOut, Handed}
 use Rattle.dispatch.specs.Hearing.{done_of, with_done, done_before, answer_after, Hears, HearsAfter}
 use Rattle.dispatch.specs.Machine.{IsOf, listed, Row, Does}

@@ -5,8 +5,8 @@ use Rattle.eio_wire.specs.Payload.{IsWhole}
 use Rattle.eio_wire.specs.declared.packet.Packet.{Packet}
 use Rattle.eio_wire.specs.declared.packet.Packet.TheVariants as eio
 use Rattle.sio_wire.specs.declared.assembler.SioPacket.{SioPacket}
-use Rattle.sio_wire.specs.declared.kind.Kind.{Kind}
-use Rattle.sio_wire.specs.declared.kind.Kind.TheVariants as kind
+use Rattle.sio_wire.specs.declared.header.Kind.{Kind}
+use Rattle.sio_wire.specs.declared.header.Kind.TheVariants as kind
 use Rattle.sio_wire.specs.declared.error.SioError.{SioError}
 use Rattle.sio_wire.specs.declared.error.SioError.TheVariants as sio
 use Rattle.sio_wire.specs.declared.assembler.Progress.TheVariants.{Failed}
@@ -30,16 +30,16 @@ use Rattle.events.specs.declared.fault.CoreFault.TheVariants.{Memory}
 use Rattle.events.specs.declared.fault.Stopped.{Stopped}
 use Rattle.events.specs.App.{Policy, IsCleanArrival, AllClean}
 use Rattle.hub_state.specs.Recovering.{recovery_asked}
-use Rattle.effects.specs.Commands.{Makes, IsSeated, seat}
-use Rattle.effects.specs.Effects.{Scene, told_to, Closes}
-use Rattle.effects.specs.Following.{is_clean, is_work, is_turn, is_cast}
-use Rattle.effects.specs.Runs.{Runs}
-use Rattle.effects.proofs.ActLemmas.{stands-seated}
-use Rattle.effects.proofs.CleanLemmas.{clean-answer-at}
-use Rattle.effects.proofs.RunsLemmas.{run-keeps}
-use Rattle.effects.proofs.StepLemmas.{itself, open-still, open-no-more, connected-then, own-then, Working, working-on}
-use Rattle.effects.proofs.WorkLemmas.{runs-work, stopped-works}
-use Rattle.effects.specs.Scene.{Visit, visit_at}
+use Rattle.dispatch.specs.Commands.{Makes, IsSeated, seat}
+use Rattle.dispatch.specs.Effects.{Scene, told_to, Closes}
+use Rattle.dispatch.specs.Following.{is_clean, is_work, is_turn, is_cast}
+use Rattle.dispatch.specs.Runs.{Runs}
+use Rattle.dispatch.proofs.ActLemmas.{stands-seated}
+use Rattle.dispatch.proofs.CleanLemmas.{clean-answer-at}
+use Rattle.dispatch.proofs.RunsLemmas.{run-keeps}
+use Rattle.dispatch.proofs.StepLemmas.{itself, open-still, open-no-more, connected-then, own-then, Working, working-on}
+use Rattle.dispatch.proofs.WorkLemmas.{runs-work, stopped-works}
+use Rattle.dispatch.specs.Scene.{Visit, visit_at}
 use Rattle.dispatch.specs.Packets.{Course, Upshot, StopsFor, IsShortAfter, IsShort, DrawsNone, ClosesFor, ParksFor, refusal_entry, Refuses, DoesAll, ClientDisconnects, DecidesAfter, TakesAck, ReceivesEvent, Serves, ServesJoined, ConnectsAs, AsksApp, AsksToRecover, MayRecover, AsksToConnect, Works, GoesOn, with_line, TakesFrame, TakesText, ReadsBinary, TakesBinary, Handles, begun, HandlesOrBreaks, HandlesInTurn, BreaksAfter}
 use Rattle.dispatch.proofs.ConnectLemmas.{clean-refusal, seated-back}
 

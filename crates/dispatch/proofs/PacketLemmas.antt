@@ -6,8 +6,8 @@ use Rattle.std.specs.Option.{option_map}
 use Rattle.std.proofs.lemmas.Bool.Decides.{nat_tests}
 use Rattle.eio_wire.specs.declared.packet.Packet.{Packet}
 use Rattle.sio_wire.specs.declared.assembler.SioPacket.{SioPacket}
-use Rattle.sio_wire.specs.declared.kind.Kind.{Kind}
-use Rattle.sio_wire.specs.declared.kind.Kind.TheVariants as kind
+use Rattle.sio_wire.specs.declared.header.Kind.{Kind}
+use Rattle.sio_wire.specs.declared.header.Kind.TheVariants as kind
 use Rattle.sio_wire.specs.declared.assembler.Progress.TheVariants.{Failed}
 use Rattle.sio_wire.specs.declared.error.SioError.{SioError}
 use Rattle.sio_wire.specs.declared.error.SioError.TheVariants as sio
@@ -22,11 +22,11 @@ use Rattle.journal.specs.Journal.{History}
 use Rattle.journal.specs.Membership.{place_of, is_open, is_space, sid_of, has_id, socket_with, sockets, sockets_of, socket_of}
 use Rattle.events.specs.declared.app.Who.{Who}
 use Rattle.events.specs.App.{Policy}
-use Rattle.effects.specs.Commands.{IsSeated}
+use Rattle.dispatch.specs.Commands.{IsSeated}
 use Rattle.events.specs.declared.cause.Cause.{Cause}
 use Rattle.events.specs.declared.cause.Cause.TheVariants as cause
-use Rattle.effects.specs.Effects.{Scene}
-use Rattle.effects.specs.Scene.{visit_at}
+use Rattle.dispatch.specs.Effects.{Scene}
+use Rattle.dispatch.specs.Scene.{visit_at}
 use Rattle.dispatch.specs.Packets.{Course, Upshot, ClosesFor, Serves, DrawsNone, AsksToConnect, ServesJoined, Works, GoesOn, with_line, RefusesFrame, TakesText, ReadsBinary, Handles, HandlesOrBreaks, begun}
 
 -- ---- questions

@@ -1,8 +1,7 @@
 -- What a core keeps from event to event.
-use Rattle.std.proofs.Common.{◌≡◌, ℕ, ◌+◌, ◌<◌, ◌≤◌, false, List, [], ◌∷◌, ◌++◌, length, take, get_or, map, arith, refl, sym, ◌∙◌, ap, subst, Result, Ok, Err}
+use Rattle.std.proofs.Common.{◌≡◌, ℕ, ◌+◌, ◌≤◌, false, List, [], ◌∷◌, length, map, arith, refl, sym, ◌∙◌, ap, subst, Result, Ok, Err}
 use Rattle.std.specs.Prelude.{◌≢◌, ◌==◌, ◌&&◌, ◌||◌, Bool, true, not, None, nat_lt, slice_index}
 use Rattle.std.specs.List.{AllByRecursion, list_any}
-use Rattle.std.proofs.lemmas.List.{take_more, take_all}
 use Rattle.std.proofs.lemmas.List.Elements.{All-nil, All-cons}
 use Rattle.eio_wire.specs.Payload.{IsWhole}
 use Rattle.terms.specs.Refusal.{first_refusal}
@@ -20,16 +19,16 @@ use Rattle.journal.specs.Seal.{PlainEpoch, base_client, client_of, IsSealed, Say
 use Rattle.journal.proofs.EntriesLemmas.{what-waits}
 use Rattle.journal.proofs.SealListsLemmas.{all-append}
 use Rattle.journal.specs.Totals.{commands, handed_out}
-use Rattle.hub_totals.specs.Pass.{PlainHub, PlainBooks, PlainPass, Rises}
+use Rattle.hub_totals.specs.Pass.{PlainHub, PlainBooks, PlainPass}
 use Rattle.hub_totals.proofs.CountingLemmas.{commands-grow, handed_out-grows}
 use Rattle.events.specs.App.{Policy}
-use Rattle.effects.specs.Following.{is_clean, is_turn, Follows}
+use Rattle.dispatch.specs.Following.{is_clean, is_turn, Follows}
 use Rattle.events.specs.declared.event.Event.{Event}
 use Rattle.events.specs.declared.event.Event.TheVariants as event
 use Rattle.events.specs.Answer.{Answer}
-use Rattle.dispatch.specs.declared.lines.Handshake.{Handshake}
+use Rattle.dispatch.specs.declared.clients.Handshake.{Handshake}
 use Rattle.dispatch.specs.Counting.{TurnsFor}
-use Rattle.dispatch.specs.Machine.{Does, Machine, IsOf}
+use Rattle.dispatch.specs.Machine.{Does, IsOf}
 use Rattle.dispatch.specs.Holding.{Standing, PlainCore, Agree, IsClean}
 
 -- ---- a new core
@@ -132,18 +131,6 @@ of-some (event.TransportLost c) ids = (c, refl)
 of-some (event.Tick c) ids = (c, refl)
 of-some event.Sweep ids = (0, tt)
 
--- nothing was counted
-pub rises-none : (h : PlainHub) (p : PlainPass) → Rises h h p p
-rises-none h p = record { commands = refl; taken = refl; parts = refl }
-
--- one turn more was
-pub rises-more : (h m g : PlainHub) (p q r : PlainPass) → Rises h m p q → Rises m g q r → Rises h g p r
-rises-more h m g p q r first next = record {
-  commands = omega (arith, first.commands, next.commands);
-  taken = omega (arith, first.taken, next.taken);
-  parts = next.parts ∙ first.parts;
-}
-
 -- ---- a seal
 
 all-made : {A B : Type 0} (P : B → Type 0) (f : A → B) → ((x : A) → P (f x)) → (xs : List A) → AllByRecursion P (map f xs)
@@ -197,38 +184,3 @@ module _ (policy : Policy) (told : Handshake) where
   pub does-as : (now : ℕ) (event named : Event) (s : Standing) (answer : Answer) (t : Standing) → event ≡ named
       → Does policy told now named s answer t → Does policy told now event s answer t
   does-as now event named s answer t is does = subst (λ (e : Event). Does policy told now e s answer t) (sym is) does
-
-  machine-none : (s : Standing) → Machine policy told [] [] s s
-  unfolding Machine
-  machine-none s = refl
-
-  -- one event more
-  machine-push : (turns : List (Event × ℕ)) (answers : List Answer) (turn : Event × ℕ) (answer : Answer) (s m t : Standing)
-      → Machine policy told turns answers s m → Does policy told turn.1 turn.0 m answer t
-      → Machine policy told (turns ++ turn ∷ []) (answers ++ answer ∷ []) s t
-  unfolding Machine
-  machine-push [] [] turn answer s m t run does = (t, subst (λ (x : Standing). Does policy told turn.1 turn.0 x answer t) run does, refl)
-  machine-push (first ∷ turns) (said ∷ answers) turn answer s m t run does = (run.0, run.1, machine-push turns answers turn answer run.0 m t run.2 does)
-  machine-push [] (said ∷ answers) turn answer s m t run does = absurd run
-  machine-push (first ∷ turns) [] turn answer s m t run does = absurd run
-
-  -- no event was done
-  pub machine-start : (answers : List Answer) (s : Standing) → answers ≡ [] → Machine policy told [] answers s s
-  machine-start answers s none = rw none (machine-none s)
-
-  -- the event at an index is done, with what is told as it was
-  pub machine-next : (all : List (Event × ℕ)) (i : ℕ) (turn : Event × ℕ) (answers more : List Answer) (answer : Answer) (still : Handshake) (s m t : Standing)
-      → i < length all → turn ≡ get_or all i turn → more ≡ answers ++ answer ∷ [] → still ≡ told
-      → Machine policy told (take i all) answers s m → Does policy still turn.1 turn.0 m answer t
-      → Machine policy told (take (i + 1) all) more s t
-  machine-next all i turn answers more answer still s m t within is pushed same run does =
-      let next : take (i + 1) all ≡ take i all ++ turn ∷ [] = take_more all i turn within ∙ ap (λ (x : Event × ℕ). take i all ++ x ∷ []) (sym is) in
-      let right = subst (λ (x : Handshake). Does policy x turn.1 turn.0 m answer t) same does in
-      subst (λ (turns : List (Event × ℕ)). Machine policy told turns more s t) (sym next)
-      (subst (λ (said : List Answer). Machine policy told (take i all ++ turn ∷ []) said s t) (sym pushed)
-      (machine-push (take i all) answers turn answer s m t run right))
-
-  -- all were done
-  pub machine-whole : (all : List (Event × ℕ)) (i : ℕ) (answers : List Answer) (s t : Standing) → length all ≤ i
-      → Machine policy told (take i all) answers s t → Machine policy told all answers s t
-  machine-whole all i answers s t past run = subst (λ (turns : List (Event × ℕ)). Machine policy told turns answers s t) (take_all i all past) run

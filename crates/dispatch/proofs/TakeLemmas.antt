@@ -11,7 +11,7 @@ use Rattle.std.proofs.lemmas.Option.{slice_get_cases, slice_get_within}
 use Rattle.eio_wire.specs.declared.packet.Packet.{Packet}
 use Rattle.eio_wire.specs.declared.packet.Packet.TheVariants.{Ping, Message, Binary}
 use Rattle.eio_wire.specs.Payload.{HasWholeData}
-use Rattle.connection.specs.declared.transport.Transport.{Transport}
+use Rattle.connection.specs.declared.clock.Transport.{Transport}
 use Rattle.connection.specs.Line.{PlainLine}
 use Rattle.terms.specs.declared.entry.Entry.{Entry}
 use Rattle.terms.specs.Entry.{entry_size}
@@ -25,8 +25,8 @@ use Rattle.journal.proofs.OutboxesLemmas.{take_next}
 use Rattle.journal.proofs.SocketsLemmas.{neither}
 use Rattle.hub_state.specs.Words.{outbox_for, took}
 use Rattle.events.specs.declared.fault.CoreFault.{CoreFault}
-use Rattle.effects.specs.Commands.{Makes, StopsAt}
-use Rattle.effects.specs.Following.{is_clean}
+use Rattle.dispatch.specs.Commands.{Makes, StopsAt}
+use Rattle.dispatch.specs.Following.{is_clean}
 use Rattle.dispatch.specs.Holding.{IsClean}
 use Rattle.dispatch.specs.Takes.{most_taken, IsFitting, IsTaken, packets_of, handed, carried, Take, Counts, FailsToCount, Carries, FindsNothing, TakesFirst}
 

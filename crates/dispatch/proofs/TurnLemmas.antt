@@ -16,10 +16,10 @@ use Rattle.journal.specs.Entries.{AllPass, own_entries}
 use Rattle.events.specs.declared.fault.CoreError.{CoreError}
 use Rattle.events.specs.declared.fault.CoreFault.TheVariants.{IdTaken}
 use Rattle.events.specs.App.{Policy}
-use Rattle.effects.specs.Commands.{StopsAt}
-use Rattle.effects.specs.Following.{is_clean, is_cast, is_turn, is_work, AreMade, Follows, Spares, WorksFor}
-use Rattle.effects.proofs.StepLemmas.{follows-on, spares-on, Goes, goes-of, Working, working-of}
-use Rattle.effects.specs.Scene.{visit_at}
+use Rattle.dispatch.specs.Commands.{StopsAt}
+use Rattle.dispatch.specs.Following.{is_clean, is_cast, is_turn, is_work, AreMade, Follows, Spares, WorksFor}
+use Rattle.dispatch.proofs.StepLemmas.{follows-on, spares-on, Goes, goes-of, Working, working-of}
+use Rattle.dispatch.specs.Scene.{visit_at}
 use Rattle.dispatch.specs.Machine.{opening, WorksOn}
 use Rattle.dispatch.specs.Packets.{Course, course, BreaksAfter}
 use Rattle.dispatch.specs.Holding.{Holding, line_of, holding, KeepsOthers, Agree, with_ids}

@@ -3,10 +3,10 @@ use Rattle.std.proofs.Common.{◌≡◌, ℕ, ◌==◌, Bool, true, false, List,
 use Rattle.std.specs.Prelude.{codes}
 use Rattle.std.proofs.lemmas.Bool.Decides.{nat_tests}
 use Rattle.terms.specs.Refusal.{ok_unless}
-use Rattle.connection.specs.declared.clock_error.ClockError.{ClockError}
-use Rattle.connection.specs.declared.clock_error.ClockError.TheVariants as clock
-use Rattle.connection.specs.declared.transport.Transport.{Transport}
-use Rattle.connection.specs.declared.transport.Transport.TheVariants.{Polling, Probing, Socket}
+use Rattle.connection.specs.declared.clock.ClockError.{ClockError}
+use Rattle.connection.specs.declared.clock.ClockError.TheVariants as clock
+use Rattle.connection.specs.declared.clock.Transport.{Transport}
+use Rattle.connection.specs.declared.clock.Transport.TheVariants.{Polling, Probing, Socket}
 use Rattle.connection.specs.Upgrade.{transport, probe_refusal, unprobed_refusal}
 use Rattle.connection.specs.History.{Call, Probed, clock_calls}
 use Rattle.connection.specs.Line.{PlainLine, ForEachHistory, HasHistory, Advances}

@@ -1,14 +1,14 @@
 -- What a tick does, from what its parts do.
 use Rattle.std.proofs.Common.{◌≡◌, ℕ, Bool, true, false, List, [], ◌∷◌, inl, inr, sym, ap, Option, None, Some, Ok}
 use Rattle.std.specs.Prelude.{unwrap_or}
-use Rattle.connection.specs.declared.timing.Due.{Due}
+use Rattle.connection.specs.declared.clock.Due.{Due}
 use Rattle.connection.specs.History.{Ticked}
 use Rattle.connection.specs.Line.{PlainLine, Advances}
 use Rattle.journal.specs.declared.error.HubError.{HubError}
 use Rattle.journal.specs.declared.error.HubError.TheVariants as hub
 use Rattle.journal.specs.Journal.{History}
 use Rattle.events.specs.Answer.{Answer}
-use Rattle.effects.specs.Scene.{visit_at}
+use Rattle.dispatch.specs.Scene.{visit_at}
 use Rattle.dispatch.specs.Answers.{ForClient, AdvancesLine}
 use Rattle.dispatch.specs.Holding.{Holding, line_of, holding, KeepsOthers}
 use Rattle.dispatch.specs.Parking.{Parks, ParksOrCloses}

@@ -9,8 +9,8 @@ use Rattle.events.specs.declared.fault.CoreError.{CoreError}
 use Rattle.events.specs.declared.fault.CoreFault.{CoreFault}
 use Rattle.events.specs.declared.fault.CoreFault.TheVariants.{Memory, UnknownClient, BadConfig}
 use Rattle.journal.specs.Journal.{History}
-use Rattle.effects.specs.Scene.{Visit}
-use Rattle.effects.specs.Commands.{Makes, StopsAt}
+use Rattle.dispatch.specs.Scene.{Visit}
+use Rattle.dispatch.specs.Commands.{Makes, StopsAt}
 use Rattle.events.specs.Plain.{PlainDone, nothing_done}
 use Rattle.events.specs.Answer.{Answer, at_once}
 use Rattle.events.specs.declared.outcome.Outcome.TheVariants as outcome

@@ -3,7 +3,7 @@ use Rattle.std.specs.Prelude.{◌≡◌, ℕ, Bool}
 use Rattle.journal.specs.declared.step.What.{What}
 use Rattle.journal.specs.Journal.{History}
 use Rattle.hub_totals.specs.Pass.{PlainHub, PlainPass, Rises}
-use Rattle.effects.specs.Following.{is_turn, Follows}
+use Rattle.dispatch.specs.Following.{is_turn, Follows}
 
 -- the hub went on with such steps, and the pass has counted what it did
 pub record GoesOn (kind : History → What → Bool) (before after : PlainHub) (old new : PlainPass) : Type 0 where

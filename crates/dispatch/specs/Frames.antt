@@ -5,8 +5,8 @@ use Rattle.eio_wire.specs.declared.error.WireError.{WireError}
 use Rattle.eio_wire.specs.declared.packet.Packet.{Packet}
 use Rattle.eio_wire.specs.declared.packet.Packet.TheVariants.{Binary}
 use Rattle.eio_wire.specs.Packet.{Eio, IsNoPacket, fault_of}
-use Rattle.connection.specs.declared.transport.Transport.{Transport}
-use Rattle.connection.specs.declared.transport.Transport.TheVariants.{Socket}
+use Rattle.connection.specs.declared.clock.Transport.{Transport}
+use Rattle.connection.specs.declared.clock.Transport.TheVariants.{Socket}
 use Rattle.connection.specs.Line.{PlainLine, Advances}
 use Rattle.journal.specs.Journal.{History}
 use Rattle.events.specs.declared.fault.CoreFault.{CoreFault}

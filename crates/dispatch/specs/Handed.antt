@@ -20,11 +20,6 @@ use Rattle.dispatch.specs.Takes.{carried}
 abbrev pub Turn : Type 0
 Turn = Event × Answer
 
--- earlier turns, and then these events, each with its answer
-abbrev pub turns_after : List Turn → List (Event × ℕ) → List Answer → List Turn
-turns_after turns (event ∷ events) (answer ∷ answers) = turns_after ((event.0, answer) ∷ turns) events answers
-turns_after turns _ _ = turns
-
 -- the client was opened
 abbrev pub opens : ℕ → Event → Answer → Bool
 opens c (event.Opened socket) (Ok (outcome.Opened o)) = o.client == c

@@ -12,8 +12,8 @@ use Rattle.journal.specs.Journal.{History}
 use Rattle.journal.specs.Membership.{is_open}
 use Rattle.journal.specs.Entries.{BringsOnly}
 use Rattle.hub_totals.specs.Pass.{new_pass, PlainHub, PlainPass}
-use Rattle.effects.specs.Following.{is_clean}
-use Rattle.dispatch.specs.declared.lines.Handshake.{Handshake}
+use Rattle.dispatch.specs.Following.{is_clean}
+use Rattle.dispatch.specs.declared.clients.Handshake.{Handshake}
 
 -- the hub, the lines by their clients, and what each new client is told
 pub record PlainCore : Type 0 where

@@ -5,7 +5,7 @@ use Rattle.eio_wire.specs.declared.packet.Packet.{Packet}
 use Rattle.eio_wire.specs.Handshake.{open_packet_text}
 use Rattle.eio_wire.specs.Payload.{Payload, HasFault}
 use Rattle.sio_wire.specs.Frames.{held}
-use Rattle.connection.specs.declared.transport.Transport.TheVariants.{Socket}
+use Rattle.connection.specs.declared.clock.Transport.TheVariants.{Socket}
 use Rattle.connection.specs.History.{GetBegan, GetEnded}
 use Rattle.connection.specs.Line.{PlainLine, LeadsTo}
 use Rattle.journal.specs.declared.error.HubError.TheVariants as hub
@@ -14,9 +14,9 @@ use Rattle.events.specs.declared.cause.Cause.TheVariants as cause
 use Rattle.events.specs.declared.fault.CoreFault.TheVariants.{Memory, UnknownClient, WrongTransport}
 use Rattle.events.specs.App.{Policy}
 use Rattle.events.specs.Cause.{cause_of_wire}
-use Rattle.effects.specs.Commands.{Makes, IsRefused, StopsAt}
-use Rattle.effects.specs.Runs.{Runs}
-use Rattle.effects.specs.Scene.{Visit, visit_at}
+use Rattle.dispatch.specs.Commands.{Makes, IsRefused, StopsAt}
+use Rattle.dispatch.specs.Runs.{Runs}
+use Rattle.dispatch.specs.Scene.{Visit, visit_at}
 use Rattle.events.specs.declared.event.Event.{Event}
 use Rattle.events.specs.declared.event.Event.TheVariants as event
 use Rattle.events.specs.declared.event.WsFrame.{WsFrame}
@@ -26,13 +26,13 @@ use Rattle.events.specs.Answer.{Answer, at_once}
 use Rattle.dispatch.specs.Answers.{Refused, ChangesNone, KeepsWhileOpen, AdvancesLine, ClosesUnread, ForClient, ForVisit}
 use Rattle.dispatch.specs.Frames.{is_too_long, IsFrameOf, IsNoFrame, SendsFor}
 use Rattle.dispatch.specs.Packets.{Course, course, HandlesInTurn, BreaksAfter}
-use Rattle.effects.specs.Effects.{Scene}
+use Rattle.dispatch.specs.Effects.{Scene}
 use Rattle.events.specs.Plain.{nothing_done}
 use Rattle.journal.specs.Journal.{History}
-use Rattle.effects.specs.Hearing.{ended_since}
+use Rattle.dispatch.specs.Hearing.{ended_since}
 use Rattle.events.specs.Event.{client_of}
 use Rattle.dispatch.specs.Hearing.{HearsAfter}
-use Rattle.dispatch.specs.declared.lines.Handshake.{Handshake}
+use Rattle.dispatch.specs.declared.clients.Handshake.{Handshake}
 use Rattle.dispatch.specs.Holding.{Holding, HasLine, LosesLine, Standing}
 use Rattle.dispatch.specs.Takes.{IsOn, Polls, IsGetting, TakesFor}
 use Rattle.dispatch.specs.Upgrade.{Probes, Upgrades, LosesProbe}

@@ -7,8 +7,8 @@ use Rattle.eio_wire.specs.declared.packet.Packet.TheVariants as eio
 use Rattle.terms.specs.Ids.{id_digits}
 use Rattle.terms.specs.declared.entry.Entry.{Entry}
 use Rattle.sio_wire.specs.declared.assembler.SioPacket.{SioPacket}
-use Rattle.sio_wire.specs.declared.kind.Kind.{Kind}
-use Rattle.sio_wire.specs.declared.kind.Kind.TheVariants as kind
+use Rattle.sio_wire.specs.declared.header.Kind.{Kind}
+use Rattle.sio_wire.specs.declared.header.Kind.TheVariants as kind
 use Rattle.sio_wire.specs.declared.assembler.Progress.TheVariants.{Failed}
 use Rattle.sio_wire.specs.declared.error.SioError.{SioError}
 use Rattle.sio_wire.specs.declared.error.SioError.TheVariants as sio
@@ -40,14 +40,14 @@ use Rattle.events.specs.declared.fault.CoreFault.TheVariants.{Memory}
 use Rattle.events.specs.App.{Policy, Accepted, Refused, IsCleanArrival, AllClean}
 use Rattle.events.specs.Cause.{cause_of_sio}
 use Rattle.events.specs.Plain.{one_packet_more}
-use Rattle.effects.specs.Commands.{Makes, IsRefused, StopsAt, CannotRecover, IsSeated, seat}
+use Rattle.dispatch.specs.Commands.{Makes, IsRefused, StopsAt, CannotRecover, IsSeated, seat}
 use Rattle.hub_state.specs.Recovering.{recovery_asked}
-use Rattle.effects.specs.Effects.{Scene, IsOpenFor, told_to, counted, Closes, ActsInTurn, StopsAfter}
+use Rattle.dispatch.specs.Effects.{Scene, IsOpenFor, told_to, counted, Closes, ActsInTurn, StopsAfter}
 use Rattle.events.specs.declared.fault.CoreError.{CoreError}
 use Rattle.events.specs.declared.fault.Stopped.{Stopped}
-use Rattle.effects.specs.Runs.{Runs, FailsAfter}
-use Rattle.effects.specs.Scene.{Visit, visit_of, seen, IsSameEvent}
-use Rattle.effects.specs.declared.scene.Scene as values
+use Rattle.dispatch.specs.Runs.{Runs, FailsAfter}
+use Rattle.dispatch.specs.Scene.{Visit, visit_of, seen, IsSameEvent}
+use Rattle.dispatch.specs.declared.scene.Scene as values
 use Rattle.dispatch.specs.Parking.{ParksOrCloses, FailsToPark}
 
 -- where an event stands between two packets: a scene, and the ids to come

@@ -4,7 +4,7 @@ use Rattle.journal.specs.declared.error.HubError.TheVariants as hub
 use Rattle.journal.specs.declared.step.What.TheVariants as what
 use Rattle.journal.specs.Journal.{History}
 use Rattle.events.specs.declared.fault.CoreFault.{CoreFault}
-use Rattle.effects.specs.Commands.{Makes, IsRefused, StopsAt}
+use Rattle.dispatch.specs.Commands.{Makes, IsRefused, StopsAt}
 
 -- its sessions are saved, or where they have no space it is closed
 abbrev pub ParksOrCloses : History → ℕ → ℕ → History → Type 0

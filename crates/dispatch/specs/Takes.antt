@@ -4,8 +4,8 @@ use Rattle.std.specs.List.{flat_map}
 use Rattle.eio_wire.specs.declared.packet.Packet.{Packet}
 use Rattle.eio_wire.specs.declared.packet.Packet.TheVariants.{Ping, Message, Binary, Noop}
 use Rattle.eio_wire.specs.Payload.{Payload}
-use Rattle.connection.specs.declared.transport.Transport.{Transport}
-use Rattle.connection.specs.declared.transport.Transport.TheVariants.{Probing, Socket}
+use Rattle.connection.specs.declared.clock.Transport.{Transport}
+use Rattle.connection.specs.declared.clock.Transport.TheVariants.{Probing, Socket}
 use Rattle.connection.specs.Upgrade.{transport}
 use Rattle.terms.specs.declared.entry.Entry.{Entry}
 use Rattle.connection.specs.History.{Call, GetEnded, PingCarried, clock_calls, is_getting, is_ping_due}
@@ -15,7 +15,7 @@ use Rattle.journal.specs.Journal.{History}
 use Rattle.journal.specs.Outboxes.{total_size, waiting}
 use Rattle.events.specs.declared.fault.CoreFault.{CoreFault}
 use Rattle.events.specs.declared.fault.CoreFault.TheVariants.{Memory, WrongTransport}
-use Rattle.effects.specs.Commands.{Makes, StopsAt}
+use Rattle.dispatch.specs.Commands.{Makes, StopsAt}
 use Rattle.events.specs.declared.outcome.Outcome.{Outcome}
 use Rattle.events.specs.declared.outcome.Outcome.TheVariants as outcome
 

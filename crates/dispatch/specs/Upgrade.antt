@@ -1,9 +1,9 @@
 -- How a client that polls comes to speak over a WebSocket (Engine.IO protocol 4, "Upgrade").
 use Rattle.std.specs.Prelude.{◌≡◌, ◌⊎◌, ℕ, [], ◌∷◌, codes, Ok}
-use Rattle.connection.specs.declared.clock_error.ClockError.{ClockError}
-use Rattle.connection.specs.declared.clock_error.ClockError.TheVariants as clock
-use Rattle.connection.specs.declared.transport.Transport.{Transport}
-use Rattle.connection.specs.declared.transport.Transport.TheVariants.{Polling, Probing, Socket}
+use Rattle.connection.specs.declared.clock.ClockError.{ClockError}
+use Rattle.connection.specs.declared.clock.ClockError.TheVariants as clock
+use Rattle.connection.specs.declared.clock.Transport.{Transport}
+use Rattle.connection.specs.declared.clock.Transport.TheVariants.{Polling, Probing, Socket}
 use Rattle.connection.specs.History.{Probed, Upgraded, ProbeLost, Call}
 use Rattle.connection.specs.Line.{PlainLine}
 use Rattle.events.specs.declared.fault.CoreFault.{CoreFault}

@@ -1,16 +1,16 @@
 -- What the passing of time brings: a client's heartbeat and its end (Engine.IO protocol 4, "Heartbeat"; Socket.IO server
 -- documentation, "connectTimeout"), and the sweep of what is kept no longer (the same, "Connection state recovery").
 use Rattle.std.specs.Prelude.{◌≡◌, ℕ, true, false, [], ◌∷◌, Some, Ok, Err}
-use Rattle.connection.specs.declared.timing.Due.{Due}
-use Rattle.connection.specs.declared.timing.Due.TheVariants.{Nothing, SendPing, PingTimeout, ConnectTimeout}
+use Rattle.connection.specs.declared.clock.Due.{Due}
+use Rattle.connection.specs.declared.clock.Due.TheVariants.{Nothing, SendPing, PingTimeout, ConnectTimeout}
 use Rattle.connection.specs.Heartbeat.{due}
 use Rattle.connection.specs.History.{Ticked, clock_calls}
 use Rattle.connection.specs.Line.{PlainLine, ForEachHistory}
 use Rattle.journal.specs.declared.step.What.TheVariants as what
 use Rattle.events.specs.declared.cause.Cause.TheVariants as cause
 use Rattle.hub_totals.specs.Pass.{Drops}
-use Rattle.effects.specs.Commands.{Makes, StopsAt}
-use Rattle.effects.specs.Scene.{Visit}
+use Rattle.dispatch.specs.Commands.{Makes, StopsAt}
+use Rattle.dispatch.specs.Scene.{Visit}
 use Rattle.events.specs.declared.outcome.Outcome.TheVariants as outcome
 use Rattle.events.specs.Answer.{Answer, at_once}
 use Rattle.events.specs.Plain.{nothing_done}

@@ -1,33 +1,33 @@
 //! The whole state of the server, and what each event does to it.
 
-ghost use Rattle.std.specs.Prelude.{◌≡◌, ℕ, ◌+◌, List, [], ◌∷◌, length, Some, None, is_some, IsOk, IfOk, IfErr, IfSome, OnOk, OnErr};
+ghost use Rattle.std.specs.Prelude.{◌≡◌, ℕ, ◌+◌, List, [], ◌∷◌, length, Some, None, is_some, IsOk, IfOk, IfErr, IfSome, OnOk};
 ghost use Rattle.std.specs.Ordering.{nat_cmp};
 ghost use Rattle.terms.specs.Listing.{ListsRising};
 ghost use Rattle.journal.specs.Config.{config_refusal};
 ghost use Rattle.journal.specs.Membership.{is_open};
 ghost use Rattle.journal.specs.Seal.{Seals};
-ghost use Rattle.hub_totals.specs.Pass.{AtLeast, GivesPass, IsBlankOf, Rises, Settles};
-ghost use Rattle.effects.specs.Following.{Spares};
+ghost use Rattle.hub_totals.specs.Pass.{AtLeast, GivesPass, IsBlankOf, Settles};
+ghost use Rattle.dispatch.specs.Following.{Spares};
 ghost use Rattle.connection.specs.Line.{PlainLine};
 ghost use Rattle.dispatch.specs.Holding.{line_of, standing, Agree, IsClean, IsNew};
 ghost use Rattle.dispatch.specs.Takes.{IsOn};
 ghost use Rattle.events.specs.Answer.{at_once};
 ghost use Rattle.dispatch.specs.Answers.{fault_of_config};
 ghost use Rattle.dispatch.specs.Counting.{TurnsFor};
-ghost use Rattle.dispatch.specs.Handed.{Turn, turns_after, Handed};
-ghost use Rattle.dispatch.specs.Machine.{Row, Does, Machine, IsOf, listed};
+ghost use Rattle.dispatch.specs.Handed.{Turn, Handed};
+ghost use Rattle.dispatch.specs.Machine.{Row, Does, IsOf, listed};
 
-use crate::hear_after::hear_after;
-use crate::lines::{Handshake, Lines, transport_of};
-use crate::{clients, frames, losing, requests, upgrade};
+use crate::clients::{self, Handshake, Lines, transport_of};
+use crate::hearing::hear_after;
+use crate::polling;
+use crate::scene::Call;
 use connection::{Timing, Transport};
-use effects::Call;
 use eio_wire::Numbers;
 use events::{Answered, App, CoreError, CoreFault, Event, IdSource};
 use hub_state::State;
 use hub_totals::{Hub, NotAll, Pass};
 use journal::{Config, Epoch, HubError, Totals};
-use std::alloc::{AllocError, Global};
+use std::alloc::Global;
 use std::collections::BTreeMap;
 use std::marker::Model;
 use std::sync::ledger::{Blank, Ledger};
@@ -121,37 +121,6 @@ impl<C: Ledger, T: Ledger> Core<C, T> {
         let answer = hear_after(call, &mut hub.state, app, event.client(), ended, said);
         hub.books.catch_up(pass, &before, &hub.state);
         answer
-    }
-
-    /// What each of these events in turn is answered with, each counted in the pass. Where there is
-    /// no memory for so many answers nothing is done.
-    pub fn apply_all<A: App, I: IdSource>(
-        &mut self,
-        alloc: Global,
-        pass: &mut Pass<C, T>,
-        app: &A,
-        events: &[(Event, u64)],
-        ids: &mut I,
-    ) -> Result<Vec<Answered>, AllocError>
-        ensures does { IfOk result (λ answers.
-            Machine (A.policy app.now) self.old.told events.now answers.items
-            (standing self.old.hub.history self.old.lines (I.stream ids.old))
-            (standing self.new.hub.history self.new.lines (I.stream ids.new))) }
-        ensures handed { IfOk result (λ answers. (c : ℕ) (turns : List Turn)
-            → Handed c turns self.old.hub.history
-            → Handed c (turns_after turns events.now answers.items) self.new.hub.history) }
-        ensures rises { Rises self.old.hub self.new.hub pass.old pass.new }
-        ensures rest { self.new.hub.rest ≡ self.old.hub.rest }
-        ensures settings { self.new.told ≡ self.old.told }
-        ensures unchanged { OnErr result
-            ((self.new ≡ self.old) × (pass.new ≡ pass.old) × (ids.new ≡ ids.old)) }
-    {
-        let mut answers = Vec::with_capacity(alloc, events.len())?;
-        for (event, now) in events {
-            let answer = self.apply(alloc, pass, app, event, *now, ids);
-            answers.push_reserved(answer);
-        }
-        Ok(answers)
     }
 
     /// The hub, which tells all that can be asked of it.
@@ -263,22 +232,22 @@ fn do_row<A: App, I: IdSource>(
             clients::open(visit, state, lines, handshake, *socket)
         }
         Event::Post { client, body } => {
-            requests::post(call.of(*client), state, lines, app, ids, body.as_str())
+            polling::post(call.of(*client), state, lines, app, ids, body.as_str())
         }
         Event::Frame { client, frame } => {
-            frames::receive(call.of(*client), state, lines, app, ids, frame)
+            clients::receive(call.of(*client), state, lines, app, ids, frame)
         }
-        Event::PollBegin { client } => requests::begin(call.of(*client), state, lines),
-        Event::PollEnd { client } => requests::end(call.alloc, lines, *client),
-        Event::PollTake { client, most } => {
-            requests::take(call.of(*client), state, lines, *most)
+        Event::PollBegin { client } => polling::begin(call.of(*client), state, lines),
+        Event::PollEnd { client } => polling::end(call.alloc, lines, *client),
+        Event::PollTake { client, most } => { polling::take(call.of(*client), state, lines, *most) }
+        Event::FrameTake { client, most } => {
+            clients::take(call.of(*client), state, lines, *most)
         }
-        Event::FrameTake { client, most } => { frames::take(call.of(*client), state, lines, *most) }
-        Event::Probe { client } => upgrade::probe(call.alloc, lines, *client),
-        Event::Upgraded { client } => upgrade::upgrade(call.alloc, lines, *client),
-        Event::ProbeLost { client } => upgrade::probe_lost(call.alloc, lines, *client),
-        Event::TransportLost { client } => losing::lose(call.of(*client), state, lines),
-        Event::Tick { client } => losing::tick(call.of(*client), state, lines),
-        Event::Sweep => losing::sweep(call, state),
+        Event::Probe { client } => polling::probe(call.alloc, lines, *client),
+        Event::Upgraded { client } => polling::upgrade(call.alloc, lines, *client),
+        Event::ProbeLost { client } => polling::probe_lost(call.alloc, lines, *client),
+        Event::TransportLost { client } => clients::lose(call.of(*client), state, lines),
+        Event::Tick { client } => clients::tick(call.of(*client), state, lines),
+        Event::Sweep => clients::sweep(call, state),
     }
 }

@@ -1,19 +1,17 @@
 //! What each event does to the server: the core, one value that holds the hub and a line for each
-//! of its clients.
+//! of its clients; and what the app's effects do to them.
 #![tactic(auto)]
 
 mod clients;
-mod connect;
+mod commands;
+mod effects;
 mod event_core;
-mod frames;
-mod hear_after;
-mod joined;
-mod lines;
-mod losing;
+mod hearing;
+mod laws;
 mod packets;
-mod requests;
-mod takes;
-mod upgrade;
+mod polling;
+mod scene;
 
-pub use connect::named_once;
 pub use event_core::Core;
+pub use laws::{effects_are_work, others_are_spared};
+pub use packets::named_once;

@@ -1,5 +1,3 @@
-//! Why a text was not read or written.
-
 ghost use Rattle.std.specs.Prelude.{◌≡◌};
 ghost use Rattle.eio_wire.specs.declared.error.WireError.TheVariants.{Memory};
 

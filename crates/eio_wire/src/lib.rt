@@ -4,12 +4,10 @@
 mod error;
 mod handshake;
 mod packet;
-mod payload;
 
 pub use error::WireError;
 pub use handshake::{Numbers, open_text};
-pub use packet::{Packet, one_packet, one_text, read_packet, write_packet};
-pub use payload::{
-    faults_of_texts, one_fault, one_payload, payloads_or_refusals, read_payload,
-    whole_data_is_written, write_payload,
+pub use packet::{
+    Packet, faults_of_texts, one_fault, one_packet, one_payload, one_text, payloads_or_refusals,
+    read_packet, read_payload, whole_data_is_written, write_packet, write_payload,
 };

@@ -20,7 +20,7 @@ use Rattle.guarded.specs.Entrance.{has_token}
 use Rattle.switchboard.specs.Digits.{digits_verdict}
 use Rattle.switchboard.specs.Switchboard.{verdict_of}
 use Rattle.switchboard.specs.Telling.{BACKENDS}
-use Rattle.dispatch.specs.declared.lines.Handshake.{Handshake}
+use Rattle.dispatch.specs.declared.clients.Handshake.{Handshake}
 use Rattle.dispatch.specs.Machine.{Machine}
 use Rattle.dispatch.specs.Holding.{standing, new_core}
 use Rattle.epochs.specs.Backends.{CameByToken}

@@ -6,8 +6,8 @@ use Rattle.sio_wire.specs.declared.assembler.SioPacket.{SioPacket}
 use Rattle.sio_wire.specs.declared.assembler.Progress.{Progress}
 use Rattle.sio_wire.specs.declared.assembler.Progress.TheVariants.{Ready, Waiting, Failed}
 use Rattle.sio_wire.specs.declared.error.SioError.{SioError}
-use Rattle.sio_wire.specs.declared.kind.Kind.{Kind}
-use Rattle.sio_wire.specs.declared.kind.Kind.TheVariants.{Connect}
+use Rattle.sio_wire.specs.declared.header.Kind.{Kind}
+use Rattle.sio_wire.specs.declared.header.Kind.TheVariants.{Connect}
 use Rattle.sio_wire.specs.declared.header.Header.{Header}
 use Rattle.sio_wire.specs.Header.{Sio, CountPart}
 use Rattle.sio_wire.specs.Frames.{Frame, text, binary, BeginsPacket, Groups, IsGroup, Keeps, Accepted, Accepts}

@@ -7,11 +7,11 @@ use Rattle.events.specs.declared.app.Effect.{Effect}
 use Rattle.events.specs.declared.event.Event.{Event}
 use Rattle.events.specs.Answer.{Answer}
 use Rattle.events.specs.App.{Policy, PlainVerdict, Accepted}
-use Rattle.guarded.specs.declared.entrance.Entrance.{Entrance}
-use Rattle.guarded.specs.declared.entrance.Pass.{Pass}
-use Rattle.guarded.specs.declared.entrance.Pass.TheVariants.{Granted, NotAllowed, Expired}
+use Rattle.guarded.specs.declared.guarded.Entrance.{Entrance}
+use Rattle.guarded.specs.declared.guarded.Pass.{Pass}
+use Rattle.guarded.specs.declared.guarded.Pass.TheVariants.{Granted, NotAllowed, Expired}
 use Rattle.guarded.specs.Guarded.{Admits, pass_into}
-use Rattle.dispatch.specs.declared.lines.Handshake.{Handshake}
+use Rattle.dispatch.specs.declared.clients.Handshake.{Handshake}
 use Rattle.dispatch.specs.Machine.{Machine}
 use Rattle.dispatch.specs.Holding.{standing, new_core}
 use Rattle.epochs.specs.Entrances.{CameIn}

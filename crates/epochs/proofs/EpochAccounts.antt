@@ -10,7 +10,7 @@ use Rattle.events.specs.App.{Policy}
 use Rattle.events.specs.declared.event.Event.{Event}
 use Rattle.events.specs.Answer.{Answer}
 use Rattle.epochs.specs.Epochs.{AreAlike, with_steps, in_one}
-use Rattle.dispatch.specs.declared.lines.Handshake.{Handshake}
+use Rattle.dispatch.specs.declared.clients.Handshake.{Handshake}
 use Rattle.dispatch.specs.Machine.{Does, Machine}
 use Rattle.dispatch.specs.Holding.{Standing, standing, holding, line_of, Agree}
 use Rattle.dispatch.proofs.HearingLaws.{agrees-still}

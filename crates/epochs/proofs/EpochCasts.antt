@@ -24,8 +24,7 @@ use Rattle.journal.proofs.CountsLemmas.{or_none}
 use Rattle.journal.proofs.EpochsOutboxesLemmas.{reaches-same, placed-same, placements-cast, addressed-same}
 use Rattle.journal.proofs.EpochsSocketsLemmas.{any-socket-as}
 use Rattle.events.specs.declared.fault.CoreFault.{CoreFault}
-use Rattle.events.specs.Emission.{PlainEmission}
-use Rattle.effects.specs.Broadcasting.{Work, work, cast_of, Broadcasts, CannotBroadcast}
+use Rattle.dispatch.specs.Broadcasting.{Work, work, Broadcasts, CannotBroadcast}
 use Rattle.epochs.specs.Epochs.{AreAlike}
 use Rattle.epochs.proofs.EpochSteps.{with-limits, Grown, grown-step, StaysSound}
 
@@ -161,11 +160,11 @@ turned s g = work g s.done
 abbrev pub SimWork : (Work → Work → Type 0) → Work → Work → History → Type 0
 SimWork R s t g = (m : History) × Grown s.history t.history g m × R (turned s g) (turned t m)
 
-pub says-alike : StaysSound → (c : ℕ) (e : PlainEmission) (now : ℕ) (s t : Work) (g : History) → AreAlike s.history g → Broadcasts c e now s t → SimWork (Broadcasts c e now) s t g
+pub says-alike : StaysSound → (c : ℕ) (e : PlainCast) (now : ℕ) (s t : Work) (g : History) → AreAlike s.history g → Broadcasts c e now s t → SimWork (Broadcasts c e now) s t g
 says-alike keeps c e now s t g alike (unrefused, done, cast, is) =
-    let both = cast-alike keeps s.history g t.history now (cast_of e) done alike unrefused cast in
-    (with_step g now (Cast cast.b), both.0, (refusal_of-alike s.history g alike (cast_of e) ∙ unrefused, done, both.1, is))
+    let both = cast-alike keeps s.history g t.history now e done alike unrefused cast in
+    (with_step g now (Cast cast.b), both.0, (refusal_of-alike s.history g alike e ∙ unrefused, done, both.1, is))
 
-pub cannot-say : (e : PlainEmission) (h g : History) → AreAlike h g → (fault : CoreFault) → CannotBroadcast e h fault → CannotBroadcast e g fault
+pub cannot-say : (e : PlainCast) (h g : History) → AreAlike h g → (fault : CoreFault) → CannotBroadcast e h fault → CannotBroadcast e g fault
 cannot-say e h g alike fault (inl short) = inl short
-cannot-say e h g alike fault (inr (spent, by)) = inr (spent, spent-by-alike h g alike (cast_of e) by)
+cannot-say e h g alike fault (inr (spent, by)) = inr (spent, spent-by-alike h g alike e by)

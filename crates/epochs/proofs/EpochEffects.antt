@@ -23,15 +23,15 @@ use Rattle.events.specs.declared.app.Who.{Who}
 use Rattle.events.specs.declared.cause.Cause.{Cause}
 use Rattle.events.specs.declared.fault.CoreFault.{CoreFault}
 use Rattle.events.specs.declared.fault.Stopped.{Stopped}
-use Rattle.events.specs.Emission.{PlainEmission}
+use Rattle.journal.specs.Plain.{PlainCast}
 use Rattle.events.specs.Selection.{PlainSelection}
 use Rattle.hub_state.specs.Words.{selected}
-use Rattle.effects.specs.Answering.{report_text, list_text}
-use Rattle.effects.specs.Commands.{Makes, IsRefused, StopsAt, IsSeated}
-use Rattle.effects.specs.Effects.{Scene, Closes, ChangesRooms, Emits, told_to, Replies, Says, listed, Asks, goodbye, SaysGoodbye, Disconnects, all_joined, all_left, dismissed, is_among, EndsAll, Acts, ActsInTurn, is_bad, is_wrong, FailsToTell, FailsAt, FailsToEmit, FailsToReply, FailsToSay, FailsToDisconnect, FailsToEndAll, FailsToAsk, Fails, Stops, StopsAfter}
+use Rattle.dispatch.specs.Answering.{report_text, list_text}
+use Rattle.dispatch.specs.Commands.{Makes, IsRefused, StopsAt, IsSeated}
+use Rattle.dispatch.specs.Effects.{Scene, Closes, ChangesRooms, Emits, told_to, Replies, Says, listed, Asks, goodbye, SaysGoodbye, Disconnects, all_joined, all_left, dismissed, is_among, EndsAll, Acts, ActsInTurn, is_bad, is_wrong, FailsToTell, FailsAt, FailsToEmit, FailsToReply, FailsToSay, FailsToDisconnect, FailsToEndAll, FailsToAsk, Fails, Stops, StopsAfter}
 use Rattle.events.specs.Plain.{one_more, told}
-use Rattle.effects.specs.Runs.{Runs, RunsOrFails}
-use Rattle.effects.specs.Broadcasting.{work}
+use Rattle.dispatch.specs.Runs.{Runs, RunsOrFails}
+use Rattle.dispatch.specs.Broadcasting.{work}
 use Rattle.epochs.specs.Epochs.{AreAlike}
 use Rattle.epochs.proofs.EpochSteps.{refusal-alike, Grown, grown-none, grown-on, grown-step, StaysSound}
 use Rattle.epochs.proofs.EpochCasts.{says-alike, cannot-say}
@@ -79,7 +79,7 @@ module _ (keeps : StaysSound) (now : ℕ) where
     inr (e, subst (λ (v : What). IsRefused g now v (hub.RoomRefused e)) (sym same) (refused-alike s.history g alike w (hub.RoomRefused e) refused), ap (λ (u : Scene). moved u g) is),
   )
 
-  emits-alike : (who : Who) (e : PlainEmission) (s t : Scene) (g : History) → AreAlike s.history g → Emits who e now s t → Sim (Emits who e now) s t g
+  emits-alike : (who : Who) (e : PlainCast) (s t : Scene) (g : History) → AreAlike s.history g → Emits who e now s t → Sim (Emits who e now) s t g
   emits-alike who e s t g alike (says, is) =
       let (m, grown, also) = says-alike keeps who.client e now (work s.history s.done) (work t.history t.done) g alike says in
       (m, grown, (also, ap (λ (u : Scene). moved u m) is))
@@ -200,7 +200,7 @@ module _ (keeps : StaysSound) (now : ℕ) where
   fails-to-tell who h g alike entry fault (inr (refused, stops)) =
       inr (refused-alike h g alike (told_to who.client entry) hub.OutboxFull refused, stops-alike h g alike (what.Closed who.client) fault stops)
 
-  fails-to-emit : (e : PlainEmission) (s : Scene) (fault : CoreFault) (t : Scene) (g : History) → AreAlike s.history g → FailsToEmit e s fault t → Ends (FailsToEmit e) s fault t g
+  fails-to-emit : (e : PlainCast) (s : Scene) (fault : CoreFault) (t : Scene) (g : History) → AreAlike s.history g → FailsToEmit e s fault t → Ends (FailsToEmit e) s fault t g
   fails-to-emit e s fault t g alike (cannot, is) =
       (g, grown-none s.history t.history g alike (ap (λ (u : Scene). u.history) is), (cannot-say e s.history g alike fault cannot, ap (λ (u : Scene). moved u g) is))
 

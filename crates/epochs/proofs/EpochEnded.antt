@@ -11,7 +11,7 @@ use Rattle.journal.specs.Plain.{PlainBase}
 use Rattle.journal.specs.Journal.{History}
 use Rattle.journal.specs.Casting.{in_space}
 use Rattle.hub_state.specs.EndedSockets.{PlainEnded, as_ended, found, sockets_ended_by, ended_sockets}
-use Rattle.effects.specs.Hearing.{ended_since}
+use Rattle.dispatch.specs.Hearing.{ended_since}
 use Rattle.epochs.specs.Epochs.{AreAlike, with_steps}
 
 -- the sockets that ended by these steps, the newest first, which come after those before, in the order in which they did

@@ -9,12 +9,12 @@ use Rattle.events.specs.declared.fault.CoreFault.{CoreFault}
 use Rattle.events.specs.declared.fault.CoreFault.TheVariants.{Memory, BadEffect}
 use Rattle.events.specs.Answer.{Answer}
 use Rattle.events.specs.App.{Policy, AllClean}
-use Rattle.events.specs.Emission.{PlainEmission}
+use Rattle.journal.specs.Plain.{PlainCast}
 use Rattle.events.specs.Plain.{PlainDone}
-use Rattle.effects.specs.Hearing.{who_of, Sends, HearsOf, HearsOfAll}
-use Rattle.effects.specs.Effects.{is_bad_emission}
-use Rattle.effects.specs.Runs.{RunsOrFails}
-use Rattle.effects.specs.Broadcasting.{Work, work, BroadcastsOrFails}
+use Rattle.dispatch.specs.Hearing.{who_of, Sends, HearsOf, HearsOfAll}
+use Rattle.dispatch.specs.Effects.{is_bad_emission}
+use Rattle.dispatch.specs.Runs.{RunsOrFails}
+use Rattle.dispatch.specs.Broadcasting.{Work, work, BroadcastsOrFails}
 use Rattle.epochs.specs.Epochs.{AreAlike}
 use Rattle.dispatch.specs.Hearing.{done_before, Hears, HearsAfter}
 use Rattle.epochs.proofs.EpochSteps.{Grown, grown-none, StaysSound}
@@ -28,15 +28,15 @@ same-work : (s t : Work) (g : History) → AreAlike s.history g → t ≡ s → 
 same-work s t g alike is = grown-none s.history t.history g alike (ap (λ (u : Work). u.history) is)
 
 module _ (keeps : StaysSound) (c now : ℕ) where
-  says-or-fails : (e : PlainEmission) (s : Work) (r : Result (Unit {0}) CoreFault) (t : Work) (g : History) → AreAlike s.history g → BroadcastsOrFails c e now s r t → SimWork (λ a b. BroadcastsOrFails c e now a r b) s t g
+  says-or-fails : (e : PlainCast) (s : Work) (r : Result (Unit {0}) CoreFault) (t : Work) (g : History) → AreAlike s.history g → BroadcastsOrFails c e now s r t → SimWork (λ a b. BroadcastsOrFails c e now a r b) s t g
   says-or-fails e s (Ok x) t g alike says = says-alike keeps c e now s t g alike says
   says-or-fails e s (Err fault) t g alike (cannot, is) = (g, same-work s t g alike is, (cannot-say e s.history g alike fault cannot, ap (λ (u : Work). turned u g) is))
 
   -- the row of an event, by whether it can be sent
-  abbrev SendsIf : Bool → PlainEmission → Result (Unit {0}) CoreFault → Work → Work → Type 0
+  abbrev SendsIf : Bool → PlainCast → Result (Unit {0}) CoreFault → Work → Work → Type 0
   SendsIf bad e r a b = elim bad as (λ (bad : Bool). Type 0) [ true ↦ (r ≡ Err BadEffect) × (b ≡ a) | false ↦ BroadcastsOrFails c e now a r b ]
 
-  emit-alike : (e : PlainEmission) (s : Work) (r : Result (Unit {0}) CoreFault) (t : Work) (g : History) → AreAlike s.history g → Sends c now s (Emit e) r t → SimWork (λ a b. Sends c now a (Emit e) r b) s t g
+  emit-alike : (e : PlainCast) (s : Work) (r : Result (Unit {0}) CoreFault) (t : Work) (g : History) → AreAlike s.history g → Sends c now s (Emit e) r t → SimWork (λ a b. Sends c now a (Emit e) r b) s t g
   emit-alike e s r t g alike does =
       subst (λ (l : Limits). (m : History) × Grown s.history t.history g m × SendsIf (is_bad_emission l e) e r (turned s g) (turned t m)) (sym alike.same.same_limits)
       (on (is_bad_emission s.history.limits e) does)

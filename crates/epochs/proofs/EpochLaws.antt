@@ -10,7 +10,7 @@ use Rattle.journal.specs.Plain.{Limits, PlainBase}
 use Rattle.journal.specs.Journal.{History, history, moment_at, with_step}
 use Rattle.journal.specs.Membership.{is_open}
 use Rattle.journal.specs.Outboxes.{begins, put, entries_for, placements, taken, waiting}
-use Rattle.effects.specs.Following.{is_turn, AreMade, Follows, Spares}
+use Rattle.dispatch.specs.Following.{is_turn, AreMade, Follows, Spares}
 use Rattle.epochs.specs.Epochs.{placed_on, all_placements, BeginsAfter, HandedInAll, SparesInAll}
 use Rattle.dispatch.specs.Handed.{Turn, opens, takes, HandsOut, HandedOut, is_opened_in, is_begun_in, Handed}
 

@@ -1,10 +1,10 @@
 -- What an event does after two histories that say the same.
 use Rattle.std.proofs.Common.{subst, ◌≡◌, ℕ, ◌+◌, Bool, true, false, List, [], ◌∷◌, refl, sym, ◌∙◌, ap, length, Option, None, Some, Ok, Err, inl, inr}
 use Rattle.eio_wire.specs.declared.packet.Packet.{Packet}
-use Rattle.connection.specs.declared.timing.Due.{Due}
-use Rattle.connection.specs.declared.timing.Due.TheVariants as due
-use Rattle.connection.specs.declared.transport.Transport.{Transport}
-use Rattle.connection.specs.declared.transport.Transport.TheVariants.{Polling, Probing, Socket}
+use Rattle.connection.specs.declared.clock.Due.{Due}
+use Rattle.connection.specs.declared.clock.Due.TheVariants as due
+use Rattle.connection.specs.declared.clock.Transport.{Transport}
+use Rattle.connection.specs.declared.clock.Transport.TheVariants.{Polling, Probing, Socket}
 use Rattle.connection.specs.History.{Call, Upgraded, ProbeLost}
 use Rattle.connection.specs.Line.{PlainLine}
 use Rattle.recovery.specs.PacketLog.{PlainLogged}
@@ -21,15 +21,15 @@ use Rattle.events.specs.declared.fault.CoreFault.{CoreFault}
 use Rattle.events.specs.declared.fault.CoreFault.TheVariants.{Memory, UnknownClient}
 use Rattle.events.specs.App.{Policy}
 use Rattle.hub_totals.specs.Pass.{Drops}
-use Rattle.effects.specs.Hearing.{ended_since}
+use Rattle.dispatch.specs.Hearing.{ended_since}
 use Rattle.events.specs.declared.event.Event.{Event}
 use Rattle.events.specs.declared.event.Event.TheVariants as event
 use Rattle.events.specs.declared.event.WsFrame.{WsFrame}
 use Rattle.events.specs.declared.outcome.Outcome.TheVariants as outcome
 use Rattle.events.specs.Answer.{Answer}
 use Rattle.events.specs.Event.{client_of}
-use Rattle.effects.specs.Scene.{visit_at}
-use Rattle.dispatch.specs.declared.lines.Handshake.{Handshake}
+use Rattle.dispatch.specs.Scene.{visit_at}
+use Rattle.dispatch.specs.declared.clients.Handshake.{Handshake}
 use Rattle.dispatch.specs.Answers.{Refused, AdvancesLine, ClosesUnread, ForClient}
 use Rattle.epochs.specs.Epochs.{AreAlike}
 use Rattle.dispatch.specs.Frames.{is_too_long, SendsFor}

@@ -3,8 +3,8 @@ use Rattle.std.proofs.Common.{◌≡◌, ◌⊎◌, ℕ, Bool, true, false, List
 use Rattle.eio_wire.specs.declared.packet.Packet.{Packet}
 use Rattle.eio_wire.specs.declared.packet.Packet.TheVariants as eio
 use Rattle.sio_wire.specs.declared.assembler.SioPacket.{SioPacket}
-use Rattle.sio_wire.specs.declared.kind.Kind.{Kind}
-use Rattle.sio_wire.specs.declared.kind.Kind.TheVariants as kind
+use Rattle.sio_wire.specs.declared.header.Kind.{Kind}
+use Rattle.sio_wire.specs.declared.header.Kind.TheVariants as kind
 use Rattle.sio_wire.specs.declared.error.SioError.{SioError}
 use Rattle.sio_wire.specs.declared.error.SioError.TheVariants as sio
 use Rattle.sio_wire.specs.declared.assembler.Progress.TheVariants.{Failed}
@@ -40,11 +40,11 @@ use Rattle.events.specs.declared.fault.Stopped.{Stopped}
 use Rattle.events.specs.App.{Policy}
 use Rattle.hub_state.specs.Recovering.{recovery_asked}
 use Rattle.hub_state.specs.Words.{rooms_now}
-use Rattle.effects.specs.Commands.{Makes, IsRefused, StopsAt, CannotRecover, IsSeated, seat}
-use Rattle.effects.specs.Effects.{Scene, told_to, counted}
-use Rattle.effects.specs.Runs.{Runs}
+use Rattle.dispatch.specs.Commands.{Makes, IsRefused, StopsAt, CannotRecover, IsSeated, seat}
+use Rattle.dispatch.specs.Effects.{Scene, told_to, counted}
+use Rattle.dispatch.specs.Runs.{Runs}
 use Rattle.epochs.specs.Epochs.{AreAlike}
-use Rattle.effects.specs.Scene.{Visit, visit_at}
+use Rattle.dispatch.specs.Scene.{Visit, visit_at}
 use Rattle.dispatch.specs.Packets.{Course, Upshot, StopsFor, IsShortAfter, IsShort, DrawsNone, ClosesFor, ParksFor, refusal_entry, Refuses, DoesAll, ClientDisconnects, DecidesAfter, Decides, TakesAck, Serves, ServesJoined, socket_in, ConnectsAs, ComesBack, AsksApp, AsksToRecover, MayRecover, AsksToConnect, Works, GoesOn, with_line, TakesFrame, TakesText, ReadsBinary, TakesBinary, Handles, begun, HandlesOrBreaks, HandlesInTurn, BreaksAfter}
 use Rattle.dispatch.specs.Parking.{ParksOrCloses, FailsToPark}
 use Rattle.epochs.proofs.EpochSteps.{with-limits, Grown, grown-none, grown-on, StaysSound}

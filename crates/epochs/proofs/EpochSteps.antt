@@ -8,7 +8,7 @@ use Rattle.journal.specs.Command.{refusal}
 use Rattle.journal.specs.Seal.{SaysTheSame, IsLegalAndSound, MayFollow}
 use Rattle.journal.proofs.EpochsLemmas.{composes-forth}
 use Rattle.journal.proofs.EpochsRefusalsLemmas.{refusal-same}
-use Rattle.effects.specs.Hearing.{ended_since}
+use Rattle.dispatch.specs.Hearing.{ended_since}
 use Rattle.epochs.specs.Epochs.{AreAlike, with_steps}
 use Rattle.epochs.proofs.EpochEnded.{sockets_ended_in, ended_sockets-both, since-steps, ended_sockets-alike}
 

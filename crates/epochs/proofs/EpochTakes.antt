@@ -4,8 +4,8 @@ use Rattle.std.specs.List.{AllZip}
 use Rattle.std.proofs.lemmas.List.{length-take}
 use Rattle.eio_wire.specs.declared.packet.Packet.{Packet}
 use Rattle.eio_wire.specs.Payload.{Payload}
-use Rattle.connection.specs.declared.transport.Transport.{Transport}
-use Rattle.connection.specs.declared.transport.Transport.TheVariants.{Polling, Probing, Socket}
+use Rattle.connection.specs.declared.clock.Transport.{Transport}
+use Rattle.connection.specs.declared.clock.Transport.TheVariants.{Polling, Probing, Socket}
 use Rattle.terms.specs.declared.entry.Entry.{Entry}
 use Rattle.connection.specs.Line.{PlainLine}
 use Rattle.journal.specs.declared.step.What.TheVariants.{Took}
@@ -14,7 +14,7 @@ use Rattle.journal.specs.Membership.{is_open}
 use Rattle.journal.specs.Outboxes.{waiting}
 use Rattle.events.specs.declared.fault.CoreFault.{CoreFault}
 use Rattle.events.specs.declared.fault.CoreFault.TheVariants.{Memory}
-use Rattle.effects.specs.Commands.{Makes, StopsAt}
+use Rattle.dispatch.specs.Commands.{Makes, StopsAt}
 use Rattle.events.specs.declared.outcome.Outcome.TheVariants as outcome
 use Rattle.epochs.specs.Epochs.{AreAlike}
 use Rattle.dispatch.specs.Frames.{IsSentAs, Sends, SendsFirst, SendsWaiting, SendsOn, SendsFor}

@@ -15,8 +15,8 @@ use Rattle.journal.specs.Membership.{place_of, sockets}
 use Rattle.events.specs.declared.event.Event.{Event}
 use Rattle.events.specs.Answer.{Answer}
 use Rattle.events.specs.App.{Policy}
-use Rattle.effects.specs.Commands.{seat}
-use Rattle.dispatch.specs.declared.lines.Handshake.{Handshake}
+use Rattle.dispatch.specs.Commands.{seat}
+use Rattle.dispatch.specs.declared.clients.Handshake.{Handshake}
 use Rattle.dispatch.specs.Machine.{Does, Machine}
 use Rattle.dispatch.specs.Holding.{Standing, standing, new_core}
 use Rattle.dispatch.specs.Packets.{socket_in}

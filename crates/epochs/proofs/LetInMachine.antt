@@ -5,10 +5,10 @@ use Rattle.std.proofs.lemmas.Bool.Decides.{nat_tests}
 use Rattle.std.proofs.lemmas.List.Elements.{All-weaker, All-contains_itself, recursion_from_All}
 use Rattle.eio_wire.specs.declared.packet.Packet.{Packet}
 use Rattle.eio_wire.specs.Payload.{Payload}
-use Rattle.connection.specs.declared.timing.Due.{Due}
-use Rattle.connection.specs.declared.timing.Due.TheVariants as due
-use Rattle.connection.specs.declared.transport.Transport.{Transport}
-use Rattle.connection.specs.declared.transport.Transport.TheVariants.{Polling, Probing, Socket}
+use Rattle.connection.specs.declared.clock.Due.{Due}
+use Rattle.connection.specs.declared.clock.Due.TheVariants as due
+use Rattle.connection.specs.declared.clock.Transport.{Transport}
+use Rattle.connection.specs.declared.clock.Transport.TheVariants.{Polling, Probing, Socket}
 use Rattle.connection.specs.History.{Call, GetBegan, GetEnded, Ticked, Probed, Upgraded, ProbeLost}
 use Rattle.connection.specs.Line.{PlainLine, HasHistory}
 use Rattle.terms.specs.declared.entry.Entry.{Entry}
@@ -30,14 +30,14 @@ use Rattle.events.specs.Answer.{Answer}
 use Rattle.events.specs.App.{Policy}
 use Rattle.events.specs.Event.{client_of}
 use Rattle.events.specs.Plain.{PlainDone}
-use Rattle.effects.specs.Broadcasting.{Work, work, BroadcastsOrFails}
-use Rattle.effects.specs.Commands.{Makes}
-use Rattle.effects.specs.Effects.{is_bad_emission}
-use Rattle.effects.specs.Hearing.{Sends, HearsOf, ended_since}
-use Rattle.effects.specs.Runs.{RunsOrFails}
-use Rattle.effects.proofs.RunsLemmas.{run-keeps}
-use Rattle.effects.specs.Scene.{visit_at}
-use Rattle.dispatch.specs.declared.lines.Handshake.{Handshake}
+use Rattle.dispatch.specs.Broadcasting.{Work, work, BroadcastsOrFails}
+use Rattle.dispatch.specs.Commands.{Makes}
+use Rattle.dispatch.specs.Effects.{is_bad_emission}
+use Rattle.dispatch.specs.Hearing.{Sends, HearsOf, ended_since}
+use Rattle.dispatch.specs.Runs.{RunsOrFails}
+use Rattle.dispatch.proofs.RunsLemmas.{run-keeps}
+use Rattle.dispatch.specs.Scene.{visit_at}
+use Rattle.dispatch.specs.declared.clients.Handshake.{Handshake}
 use Rattle.dispatch.specs.Answers.{Refused, KeepsWhileOpen, AdvancesLine, ClosesUnread, ForClient}
 use Rattle.dispatch.specs.Frames.{IsFrameOf, is_too_long, SendsFor, SendsOn, SendsFirst}
 use Rattle.dispatch.specs.Frames as frames

@@ -4,8 +4,8 @@ use Rattle.std.specs.List.{AllByRecursion}
 use Rattle.eio_wire.specs.declared.packet.Packet.{Packet}
 use Rattle.eio_wire.specs.declared.packet.Packet.TheVariants as eio
 use Rattle.sio_wire.specs.declared.assembler.SioPacket.{SioPacket}
-use Rattle.sio_wire.specs.declared.kind.Kind.{Kind}
-use Rattle.sio_wire.specs.declared.kind.Kind.TheVariants as kind
+use Rattle.sio_wire.specs.declared.header.Kind.{Kind}
+use Rattle.sio_wire.specs.declared.header.Kind.TheVariants as kind
 use Rattle.sio_wire.specs.declared.error.SioError.{SioError}
 use Rattle.sio_wire.specs.declared.error.SioError.TheVariants as sio
 use Rattle.sio_wire.specs.declared.assembler.Progress.TheVariants.{Failed}
@@ -26,11 +26,11 @@ use Rattle.events.specs.declared.fault.CoreFault.{CoreFault}
 use Rattle.events.specs.declared.fault.Stopped.{Stopped}
 use Rattle.events.specs.App.{Policy, Accepted}
 use Rattle.hub_state.specs.Recovering.{recovery_asked}
-use Rattle.effects.specs.Commands.{IsSeated, seat}
-use Rattle.effects.specs.Effects.{Scene, told_to}
-use Rattle.effects.specs.Runs.{Runs}
-use Rattle.effects.proofs.RunsLemmas.{run-keeps, all-take, all-at}
-use Rattle.effects.specs.Scene.{Visit, visit_at}
+use Rattle.dispatch.specs.Commands.{IsSeated, seat}
+use Rattle.dispatch.specs.Effects.{Scene, told_to}
+use Rattle.dispatch.specs.Runs.{Runs}
+use Rattle.dispatch.proofs.RunsLemmas.{run-keeps, all-take, all-at}
+use Rattle.dispatch.specs.Scene.{Visit, visit_at}
 use Rattle.dispatch.specs.Packets.{Course, Upshot, StopsFor, IsShortAfter, IsShort, DrawsNone, ClosesFor, ParksFor, refusal_entry, Refuses, DoesAll, ClientDisconnects, DecidesAfter, TakesAck, ReceivesEvent, Serves, ServesJoined, socket_in, ConnectsAs, AsksApp, AsksToRecover, MayRecover, AsksToConnect, Works, GoesOn, with_line, TakesFrame, TakesText, ReadsBinary, TakesBinary, Handles, begun, HandlesOrBreaks, HandlesInTurn, BreaksAfter}
 use Rattle.epochs.specs.LetIn.{IsConnect, IsConnectPacket}
 use Rattle.epochs.proofs.ConnectLemmas.{line-spelled, advanced, refused-line}

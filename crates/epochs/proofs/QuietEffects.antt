@@ -15,13 +15,13 @@ use Rattle.events.specs.declared.app.Who.{Who}
 use Rattle.events.specs.declared.cause.Cause.{Cause}
 use Rattle.events.specs.declared.fault.CoreFault.{CoreFault}
 use Rattle.events.specs.declared.fault.Stopped.{Stopped}
-use Rattle.events.specs.Emission.{PlainEmission}
+use Rattle.journal.specs.Plain.{PlainCast}
 use Rattle.events.specs.Selection.{PlainSelection}
-use Rattle.effects.specs.Answering.{report_text}
-use Rattle.effects.specs.Commands.{Makes}
-use Rattle.effects.specs.Effects.{Scene, Closes, ChangesRooms, Emits, told_to, Replies, Says, listed, Asks, goodbye, SaysGoodbye, Disconnects, all_joined, all_left, dismissed, is_among, EndsAll, Acts, ActsInTurn, is_bad, asked_of, asked_in_vain, FailsToAsk, Fails, Stops, StopsAfter}
-use Rattle.effects.specs.Runs.{Runs}
-use Rattle.effects.proofs.RunsLemmas.{run-keeps}
+use Rattle.dispatch.specs.Answering.{report_text}
+use Rattle.dispatch.specs.Commands.{Makes}
+use Rattle.dispatch.specs.Effects.{Scene, Closes, ChangesRooms, Emits, told_to, Replies, Says, listed, Asks, goodbye, SaysGoodbye, Disconnects, all_joined, all_left, dismissed, is_among, EndsAll, Acts, ActsInTurn, is_bad, asked_of, asked_in_vain, FailsToAsk, Fails, Stops, StopsAfter}
+use Rattle.dispatch.specs.Runs.{Runs}
+use Rattle.dispatch.proofs.RunsLemmas.{run-keeps}
 use Rattle.epochs.specs.LetIn.{attaches}
 use Rattle.epochs.proofs.ConnectLemmas.{advanced}
 
@@ -50,7 +50,7 @@ module _ (Is : History → Type 0) (quiet : KeptWhileQuiet Is) (now : ℕ) where
   changes w none s t (inl (makes, is)) was = subst (Has Is) (sym is) (made w none s.history t.history makes was.0, was.1)
   changes w none s t (inr (e, refused, is)) was = subst (Has Is) (sym is) was
 
-  emits : (who : Who) (e : PlainEmission) (s t : Scene) → Emits who e now s t → Has Is s → Has Is t
+  emits : (who : Who) (e : PlainCast) (s t : Scene) → Emits who e now s t → Has Is s → Has Is t
   emits who e s t ((fine, done, cast, told), is) was = subst (Has Is) (sym is) (quiet s.history t.history now (what.Cast cast.b) refl cast.step was.0, was.1)
 
   replies : (who : Who) (id : ℕ) (r : reply.Reply) (s t : Scene) → Replies who id r now s t → Has Is s → Has Is t

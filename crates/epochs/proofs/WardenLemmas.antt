@@ -5,8 +5,8 @@ use Rattle.std.proofs.lemmas.Slice.Eq.{bytes_eq-Decides}
 use Rattle.events.specs.declared.app.Effect.{Effect}
 use Rattle.events.specs.App.{PlainVerdict, Accepted, Refused}
 use Rattle.guarded.specs.Entrance.{has_token}
-use Rattle.expiry.specs.Telling.{EXPIRY}
-use Rattle.expiry.specs.Expiring.{Allows, admitted}
+use Rattle.guarded.specs.Telling.{EXPIRY}
+use Rattle.guarded.specs.Expiring.{Allows, admitted}
 use Rattle.switchboard.specs.Switchboard.{verdict_of}
 
 -- the warden is let in with no effects, as the switchboard lets everybody into other namespaces than that of the backends

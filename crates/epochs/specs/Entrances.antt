@@ -5,8 +5,8 @@ use Rattle.journal.specs.declared.step.Step.{Step}
 use Rattle.journal.specs.Plain.{Limits}
 use Rattle.journal.specs.Membership.{place_of}
 use Rattle.events.specs.declared.event.Event.{Event}
-use Rattle.guarded.specs.declared.entrance.Entrance.{Entrance}
-use Rattle.guarded.specs.declared.entrance.Pass.TheVariants.{Granted}
+use Rattle.guarded.specs.declared.guarded.Entrance.{Entrance}
+use Rattle.guarded.specs.declared.guarded.Pass.TheVariants.{Granted}
 use Rattle.guarded.specs.Guarded.{pass_into}
 use Rattle.epochs.specs.LetIn.{Brings, attached}
 

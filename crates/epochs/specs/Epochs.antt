@@ -7,7 +7,7 @@ use Rattle.journal.specs.Plain.{Limits, PlainBase}
 use Rattle.journal.specs.Journal.{History, history}
 use Rattle.journal.specs.Outboxes.{begins, put, entries_for, placements, waiting}
 use Rattle.journal.specs.Seal.{SaysTheSame, IsLegalAndSound}
-use Rattle.effects.specs.Following.{is_listed}
+use Rattle.dispatch.specs.Following.{is_listed}
 use Rattle.dispatch.specs.Handed.{Turn, HandedOut}
 
 -- what was put for the client since it was opened: by these steps and, where none of them opens it, before them

@@ -4,7 +4,7 @@ use Rattle.std.specs.List.{AllByRecursion}
 use Rattle.eio_wire.specs.declared.packet.Packet.{Packet}
 use Rattle.eio_wire.specs.declared.packet.Packet.TheVariants.{Message}
 use Rattle.eio_wire.specs.Payload.{Payload}
-use Rattle.sio_wire.specs.declared.kind.Kind.TheVariants.{Connect}
+use Rattle.sio_wire.specs.declared.header.Kind.TheVariants.{Connect}
 use Rattle.sio_wire.specs.Header.{Sio}
 use Rattle.connection.specs.Line.{PlainLine, HasHistory}
 use Rattle.recovery.specs.SavedTable.{PlainSaved}

@@ -9,7 +9,7 @@ ghost use Rattle.journal.specs.Membership.{is_space, place_of};
 ghost use Rattle.events.specs.declared.event.Event.{Event};
 ghost use Rattle.events.specs.Answer.{Answer};
 ghost use Rattle.switchboard.specs.Telling.{BACKENDS};
-ghost use Rattle.dispatch.specs.declared.lines.Handshake.{Handshake};
+ghost use Rattle.dispatch.specs.declared.clients.Handshake.{Handshake};
 ghost use Rattle.dispatch.specs.Machine.{Machine};
 ghost use Rattle.dispatch.specs.Holding.{standing, new_core};
 ghost use Rattle.epochs.specs.Epochs.{AreAlike, in_one};
@@ -17,8 +17,7 @@ ghost use Rattle.epochs.specs.LetIn.{Everyone};
 ghost use Rattle.epochs.specs.Backends.{CameByToken};
 
 use events::App;
-use expiry::Expiring;
-use guarded::Guarded;
+use guarded::{Expiring, Guarded};
 use switchboard::Switchboard;
 
 /// Whoever is in `/backend` came by the token: its client sent a CONNECT to `/backend` whose payload

@@ -6,7 +6,7 @@ ghost use Rattle.journal.specs.Plain.{Limits};
 ghost use Rattle.journal.specs.Journal.{History};
 ghost use Rattle.events.specs.declared.event.Event.{Event};
 ghost use Rattle.events.specs.Answer.{Answer};
-ghost use Rattle.dispatch.specs.declared.lines.Handshake.{Handshake};
+ghost use Rattle.dispatch.specs.declared.clients.Handshake.{Handshake};
 ghost use Rattle.dispatch.specs.Machine.{Machine};
 ghost use Rattle.dispatch.specs.Holding.{standing, new_core};
 ghost use Rattle.epochs.specs.Epochs.{AreAlike, in_one};

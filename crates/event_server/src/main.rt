@@ -6,8 +6,7 @@ use arguments::BACKENDS;
 use arguments::options::Options;
 use arguments::refused::print_refused;
 use arguments::task::{Task, read_arguments};
-use expiry::{EXPIRY, Expiring};
-use guarded::{Entrance, Guarded};
+use guarded::{EXPIRY, Entrance, Expiring, Guarded};
 use relay::{Presence, RelayApp};
 use script::{RunError, play_script};
 use settings::Warding;
@@ -27,54 +26,27 @@ use terms::Text;
 /// The program's name.
 const NAME: &str = "event_server";
 
-/// The demonstration app, which tells of sockets that have ended or doesn't, behind this entrance. A
-/// warden with this token ends sockets, if there is one.
-fn app(
+/// This app behind this entrance. It guards the namespace of the backends itself, where it has some,
+/// and that of the warden, who ends sockets with this token, if there is one.
+fn guarded<A: Drop>(
     alloc: Global,
-    tells: bool,
-    entrance: Entrance,
-    warden: Option<Text>,
-) -> Result<Guarded<Expiring<Presence<RelayApp>>>, AllocError> {
-    let app = Presence {
-        app: RelayApp,
-        tells,
-    };
-    Ok(Guarded {
-        apart: apart(alloc, None, &warden)?,
-        app: Expiring { app, token: warden },
-        entrance,
-    })
-}
-
-/// The app that backends drive, who come in with this token and others by this entrance. A warden
-/// with a token of its own ends sockets, if there is one.
-fn switchboard(
-    alloc: Global,
-    app: Switchboard,
-    entrance: Entrance,
-    warden: Option<Text>,
-) -> Result<Guarded<Expiring<Switchboard>>, AllocError> {
-    Ok(Guarded {
-        apart: apart(alloc, Some(BACKENDS), &warden)?,
-        app: Expiring { app, token: warden },
-        entrance,
-    })
-}
-
-/// The namespaces that the app guards itself: that of the backends, and that of the warden.
-fn apart(
-    alloc: Global,
+    app: A,
     backends: Option<&str>,
-    warden: &Option<Text>,
-) -> Result<Vec<Text>, AllocError> {
+    entrance: Entrance,
+    token: Option<Text>,
+) -> Result<Guarded<Expiring<A>>, AllocError> {
     let mut apart = Vec::new(alloc);
     if let Some(space) = backends {
         apart.push(Text::copy_of(alloc, space)?)?;
     }
-    if warden.is_some() {
+    if token.is_some() {
         apart.push(Text::copy_of(alloc, EXPIRY)?)?;
     }
-    Ok(apart)
+    Ok(Guarded {
+        apart,
+        app: Expiring { app, token },
+        entrance,
+    })
 }
 
 fn main(rt: HostRuntime) -> ExitCode {
@@ -103,10 +75,10 @@ fn main(rt: HostRuntime) -> ExitCode {
 
 /// Serves the clients of a script.
 fn serve_script<R: Input + Print + AllocGlobal>(rt: &R) -> Result<ExitCode, RunError> {
-    match app(rt.alloc(), false, Entrance::open(), None) {
-        Ok(app) => play_script(rt, &app),
-        Err(_) => Err(RunError::Memory),
-    }
+    let (app, tells) = (RelayApp, false);
+    let (app, entrance) = (Presence { app, tells }, Entrance::open());
+    let app = guarded(rt.alloc(), app, None, entrance, None)?;
+    play_script(rt, &app)
 }
 
 /// By what a warden ends the sockets of tokens that have expired, where they are to be ended.
@@ -131,7 +103,8 @@ fn spaces_for(options: &Options) -> Result<Vec<Text>, AllocError> {
     Ok(spaces)
 }
 
-/// The app that is served.
+/// The app that is served: the demonstration app, which tells of sockets that have ended or doesn't,
+/// or the one that backends drive.
 #[derive(Drop)]
 enum Served {
     Demonstration(Guarded<Expiring<Presence<RelayApp>>>),
@@ -166,9 +139,12 @@ where
     let app = match backend {
         Some(token) => {
             let app = Switchboard { token, spaces };
-            Served::Backends(switchboard(alloc, app, entrance, warden)?)
+            Served::Backends(guarded(alloc, app, Some(BACKENDS), entrance, warden)?)
         }
-        None => Served::Demonstration(app(alloc, tell_left, entrance, warden)?),
+        None => {
+            let (app, tells) = (RelayApp, tell_left);
+            Served::Demonstration(guarded(alloc, Presence { app, tells }, None, entrance, warden)?)
+        }
     };
     Ok((listen(rt, settings, verbose)?, app))
 }

@@ -1,7 +1,6 @@
 pub mod Answer
 pub mod App
 pub mod Cause
-pub mod Emission
 pub mod Ending
 pub mod Event
 pub mod Fault

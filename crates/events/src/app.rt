@@ -3,7 +3,7 @@
 ghost use Rattle.std.specs.Prelude.{◌≡◌, ◌+◌, ℕ, IfOk};
 ghost use Rattle.events.specs.App.{Policy, plain_verdict, IsCleanVerdict, IsCleanArrival, AllClean};
 
-use journal::{Ending, Form};
+use journal::{Cast, Ending};
 use std::alloc::{AllocError, Global};
 use std::marker::Model;
 use terms::{Attachments, Room, Sid, Text};
@@ -110,7 +110,7 @@ pub enum Effect {
     /// The socket leaves a room.
     Leave(Room),
     /// An event, a question or an answer is sent to the sockets of some rooms.
-    Emit(Emission),
+    Emit(Cast),
     /// The socket is asked a question, whose answer the app gets.
     EmitAsk(Inquiry),
     /// The event that arrived is acknowledged.
@@ -154,39 +154,6 @@ impl Model for Selection {
       space = m.space;
       rooms = m.rooms.items;
       excepted = m.excepted.items;
-    } };
-}
-
-/// An event for the sockets of some rooms, or an acknowledgement of one that came from them. In a
-/// contract it is plain data.
-#[derive(Drop)]
-pub struct Emission {
-    /// The name of the namespace.
-    pub space: Text,
-    /// The rooms that it goes to. None means everybody in the namespace.
-    pub rooms: Vec<Room>,
-    /// The rooms whose sockets don't get it.
-    pub excepted: Vec<Room>,
-    /// What it is, and whether it is logged.
-    pub form: Form,
-    /// The event, or the answer, as a JSON array.
-    pub payload: Text,
-    /// What the placeholders of the payload stand for.
-    pub attachments: Attachments,
-}
-
-impl Model for Emission {
-    ghost use Rattle.events.specs.Emission.{PlainEmission};
-
-    ghost Value = { PlainEmission };
-
-    ghost view = { λ e. record {
-      space = e.space;
-      rooms = e.rooms.items;
-      excepted = e.excepted.items;
-      form = e.form;
-      payload = e.payload;
-      attachments = e.attachments;
     } };
 }
 

@@ -1,11 +1,13 @@
-//! Why the server closed a client.
+//! Why the server closed a client, and how a socket ended.
 
 ghost use Rattle.std.specs.Prelude.{◌≡◌, ◌≢◌};
 ghost use Rattle.eio_wire.specs.declared.error.WireError.TheVariants as wire;
 ghost use Rattle.sio_wire.specs.declared.error.SioError.TheVariants as sio;
 ghost use Rattle.events.specs.Cause.{cause_name, cause_of_wire, cause_of_sio};
+ghost use Rattle.events.specs.Ending as words;
 
 use eio_wire::WireError;
+use journal::{Ending, Side};
 use sio_wire::SioError;
 use terms::name_of;
 
@@ -100,5 +102,18 @@ impl Cause {
         name_of!(self, Cause: Empty BadType BadBase64 BadKind BadCount BadId BadJson BadShape Reserved
             BadPlaceholder TooMany TextAwaitingBinary BinaryUnawaited NotJoined AlreadyConnected
             PingFromClient ClientClosed DoubleGet TooLong PingTimeout ConnectTimeout OutboxFull)
+    }
+}
+
+/// How a socket ended, in a word, as apps tell it.
+pub fn ending_word(ending: Ending) -> &'static str
+    ensures { result.now ≡ words.ending_word ending }
+{
+    match ending {
+        Ending::Saved => "saved",
+        Ending::Closed => "closed",
+        Ending::Alone(Side::Client) => "left",
+        Ending::Alone(Side::Server) => "alone",
+        Ending::Together => "together",
     }
 }

@@ -4,23 +4,19 @@
 
 mod app;
 mod cause;
-mod ending;
 mod event;
 mod fault;
 mod loss;
 mod outcome;
 mod peer;
-mod taken;
 
 pub use app::{
-    Answer, App, Arrived, Effect, Emission, IdSource, Inquiry, Message, Newcomer, Reply, Returned,
-    Selection, Stray, Verdict, Wanted, Who,
+    Answer, App, Arrived, Effect, IdSource, Inquiry, Message, Newcomer, Reply, Returned, Selection,
+    Stray, Verdict, Wanted, Who,
 };
-pub use cause::Cause;
-pub use ending::ending_word;
+pub use cause::{Cause, ending_word};
 pub use event::{Event, WsFrame};
 pub use fault::{CoreError, CoreFault, Stopped, Worked};
 pub use loss::{Loss, Retry};
-pub use outcome::{Answered, Done, Opening, Outcome, Receivers};
+pub use outcome::{Answered, Done, Frames, Opening, Outcome, Receivers};
 pub use peer::{Peer, PeerFault};
-pub use taken::Frames;

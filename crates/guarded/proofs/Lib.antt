@@ -1,2 +1,4 @@
+mod CleanLemmas
+mod DeadlinesLemmas
 mod IntroducedLemmas
 pub mod PrintLemmas

@@ -133,6 +133,10 @@ whole-decimal n = whole-digits_onto 64 n [] nil
 
 -- ---- tokens
 
+pub all_append : {A : Type 0} (P : A → Type 0) (xs ys : List A) → AllByRecursion P xs → AllByRecursion P ys → AllByRecursion P (xs ++ ys)
+all_append P [] ys front back = back
+all_append P (x ∷ xs) ys front back = (front.0, all_append P xs ys front.1 back)
+
 -- the text of each holds none
 abbrev pub AreWhole : List Token → Type 0
 AreWhole ts = AllByRecursion (λ t. IsWhole (token_text t)) ts

@@ -8,9 +8,9 @@ use Rattle.tokens.specs.Payload.{token_in, without_token}
 use Rattle.tokens.specs.Signed.{signed_claims}
 use Rattle.tokens.specs.Verified.{verified}
 use Rattle.events.specs.declared.app.Newcomer.{Newcomer}
-use Rattle.guarded.specs.declared.entrance.Entrance.{Entrance}
-use Rattle.guarded.specs.declared.entrance.Pass.{Pass}
-use Rattle.guarded.specs.declared.entrance.Pass.TheVariants.{Granted, NotAllowed, Expired}
+use Rattle.guarded.specs.declared.guarded.Entrance.{Entrance}
+use Rattle.guarded.specs.declared.guarded.Pass.{Pass}
+use Rattle.guarded.specs.declared.guarded.Pass.TheVariants.{Granted, NotAllowed, Expired}
 
 -- a text is there, and is the token
 abbrev pub is_token : List ℕ → Option (List ℕ) → Bool

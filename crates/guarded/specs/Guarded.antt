@@ -4,9 +4,9 @@ use Rattle.std.specs.List.{list_any}
 use Rattle.events.specs.App.{PlainVerdict, Refused}
 use Rattle.events.specs.declared.app.Arrived.{Arrived}
 use Rattle.events.specs.declared.app.Arrived.TheVariants.{Connected}
-use Rattle.guarded.specs.declared.entrance.Entrance.{Entrance}
-use Rattle.guarded.specs.declared.entrance.Pass.{Pass}
-use Rattle.guarded.specs.declared.entrance.Pass.TheVariants.{Granted, NotAllowed, Expired}
+use Rattle.guarded.specs.declared.guarded.Entrance.{Entrance}
+use Rattle.guarded.specs.declared.guarded.Pass.{Pass}
+use Rattle.guarded.specs.declared.guarded.Pass.TheVariants.{Granted, NotAllowed, Expired}
 use Rattle.guarded.specs.Entrance.{pass_of, introduced}
 
 -- this is one of the namespaces that the app guards itself

@@ -9,8 +9,8 @@ use Rattle.std.proofs.lemmas.List.{map-append}
 use Rattle.std.proofs.lemmas.List.Elements.{filter-append}
 use Rattle.http_edge.specs.Request.{Fields, values}
 use Rattle.http_edge.specs.Values.{TellsValues}
-use Rattle.http_edge.specs.declared.fields.Values.{Values}
-use Rattle.http_edge.specs.declared.fields.Values.TheVariants.{Nothing, One}
+use Rattle.http_edge.specs.declared.head.Values.{Values}
+use Rattle.http_edge.specs.declared.head.Values.TheVariants.{Nothing, One}
 
 pub values_push : (name : List ℕ) (known : Fields) (p : List ℕ × List ℕ) → values name (known ++ p ∷ []) ≡ values name known ++ values name (p ∷ [])
 values_push name known p = rw (filter-append, map-append) refl

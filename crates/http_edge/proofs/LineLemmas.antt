@@ -8,8 +8,8 @@ use Rattle.std.proofs.lemmas.List.Folds.{list_any-append}
 use Rattle.httparse.specs.Grammar.{LineEnd, crlf, lf, print_end}
 use Rattle.http_edge.specs.Reading.{is_text, HasEmptyLine, HasBegun}
 use Rattle.http_edge.specs.LineState.{next, walk}
-use Rattle.http_edge.specs.declared.line_state.LineState.{LineState}
-use Rattle.http_edge.specs.declared.line_state.LineState.TheVariants.{Blank, Text, Ended, Return, Empty}
+use Rattle.http_edge.specs.declared.head.LineState.{LineState}
+use Rattle.http_edge.specs.declared.head.LineState.TheVariants.{Blank, Text, Ended, Return, Empty}
 
 -- ---- an empty line is found
 

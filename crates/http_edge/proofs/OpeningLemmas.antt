@@ -12,11 +12,11 @@ use Rattle.http_edge.specs.Head.{IsHeadOf, IsOpening, IsJudged, HasParsed, Begin
 use Rattle.http_edge.specs.LineState.{next, walk}
 use Rattle.http_edge.specs.SoFar.{StepsTo, so_far, fed}
 use Rattle.http_edge.specs.declared.head.Head.{Head}
-use Rattle.http_edge.specs.declared.gathered.SoFar.{SoFar}
-use Rattle.http_edge.specs.declared.gathered.Fed.{Fed}
-use Rattle.http_edge.specs.declared.gathered.Fed.TheVariants.{More}
-use Rattle.http_edge.specs.declared.line_state.LineState.{LineState}
-use Rattle.http_edge.specs.declared.line_state.LineState.TheVariants.{Blank, Empty}
+use Rattle.http_edge.specs.declared.request.SoFar.{SoFar}
+use Rattle.http_edge.specs.declared.request.Fed.{Fed}
+use Rattle.http_edge.specs.declared.request.Fed.TheVariants.{More}
+use Rattle.http_edge.specs.declared.head.LineState.{LineState}
+use Rattle.http_edge.specs.declared.head.LineState.TheVariants.{Blank, Empty}
 use Rattle.http_edge.specs.declared.error.EdgeError.{EdgeError}
 use Rattle.http_edge.specs.declared.error.EdgeError.TheVariants.{Memory, Device, EarlyEnd, BadHead, HeadTooLong, BodyTooLong, NoLength, NotUtf8, TurnsSpent}
 use Rattle.http_edge.proofs.LineLemmas.{finds_empty, empty_found, has_begun, none_begun}

@@ -5,8 +5,8 @@ use Rattle.httparse.specs.Grammar.{RequestHead, ReadsRequest, MayBecomeRequest, 
 use Rattle.http_edge.specs.Request.{HasBodyOf, IsTargetOf, IsOnlyText, values, fields_of, is_upgrade}
 use Rattle.http_edge.specs.Reading.{StartsWith, HasEmptyLine, HasBegun, EndsNoLine, MayBegin, front}
 use Rattle.http_edge.specs.LineState.{walk}
-use Rattle.http_edge.specs.declared.line_state.LineState.{LineState}
-use Rattle.http_edge.specs.declared.line_state.LineState.TheVariants.{Blank, Empty}
+use Rattle.http_edge.specs.declared.head.LineState.{LineState}
+use Rattle.http_edge.specs.declared.head.LineState.TheVariants.{Blank, Empty}
 use Rattle.http_edge.specs.declared.head.Head.{Head}
 
 -- the parts of the head h

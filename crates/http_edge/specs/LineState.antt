@@ -1,8 +1,8 @@
 -- A walk over a head's lines, byte by byte, up to the empty one.
 use Rattle.std.specs.Prelude.{◌==◌, ℕ, List, cond, fold}
 use Rattle.http_edge.specs.Reading.{is_text}
-use Rattle.http_edge.specs.declared.line_state.LineState.{LineState}
-use Rattle.http_edge.specs.declared.line_state.LineState.TheVariants.{Blank, Text, Ended, Return, Empty}
+use Rattle.http_edge.specs.declared.head.LineState.{LineState}
+use Rattle.http_edge.specs.declared.head.LineState.TheVariants.{Blank, Text, Ended, Return, Empty}
 
 -- where one byte more leads
 abbrev pub next : LineState → ℕ → LineState

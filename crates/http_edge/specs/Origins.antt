@@ -6,8 +6,8 @@ use Rattle.http_edge.specs.declared.request.Request.{Request}
 use Rattle.http_edge.specs.declared.routes.Refusal.TheVariants.{BadRequest}
 use Rattle.http_edge.specs.declared.routes.Target.{Target}
 use Rattle.http_edge.specs.declared.routes.Target.TheVariants.{Refuse, Preflight}
-use Rattle.http_edge.specs.declared.origins.Access.{Access}
-use Rattle.http_edge.specs.declared.origins.Access.TheVariants.{Served, Granted, Refused}
+use Rattle.http_edge.specs.declared.routes.Access.{Access}
+use Rattle.http_edge.specs.declared.routes.Access.TheVariants.{Served, Granted, Refused}
 use Rattle.http_edge.specs.Routes.{IsRouted}
 
 -- the server names this origin, or all of them

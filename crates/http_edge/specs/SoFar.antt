@@ -2,10 +2,10 @@
 use Rattle.std.specs.Prelude.{◌≡◌, ◌++◌, ℕ, List, Result, Ok, Err}
 use Rattle.http_edge.specs.Reading.{IsFault, IsRequestIn, IsUnfinished}
 use Rattle.http_edge.specs.declared.error.EdgeError.{EdgeError}
-use Rattle.http_edge.specs.declared.gathered.SoFar.{SoFar}
-use Rattle.http_edge.specs.declared.gathered.SoFar.TheVariants.{Opening, Filling, Failed}
-use Rattle.http_edge.specs.declared.gathered.Fed.{Fed}
-use Rattle.http_edge.specs.declared.gathered.Fed.TheVariants.{More, Done}
+use Rattle.http_edge.specs.declared.request.SoFar.{SoFar}
+use Rattle.http_edge.specs.declared.request.SoFar.TheVariants.{Opening, Filling, Failed}
+use Rattle.http_edge.specs.declared.request.Fed.{Fed}
+use Rattle.http_edge.specs.declared.request.Fed.TheVariants.{More, Done}
 
 -- the bytes so far, or the fault that was found
 abbrev pub so_far : SoFar → Result (List ℕ) EdgeError

@@ -3,13 +3,7 @@
 #![tactic(auto)]
 
 mod error;
-mod field_lines;
-mod fields;
-mod gathered;
 mod head;
-mod line_state;
-mod origins;
-mod reading;
 mod replay;
 mod request;
 mod response;
@@ -17,13 +11,8 @@ mod routes;
 mod wire;
 
 pub use error::EdgeError;
-pub use field_lines::{push_field, push_length, push_origin};
-pub use gathered::Gathered;
-pub use head::heads_end;
-pub use origins::direct;
-pub use reading::read_request;
 pub use replay::Replay;
-pub use request::Request;
-pub use response::{Status, write_response};
-pub use routes::{Refusal, Target, refusal_body, route};
+pub use request::{Gathered, Request, read_request};
+pub use response::{Status, push_field, push_length, push_origin, write_response};
+pub use routes::{Refusal, Target, direct, refusal_body, route};
 pub use wire::{Broken, OnStream, Wire};

@@ -1,6 +1,7 @@
 //! An answer, written to a wire (RFC 9112, sections 4 to 6).
 
-ghost use Rattle.std.specs.Prelude.{◌≡◌, ◌⊎◌, ◌++◌, true, IfOk, OnOk, OnErr, IfErr, option_map};
+ghost use Rattle.std.specs.Prelude.{◌≡◌, ◌⊎◌, ◌++◌, true, codes, IfOk, OnOk, OnErr, IfErr, option_map};
+ghost use Rattle.std.specs.Fmt.{decimal};
 ghost use Rattle.std.specs.String.{string_bytes};
 ghost use Rattle.std.specs.Io.KnownBytes.{Appends};
 ghost use Rattle.http_edge.specs.Answer as http;
@@ -8,7 +9,6 @@ ghost use Rattle.http_edge.specs.Written.{AppendsFront};
 ghost use Rattle.http_edge.specs.declared.error.EdgeError.TheVariants.{Memory, Device};
 
 use crate::error::EdgeError;
-use crate::field_lines::{push_field, push_length, push_origin};
 use crate::wire::{Broken, Wire};
 use std::alloc::{AllocError, Global};
 use std::fmt::Write;
@@ -123,6 +123,38 @@ fn push_content(text: &mut String, status: Status, length: usize) -> Result<(), 
         push_field(text, "Content-Type", status.media_type())?;
         push_length(text, length)?;
     }
+    Ok(())
+}
+
+/// Adds a field.
+pub fn push_field(text: &mut String, name: &str, value: &str) -> Result<(), AllocError>
+    ensures { OnOk result
+        (string_bytes text.new ≡ string_bytes text.old ++ http.field name.now value.now) }
+{
+    text.push_str(name)?;
+    text.push_str(": ")?;
+    text.push_str(value)?;
+    text.push_str("\r\n")
+}
+
+/// Adds how many bytes the body has.
+pub fn push_length(text: &mut String, length: usize) -> Result<(), AllocError>
+    ensures { OnOk result (string_bytes text.new
+        ≡ string_bytes text.old ++ http.field (codes "Content-Length") (decimal length)) }
+{
+    write!(text, "Content-Length: {length}\r\n")
+}
+
+/// Adds whose pages may read the answer, if an origin is named.
+pub fn push_origin(text: &mut String, origin: &Option<String>) -> Result<(), AllocError>
+    ensures { OnOk result (string_bytes text.new
+        ≡ string_bytes text.old ++ http.granted (option_map string_bytes origin.now)) }
+{
+    let Some(origin) = origin else {
+        return Ok(());
+    };
+    push_field(text, "Access-Control-Allow-Origin", origin.as_str())?;
+    push_field(text, "Vary", "Origin")?;
     Ok(())
 }
 

@@ -7,7 +7,7 @@ use Rattle.std.specs.List.{AllZip, slice_get}
 use Rattle.std.specs.Prelude.{IfNone, option_to_list}
 use Rattle.std.specs.Vec.Iter.{into_iter_items}
 use Rattle.hub_totals.specs.Pass.{PlainPass, new_pass}
-use Rattle.hub_gate.specs.declared.peer.Queue.{Queue}
+use Rattle.hub_gate.specs.declared.worker.Queue.{Queue}
 use Rattle.hub_gate.specs.declared.worker.WorkerCounts.{WorkerCounts}
 use Rattle.hub_gate.specs.Serving.{AreDealt, dealt}
 

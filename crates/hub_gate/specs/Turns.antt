@@ -4,7 +4,7 @@ use Rattle.std.specs.Iterator.{Drains}
 use Rattle.std.specs.Option.{option_or}
 use Rattle.std.specs.List.{FoldsTo}
 use Rattle.events.specs.App.{Policy}
-use Rattle.effects.specs.Following.{Spares}
+use Rattle.dispatch.specs.Following.{Spares}
 use Rattle.dispatch.specs.Counting.{TurnsFor}
 use Rattle.hub_totals.specs.Pass.{PlainPass, AtLeast}
 use Rattle.events.specs.declared.event.Event.{Event}

@@ -1,13 +1,11 @@
 //! A pool of workers, each in a thread of its own.
 
-ghost use Rattle.std.specs.Prelude.{◌≡◌, ◌+◌, ◌<◌, ◌≤◌, [], IfOk, IfErr, OnOk, MatchResult, vec_len, vec_capacity, map, sum_by};
+ghost use Rattle.std.specs.Prelude.{◌≡◌, ◌+◌, ◌<◌, ◌≤◌, [], IfOk, IfErr, MatchResult, vec_len, vec_capacity, map, sum_by};
 ghost use Rattle.std.specs.List.{AllZip};
 ghost use Rattle.std.specs.Vec.Iter.{into_iter_items};
 ghost use Rattle.hub_gate.specs.Serving.{AreCounted, AreDealt, AreServed, IsFromMaking, IsFromStarting, IsLackingFor, IsRefused, WorksAs};
 
-use crate::locked::Locked;
-use crate::peer::{Queue, Turnstile};
-use crate::worker::{Pool, WorkerCounts, run_worker};
+use crate::worker::{Locked, Pool, Queue, Turnstile, WorkerCounts, run_worker};
 use dispatch::Core;
 use events::{App, IdSource, Peer};
 use hub_totals::{NotAll, Pass};

@@ -34,7 +34,7 @@ use Rattle.journal.proofs.RecoverLemmas.{found-pid}
 use Rattle.journal.proofs.RecoverRefusalLemmas.{may-recover, may-return, place-right, entries-right, entries-put, placed_recovered, placed_found, can_recover, decided, session-space, or-full, or-accepted, is-recovery, still-accepted, still-right}
 use Rattle.journal.proofs.RecoverStepLemmas.{recovered, returned, with_return}
 use Rattle.hub_state.specs.declared.state.State.TheInside.{Inside}
-use Rattle.hub_state.specs.declared.state.missed.FoundSession.{FoundSession}
+use Rattle.hub_state.specs.declared.state.recover.FoundSession.{FoundSession}
 use Rattle.hub_state.specs.Inside.{history_of, Describes}
 use Rattle.hub_state.proofs.EndedLemmas.{hub-of}
 use Rattle.hub_state.specs.Recovering.{socket_again, gets_back}

@@ -17,7 +17,7 @@ use Rattle.journal.specs.Legal.{EachTwo, AreApart}
 use Rattle.journal.specs.Fields.{held_sockets}
 use Rattle.journal.specs.Command.{refusal}
 use Rattle.journal.specs.Membership.{without_sockets}
-use Rattle.hub_parts.specs.Seats.{SeatMap, SameSeats, WithSeat}
+use Rattle.hub_state.specs.Seats.{SeatMap, SameSeats, WithSeat}
 use Rattle.hub_state.specs.declared.state.Live.{Live}
 
 -- ---- the maps

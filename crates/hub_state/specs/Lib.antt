@@ -5,3 +5,6 @@ pub mod Changes
 pub mod Counting
 pub mod Sending
 pub mod Words
+pub mod Steps
+pub mod Sockets
+pub mod Seats

@@ -14,7 +14,7 @@ use Rattle.journal.specs.Log.{log}
 use Rattle.journal.specs.Totals.{is_spent}
 use Rattle.journal.specs.Recovery.{gets, recovery_of}
 use Rattle.journal.specs.Refusals.{or_spent, session_refusal, recovered_entries, recover_refusal}
-use Rattle.hub_state.specs.declared.state.missed.FoundSession.{FoundSession}
+use Rattle.hub_state.specs.declared.state.recover.FoundSession.{FoundSession}
 
 -- the socket of a session that comes back at a client
 abbrev pub socket_again : (client : ℕ) → PlainSaved → Socket

@@ -1,8 +1,11 @@
 //! Clients, their sockets, rooms and outboxes, kept as the journal of all accepted commands says.
 #![tactic(auto)]
 
-mod ended_socket;
+mod client;
+mod limits;
+mod seats;
 mod state;
+mod steps;
 
-pub use ended_socket::EndedSocket;
-pub use state::State;
+pub use client::{Outbox, free_after};
+pub use state::{EndedSocket, State};

@@ -1,6 +1,6 @@
 //! The state of a hub: what its base and its journal say, kept in maps.
 
-ghost use Rattle.std.specs.Prelude.{◌≡◌, ◌+◌, ◌<◌, ◌≤◌, ◌||◌, max, List, [], ◌∷◌, ◌++◌, length, OnOk, OnErr, IfOk, IfErr, None, unwrap_or, min, reverse, option_copied, slice_get, if◌then◌else◌};
+ghost use Rattle.std.specs.Prelude.{◌≡◌, ◌+◌, ◌<◌, ◌≤◌, ◌||◌, max, List, [], ◌∷◌, ◌++◌, length, IfOk, IfErr, None, unwrap_or, min, reverse, option_copied, slice_get, if◌then◌else◌};
 ghost use Rattle.room_maps.specs.Mirror.{IsMirrored};
 ghost use Rattle.journal.specs.Config.{config_refusal, empty_base};
 ghost use Rattle.journal.specs.Journal.{moment_at};
@@ -19,24 +19,21 @@ ghost use Rattle.hub_state.specs.Counting.{counts_after};
 ghost use Rattle.hub_state.specs.EndedSockets.{held};
 ghost use Rattle.hub_state.specs.Words.{spent_by, AllHear, opened, when_open, waits, outbox_for, logs, saves};
 
-mod aim;
 mod cast;
 mod clients;
 mod connect;
 mod deliver;
-mod dismiss;
 mod end;
-mod listing;
-mod missed;
-mod note_ended;
-mod park;
 mod recover;
 mod rooms;
 mod seal;
 
-use crate::ended_socket::EndedSocket;
+use crate::client::{Client, Outbox};
+use crate::limits::Limits;
+use crate::seats::Seats;
+use crate::steps::Steps;
 use continuity::heard_is_due;
-use hub_parts::{Client, Limits, Outbox, Seats, Steps};
+pub use end::EndedSocket;
 use journal::{Base, Config, Counts, HubError, Step, Totals, What};
 use recovery::{PacketLog, Pid, SavedTable};
 use room_maps::Rooms;
@@ -107,8 +104,8 @@ pub(crate) const NONE: Counts = Counts {
 };
 
 impl Records {
-    /// Adds a step, for which there is room, and counts one more command, with what it adds beside
-    /// itself. A moment before the last counts as the last.
+    /// Adds a step, and counts one more command with what it adds beside itself. A moment before
+    /// the last counts as the last.
     fn add(&mut self, now: u64, what: What, added: Counts)
         requires free { 0 < self.old.steps.free }
         requires counted { CanCount self.old.counts
@@ -126,22 +123,6 @@ impl Records {
         self.counts.discarded += added.discarded;
         let at = self.last;
         self.steps.push(Step { at, what });
-    }
-
-    /// Makes room for a step, and adds it. Refused for `Memory`.
-    fn write(&mut self, now: u64, what: What, added: Counts) -> Result<(), HubError>
-        requires { CanCount self.old.counts added.placed added.dropped added.taken added.discarded }
-        ensures last { OnOk result (self.new.last ≡ max now self.old.last) }
-        ensures steps { let step : Step = record { at = max now self.old.last; what = what }
-            in OnOk result (self.new.steps.steps ≡ step ∷ self.old.steps.steps) }
-        ensures counts { OnOk result (self.new.counts ≡ counts_after self.old.counts added) }
-        ensures unchanged { OnErr result ((self.new.steps.steps ≡ self.old.steps.steps)
-            × (self.new.last ≡ self.old.last) × (self.new.counts ≡ self.old.counts)) }
-        ensures memory { IfErr result (λ e. e ≡ HubError.Memory) }
-    {
-        self.steps.reserve()?;
-        self.add(now, what, added);
-        Ok(())
     }
 }
 
@@ -162,7 +143,7 @@ fn empty_base(alloc: Global, config: &Config) -> Base
 
 impl State {
     /// A hub with no clients and an empty journal. Refused as `BadConfig`, then for `Memory`. It
-    /// compares each two of the namespaces, and copies their names once.
+    /// compares each two of the namespaces.
     pub fn new(alloc: Global, config: Config) -> Result<State, HubError>
         ensures ok { IfOk result (λ state. (config_refusal config ≡ None) × (state
             ≡ record { base = empty_base config.first_offset; limits = config; journal = [] })) }
@@ -203,9 +184,9 @@ impl State {
 
     /// What holds of every hub: its journal is legal, each of its broadcasts reached whom it was
     /// for, its state is sound, and each connected session has heard just the journal's logged
-    /// broadcasts that are due to it, none missing, none twice and in order, where its client
-    /// always named truly what it got last, its rooms stayed the same from that broadcast to the
-    /// loss, and no full outbox dropped one for it. It has no effect.
+    /// broadcasts that are due to it, once and in order, where its client always named truly what
+    /// it got last, its rooms stayed the same from that broadcast to the loss, and no full outbox
+    /// dropped one for it. It has no effect.
     pub fn facts(&self)
         ensures legal { IsLegal self.now.base self.now.limits self.now.journal }
         ensures casts { (later before : List Step) (step : Step) (b : PlainBroadcast)
@@ -226,8 +207,7 @@ impl State {
         now.max(self.records.last)
     }
 
-    /// Whether the number of commands, of entries placed or of sockets dropped would pass the
-    /// greatest u64.
+    /// Whether the count of commands, of placed or of dropped entries would pass the greatest u64.
     fn passes(&self, puts: u64, drops: u64) -> bool
         ensures passes { let h = self.now
             in result ≡ (is_past (counted.commands h.base h.journal + 1)
@@ -269,8 +249,8 @@ impl State {
         self.records.steps.as_slice()
     }
 
-    /// How many bytes the journal's steps own, each for itself, with the sockets that they ended.
-    /// It stays at the greatest u64. It walks these sockets.
+    /// How many bytes the journal's steps own, with the sockets that they ended, which it walks. It
+    /// stays at the greatest u64.
     pub fn held(&self) -> u64
         ensures { result ≡ min (held self.now) u64.MAX }
     {
@@ -309,9 +289,8 @@ impl State {
         self.limits.config().bytes
     }
 
-    /// The two maps of rooms themselves: the rooms of each connected socket, and the sockets of
-    /// each room. They mirror each other, each socket is in its own room, and no room is empty
-    /// (Socket.IO server documentation, "Rooms").
+    /// The rooms of each connected socket, its own among them, and the sockets of each room: no
+    /// room is empty (Socket.IO server documentation, "Rooms").
     pub fn mirrors(
         &self,
     ) -> (
@@ -344,16 +323,14 @@ impl State {
         Some(self.clients.get(&client)?.outbox.len())
     }
 
-    /// How many bytes the entries that wait for a client have together, or `None` where it isn't
-    /// open.
+    /// How many bytes wait for a client, or `None` where it isn't open.
     pub fn waiting_bytes(&self, client: u128) -> Option<usize>
         ensures { result ≡ when_open self.now client (total_size (waits self.now client)) }
     {
         Some(self.clients.get(&client)?.outbox.used())
     }
 
-    /// The outbox of a client, or `None` where it isn't open. Who reads several of the entries that
-    /// wait looks the client up once.
+    /// The outbox of a client, or `None` where it isn't open.
     pub fn outbox(&self, client: u128) -> Option<&Outbox>
         ensures { option_copied result ≡ when_open self.now client (outbox_for self.now client) }
     {

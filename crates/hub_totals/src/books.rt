@@ -10,8 +10,7 @@ use journal::{HubError, Totals};
 use std::marker::Model;
 use std::sync::ledger::{Blank, Book, Ledger, Share};
 
-/// A total, and the parts of its ledger that no holder was given. The total itself is the book's,
-/// and takes no bytes.
+/// A total, which takes no bytes, and the parts of its ledger that no holder was given.
 #[derive(Drop)]
 struct Counter<L: Ledger> {
     parts: u64,
@@ -27,8 +26,7 @@ impl<L: Ledger> Model for Counter<L> {
     ghost invariant = { λ c. (c.rest.amount ≡ 0) × (c.rest.parts ≡ c.parts) × (0 < c.parts) };
 }
 
-/// What one holder added to a total. The number would stay at the greatest u64, but no amount
-/// passes a total that is a u64.
+/// What one holder added to a total. No amount passes a total that is a u64.
 #[derive(Drop)]
 struct Part<L: Ledger> {
     number: u64,
@@ -203,8 +201,7 @@ impl<C: Ledger, T: Ledger> Books<C, T> {
     }
 
     /// Raises the books and the pass by the command that the state has just accepted, and by the
-    /// entries that it handed out. The totals are u64s and the pass is within them, so its numbers
-    /// stay exact.
+    /// entries that it handed out. The totals are u64s, so the pass's numbers stay exact.
     pub(crate) fn count(&mut self, pass: &mut Pass<C, T>, state: &State, entries: u64)
         requires { (totals.commands state.now.base state.now.journal ≡ self.old.commands + 1)
             × (totals.handed_out state.now.base state.now.journal ≡ self.old.taken + entries) }
@@ -217,9 +214,8 @@ impl<C: Ledger, T: Ledger> Books<C, T> {
         self.taken.raise(&mut pass.taken, entries);
     }
 
-    /// Raises the books to the totals of a state, and the pass by as much. `before` are the totals
-    /// up to which the books count: what the state told before it was changed. A hub whose state
-    /// was changed is whole again after it.
+    /// Raises the books to the totals of a state, and the pass by as much. `before` is what the
+    /// state told before it was changed. A hub whose state was changed is whole again after it.
     pub fn catch_up(&mut self, pass: &mut Pass<C, T>, before: &Totals, state: &State)
         requires before { (before.now.commands ≡ self.old.commands)
             × (before.now.taken ≡ self.old.taken) }

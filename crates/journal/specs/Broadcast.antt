@@ -6,8 +6,8 @@ use Rattle.journal.specs.declared.step.Step.{Step}
 use Rattle.journal.specs.declared.form.Form.{Form}
 use Rattle.journal.specs.declared.form.Form.TheVariants.{Event, Question, Answer}
 use Rattle.sio_wire.specs.declared.header.Header.{Header}
-use Rattle.sio_wire.specs.declared.kind.Kind.{Kind}
-use Rattle.sio_wire.specs.declared.kind.Kind.TheVariants as kind
+use Rattle.sio_wire.specs.declared.header.Kind.{Kind}
+use Rattle.sio_wire.specs.declared.header.Kind.TheVariants as kind
 use Rattle.sio_wire.specs.Header.{Plain}
 use Rattle.sio_wire.specs.Offset.{payload_with_offset}
 use Rattle.std.specs.Option.{option_map_or}

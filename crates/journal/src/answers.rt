@@ -6,11 +6,9 @@ use crate::form::Form;
 use std::marker::Model;
 use terms::{Attachments, Room, Sid, Text};
 
-/// An event for the sockets of a namespace, or an acknowledgement of one that came from them. In a
-/// contract it is plain data.
+/// An event for sockets of a namespace, or an acknowledgement. In a contract it is plain data.
 #[derive(Drop)]
 pub struct Cast {
-    /// The name of the namespace.
     pub space: Text,
     /// The rooms that it goes to. None means everybody in the namespace.
     pub rooms: Vec<Room>,
@@ -44,7 +42,7 @@ pub struct CastDone {
     pub offset: Option<u64>,
     /// How many outboxes it was put into.
     pub placed: u64,
-    /// How many sockets miss it, since their clients' outboxes have no space for it.
+    /// How many sockets miss it, since their clients' outboxes have no space.
     pub dropped: u64,
     /// The clients that got it, each once.
     pub clients: Vec<u128>,
@@ -53,20 +51,14 @@ pub struct CastDone {
 impl Model for CastDone {
     ghost Value = { PlainCastDone };
 
-    ghost view = { λ d. record {
-      offset = d.offset;
-      placed = d.placed;
-      dropped = d.dropped;
-      clients = d.clients.items;
-    } };
+    ghost view = { λ d. record
+        { offset = d.offset; placed = d.placed; dropped = d.dropped; clients = d.clients.items } };
 }
 
-/// How much a sweep dropped.
+/// How many entries of the log and how many saved sessions a sweep dropped.
 #[derive(Clone, Copy, Debug, PartialEq, Eq)]
 pub struct Swept {
-    /// The entries of the log.
     pub log: usize,
-    /// The saved sessions.
     pub saved: usize,
 }
 

@@ -65,8 +65,7 @@ impl Model for BaseClient {
     } };
 }
 
-/// The state from which a journal began, and its steps up to a seal. In a contract it is plain
-/// data, with the newest step first.
+/// A base, and its journal up to a seal. In a contract it is plain data, the newest step first.
 pub struct Epoch {
     pub base: Base,
     /// The steps since the base, the oldest first.

@@ -22,14 +22,10 @@ pub enum RecoveryRefusal {
 pub enum HubError {
     /// An allocation was refused.
     Memory,
-    /// The id is in use: the client is open, or the socket's session id or private id is that of a
-    /// connected socket or of a saved session.
+    /// The client is open, or a connected socket or a saved session has one of the ids.
     IdTaken,
-    /// There is no client with this id.
     UnknownClient,
-    /// There is no socket with this session id.
     UnknownSocket,
-    /// The hub has no such namespace.
     UnknownNamespace,
     /// The client has a socket in the namespace already.
     AlreadyConnected,
@@ -47,8 +43,7 @@ pub enum HubError {
     SavedFull,
     /// The payload has no `]`, or there are more than 32 attachments.
     BadPayload,
-    /// A limit that must be at least 1 is 0, the capacity is over 65,536, or the list of
-    /// namespaces is empty, longer than 65,536, names one twice or one that is no namespace.
+    /// A limit or the list of namespaces isn't as `Config` says.
     BadConfig,
 }
 

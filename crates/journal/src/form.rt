@@ -14,8 +14,7 @@ pub enum Form {
     Event { logged: bool },
     /// An event that asks each socket for an acknowledgement under this id. It is never logged.
     Question(u64),
-    /// The acknowledgement of an event that came from these sockets with this id. It is never
-    /// logged.
+    /// The acknowledgement of an event that came with this id. It is never logged.
     Answer(u64),
 }
 

@@ -26,8 +26,8 @@ pub fn what_waits()
 {}
 
 /// Epochs compose. After two histories that say the same, as those before and after a seal do, the
-/// same steps are allowed, and after such a step both say the same again; the one is then sound if
-/// the other is. So what is said of all steps of all epochs is what the last base and journal say.
+/// same steps are allowed, and after such a step both say the same again, and the one is sound if
+/// the other is. So the last base and journal say what all steps of all epochs do.
 pub fn epochs_compose()
     // what is allowed after the second history is allowed after the first, and the other way round
     ensures back { (g h : History) (now : ℕ) (what : What)

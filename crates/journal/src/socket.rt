@@ -11,7 +11,6 @@ pub struct Socket {
     pub client: u128,
     /// The place of its namespace in the hub's list.
     pub space: u16,
-    /// Its session id.
     pub sid: Sid,
     /// Its private session id, by which the session may be recovered.
     pub pid: Pid,

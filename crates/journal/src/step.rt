@@ -17,22 +17,16 @@ pub struct Step {
     pub what: What,
 }
 
-/// What an accepted command did.
+/// What an accepted command did: to a client, a socket, or one and its room.
 #[derive(Drop)]
 pub enum What {
-    /// A client was opened.
     Opened(u128),
-    /// A socket was connected.
     Attached(Socket),
-    /// A saved session came back.
     Recovered(Recovery),
-    /// A socket joined a room.
     Joined(Sid, Room),
-    /// A socket left a room.
     Left(Sid, Room),
-    /// Many sockets joined a room.
+    /// Many sockets joined a room, or left it.
     AllJoined(RoomChange),
-    /// Many sockets left a room.
     AllLeft(RoomChange),
     /// A broadcast was put into the outboxes of those whom it is for.
     Cast(Broadcast),
@@ -52,7 +46,7 @@ pub enum What {
     Swept,
 }
 
-/// A broadcast that was accepted. In a contract it is plain data.
+/// A broadcast that was accepted. In a contract it is plain data, and so are those below.
 #[derive(Drop)]
 pub struct Broadcast {
     /// The place of its namespace in the hub's list.
@@ -82,17 +76,14 @@ impl Model for Broadcast {
     } };
 }
 
-/// A change of one room for many sockets: all that match it joined the room, or left it. In a
-/// contract it is plain data, and so are those below.
+/// All sockets of a namespace that match joined one room, or left it.
 #[derive(Drop)]
 pub struct RoomChange {
-    /// The place of the namespace in the hub's list.
     pub space: u16,
     /// The rooms whose sockets match. None means everybody in the namespace.
     pub rooms: Vec<Room>,
     /// The rooms whose sockets don't match.
     pub excepted: Vec<Room>,
-    /// The room that changed.
     pub room: Room,
     /// The sockets that joined or left it, rising.
     pub changed: Vec<Sid>,
@@ -110,14 +101,11 @@ impl Model for RoomChange {
     } };
 }
 
-/// Many sockets that were ended together, and what they were told.
+/// Many sockets that were ended together: those that match, as in a `RoomChange`.
 #[derive(Drop)]
 pub struct Dismissal {
-    /// The place of the namespace in the hub's list.
     pub space: u16,
-    /// The rooms whose sockets match. None means everybody in the namespace.
     pub rooms: Vec<Room>,
-    /// The rooms whose sockets don't match.
     pub excepted: Vec<Room>,
     /// The sockets that were ended, rising.
     pub ended: Vec<Sid>,
@@ -167,10 +155,6 @@ pub struct Recovery {
 impl Model for Recovery {
     ghost Value = { PlainRecovery };
 
-    ghost view = { λ r. record {
-      socket = r.socket;
-      offset = r.offset;
-      rooms = r.rooms.items;
-      missed = r.missed.items;
-    } };
+    ghost view = { λ r. record
+        { socket = r.socket; offset = r.offset; rooms = r.rooms.items; missed = r.missed.items } };
 }

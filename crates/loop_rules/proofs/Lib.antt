@@ -1,3 +1,4 @@
+pub mod DelayLemmas
 mod LookLemmas
 mod NotesLemmas
 mod PaceLemmas
@@ -5,3 +6,4 @@ mod PartLemmas
 mod ReceivingLemmas
 mod RosterLemmas
 mod RotaLemmas
+pub mod WokenLemmas

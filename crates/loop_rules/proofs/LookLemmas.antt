@@ -8,7 +8,7 @@ use Rattle.loop_rules.specs.declared.looks.Pause.{Pause}
 use Rattle.loop_rules.specs.declared.looks.Pause.TheVariants as pause
 use Rattle.loop_rules.specs.declared.looks.Decision.{Decision}
 use Rattle.loop_rules.specs.declared.looks.Decision.TheVariants as decision
-use Rattle.loop_rules.specs.Stints.{decision_for}
+use Rattle.loop_rules.specs.Decisions.{decision_for}
 use Rattle.loop_rules.specs.Looks.{is_awake, called, begun, paused, followed, is_dry, is_calm, finds_dry, has_looked, may_rest, Step, Comes, Begins, Follows, Pauses, state_after, was_dry, is_under_way, came_since_look, NeverRests}
 
 awake-called : (s : LookState) → is_awake (called s) ≡ true

@@ -5,7 +5,7 @@ use Rattle.std.specs.Prelude.{IsPermutation}
 use Rattle.std.specs.Map.{remove_entry}
 use Rattle.std.proofs.lemmas.Map.Entries.{sum_by-remove_entry, sum_by_puts_entry, sum_by_values_permutation}
 use Rattle.loop_rules.specs.Parts.{bytes_in, sum_of}
-use Rattle.loop_rules.specs.declared.unfinished.Part.{Part}
+use Rattle.loop_rules.specs.declared.receiving.Part.{Part}
 
 bytes_weigh : (o : Option Part) → unwrap_or (option_map (λ (p : Part). p.bytes) o) 0 ≡ bytes_in o
 bytes_weigh None = refl

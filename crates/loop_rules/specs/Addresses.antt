@@ -1,7 +1,7 @@
 -- How many connections come from each address.
 use Rattle.std.specs.Prelude.{ℕ, nat_eq, Option, None, Some}
 use Rattle.std.specs.HashMap.{get}
-use Rattle.loop_rules.specs.declared.addresses.Addresses.{Addresses}
+use Rattle.loop_rules.specs.declared.dealing.Addresses.{Addresses}
 
 abbrev pub number_of : Option ℕ → ℕ
 number_of None = 0

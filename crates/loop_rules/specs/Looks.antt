@@ -8,7 +8,7 @@ use Rattle.loop_rules.specs.declared.looks.Pause.{Pause}
 use Rattle.loop_rules.specs.declared.looks.Pause.TheVariants as pause
 use Rattle.loop_rules.specs.declared.looks.Decision.{Decision}
 use Rattle.loop_rules.specs.declared.looks.Decision.TheVariants as decision
-use Rattle.loop_rules.specs.Stints.{decision_for}
+use Rattle.loop_rules.specs.Decisions.{decision_for}
 
 -- ## The table
 

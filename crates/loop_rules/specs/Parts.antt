@@ -2,7 +2,7 @@
 use Rattle.std.specs.Prelude.{ℕ, Option, None, Some, cond, find, nat_eq, option_map, sum_by}
 use Rattle.std.specs.HashMap.{HashMap, values}
 use Rattle.loop_rules.specs.Deadlines.{has_stopped}
-use Rattle.loop_rules.specs.declared.unfinished.Part.{Part}
+use Rattle.loop_rules.specs.declared.receiving.Part.{Part}
 
 -- how many bytes these are
 abbrev pub bytes_in : Option Part → ℕ

@@ -7,7 +7,7 @@ use Rattle.loop_rules.specs.declared.looks.Found.{Found}
 use Rattle.loop_rules.specs.declared.looks.Decision.{Decision}
 use Rattle.loop_rules.specs.declared.looks.Decision.TheVariants as decision
 use Rattle.loop_rules.specs.Looks.{called, begun, paused, followed, is_queued, is_to_queue, may_rest}
-use Rattle.loop_rules.specs.Stints.{decision_for}
+use Rattle.loop_rules.specs.Decisions.{decision_for}
 
 -- how each connection stands; the keys of those that have something to do in this round of the loop, and
 -- of those that have more to do in its next one, each in the order in which they came

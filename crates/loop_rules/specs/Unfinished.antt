@@ -2,8 +2,8 @@
 use Rattle.std.specs.Prelude.{ℕ, Option, nat_eq}
 use Rattle.std.specs.HashMap.{get}
 use Rattle.loop_rules.specs.Parts.{bytes_in}
-use Rattle.loop_rules.specs.declared.unfinished.Part.{Part}
-use Rattle.loop_rules.specs.declared.unfinished.Unfinished.{Unfinished}
+use Rattle.loop_rules.specs.declared.receiving.Part.{Part}
+use Rattle.loop_rules.specs.declared.receiving.Unfinished.{Unfinished}
 
 -- what one has
 abbrev pub part_of : Unfinished → ℕ → Option Part

@@ -1,7 +1,12 @@
-//! How long a connection may take.
+//! How long connections may take.
 
-ghost use Rattle.std.specs.Prelude.{◌≡◌};
-ghost use Rattle.loop_rules.specs.Deadlines.{has_stopped, has_had_its_turn, overdue_at};
+ghost use Rattle.std.specs.Prelude.{◌≡◌, None, Some, false};
+ghost use Rattle.loop_rules.specs.Deadlines.{has_stopped, overdue_at};
+ghost use Rattle.loop_rules.specs.Links as all;
+ghost use Rattle.loop_rules.specs.Lateness as late;
+
+use crate::link::{Do, Link, Seen};
+use crate::links::Links;
 
 /// How long a request may take to come, in milliseconds.
 const REQUEST: u64 = 10_000;
@@ -17,9 +22,6 @@ const STALL: u64 = 30_000;
 
 /// How long a message or attachments are waited for of which no byte comes.
 const STOP: u64 = 30_000;
-
-/// For how long one goes on that receives beyond its loop's share.
-const TURN: u64 = 30_000;
 
 /// How long a connection may take to end.
 const END: u64 = 2_000;
@@ -41,37 +43,22 @@ pub enum Period {
     Ends,
 }
 
-/// What is to be done with a connection that took too long.
-#[derive(Clone, Copy, Debug, PartialEq, Eq)]
-pub enum Overdue {
-    Nothing,
-    /// It is closed.
-    Close,
-    /// It is told that nothing waits.
-    GiveUp,
-    /// It is read no more.
-    Cut,
-    /// Its client is lost.
-    Fail,
-    /// It gets a stint, in which it finds whether its client is still there.
-    Look,
-}
-
-/// What is to be done with a connection that has been so long at this period, and whose bytes to be
-/// sent have not gone on for so long, if there are any.
-pub fn find_overdue(period: Period, age: u64, stalled: Option<u64>) -> Overdue
+/// What is to be done with a connection that has been so long at this period, and whose bytes have
+/// not gone on for so long, if some are unsent.
+pub fn find_overdue(period: Period, age: u64, stalled: Option<u64>) -> Do
     ensures { result ≡ overdue_at period age stalled }
 {
     let is_stuck = matches!(stalled, Some(time) if time >= STALL);
     match period {
-        Period::Request if age >= REQUEST => Overdue::Close,
-        Period::Waits if age >= WAIT => Overdue::GiveUp,
-        Period::Knocks if age >= PROBE => Overdue::Cut,
-        Period::Knocks => Overdue::Look,
-        Period::Served if is_stuck => Overdue::Fail,
-        Period::Sends if is_stuck => Overdue::Close,
-        Period::Ends if age >= END => Overdue::Close,
-        _ => Overdue::Nothing,
+        Period::Request if age >= REQUEST => Do::End,
+        Period::Waits if age >= WAIT => Do::GiveUp,
+        Period::Knocks if age >= PROBE => Do::Cut,
+        // In its stint it finds whether its client is still there.
+        Period::Knocks => Do::Queue,
+        Period::Served if is_stuck => Do::Fail,
+        Period::Sends if is_stuck => Do::End,
+        Period::Ends if age >= END => Do::End,
+        _ => Do::Nothing,
     }
 }
 
@@ -82,9 +69,60 @@ pub fn has_stopped(moved: u64, now: u64) -> bool
     now.saturating_sub(moved) >= STOP
 }
 
-/// Whether the turn is over that began at a moment.
-pub fn has_had_its_turn(since: u64, now: u64) -> bool
-    ensures { result ≡ has_had_its_turn since now }
-{
-    now.saturating_sub(since) >= TURN
+impl Links {
+    /// What is to be done with a connection that took too long, or where all are to end. A POST
+    /// that has to wait isn't late by that; another one is called once its client waits no more.
+    pub fn keep_deadline(&mut self, key: usize, seen: Seen, cutting: bool, now: u64) -> Do
+        ensures what { result ≡ late.due_at key seen cutting now self.old }
+        ensures links { self.new.links.items
+            ≡ all.put_at key (late.kept_link key seen cutting now self.old) self.old.links.items }
+        ensures takers { self.new.roster.takers ≡ self.old.roster.takers }
+    {
+        let is_taker = self.is_taker(key);
+        let mut link = self.keep_waiting(key, now);
+        let period = link.period(seen.idle, is_taker, cutting);
+        let what = link.overdue(period, seen.unsent, cutting, now);
+        if matches!(what, Do::Fail) {
+            link = link.fail(now);
+        }
+        self.put(key, link);
+        if !matches!(what, Do::Nothing | Do::End) {
+            self.roster.rota.call(key);
+        }
+        match what {
+            Do::End => Do::End,
+            Do::GiveUp => Do::GiveUp,
+            Do::Cut | Do::Fail => Do::Cut,
+            _ => Do::Nothing,
+        }
+    }
+
+    /// Whether what is put for its client goes over a connection.
+    pub fn is_taker(&self, key: usize) -> bool
+        ensures { result ≡ all.is_taker_at key self.now }
+    {
+        match self.link(key).client {
+            Some(client) => self.roster.takers.is_taker(client, key),
+            None => false,
+        }
+    }
+
+    /// A connection, as it is by now: a POST that has to wait isn't late by that.
+    fn keep_waiting(&mut self, key: usize, now: u64) -> Link
+        ensures link { result ≡ late.waited key now self.old }
+        ensures links { self.new.links ≡ self.old.links }
+        ensures takers { self.new.roster.takers ≡ self.old.roster.takers }
+    {
+        let mut link = self.link(key);
+        let sender = link.sender(key);
+        let has_to = self.is_pressed(sender, now) || link.paced > now;
+        if link.waits && !has_to {
+            self.roster.rota.call(key);
+        }
+        if has_to && link.course.is_post() {
+            self.receiving.keep(key, sender, now);
+            link.since = now;
+        }
+        link
+    }
 }

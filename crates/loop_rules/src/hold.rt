@@ -1,14 +1,16 @@
 //! The events that the core gets under one hold of its lock, and their answers.
 
-ghost use Rattle.std.specs.Prelude.{◌≡◌, ◌++◌, ◌∷◌, [], false, None, IfOk};
+ghost use Rattle.std.specs.Prelude.{◌≡◌, ◌++◌, ◌∷◌, [], false, None, IfOk, ◌+◌, ◌≤◌, cond, is_some};
 ghost use Rattle.loop_rules.specs.Holds as holds;
+ghost use Rattle.std.specs.VecDeque.{deque_capacity, deque_len};
+ghost use Rattle.loop_rules.specs.Holds.{PlainHold};
 
 use std::alloc::{AllocError, Global};
 use std::collections::VecDeque;
 use std::marker::Model;
 
-/// Events for one hold of a lock, each with what it is of, and what they were answered with. Each event
-/// is handed out once, in the order in which they were added, and its answer is told of nothing else.
+/// Events for one hold of a lock, each with what it is of, and their answers. Each is handed out
+/// once, in the order in which they were added, and its answer is told of nothing else.
 #[derive(Drop)]
 pub struct Hold<O, E, A> {
     brought: VecDeque<(O, E)>,
@@ -20,10 +22,6 @@ pub struct Hold<O, E, A> {
 }
 
 impl<O, E, A> Model for Hold<O, E, A> {
-    ghost use Rattle.std.specs.Prelude.{◌+◌, ◌≤◌, cond, is_some};
-    ghost use Rattle.std.specs.VecDeque.{deque_capacity, deque_len};
-    ghost use Rattle.loop_rules.specs.Holds.{PlainHold};
-
     ghost Value = { PlainHold O E A };
 
     ghost view = { λ h. record {
@@ -33,7 +31,8 @@ impl<O, E, A> Model for Hold<O, E, A> {
       most = h.most;
     } };
 
-    ghost invariant = { λ h. (deque_len h.brought + cond (is_some h.asked) 1 0 + deque_len h.heard ≤ h.most)
+    ghost invariant = { λ h. (deque_len h.brought + cond (is_some h.asked) 1 0 + deque_len h.heard
+        ≤ h.most)
         × (h.most ≤ deque_capacity h.brought) × (h.most ≤ deque_capacity h.heard) };
 }
 
@@ -96,7 +95,7 @@ impl<O: Drop, E: Drop, A: Drop> Hold<O, E, A> {
         }
     }
 
-    /// The event that was handed out is answered, and its answer is told by somebody else: what it was of.
+    /// The event that was handed out is answered, which somebody else tells: what it was of.
     pub fn forget(&mut self) -> Option<O>
         ensures asked { result ≡ self.old.asked }
         ensures state { self.new ≡ record self.old { asked = None } }

@@ -1,35 +1,36 @@
 //! What the loops of a server decide, as functions of plain values: whose loop a request goes to,
-//! what a connection does next, and what is done with one that takes too long.
+//! what each connection is about, what it does next, and what the answer to its event leads to.
 #![tactic(auto)]
 
-mod addresses;
 mod deadlines;
 mod dealing;
+mod delays;
+mod heard;
 mod hold;
+mod link;
+mod links;
 mod looks;
 mod mailbox;
-mod owners;
 mod paces;
-mod packets;
 mod pressure;
 mod receiving;
-mod refused;
 mod roster;
-mod rota;
-mod unfinished;
+mod rounds;
+mod stints;
 
-pub use addresses::Addresses;
-pub use deadlines::{Overdue, Period, find_overdue, has_had_its_turn, has_stopped};
-pub use dealing::{Dealing, time_to_wait};
+pub use deadlines::Period;
+pub use dealing::{Addresses, Dealing, Refused, time_to_wait};
+pub use delays::Delays;
+pub use heard::{
+    Concern, concern_of, done_of, found_by, found_passed, has_taken_all, left_unbrought,
+};
 pub use hold::Hold;
-pub use looks::{Decision, Found, LookState, Pause, Stint, left_after_message};
+pub use link::{Course, Do, Link, Seen, Serving, client_of, events_in};
+pub use links::Links;
+pub use looks::{Decision, Found, LookState, Pause};
 pub use mailbox::{Mail, Mailbox};
-pub use owners::{LOOPS, loop_of, marked, owner_of};
-pub use paces::{Pace, Paces};
-pub use packets::{carried, carries};
+pub use paces::{Pace, Paces, Pacing};
 pub use pressure::{Backlog, Pressure};
-pub use receiving::{Receiving, Sender};
-pub use refused::Refused;
-pub use roster::{Notes, Roster, Takers};
-pub use rota::Rota;
-pub use unfinished::Unfinished;
+pub use receiving::{Receiving, Sender, Unfinished};
+pub use roster::{LOOPS, Notes, Roster, Rota, Takers, loop_of, marked, owner_of};
+pub use rounds::{Round, is_much_unsent};

@@ -4,30 +4,26 @@ ghost use Rattle.std.specs.Prelude.{◌≡◌};
 ghost use Rattle.loop_rules.specs.Frames as frames;
 ghost use Rattle.loop_rules.specs.Looks as looks;
 ghost use Rattle.loop_rules.specs.Looks.{NeverRests};
-ghost use Rattle.loop_rules.specs.Stints.{left_after, decision_for};
-
-use std::marker::Model;
+ghost use Rattle.loop_rules.specs.Decisions.{left_after, decision_for};
 
 /// How many events one stint of a connection brings before it goes to the end of the queue.
-const EVENTS: u32 = 48;
+pub const EVENTS: u32 = 48;
 
-/// How a connection stands to what comes for it. From something that came until it looked again it
-/// never rests.
+/// How a connection stands to what comes for it. It never rests until it looked at what came.
 #[derive(Clone, Copy, Debug, PartialEq, Eq)]
 pub enum LookState {
     /// It has looked at all that came, and rests until something comes.
     Rests,
     /// Something came while it rested: it stands in the queue, and its look begins with its stint.
     Called,
-    /// It stands in the queue while a look is under way: it goes on with that, and then looks once
-    /// more.
+    /// It stands in the queue while a look is under way: it goes on, and then looks once more.
     Again,
     /// It is not served until its bytes have gone.
     Full,
     /// It is not served until its moment has come.
     Early,
-    /// It is its stint, and nothing came since it began to look. Whether its stream had no more
-    /// while all that waited for its client was taken.
+    /// It is its stint, and nothing came since it began to look. It is dry where its stream had no
+    /// more while all that waited for its client was taken.
     Looks { dry: bool },
     /// It is its stint, and something came since it began to look: it looks once more.
     Stirred { dry: bool },
@@ -72,58 +68,19 @@ pub enum Decision {
     Held,
 }
 
-/// What is left of a connection's stint. In a contract it is how many events.
-#[derive(Clone, Copy, Debug)]
-pub struct Stint {
-    left: u32,
-}
-
-impl Model for Stint {
-    ghost use Rattle.std.specs.Prelude.{ℕ};
-
-    ghost Value = { ℕ };
-
-    ghost view = { λ t. t.left };
-
-    ghost inverse = { λ n. record { left = n } };
-}
-
-impl Stint {
-    /// A stint begins.
-    pub fn begin() -> Stint
-        ensures { result ≡ 48 }
-    {
-        Stint { left: EVENTS }
-    }
-
-    /// One of which so many events are left.
-    pub fn of(left: u32) -> Stint
-        ensures { result ≡ left }
-    {
-        Stint { left }
-    }
-
-    /// How many events are left of it.
-    pub fn left(&self) -> u32
-        ensures { result ≡ self.now }
-    {
-        self.left
-    }
-
-    /// What follows, where a connection is idle or not and has too much unsent or not. One more
-    /// event of the stint is counted where the connection goes on.
-    pub fn next(&mut self, idle: bool, full: bool) -> Decision
-        ensures decision { result ≡ decision_for self.old idle full }
-        ensures left { self.new ≡ left_after self.old result }
-    {
-        match (full, idle, self.left) {
-            (true, _, _) => Decision::Held,
-            (_, true, _) => Decision::Rests,
-            (_, _, 0) => Decision::Again,
-            _ => {
-                self.left -= 1;
-                Decision::GoesOn
-            }
+/// What follows where so many events are left of a stint, and a connection is idle or has too much
+/// unsent, or not. One that goes on spends an event.
+fn decide(events: &mut u32, idle: bool, full: bool) -> Decision
+    ensures decision { result ≡ decision_for events.old idle full }
+    ensures left { events.new ≡ left_after events.old result }
+{
+    match (full, idle, *events) {
+        (true, _, _) => Decision::Held,
+        (_, true, _) => Decision::Rests,
+        (_, _, 0) => Decision::Again,
+        _ => {
+            *events -= 1;
+            Decision::GoesOn
         }
     }
 }
@@ -181,15 +138,15 @@ impl LookState {
         };
     }
 
-    /// An event was answered. Answers what follows, where it has too much unsent or not.
-    pub fn follow(&mut self, stint: &mut Stint, found: Found, full: bool) -> Decision
-        ensures decision { result ≡ decision_for stint.old (looks.may_rest self.old found) full }
-        ensures left { stint.new ≡ left_after stint.old result }
+    /// An event was answered. Answers what follows, with so many left, and much unsent or not.
+    pub fn follow(&mut self, events: &mut u32, found: Found, full: bool) -> Decision
+        ensures decision { result ≡ decision_for events.old (looks.may_rest self.old found) full }
+        ensures left { events.new ≡ left_after events.old result }
         ensures state { self.new ≡ looks.followed self.old found result }
         ensures law { NeverRests self.old self.new }
     {
         let (calm, over, dry) = (self.is_calm(), self.has_looked(found), found == Found::Dry);
-        let decision = stint.next(calm && over, full);
+        let decision = decide(events, calm && over, full);
         *self = match decision {
             Decision::Rests => LookState::Rests,
             Decision::Held => LookState::Full,
@@ -216,8 +173,8 @@ impl LookState {
     }
 }
 
-/// How many of these bytes are left at the most, once a message of so many was taken out of them.
-/// Where none is left, no other message is among them.
+/// How many of these bytes are left at the most behind a message of so many. Where none is, no
+/// other message is among them.
 pub fn left_after_message(bytes: usize, payload: usize) -> usize
     ensures { result ≡ frames.left_after_message bytes payload }
 {

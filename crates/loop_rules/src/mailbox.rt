@@ -19,8 +19,7 @@ pub struct Mail<H> {
     pub everyone: bool,
 }
 
-/// What others hand to a loop. A loop that is asleep has nothing there: whoever hands it something
-/// is told whether it is to be woken.
+/// What others hand to a loop. One that sleeps has nothing there; who hands it some wakes it.
 #[derive(Drop)]
 pub struct Mailbox<H> {
     mail: Mail<H>,
@@ -47,10 +46,8 @@ impl<H: Drop> Mailbox<H> {
         ensures empty { mails.count result.mail ≡ 0 }
         ensures work { result.asleep ≡ false }
     {
-        Mailbox {
-            mail: Mail::new(alloc),
-            asleep: false,
-        }
+        let (mail, asleep) = (Mail::new(alloc), false);
+        Mailbox { mail, asleep }
     }
 
     /// The loop is awake from now on. Answers whether it slept.
@@ -65,7 +62,8 @@ impl<H: Drop> Mailbox<H> {
     /// Hands a connection over, and tells whether there was memory for it; else it is closed.
     pub fn hand(&mut self, handed: H) -> bool
         ensures awake { self.new.asleep ≡ false }
-        ensures given { OnTrue result (self.new.mail.handed.items ≡ self.old.mail.handed.items ++ handed ∷ []) }
+        ensures given { OnTrue result
+            (self.new.mail.handed.items ≡ self.old.mail.handed.items ++ handed ∷ []) }
         ensures refused { OnFalse result (self.new.mail.handed.items ≡ self.old.mail.handed.items) }
         ensures others { (self.new.mail.woken ≡ self.old.mail.woken)
             × (self.new.mail.everyone ≡ self.old.mail.everyone) }
@@ -74,8 +72,7 @@ impl<H: Drop> Mailbox<H> {
         self.mail.handed.push(handed).is_ok()
     }
 
-    /// Something was put for these clients. Where there is no memory for them, all connections are
-    /// to be looked at.
+    /// Something was put for these clients. Without memory for them all connections are to look.
     pub fn wake(&mut self, clients: &[u128])
         ensures awake { self.new.asleep ≡ false }
         ensures told { mails.Tells clients.now self.old.mail self.new.mail }

@@ -1,6 +1,9 @@
 //! Whose clients aren't read, since what waits for their backend is much.
 
-ghost use Rattle.std.specs.Prelude.{◌≡◌};
+ghost use Rattle.std.specs.Prelude.{◌≡◌, ◌||◌, ◌&&◌, ◌≢◌, ℕ, None, Some};
+ghost use Rattle.loop_rules.specs.Pressures.{is_low, is_much, holds, known, pressed_at, IsCalm};
+ghost use Rattle.loop_rules.specs.Pressures.{IsSame};
+ghost use Rattle.std.specs.Bool.{OnTrue, OnFalse};
 
 use std::alloc::Global;
 use std::collections::HashMap;
@@ -15,40 +18,25 @@ pub struct Backlog {
 }
 
 impl Backlog {
-    ghost use Rattle.std.specs.Prelude.{◌||◌, ◌&&◌};
-    ghost use Rattle.loop_rules.specs.Pressures.{is_low, is_much};
-
     /// Whether three quarters are taken of the places or of the bytes.
     pub fn is_much(self) -> bool
         ensures { result ≡ is_much self }
     {
-        let Backlog {
-            entries,
-            bytes,
-            most_entries,
-            most_bytes,
-        } = self;
-        3 * (most_entries as u128) <= 4 * (entries as u128)
-            || 3 * (most_bytes as u128) <= 4 * (bytes as u128)
+        3 * (self.most_entries as u128) <= 4 * (self.entries as u128)
+            || 3 * (self.most_bytes as u128) <= 4 * (self.bytes as u128)
     }
 
     /// Whether less than half of both is taken.
     pub fn is_low(self) -> bool
         ensures { result ≡ is_low self }
     {
-        let Backlog {
-            entries,
-            bytes,
-            most_entries,
-            most_bytes,
-        } = self;
-        2 * (entries as u128) < most_entries as u128 && 2 * (bytes as u128) < most_bytes as u128
+        2 * (self.entries as u128) < self.most_entries as u128
+            && 2 * (self.bytes as u128) < self.most_bytes as u128
     }
 }
 
-/// The backends that are pressed, as far as a loop knows, and the clients of the loop. Backends and
-/// clients are known by digits, a bit each: those that a backend is told of, and those with which the
-/// ids of a client's sockets begin.
+/// The backends that are pressed, as far as a loop knows, and its clients, by digits, a bit each:
+/// those that a backend is told of, and those with which the ids of a client's sockets begin.
 #[derive(Drop)]
 pub struct Pressure {
     digits: HashMap<u128, u16>,
@@ -61,10 +49,6 @@ pub struct Pressure {
 }
 
 impl Pressure {
-    ghost use Rattle.std.specs.Prelude.{◌≢◌, ℕ, None, Some};
-    ghost use Rattle.std.specs.Bool.{OnTrue, OnFalse};
-    ghost use Rattle.loop_rules.specs.Pressures.{holds, known, pressed_at, IsCalm, IsSame};
-
     /// No backend is pressed, and no client is known. Clients aren't read for so long at a stretch.
     pub fn new(alloc: Global, stretch: u64) -> Pressure
         ensures none { (c : ℕ) → known result c ≡ None }
@@ -78,8 +62,7 @@ impl Pressure {
         }
     }
 
-    /// The digits of a client's sockets are these. Where there is no memory for that, they stay as they
-    /// are known; one that isn't known is always read.
+    /// The digits of a client's sockets are these, if memory allows. One that isn't known is read.
     pub fn note(&mut self, client: u128, digits: u16) -> bool
         ensures noted { OnTrue result (known self.new client ≡ Some digits) }
         ensures kept { OnFalse result (known self.new client ≡ known self.old client) }
@@ -109,8 +92,7 @@ impl Pressure {
         self.pressed = pressed;
     }
 
-    /// Whether a client isn't read: a backend of its sockets is pressed, and that hasn't lasted for
-    /// too long.
+    /// Whether a client isn't read: a backend of its sockets is pressed, and not for too long.
     pub fn holds(&self, client: u128, now: u64) -> bool
         ensures { result ≡ holds self.now client now }
     {

@@ -1,7 +1,6 @@
 //! What a server tells to who watches it: its counts, in the text format of Prometheus.
 #![tactic(auto)]
 
-mod counting;
 mod metrics;
 mod reason;
 

@@ -18,4 +18,4 @@ not_reading (stage.Ticks c idle) not = refl
 not_reading (stage.Ticking c p idle) not = refl
 not_reading (stage.Loses c) not = refl
 not_reading (stage.Losing c) not = refl
-not_reading (stage.Over c) not = refl
+not_reading stage.Over not = refl

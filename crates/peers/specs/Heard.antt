@@ -11,12 +11,8 @@ use Rattle.peers.specs.declared.socket_stage.Phase.{Phase}
 use Rattle.peers.specs.declared.socket_stage.Phase.TheVariants as phase
 use Rattle.peers.specs.declared.socket_stage.SocketStage.{SocketStage}
 use Rattle.peers.specs.declared.socket_stage.SocketStage.TheVariants as stage
-use Rattle.peers.specs.Rounds.{client_of}
 
 -- ---- what an answer leads to
-
-abbrev pub over : ℕ → SocketStage
-over c = stage.Over (Some c)
 
 abbrev pub is_unknown : CoreFault → Bool
 is_unknown fault.UnknownClient = true
@@ -32,23 +28,23 @@ is_refused got = is_err got
 
 abbrev pub after_opening : Answer → SocketStage
 after_opening (Ok (outcome.Opened o)) = stage.Reads o.client phase.Speaks false
-after_opening _ = stage.Over None
+after_opening _ = stage.Over
 
 abbrev pub after_probe : ℕ → Answer → SocketStage
 after_probe c (Ok (outcome.Probed text)) = stage.Reads c phase.Probes false
-after_probe c _ = over c
+after_probe c _ = stage.Over
 
 abbrev pub after_upgrade : ℕ → Answer → SocketStage
 after_upgrade c (Ok (outcome.Done done)) = stage.Reads c phase.Speaks false
-after_upgrade c _ = over c
+after_upgrade c _ = stage.Over
 
 -- a frame that was refused is passed over
 abbrev pub after_frame : ℕ → Answer → SocketStage
-after_frame c got = cond (is_gone got) (over c) (stage.Takes c)
+after_frame c got = cond (is_gone got) stage.Over (stage.Takes c)
 
 abbrev pub after_take : ℕ → Bool → Answer → SocketStage
 after_take c idle (Ok (outcome.Frames frames)) = stage.Ticks c false
-after_take c idle got = cond (is_gone got) (over c) (stage.Ticks c idle)
+after_take c idle got = cond (is_gone got) stage.Over (stage.Ticks c idle)
 
 -- nothing is due, and the client was not given up
 abbrev pub is_quiet : Answer → Bool
@@ -57,12 +53,12 @@ is_quiet _ = true
 
 -- until a client has come over, a refusal ends the peer, after a probe that runs was lost
 abbrev pub after_refusal : ℕ → Phase → Bool → SocketStage
-after_refusal c phase.Knocks idle = over c
+after_refusal c phase.Knocks idle = stage.Over
 after_refusal c phase.Probes idle = stage.Loses c
 after_refusal c phase.Speaks idle = stage.Reads c phase.Speaks idle
 
 abbrev pub after_tick : ℕ → Phase → Bool → Answer → SocketStage
-after_tick c p idle got = cond (is_gone got) (over c)
+after_tick c p idle got = cond (is_gone got) stage.Over
     (cond (is_refused got) (after_refusal c p idle) (stage.Reads c p (idle && is_quiet got)))
 
 abbrev pub after : SocketStage → Answer → SocketStage
@@ -72,7 +68,7 @@ after (stage.Upgrading c) got = after_upgrade c got
 after (stage.Framed c) got = after_frame c got
 after (stage.Taking c idle) got = after_take c idle got
 after (stage.Ticking c p idle) got = after_tick c p idle got
-after (stage.Losing c) got = over c
+after (stage.Losing c) got = stage.Over
 after other got = other
 
 -- ---- what is sent
@@ -87,4 +83,4 @@ to_send s got = []
 -- what could not be sent loses a probe, or else the peer has failed
 abbrev pub unsent : SocketStage → PeerFault → SocketStage × Result (Unit {0}) PeerFault
 unsent (stage.Reads c phase.Probes idle) why = (stage.Loses c, Ok tt)
-unsent other why = (stage.Over (client_of other), Err why)
+unsent other why = (stage.Over, Err why)

@@ -15,8 +15,8 @@ use Rattle.events.specs.declared.event.WsFrame.{WsFrame}
 use Rattle.events.specs.declared.event.WsFrame.TheVariants as frame
 use Rattle.events.specs.declared.peer.PeerFault.{PeerFault}
 use Rattle.events.specs.declared.peer.PeerFault.TheVariants as fault
-use Rattle.peers.specs.declared.incoming.Incoming.{Incoming}
-use Rattle.peers.specs.declared.incoming.Incoming.TheVariants as incoming
+use Rattle.peers.specs.declared.socket_peer.Incoming.{Incoming}
+use Rattle.peers.specs.declared.socket_peer.Incoming.TheVariants as incoming
 
 -- a copy was made of the message, or there was no memory for it, and then it is lost
 abbrev pub IsCopyOf : WsFrame → Incoming → Type 0

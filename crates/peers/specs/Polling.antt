@@ -39,13 +39,9 @@ next_of most other = (other, None)
 
 -- ---- what an answer leads to
 
-abbrev pub opened_client : Answer → Option ℕ
-opened_client (Ok (outcome.Opened o)) = Some o.client
-opened_client _ = None
-
 abbrev pub after_begin : ℕ → Answer → PollStage
 after_begin c (Ok outcome.Begun) = stage.Begun c
-after_begin c _ = stage.Over (Some c)
+after_begin c _ = stage.Over
 
 -- a refusal that passes
 abbrev pub waits_on : CoreFault → Bool
@@ -58,7 +54,7 @@ waits_on _ = false
 
 -- where an event was refused, a GET that was begun waits on so, or is over
 abbrev pub after_refusal : ℕ → CoreFault → PollStage → PollStage
-after_refusal c why on = cond (waits_on why) on (stage.Over (Some c))
+after_refusal c why on = cond (waits_on why) on stage.Over
 
 -- a GET that found nothing asks again, or ends once it has asked so often
 abbrev pub waits : ℕ → ℕ → PollStage
@@ -66,16 +62,16 @@ waits c left = cond (left == 0) (stage.Ends c) (stage.Waits c left)
 
 abbrev pub after_take : ℕ → ℕ → Answer → PollStage
 after_take c left (Ok outcome.Nothing) = waits c left
-after_take c left (Ok _) = stage.Over (Some c)
+after_take c left (Ok _) = stage.Over
 after_take c left (Err e) = after_refusal c e.fault (waits c left)
 
 abbrev pub after_end : ℕ → Answer → PollStage
-after_end c (Ok _) = stage.Over (Some c)
+after_end c (Ok _) = stage.Over
 after_end c (Err e) = after_refusal c e.fault (stage.Ends c)
 
 abbrev pub after : PollStage → Answer → PollStage
-after stage.Opening got = stage.Over (opened_client got)
-after (stage.Posting c) got = stage.Over (Some c)
+after stage.Opening got = stage.Over
+after (stage.Posting c) got = stage.Over
 after (stage.Beginning c) got = after_begin c got
 after (stage.Taking c left) got = after_take c left got
 after (stage.Ending c) got = after_end c got
@@ -89,23 +85,6 @@ given_up (stage.Begun c) = stage.Ends c
 given_up (stage.Waits c left) = stage.Ends c
 given_up (stage.Taking c left) = stage.Taking c 0
 given_up other = other
-
-abbrev pub client_of_request : PollRequest → Option ℕ
-client_of_request request.Open = None
-client_of_request (request.Get c) = Some c
-client_of_request (request.Post c body) = Some c
-
-abbrev pub client_of : PollStage → Option ℕ
-client_of (stage.First r) = client_of_request r
-client_of stage.Opening = None
-client_of (stage.Posting c) = Some c
-client_of (stage.Beginning c) = Some c
-client_of (stage.Begun c) = Some c
-client_of (stage.Waits c left) = Some c
-client_of (stage.Taking c left) = Some c
-client_of (stage.Ends c) = Some c
-client_of (stage.Ending c) = Some c
-client_of (stage.Over c) = c
 
 -- a GET waits that has asked, and may ask again
 abbrev pub is_idle : PollStage → Bool

@@ -6,8 +6,8 @@ use Rattle.events.specs.declared.event.WsFrame.TheVariants as frame
 use Rattle.events.specs.declared.peer.PeerFault.{PeerFault}
 use Rattle.peers.specs.declared.socket_stage.SocketRequest.{SocketRequest}
 use Rattle.peers.specs.declared.socket_stage.SocketRequest.TheVariants as request
-use Rattle.peers.specs.declared.incoming.Incoming.{Incoming}
-use Rattle.peers.specs.declared.incoming.Incoming.TheVariants as incoming
+use Rattle.peers.specs.declared.socket_peer.Incoming.{Incoming}
+use Rattle.peers.specs.declared.socket_peer.Incoming.TheVariants as incoming
 use Rattle.peers.specs.declared.socket_stage.Phase.{Phase}
 use Rattle.peers.specs.declared.socket_stage.Phase.TheVariants as phase
 use Rattle.peers.specs.declared.socket_stage.SocketStage.{SocketStage}
@@ -49,7 +49,7 @@ with_event step = (step.0, Some step.1)
 abbrev pub knocks : ℕ → Incoming → SocketStage × Option Event
 knocks c came = elim (rests came) [
   | Some idle ↦ with_event (ticks c phase.Knocks idle)
-  | None ↦ cond (says (codes "2probe") came) (stage.Probing c, Some (event.Probe c)) (stage.Over (Some c), None)
+  | None ↦ cond (says (codes "2probe") came) (stage.Probing c, Some (event.Probe c)) (stage.Over, None)
 ]
 
 -- the next message is `5`; any other, the end or a failed read is a lost probe
@@ -64,7 +64,7 @@ abbrev pub speaks : ℕ → Incoming → SocketStage × Result Event PeerFault
 speaks c incoming.Nothing = (stage.Taking c true, Ok (event.FrameTake c 64))
 speaks c incoming.Control = (stage.Taking c false, Ok (event.FrameTake c 64))
 speaks c (incoming.Frame f) = (stage.Framed c, Ok (event.Frame c f))
-speaks c (incoming.Gone why) = (stage.Over (Some c), Err why)
+speaks c (incoming.Gone why) = (stage.Over, Err why)
 
 -- what follows, where it is no fault
 abbrev pub without_fault : SocketStage × Option Event → SocketStage × Result (Option Event) PeerFault
@@ -101,21 +101,6 @@ message_length (event.Frame c (frame.Bytes bytes)) = Some (length bytes)
 message_length (event.Probe c) = Some 6
 message_length (event.Upgraded c) = Some 1
 message_length _ = None
-
-abbrev pub client_of : SocketStage → Option ℕ
-client_of stage.Opens = None
-client_of stage.Opening = None
-client_of (stage.Reads c p idle) = Some c
-client_of (stage.Probing c) = Some c
-client_of (stage.Upgrading c) = Some c
-client_of (stage.Framed c) = Some c
-client_of (stage.Takes c) = Some c
-client_of (stage.Taking c idle) = Some c
-client_of (stage.Ticks c idle) = Some c
-client_of (stage.Ticking c p idle) = Some c
-client_of (stage.Loses c) = Some c
-client_of (stage.Losing c) = Some c
-client_of (stage.Over c) = c
 
 -- the last round brought nothing
 abbrev pub is_idle : SocketStage → Bool

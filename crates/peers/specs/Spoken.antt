@@ -7,8 +7,8 @@ use Rattle.events.specs.declared.event.WsFrame.{WsFrame}
 use Rattle.events.specs.Answer.{Answer}
 use Rattle.events.specs.declared.peer.PeerFault.{PeerFault}
 use Rattle.events.specs.declared.peer.PeerFault.TheVariants as fault
-use Rattle.peers.specs.declared.incoming.Incoming.{Incoming}
-use Rattle.peers.specs.declared.incoming.Incoming.TheVariants as incoming
+use Rattle.peers.specs.declared.socket_peer.Incoming.{Incoming}
+use Rattle.peers.specs.declared.socket_peer.Incoming.TheVariants as incoming
 use Rattle.peers.specs.declared.socket_stage.SocketStage.{SocketStage}
 use Rattle.peers.specs.Incoming.{Brings}
 use Rattle.peers.specs.Moments.{IsTimed}

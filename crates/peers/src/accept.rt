@@ -3,8 +3,6 @@
 ghost use Rattle.std.specs.Prelude.{IfSome};
 ghost use Rattle.peers.specs.Accepted.{Accepts, BeginsWith, HasLimit, HasMostBytes};
 ghost use Rattle.tungstenite.specs.Heads.{Serves};
-ghost use Rattle.tungstenite.specs.Socket.{IsFresh};
-ghost use Rattle.websocket.specs.declared.protocol.config.Role.TheVariants.{Server};
 
 use http_edge::Replay;
 use std::alloc::Global;
@@ -20,22 +18,13 @@ pub(crate) const LONGEST: usize = 1_048_576;
 const READ_SIZE: usize = 1_024;
 
 /// How a WebSocket is read.
-fn config() -> WebSocketConfig
+pub(crate) fn config() -> WebSocketConfig
     ensures { HasLimit 1048576 result }
 {
     WebSocketConfig::default()
         .read_buffer_size(READ_SIZE)
         .max_message_size(Some(LONGEST))
         .max_frame_size(Some(LONGEST))
-}
-
-/// A WebSocket over the same stream, by which nothing was read or sent. It takes no memory yet.
-pub(crate) fn renewed<S: Drop>(alloc: Global, socket: WebSocket<S, NoMask>) -> WebSocket<S, NoMask>
-    ensures fresh { IsFresh result socket.stream Server }
-    ensures limits { HasMostBytes 1048576 result.conn.config }
-{
-    let stream = socket.into_inner();
-    WebSocket::from_raw_socket(alloc, stream, NoMask, Role::Server, Some(config()))
 }
 
 /// Who answers the request whose head a stream has first.

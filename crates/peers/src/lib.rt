@@ -3,7 +3,6 @@
 #![tactic(auto)]
 
 mod accept;
-mod incoming;
 mod moments;
 mod poll_peer;
 mod poll_stage;

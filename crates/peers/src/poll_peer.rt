@@ -1,8 +1,8 @@
 //! One request over HTTP, as a peer.
 
 ghost use Rattle.std.specs.Prelude.{◌≡◌, option_map, string_bytes};
-ghost use Rattle.peers.specs.Polled.{Pauses, Tells, TellsPaced};
-ghost use Rattle.peers.specs.Polling.{client_of, given_up, is_idle};
+ghost use Rattle.peers.specs.Polled.{TellsPaced};
+ghost use Rattle.peers.specs.Polling.{given_up, is_idle};
 ghost use Rattle.peers.specs.Responses.{plain_response};
 ghost use Rattle.peers.specs.declared.poll_stage.PollStage.TheVariants as stage;
 
@@ -81,13 +81,6 @@ impl<W, M> PollPeer<W, M> {
             most,
             origin,
         }
-    }
-
-    /// Whose request it is, once that is known.
-    pub fn client(&self) -> Option<u128>
-        ensures { result ≡ client_of self.now.stage }
-    {
-        self.stage.client()
     }
 
     /// Whether a GET waits that found nothing: it need not be driven until something was put for its
@@ -181,16 +174,11 @@ impl<W: Wire, M: Moments> Teller for PollPeer<W, M> {
 
     ghost tells = { Tells W.written W.is_broken };
 
-    fn pause(&mut self)
-        ensures { Pauses M.pauses self.old self.new }
-    {
+    fn pause(&mut self) {
         self.moments.pause();
     }
 
-    fn tell(&mut self, response: Response<'_>) -> Result<(), PeerFault>
-        ensures { Tells W.written W.is_broken self.old (plain_response response.entry)
-            result self.new }
-    {
+    fn tell(&mut self, response: Response<'_>) -> Result<(), PeerFault> {
         let Response { status, body } = response;
         match write_response(self.alloc, &mut self.wire, status, &self.origin, body) {
             Ok(()) => Ok(()),

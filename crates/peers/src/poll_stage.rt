@@ -60,8 +60,8 @@ pub(crate) enum PollStage {
     Ends { client: u128 },
     /// The GET is being ended.
     Ending { client: u128 },
-    /// It was answered, or has nobody to answer; its client, if it had one.
-    Over(Option<u128>),
+    /// It was answered, or has nobody to answer.
+    Over,
 }
 
 /// The next event, if there is one, and the stage from then on.
@@ -121,35 +121,14 @@ impl PollStage {
     {
         let waits = matches!(got, Err(error) if waits_on(error.fault));
         let finds_nothing = waits || matches!(got, Ok(Outcome::Nothing));
-        let over = Self::Over(self.client());
         match (self, got) {
-            (Self::Opening, Ok(Outcome::Opened(opening))) => Self::Over(Some(opening.client)),
             (Self::Beginning { client }, Ok(Outcome::Begun)) => Self::Begun { client },
             (Self::Taking { client, left: 0 }, _) if finds_nothing => Self::Ends { client },
             (Self::Taking { client, left }, _) if finds_nothing => Self::Waits { client, left },
             (Self::Ending { client }, _) if waits => Self::Ends { client },
-            (Self::Opening | Self::Posting { .. } | Self::Beginning { .. }, _) => over,
-            (Self::Taking { .. } | Self::Ending { .. }, _) => over,
+            (Self::Opening | Self::Posting { .. } | Self::Beginning { .. }, _) => Self::Over,
+            (Self::Taking { .. } | Self::Ending { .. }, _) => Self::Over,
             (other, _) => other,
-        }
-    }
-
-    /// Whose request it is, once that is known.
-    pub(crate) fn client(&self) -> Option<u128>
-        ensures { result ≡ polling.client_of self.now }
-    {
-        match self {
-            Self::First(PollRequest::Open) | Self::Opening => None,
-            Self::First(PollRequest::Get { client })
-            | Self::First(PollRequest::Post { client, .. })
-            | Self::Posting { client }
-            | Self::Beginning { client }
-            | Self::Begun { client }
-            | Self::Waits { client, .. }
-            | Self::Taking { client, .. }
-            | Self::Ends { client }
-            | Self::Ending { client } => Some(*client),
-            Self::Over(client) => *client,
         }
     }
 }

@@ -1,28 +1,32 @@
-//! One WebSocket, as a peer.
+//! One WebSocket, as a peer: what comes over it, and what is sent.
 
-ghost use Rattle.std.specs.Prelude.{◌≡◌, ◌⊎◌, [], ◌++◌, OnOk, IfOk, IfErr, IsOkAnd};
-ghost use Rattle.tungstenite.specs.Connection.{write_step};
+ghost use Rattle.std.specs.Prelude.{◌≡◌, ◌⊎◌, [], ◌++◌, Some, OnOk, IfOk, IfErr, IsOkAnd};
+ghost use Rattle.tungstenite.specs.Connection.{close_step, write_step};
 ghost use Rattle.tungstenite.specs.Content.{text};
 ghost use Rattle.tungstenite.specs.Socket.{IsFresh, Writes, content_of};
 ghost use Rattle.websocket.specs.declared.protocol.config.Role.TheVariants.{Server};
+ghost use Rattle.websocket.specs.declared.protocol.frame.coding.CloseCode.TheVariants.{Size};
 ghost use Rattle.events.specs.Frames.{frames_of};
 ghost use Rattle.events.specs.declared.peer.PeerFault.TheVariants.{Memory, Device};
 ghost use Rattle.peers.specs.Accepted.{HasMostBytes};
 ghost use Rattle.peers.specs.Heard.{to_send};
+ghost use Rattle.peers.specs.Incoming.{Brings, IsHeardAs, IsTooLong, SaysEnd};
 ghost use Rattle.peers.specs.Sent.{AddsFrame};
 ghost use Rattle.peers.specs.Spoken.{Sends, SendsAll};
-ghost use Rattle.peers.specs.Rounds.{asks_due, client_of, first_stage, has_read_nothing, is_idle, without_read, without_rest};
+ghost use Rattle.peers.specs.Rounds.{asks_due, first_stage, has_read_nothing, is_idle, without_read, without_rest};
 
-use crate::accept::renewed;
-use crate::incoming::{Incoming, read_incoming};
+use crate::accept::{LONGEST, config};
 use crate::moments::Moments;
 use crate::socket_stage::{Phase, SocketRequest, SocketStage};
 use events::{Answered, Event, Frames, Outcome, Peer, PeerFault, WsFrame};
 use std::alloc::{AllocError, Global};
-use std::io::{Read, Write};
+use std::io::{ErrorKind, Read, Write};
 use std::marker::Model;
-use terms::{Entry, let_go};
-use tungstenite::{Error, MaskKeys, Message, NoMask, Utf8Bytes, WebSocket};
+use terms::{Bytes, Entry, Text, let_go};
+use tungstenite::{
+    CloseCode, CloseFrame, Error, MaskKeys, Message, NoMask, Role, Utf8Bytes, WebSocket,
+};
+use websocket::error::ProtocolError;
 
 /// Serves one WebSocket by rounds: a read, a take of what waits, and a look at what is due. A client
 /// that polls says first that it probes, and then that the probe succeeded; until then its round is a
@@ -91,19 +95,15 @@ impl<S: Drop, M> SocketPeer<S, M> {
             moments,
             stage,
         } = self;
+        let stream = socket.into_inner();
+        let config = Some(config());
+        let socket = WebSocket::from_raw_socket(alloc, stream, NoMask, Role::Server, config);
         SocketPeer {
             alloc,
-            socket: renewed(alloc, socket),
+            socket,
             moments,
             stage,
         }
-    }
-
-    /// Whose WebSocket it is, once that is known.
-    pub fn client(&self) -> Option<u128>
-        ensures { result ≡ client_of self.now.stage }
-    {
-        self.stage.client()
     }
 
     /// Whether the last round brought nothing: nothing was read, nothing waited, nothing was due. Then
@@ -171,6 +171,104 @@ impl<S: Drop, M> SocketPeer<S, M> {
         ensures value { result.now ≡ self.old.socket }
     {
         &mut self.socket
+    }
+}
+
+/// What a read of a WebSocket brought.
+#[derive(Drop)]
+pub(crate) enum Incoming {
+    /// Nothing yet.
+    Nothing,
+    /// A ping or a pong.
+    Control,
+    /// A message.
+    Frame(WsFrame),
+    /// The end of the stream, or why nothing more can be read.
+    Gone(PeerFault),
+}
+
+/// A message of as many bytes as are read, in place of one that has more: the core refuses it, too.
+fn too_long(alloc: Global) -> Incoming
+    ensures { IsTooLong result }
+{
+    match vec![in alloc; 0u8; LONGEST] {
+        Ok(zeros) => Incoming::Frame(WsFrame::Bytes(Bytes::from_vec(zeros))),
+        Err(_) => Incoming::Gone(PeerFault::Memory),
+    }
+}
+
+/// What a read is worked on as.
+fn heard(alloc: Global, gave: &Result<Message, Error>) -> Incoming
+    ensures { IsHeardAs gave.now result }
+{
+    let frame = match gave {
+        Ok(Message::Text(text)) => Text::copy_of(alloc, text.as_str()).map(WsFrame::Text),
+        Ok(Message::Binary(bytes)) => Bytes::copy_of(alloc, bytes.as_slice()).map(WsFrame::Bytes),
+        Ok(Message::Ping(_) | Message::Pong(_)) => return Incoming::Control,
+        Ok(Message::Close(_)) => return Incoming::Gone(PeerFault::Ended),
+        Err(Error::Io(cause)) if matches!(cause.kind(), ErrorKind::WouldBlock) => {
+            return Incoming::Nothing;
+        }
+        Err(Error::Capacity(_)) => return too_long(alloc),
+        Err(Error::OutOfMemory) => return Incoming::Gone(PeerFault::Memory),
+        Err(
+            Error::ConnectionClosed
+            | Error::AlreadyClosed
+            | Error::Protocol(ProtocolError::ResetWithoutClosingHandshake),
+        ) => return Incoming::Gone(PeerFault::Ended),
+        Err(_) => return Incoming::Gone(PeerFault::Device),
+    };
+    frame.map_or(Incoming::Gone(PeerFault::Memory), Incoming::Frame)
+}
+
+/// Closes a WebSocket of which a message is too long to be read (RFC 6455, section 7.4.1: 1009). What
+/// its stream doesn't take now waits.
+fn close_as_too_long<S: Read + Write + Drop, K: MaskKeys + Drop>(
+    socket: &mut WebSocket<S, K>,
+) -> Result<(), PeerFault>
+    ensures said { OnOk result (Writes S.contents socket.old socket.new
+        (close_step socket.old.conn (Some (Size, [])))) }
+    ensures kinds { IfErr result (λ e. (e ≡ Memory) ⊎ (e ≡ Device)) }
+    ensures unsaid { IfErr result (λ e. e ≡ Memory → socket.new ≡ socket.old) }
+{
+    let code = CloseCode::Size;
+    let reason = Utf8Bytes::new();
+    match socket.close(Some(CloseFrame { code, reason })) {
+        Ok(()) | Err(Error::Io(_)) => Ok(()),
+        Err(Error::OutOfMemory) => Err(PeerFault::Memory),
+        Err(_) => Err(PeerFault::Device),
+    }
+}
+
+/// Says what a read has to be followed by: at a close the reply that waits is flushed once, as far as
+/// the stream takes it, and after a message that is too long the WebSocket is closed.
+fn say_end<S: Read + Write + Drop, K: MaskKeys + Drop>(
+    socket: &mut WebSocket<S, K>,
+    gave: &Result<Message, Error>,
+) -> Result<(), PeerFault>
+    ensures { SaysEnd S.contents gave.now socket.old result socket.new }
+{
+    match gave {
+        Ok(Message::Close(_)) => {
+            let _ = socket.flush();
+            Ok(())
+        }
+        Err(Error::Capacity(_)) => close_as_too_long(socket),
+        _ => Ok(()),
+    }
+}
+
+/// Reads the next message, or finds that there is none yet.
+fn read_incoming<S: Read + Write + Drop, K: MaskKeys + Drop>(
+    alloc: Global,
+    socket: &mut WebSocket<S, K>,
+) -> Incoming
+    ensures { Brings S.remaining S.contents socket.old result socket.new }
+{
+    let gave = socket.read();
+    match say_end(socket, &gave) {
+        Ok(()) => heard(alloc, &gave),
+        Err(fault) => Incoming::Gone(fault),
     }
 }
 
@@ -326,8 +424,8 @@ impl<S: Read + Write + Drop, M: Moments> Peer for SocketPeer<S, M> {
                 self.stage = SocketStage::Loses { client };
                 Ok(())
             }
-            (Err(fault), stage) => {
-                self.stage = SocketStage::Over(stage.client());
+            (Err(fault), _) => {
+                self.stage = SocketStage::Over;
                 Err(fault)
             }
         }

@@ -7,7 +7,7 @@ ghost use Rattle.peers.specs.Responses.{socket_request};
 ghost use Rattle.peers.specs.Rounds as rounds;
 ghost use Rattle.peers.specs.Rounds.{with_event, without_fault};
 
-use crate::incoming::Incoming;
+use crate::socket_peer::Incoming;
 use events::{Answered, CoreFault, Event, Outcome, PeerFault, WsFrame};
 use http_edge::Target;
 
@@ -80,8 +80,8 @@ pub(crate) enum SocketStage {
     Loses { client: u128 },
     /// The probe is said to have failed.
     Losing { client: u128 },
-    /// It is served no more; its client, if it had one.
-    Over(Option<u128>),
+    /// It is served no more.
+    Over,
 }
 
 /// How many bytes the message had by which an event was brought, if it was brought by one.
@@ -149,14 +149,14 @@ impl SocketStage {
             (Phase::Speaks, Incoming::Frame(frame)) => {
                 Self::Framed { client }.with(Event::Frame { client, frame })
             }
-            (Phase::Speaks, Incoming::Gone(fault)) => (Self::Over(Some(client)), Err(fault)),
+            (Phase::Speaks, Incoming::Gone(fault)) => (Self::Over, Err(fault)),
             (_, Incoming::Nothing | Incoming::Control) => {
                 Self::Ticking { client, at, idle }.with(Event::Tick { client })
             }
             (Phase::Knocks, said) if says(&said, PROBE) => {
                 Self::Probing { client }.with(Event::Probe { client })
             }
-            (Phase::Knocks, _) => (Self::Over(Some(client)), Ok(None)),
+            (Phase::Knocks, _) => (Self::Over, Ok(None)),
             (Phase::Probes, said) if says(&said, UPGRADE) => {
                 Self::Upgrading { client }.with(Event::Upgraded { client })
             }
@@ -188,8 +188,8 @@ impl SocketStage {
             matches!(got, Ok(Outcome::Ticked { ping, done }) if *ping || done.closed.is_some());
         let idle = idle && !due;
         match at {
-            _ if is_gone(got) => Self::Over(Some(client)),
-            Phase::Knocks if got.is_err() => Self::Over(Some(client)),
+            _ if is_gone(got) => Self::Over,
+            Phase::Knocks if got.is_err() => Self::Over,
             Phase::Probes if got.is_err() => Self::Loses { client },
             _ => Self::Reads { client, at, idle },
         }
@@ -214,28 +214,8 @@ impl SocketStage {
             }
             (Self::Ticking { client, at, idle }, _) => Self::after_tick(client, at, idle, got),
             (Self::Opens | Self::Reads { .. } | Self::Takes { .. } | Self::Ticks { .. }, _) => self,
-            (Self::Loses { .. } | Self::Over(_), _) => self,
-            _ => Self::Over(self.client()),
-        }
-    }
-
-    /// Whose WebSocket it is, once that is known.
-    pub(crate) fn client(self) -> Option<u128>
-        ensures { result ≡ rounds.client_of self }
-    {
-        match self {
-            Self::Opens | Self::Opening => None,
-            Self::Reads { client, .. }
-            | Self::Probing { client }
-            | Self::Upgrading { client }
-            | Self::Framed { client }
-            | Self::Takes { client }
-            | Self::Taking { client, .. }
-            | Self::Ticks { client, .. }
-            | Self::Ticking { client, .. }
-            | Self::Loses { client }
-            | Self::Losing { client } => Some(client),
-            Self::Over(client) => client,
+            (Self::Loses { .. } | Self::Over, _) => self,
+            _ => Self::Over,
         }
     }
 }

@@ -4,8 +4,8 @@ ghost use Rattle.std.specs.Prelude.{◌≡◌, [], IfOk};
 ghost use Rattle.quiz.specs.Quiz as table;
 ghost use Rattle.quiz.specs.Quiz.{Allows, begins_with, decided};
 
-use events::{App, Arrived, Effect, Emission, Inquiry, Reply, Verdict, Wanted, Who};
-use journal::{Ending, Form};
+use events::{App, Arrived, Effect, Inquiry, Reply, Verdict, Wanted, Who};
+use journal::{Cast, Ending, Form};
 use sio_wire::{SioError, names};
 use std::alloc::{AllocError, Global};
 use terms::{Attachments, Room, Text};
@@ -99,7 +99,7 @@ fn ask(alloc: Global) -> Result<Effect, AllocError>
 fn announce(alloc: Global, who: &Who) -> Result<Effect, AllocError>
     ensures { IfOk result (λ effect. effect ≡ table.announce who.now) }
 {
-    Ok(Effect::Emit(Emission {
+    Ok(Effect::Emit(Cast {
         space: who.space.clone()?,
         rooms: Vec::new(alloc),
         excepted: Vec::new(alloc),

@@ -1,5 +1,3 @@
-//! Why the log or the table of saved sessions refused a call.
-
 ghost use Rattle.std.specs.Prelude.{◌≡◌};
 ghost use Rattle.recovery.specs.declared.error.RecoveryError.TheVariants.{Memory};
 

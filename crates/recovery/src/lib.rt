@@ -3,7 +3,6 @@
 #![tactic(auto)]
 
 mod error;
-mod latest;
 mod packet_log;
 mod saved_table;
 

@@ -1,14 +1,15 @@
-//! The latest broadcasts (Socket.IO server documentation, "Connection state recovery").
+//! The latest broadcasts (Socket.IO server documentation, "Connection state recovery"). That the
+//! log has an end is this server's own.
 
-ghost use Rattle.std.specs.Prelude.{◌≡◌, ℕ, ◌+◌, ◌^◌, ◌<◌, ◌≤◌, ◌==◌, max, length, List, [], ◌∷◌, ◌++◌, filter, map, IfOk, IfErr, IfSome, OnErr, IfNone, Some, None, option_copied, is_some};
+ghost use Rattle.std.specs.Prelude.{◌≡◌, ℕ, ◌+◌, ◌^◌, ◌<◌, ◌≤◌, ◌==◌, max, length, List, [], ◌∷◌, ◌++◌, filter, map, IfOk, IfErr, IfSome, OnErr, IfNone, Some, None, option_copied, is_some, ◌⊎◌, true, false, drop};
 ghost use Rattle.std.specs.List.{find, list_any, take_while};
 ghost use Rattle.std.specs.Arc.{arc_value};
 ghost use Rattle.recovery.specs.Expiry as expiry;
-ghost use Rattle.recovery.specs.PacketLog.{LogCall, LogContents, PlainLogged, Pushed, Swept, IsLog, IsLogOf, IsRun, IsIndex, HasNone, contents, offset_or_spent, pushed, stands, later_than, number_of, with_entry, swept, logged_as, logged_size};
+ghost use Rattle.recovery.specs.PacketLog.{LogCall, LogContents, PlainLogged, Pushed, Swept, IsLog, IsLogOf, IsRun, IsIndex, HasNone, contents, offset_or_spent, pushed, stands, later_than, number_of, with_entry, swept, logged_as, logged_size, fits, newest, logged_bytes};
 ghost use Rattle.recovery.specs.Missed.{missed, missed_refusal, is_for, is_one_of};
+ghost use Rattle.recovery.specs.Latest.{Shelf, shelf};
 
 use crate::error::RecoveryError;
-use crate::latest::Latest;
 use crate::saved_table::is_outdated;
 use circular_buffer::HeapCircularBuffer;
 use std::alloc::{AllocError, Global};
@@ -19,8 +20,7 @@ use terms::{Entry, Room};
 /// How many bytes the name of a room takes, however long it is.
 const ROOM: usize = 65;
 
-/// A broadcast that was given an offset. In a contract it is plain data, so that two are equal
-/// where their contents are.
+/// A broadcast that was given an offset, in a contract plain data.
 #[derive(Drop)]
 pub struct Logged {
     /// Its number: one more than that of the broadcast before it.
@@ -62,7 +62,7 @@ impl Logged {
 
     /// How many bytes it holds: those of what is sent, and of the rooms that it names. `None` past
     /// the greatest usize.
-    pub(crate) fn size(&self) -> Option<usize>
+    fn size(&self) -> Option<usize>
         ensures some { IfSome result (λ size. size ≡ logged_size self.now) }
         ensures none { IfNone result (usize.MAX < logged_size self.now) }
     {
@@ -72,7 +72,7 @@ impl Logged {
     }
 
     /// A copy, which shares what is sent.
-    pub(crate) fn copy(&self, alloc: Global) -> Result<Logged, AllocError>
+    fn copy(&self, alloc: Global) -> Result<Logged, AllocError>
         ensures { IfOk result (λ copy. copy ≡ self.now) }
     {
         Ok(Logged {
@@ -191,8 +191,7 @@ impl PacketLog {
         Ok(offset)
     }
 
-    /// Drops the entries that were logged more than `keep` milliseconds before `now`, and says
-    /// how many.
+    /// Drops the entries logged more than `keep` milliseconds before `now`, and counts them.
     pub fn sweep(&mut self, now: u64, keep: u64) -> usize
         ensures count { length self.new.entries + result ≡ length self.old.entries }
         ensures swept { self.new ≡ swept self.old keep (max self.old.last now) }
@@ -313,4 +312,112 @@ fn offsets_for(
         .filter(|entry| entry.is_for(space, rooms))
         .map(|entry| entry.offset)
         .collect(alloc)
+}
+
+/// The newest broadcasts, the oldest first. It takes its memory once, when it is made.
+#[derive(Drop)]
+struct Latest {
+    ring: HeapCircularBuffer<Logged>,
+    /// How many bytes they may have together.
+    bytes: usize,
+    /// How many bytes more they may have.
+    free: usize,
+}
+
+impl Model for Latest {
+    ghost Value = { Shelf };
+
+    ghost view = { λ l. shelf l.ring.capacity l.bytes l.ring.items };
+
+    ghost invariant = { λ l. l.free + logged_bytes l.ring.items ≡ l.bytes };
+}
+
+impl Latest {
+    /// None yet.
+    #[tactic(auto, unfolding(crate::specs::PacketLog::logged_bytes))]
+    fn new(alloc: Global, limit: usize, bytes: usize) -> Result<Latest, AllocError>
+        ensures { IfOk result (λ latest. latest ≡ shelf limit bytes []) }
+    {
+        let ring = HeapCircularBuffer::with_capacity(alloc, limit)?;
+        Ok(Latest {
+            ring,
+            bytes,
+            free: bytes,
+        })
+    }
+
+    /// The broadcasts themselves.
+    fn ring(&self) -> &HeapCircularBuffer<Logged>
+        ensures items { result.now.items ≡ self.now.entries }
+        ensures capacity { result.now.capacity ≡ self.now.limit }
+    {
+        &self.ring
+    }
+
+    /// How many bytes are free beside one more, or `None` where it has no space.
+    fn free_after(&self, logged: &Logged) -> Option<usize>
+        ensures some { let all = self.now.entries ++ logged.now ∷ []
+            in IfSome result (λ left. left + logged_bytes all ≡ self.now.bytes) }
+        ensures space { let all = self.now.entries ++ logged.now ∷ []
+            in IfSome result (λ _. fits self.now.limit self.now.bytes all ≡ true) }
+        ensures none { let all = self.now.entries ++ logged.now ∷ []
+            in IfNone result (fits self.now.limit self.now.bytes all ≡ false) }
+    {
+        let free = self.free;
+        let size = logged.size()?;
+        if self.ring.len() >= self.ring.capacity() || free < size {
+            return None;
+        }
+        Some(free - size)
+    }
+
+    /// Forgets the oldest.
+    fn forget_oldest(&mut self)
+        ensures { self.new ≡ record self.old { entries = drop 1 self.old.entries } }
+    {
+        if let Some(logged) = self.ring.pop_front() {
+            // All together have no more bytes than they may have.
+            self.free += logged.size().unwrap_or(0);
+        }
+    }
+
+    /// Forgets the oldest, as many as are named.
+    fn forget(&mut self, count: usize)
+        ensures { self.new ≡ record self.old { entries = drop count self.old.entries } }
+    {
+        for _entry in 0..count {
+            self.forget_oldest();
+        }
+    }
+
+    /// Forgets the oldest until one more has space, or none is left.
+    fn make_space(&mut self, logged: &Logged)
+        ensures limits { self.new ≡ record self.old { entries = self.new.entries } }
+        ensures newest { newest self.old.limit self.old.bytes (self.old.entries ++ logged.now ∷ [])
+            ≡ newest self.old.limit self.old.bytes (self.new.entries ++ logged.now ∷ []) }
+        ensures enough { let all = self.new.entries ++ logged.now ∷ []
+            in (fits self.old.limit self.old.bytes all ≡ true) ⊎ (self.new.entries ≡ []) }
+    {
+        for _entry in 0..self.ring.len() {
+            if self.free_after(logged).is_some() {
+                return;
+            }
+            self.forget_oldest();
+        }
+    }
+
+    /// Adds one, and forgets the oldest that have no space beside it. One that has more bytes than
+    /// all may have leaves none.
+    fn add(&mut self, logged: Logged)
+        ensures { let all = self.old.entries ++ logged ∷ [] in self.new
+            ≡ record self.old { entries = newest self.old.limit self.old.bytes all } }
+    {
+        self.make_space(&logged);
+        if let Some(left) = self.free_after(&logged) {
+            self.free = left;
+            let Ok(()) = self.ring.try_push_back(logged) else {
+                unreachable!()
+            };
+        }
+    }
 }

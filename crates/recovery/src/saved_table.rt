@@ -16,8 +16,7 @@ use std::collections::{BTreeMap, BTreeSet};
 use std::marker::Model;
 use terms::{Room, Sid};
 
-/// A private session id, by which a client asks for its session back. In a contract it is the
-/// number.
+/// A private session id, by which a client asks for its session back: in a contract its number.
 #[derive(Clone, Copy, Debug, PartialEq, Eq, PartialOrd, Ord)]
 pub struct Pid(u128);
 
@@ -47,8 +46,7 @@ impl Pid {
     }
 }
 
-/// A socket that was lost. In a contract it is plain data, so that two are equal where their
-/// contents are.
+/// A socket that was lost, in a contract plain data.
 #[derive(Drop)]
 pub struct Saved {
     /// Its session id.
@@ -174,8 +172,8 @@ impl SavedTable {
         self.look_up(pid).is_some()
     }
 
-    /// Saves a session. Refused in this order: its private id is taken; the table is full. Then
-    /// it is dropped.
+    /// Saves a session, or drops it. Refused in this order: its private id is taken; the table is
+    /// full.
     pub fn save(&mut self, _alloc: Global, saved: Saved) -> Result<(), RecoveryError>
         ensures refused { IfSome (save_refusal self.old saved.pid) (λ error. result ≡ Err error) }
         ensures memory { IfNone (save_refusal self.old saved.pid)

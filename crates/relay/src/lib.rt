@@ -3,9 +3,7 @@
 #![tactic(auto)]
 
 mod counter;
-mod presence;
 mod relay_app;
 
 pub use counter::Counter;
-pub use presence::Presence;
-pub use relay_app::RelayApp;
+pub use relay_app::{Presence, RelayApp};

@@ -1,16 +1,18 @@
-//! The demonstration app: what it does with each event.
+//! The demonstration app, and any app that also tells the rooms of a socket that has ended.
 
-ghost use Rattle.std.specs.Prelude.{◌≡◌, [], IfOk};
+ghost use Rattle.std.specs.Prelude.{◌≡◌, ◌++◌, [], IfOk, OnOk};
+ghost use Rattle.relay.specs.Presence as presence;
+ghost use Rattle.relay.specs.Presence.{Leaves, told};
 ghost use Rattle.relay.specs.Relay as table;
-ghost use Rattle.relay.specs.Relay.{Allows, decided, texts_of, word_of, word_in, room_in};
+ghost use Rattle.relay.specs.Relay.{Allows, decided};
 
 use events::{
-    App, Arrived, Effect, Emission, Inquiry, Message, Reply, Selection, Verdict, Wanted, Who,
+    App, Arrived, Effect, Inquiry, Message, Reply, Selection, Verdict, Wanted, Who, ending_word,
 };
-use journal::{Ending, Form};
+use journal::{Cast, Ending, Form};
 use sio_wire::{SioError, names};
 use std::alloc::{AllocError, Global};
-use terms::{Attachments, Room, Text};
+use terms::{Attachments, Room, Sid, Text, ascii_text, id_text};
 
 /// The payload of a CONNECT that isn't accepted.
 const NO_TOKEN: &str = r#"{"token":"no"}"#;
@@ -74,7 +76,7 @@ fn decide(alloc: Global, who: &Who, message: &Message) -> Wanted
 
 /// The texts among an event's elements. A payload that is no array has none.
 fn texts_of(alloc: Global, payload: &str) -> Result<Vec<Option<Text>>, AllocError>
-    ensures { IfOk result (λ texts. texts.items ≡ texts_of payload.now) }
+    ensures { IfOk result (λ texts. texts.items ≡ table.texts_of payload.now) }
 {
     match names(alloc, payload) {
         Ok(texts) => Ok(texts),
@@ -106,7 +108,12 @@ fn first_effect(
             emit(alloc, who, &[room], &[other, own], true, message)?
         }
         (Word::All, _, _) => emit(alloc, who, &[], &[], true, message)?,
-        (Word::Ask, _, _) => ask(alloc, message)?,
+        (Word::Ask, _, _) => Effect::EmitAsk(Inquiry {
+            payload: message.payload.clone()?,
+            attachments: message.attachments.clone()?,
+            tag: 0,
+            wait: 10_000,
+        }),
         (Word::Pull, Some(room), Some(other)) => {
             Effect::AllJoin(select(alloc, who, room, &[])?, other)
         }
@@ -117,18 +124,6 @@ fn first_effect(
         _ => return Ok(None),
     };
     Ok(Some(effect))
-}
-
-/// The event as it came, as a question to its socket.
-fn ask(alloc: Global, message: &Message) -> Result<Effect, AllocError>
-    ensures { IfOk result (λ effect. effect ≡ table.ask message.now) }
-{
-    Ok(Effect::EmitAsk(Inquiry {
-        payload: message.payload.clone()?,
-        attachments: message.attachments.clone()?,
-        tag: 0,
-        wait: 10_000,
-    }))
 }
 
 /// The sockets of a room of the socket's namespace, except those in some others.
@@ -154,7 +149,7 @@ fn emit(
     ensures { IfOk result (λ e.
         e ≡ table.emit who.now rooms.now excepted.now logged message.now) }
 {
-    Ok(Effect::Emit(Emission {
+    Ok(Effect::Emit(Cast {
         space: who.space.clone()?,
         rooms: Vec::from_slice(alloc, rooms)?,
         excepted: Vec::from_slice(alloc, excepted)?,
@@ -205,11 +200,14 @@ pub enum Word {
     Other,
 }
 
-/// What an event of this name asks for.
-fn word_of(name: &str) -> Word
-    ensures { result ≡ word_of name.now }
+/// What the first of an event's texts, its name, asks for.
+fn word_in(texts: &[Option<Text>]) -> Word
+    ensures { result ≡ table.word_in texts.now }
 {
-    match name {
+    let Some(Some(name)) = texts.first() else {
+        return Word::Other;
+    };
+    match name.as_str() {
         "join" => Word::Join,
         "leave" => Word::Leave,
         "say" => Word::Say,
@@ -226,20 +224,92 @@ fn word_of(name: &str) -> Word
     }
 }
 
-/// What the first of an event's texts asks for.
-fn word_in(texts: &[Option<Text>]) -> Word
-    ensures { result ≡ word_in texts.now }
+/// The room that the text at an index names, where there is one of at most 64 bytes.
+fn room_in(texts: &[Option<Text>], index: usize) -> Option<Room>
+    ensures { result ≡ table.room_in index texts.now }
 {
-    match texts.first() {
-        Some(Some(name)) => word_of(name.as_str()),
-        _ => Word::Other,
+    Room::read(texts.get(index)?.as_ref()?.as_str())
+}
+
+/// An app, and whether the rooms of a socket that has ended are told so.
+#[derive(Debug, Drop)]
+pub struct Presence<A> {
+    pub app: A,
+    /// Whether they are told: the rooms besides the socket's own, after all that the app wants.
+    pub tells: bool,
+}
+
+impl<A: App> App for Presence<A> {
+    ghost policy = { λ it. record (A.policy it.app) {
+      ends = λ who rooms ending.
+          Leaves ((A.policy it.app).ends who rooms ending)
+          (told it.tells who rooms ending);
+    } };
+
+    fn connects(
+        &self,
+        alloc: Global,
+        moment: u64,
+        space: &str,
+        payload: &str,
+    ) -> Result<Verdict, AllocError> {
+        self.app.connects(alloc, moment, space, payload)
+    }
+
+    fn decides(&self, alloc: Global, who: &Who, arrived: &Arrived) -> Wanted {
+        self.app.decides(alloc, who, arrived)
+    }
+
+    fn ended(&self, alloc: Global, who: &Who, rooms: &[Room], ending: Ending) -> Wanted {
+        let mut effects = self.app.ended(alloc, who, rooms, ending)?;
+        if self.tells {
+            announce(alloc, &mut effects, who, rooms, ending)?;
+        }
+        Ok(effects)
     }
 }
 
-/// The room that the text at an index names, where there is one of at most 64 bytes.
-fn room_in(texts: &[Option<Text>], index: usize) -> Option<Room>
-    ensures { result ≡ room_in index texts.now }
+/// Adds the event for the rooms besides the socket's own, where there are some.
+fn announce(
+    alloc: Global,
+    effects: &mut Vec<Effect>,
+    who: &Who,
+    rooms: &[Room],
+    ending: Ending,
+) -> Result<(), AllocError>
+    ensures { OnOk result
+        (effects.new.items ≡ effects.old.items ++ presence.told_of who.now rooms.now ending) }
 {
-    let name = texts.get(index)?.as_ref()?;
-    Room::read(name.as_str())
+    let own = Room::own(who.sid);
+    let rooms = others(alloc, rooms, own)?;
+    if !rooms.is_empty() {
+        effects.push(Effect::Emit(Cast {
+            space: who.space.clone()?,
+            rooms,
+            // A session that comes back doesn't hear that it had left.
+            excepted: Vec::from_slice(alloc, &[own])?,
+            form: Form::Event { logged: true },
+            payload: payload(alloc, who.sid, ending)?,
+            attachments: Attachments::new(alloc),
+        }))?;
+    }
+    Ok(())
+}
+
+/// The rooms but this one.
+fn others(alloc: Global, rooms: &[Room], own: Room) -> Result<Vec<Room>, AllocError>
+    ensures { IfOk result (λ others. others.items ≡ presence.others own rooms.now) }
+{
+    let mut others = Vec::from_slice(alloc, rooms)?;
+    others.retain(|room| *room != own);
+    Ok(others)
+}
+
+/// The event that the socket has left, and how it ended.
+fn payload(alloc: Global, sid: Sid, ending: Ending) -> Result<Text, AllocError>
+    ensures { IfOk result (λ text. text ≡ presence.payload sid ending) }
+{
+    let id = id_text(sid.number());
+    let (id, name) = (ascii_text(&id), ending_word(ending));
+    Ok(Text::from_string(format!(in alloc; "[\"left\",\"{id}\",\"{name}\"]")?))
 }

@@ -1,5 +1,3 @@
-//! Why a call on rooms is refused.
-
 ghost use Rattle.std.specs.Prelude.{◌≡◌};
 ghost use Rattle.room_maps.specs.declared.error.RoomError.TheVariants as refusal;
 

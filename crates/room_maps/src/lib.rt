@@ -4,7 +4,6 @@
 
 mod error;
 mod links;
-mod lookup;
 mod rooms;
 
 pub use error::RoomError;

@@ -16,7 +16,7 @@ ghost use Rattle.room_maps.specs.Mirror.{IsMirrored, Mirror, sets_of, pairs_of};
 mod together;
 
 use crate::error::RoomError;
-use crate::{links, lookup};
+use crate::links;
 use std::alloc::{AllocError, Global};
 use std::collections::{BTreeMap, BTreeSet};
 use std::marker::Model;
@@ -258,9 +258,9 @@ impl Rooms {
         ensures memory_alone { IfErr result (λ e. e ≡ RoomError.Memory) }
     {
         if rooms.is_empty() {
-            Ok(lookup::sockets_but(alloc, &self.by_socket, excepted)?)
+            Ok(links::sockets_but(alloc, &self.by_socket, excepted)?)
         } else {
-            Ok(lookup::members_but(alloc, &self.by_socket, &self.by_room, rooms, excepted)?)
+            Ok(links::members_but(alloc, &self.by_socket, &self.by_room, rooms, excepted)?)
         }
     }
 
@@ -271,7 +271,7 @@ impl Rooms {
             (λ pairs. ListsRising pair_cmp (λ pair. is_in self.now pair.0 pair.1) pairs.items) }
         ensures memory_alone { IfErr result (λ e. e ≡ RoomError.Memory) }
     {
-        Ok(lookup::all_pairs(alloc, &self.by_socket)?)
+        Ok(links::all_pairs(alloc, &self.by_socket)?)
     }
 
     /// What every `Rooms` keeps. It has no effect.

@@ -5,7 +5,7 @@ use Rattle.std.specs.Map.{update}
 use Rattle.std.specs.Str.{bytes_eq}
 use Rattle.std.specs.BTreeMap.{get_by_text}
 use Rattle.terms.specs.Listing.{ListsRising}
-use Rattle.connection.specs.declared.transport.Transport.{Transport}
+use Rattle.connection.specs.declared.clock.Transport.{Transport}
 use Rattle.room_maps.specs.Membership.{is_in}
 use Rattle.connection.specs.Line.{PlainLine}
 use Rattle.journal.specs.Membership.{place_of, is_open, is_space, is_in_space, rooms}

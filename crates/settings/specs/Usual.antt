@@ -1,6 +1,6 @@
 -- What a server goes by where nothing else is said.
 use Rattle.std.specs.Prelude.{◌≡◌, ℕ, List, [], ◌∷◌, None, codes, string_bytes}
-use Rattle.connection.specs.declared.timing.Timing.{Timing}
+use Rattle.connection.specs.declared.clock.Timing.{Timing}
 use Rattle.journal.specs.Plain.{Limits}
 use Rattle.settings.specs.declared.usual.UsualLimits.{UsualLimits}
 use Rattle.settings.specs.declared.settings.Settings.{Settings}

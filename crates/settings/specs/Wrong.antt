@@ -1,7 +1,7 @@
 -- Which settings allow no server.
 use Rattle.std.specs.Prelude.{◌==◌, ℕ, ◌-◌, Bool, false, ◌||◌, List, [], ◌∷◌, Option, None, Some, codes, nat_lt}
 use Rattle.terms.specs.Refusal.{first_refusal}
-use Rattle.connection.specs.declared.timing.Timing.{Timing}
+use Rattle.connection.specs.declared.clock.Timing.{Timing}
 use Rattle.journal.specs.Config.{is_bad_config}
 use Rattle.settings.specs.declared.settings.Pace.{Pace}
 use Rattle.settings.specs.declared.settings.Setting.{Setting}

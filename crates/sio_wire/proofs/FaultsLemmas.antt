@@ -2,7 +2,7 @@
 use Rattle.std.proofs.Common.{◌≡◌, ◌⊎◌, ℕ, List, ◌∷◌, ◌++◌, Bool, false, Option, Result, Ok, Err, refl, sym, ◌∙◌, ap, inl, inr, subst}
 use Rattle.std.specs.Prelude.{IsTrue, IfErr}
 use Rattle.serde_json.specs.Data.{Data}
-use Rattle.sio_wire.specs.declared.kind.Kind.{Kind}
+use Rattle.sio_wire.specs.declared.header.Kind.{Kind}
 use Rattle.sio_wire.specs.declared.header.Header.{Header}
 use Rattle.sio_wire.specs.declared.error.SioError.{SioError}
 use Rattle.sio_wire.specs.declared.error.SioError.TheVariants.{Memory, BadKind, BadCount, BadId, BadJson, BadShape, Reserved, BadPlaceholder, TooMany}

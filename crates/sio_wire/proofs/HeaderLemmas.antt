@@ -3,7 +3,7 @@ use Rattle.std.proofs.Common.{arith, ◌≡◌, ◌≢◌, ℕ, ◌≤◌, List,
 use Rattle.std.specs.Prelude.{slice_index, bytes_eq, decimal, codes, MatchBool}
 use Rattle.std.proofs.lemmas.Slice.Eq.{bytes_eq-Decides}
 use Rattle.serde_json.specs.Data.{Data}
-use Rattle.sio_wire.specs.declared.kind.Kind.{Kind}
+use Rattle.sio_wire.specs.declared.header.Kind.{Kind}
 use Rattle.sio_wire.specs.declared.header.Header.{Header}
 use Rattle.sio_wire.specs.Kinds.{digit_of, is_binary}
 use Rattle.sio_wire.specs.Shape.{IsTree, HasPayload}

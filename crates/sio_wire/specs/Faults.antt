@@ -4,7 +4,7 @@ use Rattle.std.specs.Prelude.{◌≡◌, ◌≢◌, ◌⊎◌, ◌<◌, ◌++◌
 use Rattle.std.specs.List.{list_any, before_first}
 use Rattle.std.specs.Str.Parse.{AllDigits}
 use Rattle.serde_json.specs.Data.{Data}
-use Rattle.sio_wire.specs.declared.kind.Kind.{Kind}
+use Rattle.sio_wire.specs.declared.header.Kind.{Kind}
 use Rattle.sio_wire.specs.declared.header.Header.{Header}
 use Rattle.sio_wire.specs.declared.error.SioError.{SioError}
 use Rattle.sio_wire.specs.declared.error.SioError.TheVariants.{Memory, BadKind, BadCount, BadId, BadJson, BadShape, Reserved, BadPlaceholder, TooMany}

@@ -3,7 +3,7 @@ use Rattle.std.specs.Prelude.{◌≡◌, ◌≢◌, ◌⊎◌, ◌≤◌, ◌<�
 use Rattle.std.specs.Char.{is_ascii_digit}
 use Rattle.std.specs.List.{list_any}
 use Rattle.std.specs.Str.Parse.{AllDigits, digits_value}
-use Rattle.sio_wire.specs.declared.kind.Kind.{Kind}
+use Rattle.sio_wire.specs.declared.header.Kind.{Kind}
 use Rattle.sio_wire.specs.declared.header.Header.{Header}
 use Rattle.sio_wire.specs.Kinds.{digit_of, is_binary}
 use Rattle.sio_wire.specs.Shape.{HasPayload}

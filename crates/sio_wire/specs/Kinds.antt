@@ -1,7 +1,7 @@
 -- Packet types (Socket.IO protocol 5, "Packet types").
 use Rattle.std.specs.Prelude.{ℕ, Bool, true, false}
-use Rattle.sio_wire.specs.declared.kind.Kind.{Kind}
-use Rattle.sio_wire.specs.declared.kind.Kind.TheVariants.{Connect, Disconnect, Event, Ack, ConnectError, BinaryEvent, BinaryAck}
+use Rattle.sio_wire.specs.declared.header.Kind.{Kind}
+use Rattle.sio_wire.specs.declared.header.Kind.TheVariants.{Connect, Disconnect, Event, Ack, ConnectError, BinaryEvent, BinaryAck}
 
 -- the digit, `0` to `6`, that begins a packet of the type
 abbrev pub digit_of : Kind → ℕ

@@ -3,8 +3,8 @@ use Rattle.std.specs.Prelude.{◌≡◌, ℕ, ◌+◌, List, [], ◌∷◌, take
 use Rattle.std.specs.Char.{is_ascii_digit}
 use Rattle.std.specs.List.{prefix_len, list_any, before_first, after_first}
 use Rattle.std.specs.Str.Parse.{digits_value}
-use Rattle.sio_wire.specs.declared.kind.Kind.{Kind}
-use Rattle.sio_wire.specs.declared.kind.Kind.TheVariants.{Connect, Disconnect, Event, Ack, ConnectError, BinaryEvent, BinaryAck}
+use Rattle.sio_wire.specs.declared.header.Kind.{Kind}
+use Rattle.sio_wire.specs.declared.header.Kind.TheVariants.{Connect, Disconnect, Event, Ack, ConnectError, BinaryEvent, BinaryAck}
 use Rattle.sio_wire.specs.declared.header.Header.{Header}
 use Rattle.sio_wire.specs.declared.error.SioError.{SioError}
 use Rattle.sio_wire.specs.declared.error.SioError.TheVariants.{BadKind, BadCount, BadId, BadShape, TooMany}

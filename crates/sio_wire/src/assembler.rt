@@ -30,8 +30,7 @@ pub enum Progress {
     Failed(SioError),
 }
 
-/// Puts the text of a packet's header and the binary frames after it together. In a contract it
-/// is its progress.
+/// Puts a packet's header and the frames after it together. In a contract it is its progress.
 #[derive(Debug, Drop)]
 pub struct Assembler {
     progress: Progress,
@@ -86,9 +85,7 @@ impl Assembler {
         }
     }
 
-    /// Takes a binary frame, and gives the packet that it makes whole. After an error other than
-    /// `Memory` the assembler has failed: each further frame is answered with that error. After
-    /// `Memory` it is as before.
+    /// Takes a binary frame, and gives the packet that it makes whole. It fails as `text` does.
     pub fn binary(&mut self, alloc: Global, bytes: &[u8]) -> Result<Option<SioPacket>, SioError>
         ensures accepted { IfOk result (λ g. Accepts self.old (binary_frame bytes.now) g self.new) }
         ensures refused { IfSome (binary_refusal self.old) (λ error.
@@ -145,8 +142,8 @@ impl Assembler {
         left < bytes.len()
     }
 
-    /// How many bytes the attachments have that came of the packet that isn't whole. It stays at the
-    /// greatest usize, and is 0 where none is awaited.
+    /// How many bytes the attachments have that came of the packet that isn't whole. It stays at
+    /// the greatest usize, and is 0 where none is awaited.
     pub fn held(&self) -> usize
         ensures { result ≡ held self.now }
     {

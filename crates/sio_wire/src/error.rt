@@ -1,5 +1,3 @@
-//! Why a packet was not read or written.
-
 ghost use Rattle.std.specs.Prelude.{◌≡◌};
 ghost use Rattle.sio_wire.specs.declared.error.SioError.TheVariants.{Memory};
 

@@ -1,19 +1,66 @@
-//! A packet's header: its type, namespace, acknowledgement id and JSON payload, and how many
-//! attachments follow (Socket.IO protocol 5, "Packet encoding").
+//! A packet's header, read and written: its type, namespace, acknowledgement id and JSON payload,
+//! and how many attachments follow (Socket.IO protocol 5, "Packet encoding").
 
-ghost use Rattle.std.specs.Prelude.{All, ◌≢◌, List, ℕ, ◌≡◌, ◌<◌, ◌≤◌, ◌⊎◌, ◌++◌, IfOk, IfErr, OnOk, take, drop, length, slice_index, string_bytes};
+ghost use Rattle.std.specs.Prelude.{◌≡◌, [], ◌∷◌, All, ◌≢◌, List, ℕ, ◌<◌, ◌≤◌, ◌⊎◌, ◌++◌, IfOk, IfErr, OnOk, take, drop, length, slice_index, string_bytes, OnErr, IsErrOf, ◌^◌, ◌↔◌, Some, IfSome, false};
+ghost use Rattle.sio_wire.specs.Kinds.{digit_of, is_binary};
 ghost use Rattle.std.specs.Char.{is_ascii_digit};
 ghost use Rattle.std.specs.List.{take_while, list_any};
 ghost use Rattle.std.specs.Str.Parse.{AllDigits, digits_value};
 ghost use Rattle.sio_wire.specs.Header.{Sio, Plain, SpellsNothing, space_text, is_control};
 ghost use Rattle.sio_wire.specs.Faults.{HasFault};
 ghost use Rattle.sio_wire.specs.Scan.{Gives, header_at, kind_at, count_at, space_at, id_at, digit_count};
+ghost use Rattle.sio_wire.specs.ConnectAnswer as answer;
+ghost use Rattle.sio_wire.specs.Disconnect as disconnect;
+ghost use Rattle.sio_wire.specs.Offset.{is_bracket, offset_digits, payload_with_offset};
 
 use crate::error::SioError;
-use crate::kind::Kind;
-use crate::shape::check_payload;
+use crate::tree::check_payload;
+use serde_json::Value;
 use std::alloc::{AllocError, Global};
-use terms::Text;
+use terms::{Text, ascii_text, id_text, read_digits, write_digits};
+
+/// A packet's type.
+#[derive(Clone, Copy, Debug, PartialEq, Eq)]
+pub enum Kind {
+    /// Joins a namespace, or accepts that.
+    Connect,
+    /// Leaves a namespace.
+    Disconnect,
+    /// Names an event and its data.
+    Event,
+    /// Answers an event that has an acknowledgement id.
+    Ack,
+    /// Refuses to let a client join a namespace.
+    ConnectError,
+    /// An event with attachments.
+    BinaryEvent,
+    /// An answer with attachments.
+    BinaryAck,
+}
+
+impl Kind {
+    /// The digit that begins a packet of this type.
+    fn digit(self) -> &'static str
+        ensures { result.now ≡ digit_of self ∷ [] }
+    {
+        match self {
+            Kind::Connect => "0",
+            Kind::Disconnect => "1",
+            Kind::Event => "2",
+            Kind::Ack => "3",
+            Kind::ConnectError => "4",
+            Kind::BinaryEvent => "5",
+            Kind::BinaryAck => "6",
+        }
+    }
+
+    /// Whether attachments may follow, so that the text counts them.
+    pub(crate) fn is_binary(self) -> bool
+        ensures { result ≡ is_binary self }
+    {
+        matches!(self, Kind::BinaryEvent | Kind::BinaryAck)
+    }
+}
 
 /// What a packet's text says. The attachments follow as messages of their own.
 #[derive(Debug, Drop)]
@@ -174,8 +221,7 @@ fn after_first(text: &str) -> &str
     &text[1..]
 }
 
-/// Writes the plain text of a header: no leading zeros, and no namespace where it is `/`. The
-/// fields are written as they are.
+/// The plain text of a header, its fields as they are: no leading zeros, no namespace `/`.
 pub fn write_header(alloc: Global, header: &Header) -> Result<String, SioError>
     ensures ok { IfOk result (λ t. Plain header.now (string_bytes t)) }
     ensures err { IfErr result (λ e. e ≡ SioError.Memory) }
@@ -194,7 +240,7 @@ pub fn write_header(alloc: Global, header: &Header) -> Result<String, SioError>
 }
 
 /// Appends the namespace and a comma, where it is not `/`.
-pub(crate) fn push_space(text: &mut String, space: &str) -> Result<(), AllocError>
+fn push_space(text: &mut String, space: &str) -> Result<(), AllocError>
     ensures { OnOk result (string_bytes text.new ≡ string_bytes text.old ++ space_text space.now) }
 {
     if space != "/" {
@@ -213,8 +259,78 @@ pub fn header_texts()
     ensures whole { (h : Header) (t : List ℕ) → Sio h t → All (λ byte. byte ≢ 30) h.payload }
 {}
 
-/// A text has at most one fault, and a text that has one spells no header. It has no effect.
+/// A text has at most one fault, and then it spells no header. It has no effect.
 pub fn header_faults()
     ensures once { (e f : SioError) (t : List ℕ) → HasFault t e → HasFault t f → e ≡ f }
     ensures spells_nothing { (e : SioError) (t : List ℕ) → HasFault t e → SpellsNothing t }
 {}
+
+/// The answer that the socket is connected, by its session id and its private session id.
+pub fn connected_text(alloc: Global, space: &str, sid: u128, pid: u128) -> Result<String, SioError>
+    ensures ok { IfOk result (λ text. string_bytes text ≡ answer.connected_text space.now sid pid) }
+    ensures err { OnErr result (IsErrOf result SioError.Memory) }
+{
+    let (sid, pid) = (id_text(sid), id_text(pid));
+    let (sid, pid) = (ascii_text(&sid), ascii_text(&pid));
+    let mut text = begin(alloc, "0", space)?;
+    write!(text, "{{\"sid\":\"{sid}\",\"pid\":\"{pid}\"}}")?;
+    Ok(text)
+}
+
+/// The answer that the connection is refused, with a message for the client.
+pub fn refused_text(alloc: Global, space: &str, message: &str) -> Result<String, SioError>
+    ensures ok { IfOk result (λ t. string_bytes t ≡ answer.refused_text space.now message.now) }
+    ensures err { OnErr result (IsErrOf result SioError.Memory) }
+{
+    let mut text = begin(alloc, "4", space)?;
+    let message = Value::try_from_str(alloc, message)?.to_string(alloc)?;
+    write!(text, "{{\"message\":{message}}}")?;
+    Ok(text)
+}
+
+/// The DISCONNECT packet for a namespace.
+pub fn disconnect_text(alloc: Global, space: &str) -> Result<String, SioError>
+    ensures ok { IfOk result (λ text. string_bytes text ≡ disconnect.disconnect_text space.now) }
+    ensures err { OnErr result (IsErrOf result SioError.Memory) }
+{
+    Ok(begin(alloc, "1", space)?)
+}
+
+/// The digit of a packet's type, and the namespace.
+fn begin(alloc: Global, kind: &str, space: &str) -> Result<String, AllocError>
+    ensures { IfOk result (λ text. string_bytes text ≡ kind.now ++ space_text space.now) }
+{
+    let mut text = String::from_str(alloc, kind)?;
+    push_space(&mut text, space)?;
+    Ok(text)
+}
+
+/// The payload with the offset as its last element: before its last `]` come `,"`, the offset's
+/// digits and `"`, and nothing follows the `]`. `BadShape` where the payload has no `]`.
+pub fn with_offset(alloc: Global, payload: &str, offset: u64) -> Result<String, SioError>
+    ensures ok { IfOk result (λ text. string_bytes text ≡ payload_with_offset payload.now offset) }
+    ensures bad_shape { IsErrOf result SioError.BadShape
+        ↔ (list_any is_bracket payload.now ≡ false) }
+    ensures err { IfErr result (λ e. (e ≡ SioError.Memory) ⊎ (e ≡ SioError.BadShape)) }
+{
+    let front = match payload.rfind(']') {
+        Some(last) => &payload[..last],
+        None => return Err(SioError::BadShape),
+    };
+    let mut digits = [0u8; 16];
+    write_digits(u128::from(offset), &mut digits);
+    let digits = ascii_text(&digits);
+    Ok(format!(in alloc; "{front},\"{digits}\"]")?)
+}
+
+/// The offset that has these digits.
+pub fn read_offset(text: &str) -> Option<u64>
+    ensures digits { IfSome result (λ offset. text.now ≡ offset_digits offset) }
+    ensures again { (n : ℕ) → n < 2 ^ 64 → text.now ≡ offset_digits n → result ≡ Some n }
+{
+    if text.len() != 16 {
+        return None;
+    }
+    let number = read_digits(text.as_bytes())?;
+    Some(number as u64)
+}

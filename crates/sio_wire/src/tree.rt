@@ -1,18 +1,23 @@
-//! The JSON tree of a payload: the texts among an event's elements, and what a client's CONNECT says
-//! of the session that it had (Socket.IO server documentation, "Connection state recovery").
+//! The JSON tree of a payload: what each packet type allows (Socket.IO protocol 5, "Packet types"),
+//! the texts among an event's elements, and what a client's CONNECT says of the session that it had
+//! (Socket.IO server documentation, "Connection state recovery").
 
-ghost use Rattle.std.specs.Prelude.{◌≡◌, ◌⊎◌, Some, None, Ok, Err, IfOk, IfErr};
+ghost use Rattle.std.specs.Prelude.{◌≡◌, ◌⊎◌, Some, None, Ok, Err, IfOk, IfErr, ◌↔◌, IsTrue, Contains, option_map};
 ghost use Rattle.serde_json.specs.Read.{read};
 ghost use Rattle.serde_json.specs.View.{view, items_view};
 ghost use Rattle.sio_wire.specs.JsonFields.{texts_of, names_at, resume_at};
+ghost use Rattle.sio_wire.specs.Faults.{Checks};
+ghost use Rattle.sio_wire.specs.Placeholders.{IsPlaceholder, HasNumberBelow, Placed};
+ghost use Rattle.sio_wire.specs.Shape.{IsTree, IsNoTree, has_shape, HasReservedName, IsPlaced, reserved_names};
 
 use crate::error::SioError;
+use crate::header::{Header, Kind};
 use serde_json::{Category, Value};
 use std::alloc::{AllocError, Global};
 use terms::Text;
 
 /// The tree, or `BadJson` where the text is no JSON text.
-pub(crate) fn parse(alloc: Global, text: &str) -> Result<Value, SioError>
+fn parse(alloc: Global, text: &str) -> Result<Value, SioError>
     ensures ok { IfOk result (λ value. read text.now ≡ Some (view value)) }
     ensures err { IfErr result
         (λ e. (e ≡ SioError.Memory) ⊎ ((e ≡ SioError.BadJson) × (read text.now ≡ None))) }
@@ -76,5 +81,134 @@ pub fn resume_of(alloc: Global, payload: &str) -> Result<Option<Resume>, SioErro
             offset: Text::copy_of(alloc, offset)?,
         })),
         _ => Ok(None),
+    }
+}
+
+/// Looks at the payload of a header whose parts were read.
+pub(crate) fn check_payload(alloc: Global, header: &Header) -> Result<(), SioError>
+    ensures { Checks header.now result }
+{
+    let tree = read_tree(alloc, header.payload.as_str())?;
+    if !has_shape(header.kind, header.id, &tree) {
+        return Err(SioError::BadShape);
+    }
+    if has_reserved_name(header.kind, &tree) {
+        return Err(SioError::Reserved);
+    }
+    if !is_placed(header.kind, header.count, &tree) {
+        return Err(SioError::BadPlaceholder);
+    }
+    Ok(())
+}
+
+/// The JSON tree of a payload; none for the empty text.
+fn read_tree(alloc: Global, text: &str) -> Result<Option<Value>, SioError>
+    ensures ok { IfOk result (λ tree. IsTree text.now (option_map view tree)) }
+    ensures err { IfErr result
+        (λ e. (e ≡ SioError.Memory) ⊎ ((e ≡ SioError.BadJson) × IsNoTree text.now)) }
+{
+    if text.is_empty() {
+        return Ok(None);
+    }
+    // U+001E separates packets in a polling payload.
+    if text.as_bytes().contains(&0x1e) {
+        return Err(SioError::BadJson);
+    }
+    Ok(Some(parse(alloc, text)?))
+}
+
+/// Whether the packet type allows this payload with this acknowledgement id.
+fn has_shape(kind: Kind, id: Option<u64>, tree: &Option<Value>) -> bool
+    ensures { result ≡ has_shape kind id (option_map view tree.now) }
+{
+    match (kind, tree) {
+        (Kind::Connect | Kind::Disconnect, None) => id.is_none(),
+        (Kind::Connect, Some(value)) => id.is_none() && value.is_object(),
+        (Kind::Event | Kind::BinaryEvent, Some(value)) => value
+            .get(0usize)
+            .is_some_and(|first| first.is_string() || first.is_number()),
+        (Kind::Ack | Kind::BinaryAck, Some(value)) => id.is_some() && value.is_array(),
+        (Kind::ConnectError, Some(value)) => {
+            id.is_none() && (value.is_string() || value.is_object())
+        }
+        _ => false,
+    }
+}
+
+/// Whether the payload is an event with a name that the protocol keeps for itself.
+fn has_reserved_name(kind: Kind, tree: &Option<Value>) -> bool
+    ensures { IsTrue result ↔ HasReservedName kind (option_map view tree.now) }
+{
+    match (kind, tree) {
+        (Kind::Event | Kind::BinaryEvent, Some(value)) => value
+            .get(0usize)
+            .and_then(Value::as_str)
+            .is_some_and(|name| is_reserved_name(name)),
+        _ => false,
+    }
+}
+
+/// Whether no event may have this name (Socket.IO server documentation, "Emit cheatsheet").
+fn is_reserved_name(name: &str) -> bool
+    ensures { IsTrue result ↔ Contains reserved_names name.now }
+{
+    matches!(
+        name,
+        "connect"
+            | "connect_error"
+            | "disconnect"
+            | "disconnecting"
+            | "newListener"
+            | "removeListener"
+    )
+}
+
+/// Whether each placeholder of a binary packet has a number below the count.
+fn is_placed(kind: Kind, count: u32, tree: &Option<Value>) -> bool
+    ensures { IsTrue result ↔ IsPlaced kind count (option_map view tree.now) }
+{
+    match tree {
+        Some(value) if kind.is_binary() => are_placed(value, count),
+        _ => true,
+    }
+}
+
+/// Whether each placeholder in the value, at any depth, has a number below `count`.
+fn are_placed(value: &Value, count: u32) -> bool
+    ensures { IsTrue result ↔ Placed (view value.now) count }
+{
+    match value {
+        Value::Array(items) => {
+            for item in items {
+                if !are_placed(item, count) {
+                    return false;
+                }
+            }
+            true
+        }
+        Value::Object(_) if !is_numbered(value, count) => false,
+        Value::Object(members) => {
+            for (_name, member) in members.iter() {
+                if !are_placed(member, count) {
+                    return false;
+                }
+            }
+            true
+        }
+        _ => true,
+    }
+}
+
+/// Whether the value, if it is a placeholder, has a number below `count`.
+fn is_numbered(value: &Value, count: u32) -> bool
+    ensures { IsTrue result
+        ↔ (IsPlaceholder (view value.now) → HasNumberBelow count (view value.now)) }
+{
+    if value.get("_placeholder").and_then(Value::as_bool) != Some(true) {
+        return true;
+    }
+    match value.get("num").and_then(Value::as_u64) {
+        Some(number) => number < u64::from(count),
+        None => false,
     }
 }

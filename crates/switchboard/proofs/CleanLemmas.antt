@@ -23,13 +23,12 @@ use Rattle.events.specs.declared.app.Effect.{Effect}
 use Rattle.events.specs.declared.app.Effect.TheVariants.{AllEnd, Report, Fetch}
 use Rattle.events.specs.declared.app.Who.{Who}
 use Rattle.events.proofs.WholeLemmas.{holds_none, both, whole}
-use Rattle.switchboard.specs.declared.refusal.CommandError.{CommandError}
-use Rattle.switchboard.specs.declared.refusal.CommandError.TheVariants.{Memory, UnknownCommand, Malformed, UnknownNamespace, BadRoom, BadId, ReservedName}
-use Rattle.switchboard.specs.declared.changes.Move.{Move}
+use Rattle.switchboard.specs.declared.command.CommandError.{CommandError}
+use Rattle.switchboard.specs.declared.command.CommandError.TheVariants.{Memory, UnknownCommand, Malformed, UnknownNamespace, BadRoom, BadId, ReservedName}
 use Rattle.switchboard.specs.declared.command.Name.{Name}
 use Rattle.switchboard.specs.declared.command.Name.TheVariants.{Emit, SocketsJoin, SocketsLeave, DisconnectSockets, FetchSockets}
 use Rattle.switchboard.specs.Digits.{digit_room, join_too, joins, joins_verdict, digits_in, digits_verdict}
-use Rattle.switchboard.specs.Telling.{head, list_of, id_token, connection_text, return_text, event_text, answer_text, end_text, told, told_of_end}
+use Rattle.switchboard.specs.Telling.{head, list_of, id_token, connection_text, return_text, packet_text, end_text, told, told_of_end}
 use Rattle.switchboard.specs.Replies.{error_text, ok_reply, error_reply, where_asked}
 use Rattle.switchboard.specs.Options.{options_of}
 use Rattle.switchboard.specs.Sockets.{selection_of}
@@ -84,12 +83,8 @@ whole-return who rooms =
     whole-print (front ++ end_array ∷ [])
     (AreWhole-append front (end_array ∷ []) (AreWhole-append (head (codes "connection") who) (list_of rooms) (AreWhole-head (codes "connection") who) (AreWhole-list_of rooms)) (whole-token_text end_array tt, tt))
 
-whole-event : (who : Who) (id : Option ℕ) (payload : List ℕ) → IsWhole payload → IsWhole (event_text who id payload)
-whole-event who id payload clean = whole-with_elements _ payload (whole-begun (codes "event") who (id_token id ∷ []) (AreWhole-id id)) clean
-
-whole-answer : (who : Who) (id : ℕ) (payload : List ℕ) → IsWhole payload → IsWhole (answer_text who id payload)
-whole-answer who id payload clean =
-    whole-with_elements _ payload (whole-begun (codes "answer") who (number (decimal id) ∷ []) (whole-decimal id, tt)) clean
+whole-packet : (name : List ℕ) (who : Who) (id : Option ℕ) (payload : List ℕ) → IsWhole payload → IsWhole (packet_text name who id payload)
+whole-packet name who id payload clean = whole-with_elements _ payload (whole-begun name who (id_token id ∷ []) (AreWhole-id id)) clean
 
 whole-end : (who : Who) (rooms : List (List ℕ)) (ending : Ending) → IsWhole (end_text who rooms ending)
 whole-end who rooms ending =
@@ -105,8 +100,8 @@ whole-end who rooms ending =
 pub clean-told : (who : Who) (arrived : Arrived) → IsCleanArrival arrived → AllClean (told who arrived)
 clean-told who (Connected n) clean = (whole-connection who n.payload n.claims clean.0 clean.1, tt)
 clean-told who (Returned rooms) clean = (whole-return who rooms, tt)
-clean-told who (Event m) clean = (whole-event who m.id m.payload clean, tt)
-clean-told who (Stray s) clean = (whole-answer who s.id s.payload clean, tt)
+clean-told who (Event m) clean = (whole-packet (codes "event") who m.id m.payload clean, tt)
+clean-told who (Stray s) clean = (whole-packet (codes "answer") who (Some s.id) s.payload clean, tt)
 clean-told who (Answer a) clean = tt
 
 pub clean-told_of_end : (who : Who) (rooms : List (List ℕ)) (ending : Ending) → AllClean (told_of_end who rooms ending)
@@ -163,11 +158,11 @@ clean-emitted : (spaces : List (List ℕ)) (command options : Json) (m : Message
 clean-emitted spaces command options m numbers =
     clean-chosen (has_event command options) _ _ (clean-sent_to (selection_of spaces options) (form_of options) command m numbers) tt
 
-clean-then_join : (m : Message) (move : Result Move CommandError) → Clean (then_join m move)
+clean-then_join : (m : Message) (move : Result (PlainSelection × List ℕ) CommandError) → Clean (then_join m move)
 clean-then_join m (Err why) = tt
 clean-then_join m (Ok move) = (tt, clean-where_asked (is_some m.id) Report tt)
 
-clean-then_leave : (m : Message) (move : Result Move CommandError) → Clean (then_leave m move)
+clean-then_leave : (m : Message) (move : Result (PlainSelection × List ℕ) CommandError) → Clean (then_leave m move)
 clean-then_leave m (Err why) = tt
 clean-then_leave m (Ok move) = (tt, clean-where_asked (is_some m.id) Report tt)
 

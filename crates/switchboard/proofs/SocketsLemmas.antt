@@ -1,6 +1,6 @@
 -- Rooms that were read, and those that are left.
 use Rattle.std.proofs.Common.{ℕ, List, ◌++◌, Result, Ok, Err}
-use Rattle.switchboard.specs.declared.refusal.CommandError.{CommandError}
+use Rattle.switchboard.specs.declared.command.CommandError.{CommandError}
 
 -- rooms stand before others, if all these are rooms
 abbrev pub behind : List (List ℕ) → Result (List (List ℕ)) CommandError → Result (List (List ℕ)) CommandError

@@ -6,8 +6,8 @@ use Rattle.events.specs.declared.app.Message.{Message}
 use Rattle.events.specs.declared.app.Effect.{Effect}
 use Rattle.switchboard.specs.declared.command.Name.{Name}
 use Rattle.switchboard.specs.declared.command.Name.TheVariants.{Emit, SocketsJoin, SocketsLeave, DisconnectSockets, FetchSockets}
-use Rattle.switchboard.specs.declared.refusal.CommandError.{CommandError}
-use Rattle.switchboard.specs.declared.refusal.CommandError.TheVariants.{UnknownCommand, Malformed}
+use Rattle.switchboard.specs.declared.command.CommandError.{CommandError}
+use Rattle.switchboard.specs.declared.command.CommandError.TheVariants.{UnknownCommand, Malformed}
 use Rattle.switchboard.specs.Options.{options_of}
 use Rattle.switchboard.specs.Emission.{emitted}
 use Rattle.switchboard.specs.Changes.{joined, left, disconnected, fetched}

@@ -8,8 +8,8 @@ use Rattle.events.specs.Selection.{PlainSelection}
 use Rattle.events.specs.declared.app.Message.{Message}
 use Rattle.events.specs.declared.app.Effect.{Effect}
 use Rattle.events.specs.declared.app.Effect.TheVariants.{Emit}
-use Rattle.switchboard.specs.declared.refusal.CommandError.{CommandError}
-use Rattle.switchboard.specs.declared.refusal.CommandError.TheVariants.{Malformed, ReservedName}
+use Rattle.switchboard.specs.declared.command.CommandError.{CommandError}
+use Rattle.switchboard.specs.declared.command.CommandError.TheVariants.{Malformed, ReservedName}
 use Rattle.switchboard.specs.Sockets.{selection_of}
 use Rattle.switchboard.specs.Form.{form_of}
 use Rattle.switchboard.specs.Arguments.{arguments}

@@ -5,8 +5,8 @@ use Rattle.json.specs.Json.{Json}
 use Rattle.json.specs.Find.{get, as_number, as_bool}
 use Rattle.journal.specs.declared.form.Form.{Form}
 use Rattle.journal.specs.declared.form.Form.TheVariants.{Event, Question, Answer}
-use Rattle.switchboard.specs.declared.refusal.CommandError.{CommandError}
-use Rattle.switchboard.specs.declared.refusal.CommandError.TheVariants.{BadId}
+use Rattle.switchboard.specs.declared.command.CommandError.{CommandError}
+use Rattle.switchboard.specs.declared.command.CommandError.TheVariants.{BadId}
 
 -- a flag that lacks is `false`
 abbrev pub is_true : Option Bool → Bool

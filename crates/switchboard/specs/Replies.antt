@@ -1,9 +1,9 @@
 -- How a command is acknowledged.
-use Rattle.std.specs.Prelude.{ℕ, Bool, if◌then◌else◌, List, [], ◌∷◌, ◌++◌, codes}
+use Rattle.std.specs.Prelude.{◌≡◌, ◌⊎◌, ℕ, Bool, if◌then◌else◌, List, [], ◌∷◌, ◌++◌, codes, Result, Ok, Err}
 use Rattle.events.specs.declared.app.Effect.{Effect}
 use Rattle.events.specs.declared.app.Effect.TheVariants.{Reply}
-use Rattle.switchboard.specs.declared.refusal.CommandError.{CommandError}
-use Rattle.switchboard.specs.declared.refusal.CommandError.TheVariants.{Memory, UnknownCommand, Malformed, UnknownNamespace, BadRoom, BadId, ReservedName}
+use Rattle.switchboard.specs.declared.command.CommandError.{CommandError}
+use Rattle.switchboard.specs.declared.command.CommandError.TheVariants.{Memory, UnknownCommand, Malformed, UnknownNamespace, BadRoom, BadId, ReservedName}
 
 -- why a command isn't done, as the backend is told. That memory was refused is told to nobody
 abbrev pub error_text : CommandError → List ℕ
@@ -14,6 +14,11 @@ error_text UnknownNamespace = codes "unknown namespace"
 error_text BadRoom = codes "bad room"
 error_text BadId = codes "bad id"
 error_text ReservedName = codes "reserved name"
+
+-- a call gives what is due, seen so, or the error that is, unless memory was refused
+abbrev pub Gives : {T X : Type 0} → Result T CommandError → (seen : T → X) → (due : Result X CommandError) → Type 0
+Gives (Ok value) seen due = due ≡ Ok (seen value)
+Gives (Err why) seen due = (why ≡ Memory) ⊎ (due ≡ Err why)
 
 -- it was done
 abbrev pub ok_reply : Effect

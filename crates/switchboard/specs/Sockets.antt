@@ -4,8 +4,8 @@ use Rattle.std.specs.List.{list_any}
 use Rattle.json.specs.Json.{Json, Items, no_items, item}
 use Rattle.json.specs.Find.{get, as_str, as_array}
 use Rattle.events.specs.Selection.{PlainSelection}
-use Rattle.switchboard.specs.declared.refusal.CommandError.{CommandError}
-use Rattle.switchboard.specs.declared.refusal.CommandError.TheVariants.{UnknownNamespace, BadRoom}
+use Rattle.switchboard.specs.declared.command.CommandError.{CommandError}
+use Rattle.switchboard.specs.declared.command.CommandError.TheVariants.{UnknownNamespace, BadRoom}
 
 -- the namespace, the main one where none is named
 abbrev pub space_of : Json → List ℕ

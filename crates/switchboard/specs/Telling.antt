@@ -67,13 +67,9 @@ connection_text who payload claims =
 abbrev pub return_text : Who → (rooms : List (List ℕ)) → List ℕ
 return_text who rooms = print (head (codes "connection") who ++ list_of rooms ++ end_array ∷ [])
 
--- an event came
-abbrev pub event_text : Who → Option ℕ → (payload : List ℕ) → List ℕ
-event_text who id payload = with_elements (print (head (codes "event") who ++ id_token id ∷ [])) payload
-
--- a question was answered
-abbrev pub answer_text : Who → ℕ → (payload : List ℕ) → List ℕ
-answer_text who id payload = with_elements (print (head (codes "answer") who ++ number (decimal id) ∷ [])) payload
+-- a packet of this name came
+abbrev pub packet_text : (name : List ℕ) → Who → Option ℕ → (payload : List ℕ) → List ℕ
+packet_text name who id payload = with_elements (print (head name who ++ id_token id ∷ [])) payload
 
 -- a socket has ended
 abbrev pub end_text : Who → (rooms : List (List ℕ)) → Ending → List ℕ
@@ -102,8 +98,8 @@ tell who payload attachments =
 abbrev pub told : Who → Arrived → List Effect
 told who (Connected n) = tell who (connection_text who n.payload n.claims) [] ∷ []
 told who (Returned rooms) = tell who (return_text who rooms) [] ∷ []
-told who (Event m) = tell who (event_text who m.id m.payload) m.attachments ∷ []
-told who (Stray s) = tell who (answer_text who s.id s.payload) s.attachments ∷ []
+told who (Event m) = tell who (packet_text (codes "event") who m.id m.payload) m.attachments ∷ []
+told who (Stray s) = tell who (packet_text (codes "answer") who (Some s.id) s.payload) s.attachments ∷ []
 told who (Answer answer) = []
 
 -- and so is the end of a socket

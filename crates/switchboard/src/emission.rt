@@ -1,19 +1,20 @@
 //! The command `emit`: an event, a question or an answer for the sockets that are meant.
 
-ghost use Rattle.std.specs.Prelude.{◌≡◌, ◌⊎◌, Ok, Err, IfOk, IfErr, option_map};
-ghost use Rattle.json.specs.Tree.{HasNumbers};
-ghost use Rattle.json.specs.Value.{value_view};
+ghost use Rattle.std.specs.Prelude.{◌≡◌, ◌++◌, ℕ, List, Some, IfOk, OnOk, option_map};
+ghost use Rattle.json.specs.Json.{Json, document};
+ghost use Rattle.json.specs.Tree.{HasNumbers, ItemsHaveNumbers, items_tokens};
+ghost use Rattle.json.specs.Value.{value_view, items_view};
+ghost use Rattle.switchboard.specs.Arguments as written;
 ghost use Rattle.switchboard.specs.Emission as table;
-ghost use Rattle.switchboard.specs.declared.refusal.CommandError.TheVariants.{Memory};
+ghost use Rattle.switchboard.specs.Form as forms;
+ghost use Rattle.switchboard.specs.Replies.{Gives};
 
-use crate::arguments::arguments;
-use crate::form::form_of;
-use crate::refusal::CommandError;
-use crate::replies::ok_reply;
+use crate::command::{CommandError, ok_reply};
 use crate::sockets::selection_of;
-use events::{Effect, Emission, Message, Selection};
-use journal::Form;
-use json::Value;
+use crate::telling::text_of;
+use events::{Effect, Message, Selection};
+use journal::{Cast, Form};
+use json::{Value, Writer};
 use std::alloc::{AllocError, Global};
 use terms::Text;
 
@@ -26,11 +27,8 @@ pub(crate) fn emit(
     message: &Message,
 ) -> Result<Vec<Effect>, CommandError>
     requires { HasNumbers (value_view command.now) }
-    ensures ok { IfOk result (λ e. table.emitted spaces.now (value_view command.now)
-        (value_view options.now) message.now ≡ Ok e.items) }
-    ensures err { IfErr result (λ e. (e ≡ Memory)
-        ⊎ (table.emitted spaces.now (value_view command.now)
-        (value_view options.now) message.now ≡ Err e)) }
+    ensures { Gives result (λ e. e.items)
+        (table.emitted spaces.now (value_view command.now) (value_view options.now) message.now) }
 {
     if !has_event(command, options) {
         return Err(CommandError::Malformed);
@@ -61,7 +59,7 @@ fn send(
         excepted,
     } = selection;
     let mut effects = Vec::new(alloc);
-    effects.push(Effect::Emit(Emission {
+    effects.push(Effect::Emit(Cast {
         space,
         rooms,
         excepted,
@@ -115,4 +113,97 @@ fn is_reserved_name(name: &str) -> bool
             | "newListener"
             | "removeListener"
     )
+}
+
+/// What is sent: an event, a question or an answer.
+fn form_of(options: &Value) -> Result<Form, CommandError>
+    ensures { result ≡ forms.form_of (value_view options.now) }
+{
+    match (options.get("ask"), options.get("answer")) {
+        (Some(id), _) => Ok(Form::Question(id_of(id).ok_or(CommandError::BadId)?)),
+        (None, Some(id)) => Ok(Form::Answer(id_of(id).ok_or(CommandError::BadId)?)),
+        (None, None) => Ok(Form::Event {
+            logged: !is_volatile(options),
+        }),
+    }
+}
+
+/// Whether it is to be sent, but not logged.
+fn is_volatile(options: &Value) -> bool
+    ensures { result ≡ forms.is_volatile (value_view options.now) }
+{
+    options.get("volatile").and_then(Value::as_bool) == Some(true)
+}
+
+/// The integer that a number is, where it is one of at most fifteen digits.
+fn id_of(number: &Value) -> Option<u64>
+    ensures { result ≡ forms.id_of (value_view number.now) }
+{
+    read_id(number.as_number()?)
+}
+
+/// The integer that at most fifteen digits write.
+fn read_id(text: &str) -> Option<u64>
+    ensures { result ≡ forms.read_id text.now }
+{
+    if text.len() > 15 {
+        return None;
+    }
+    let mut id: u64 = 0;
+    for digit in text.as_bytes() {
+        if !digit.is_ascii_digit() {
+            return None;
+        }
+        id = id * 10 + u64::from(*digit - b'0');
+    }
+    Some(id)
+}
+
+/// The elements of a command from the third on, as an array. Members keep their order, and numbers
+/// their texts.
+fn arguments(alloc: Global, command: &Value) -> Result<Text, AllocError>
+    requires { HasNumbers (value_view command.now) }
+    ensures { IfOk result (λ text. text ≡ written.arguments (value_view command.now)) }
+{
+    let mut writer = Writer::new(Vec::new(alloc));
+    writer.begin_array()?;
+    write_items(&mut writer, after_two(command))?;
+    Ok(Text::from_string(text_of(writer)))
+}
+
+/// The text of the arguments of a command that was read reads back as the array of these arguments.
+/// It has no effect.
+pub fn arguments_read_back()
+    ensures { (payload : List ℕ) (command : Json) → document payload ≡ Some command
+        → document (written.arguments command) ≡ Some (written.arguments_array command) }
+{}
+
+/// The elements of a command from the third on.
+fn after_two<'v, 'a>(command: &'v Value<'a>) -> &'v [Value<'a>]
+    ensures { items_view result.now ≡ written.after_two (written.elements (value_view command.now)) }
+{
+    match command {
+        Value::Array(elements) => third_on(elements),
+        _ => &[],
+    }
+}
+
+/// All values but the first two.
+fn third_on<'v, 'a>(values: &'v Vec<Value<'a>>) -> &'v [Value<'a>]
+    ensures { items_view result.now ≡ written.after_two (items_view values.now.items) }
+{
+    if values.len() > 2 { &values[2..] } else { &[] }
+}
+
+/// Adds values, and the end of their array.
+fn write_items(writer: &mut Writer, items: &[Value]) -> Result<(), AllocError>
+    requires { ItemsHaveNumbers (items_view items.now) }
+    ensures before { writer.new.before ≡ writer.old.before }
+    ensures tokens { OnOk result
+        (writer.new.tokens ≡ writer.old.tokens ++ items_tokens (items_view items.now)) }
+{
+    for item in items {
+        writer.value(item)?;
+    }
+    writer.end_array()
 }

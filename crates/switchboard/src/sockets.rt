@@ -1,11 +1,12 @@
 //! Which sockets a command means.
 
-ghost use Rattle.std.specs.Prelude.{◌≡◌, ◌⊎◌, Ok, Err, IfOk, IfErr, option_map};
+ghost use Rattle.std.specs.Prelude.{◌≡◌, option_map};
 ghost use Rattle.json.specs.Value.{value_view, items_view};
+ghost use Rattle.switchboard.specs.Changes as changes;
+ghost use Rattle.switchboard.specs.Replies.{Gives};
 ghost use Rattle.switchboard.specs.Sockets as table;
-ghost use Rattle.switchboard.specs.declared.refusal.CommandError.TheVariants.{Memory};
 
-use crate::refusal::CommandError;
+use crate::command::CommandError;
 use events::Selection;
 use json::Value;
 use std::alloc::Global;
@@ -17,10 +18,7 @@ pub(crate) fn selection_of(
     spaces: &[Text],
     options: &Value,
 ) -> Result<Selection, CommandError>
-    ensures ok { IfOk result
-        (λ s. table.selection_of spaces.now (value_view options.now) ≡ Ok s) }
-    ensures err { IfErr result (λ e. (e ≡ Memory)
-        ⊎ (table.selection_of spaces.now (value_view options.now) ≡ Err e)) }
+    ensures { Gives result (λ s. s) (table.selection_of spaces.now (value_view options.now)) }
 {
     let space = space_of(options);
     if !has_space(spaces, space) {
@@ -31,6 +29,30 @@ pub(crate) fn selection_of(
         rooms: rooms_of(alloc, options.get("to"))?,
         excepted: rooms_of(alloc, options.get("except"))?,
     })
+}
+
+/// The sockets that are meant, and the room that they are to join or to leave. A third argument
+/// that is no text is refused first, then the sockets.
+pub(crate) fn move_of(
+    alloc: Global,
+    spaces: &[Text],
+    command: &Value,
+    options: &Value,
+) -> Result<(Selection, Room), CommandError>
+    ensures { Gives result (λ m. m)
+        (changes.move_of spaces.now (value_view command.now) (value_view options.now)) }
+{
+    let Some(name) = command.at(2) else {
+        return Err(CommandError::Malformed);
+    };
+    if name.as_str().is_none() {
+        return Err(CommandError::Malformed);
+    }
+    let selection = selection_of(alloc, spaces, options)?;
+    match room_of(name) {
+        Some(room) => Ok((selection, room)),
+        None => Err(CommandError::BadRoom),
+    }
 }
 
 /// The namespace that is meant.
@@ -47,20 +69,13 @@ fn space_of<'a>(options: &Value<'a>) -> &'a str
 fn has_space(spaces: &[Text], name: &str) -> bool
     ensures { result ≡ table.has_space spaces.now name.now }
 {
-    for space in spaces {
-        if space.as_str() == name {
-            return true;
-        }
-    }
-    false
+    spaces.iter().any(|space| space.as_str() == name)
 }
 
 /// The rooms that are listed. There are none where no list is.
 fn rooms_of(alloc: Global, member: Option<&Value>) -> Result<Vec<Room>, CommandError>
-    ensures ok { IfOk result (λ rooms.
-        table.rooms_of (option_map (λ v. value_view v.now) member.entry) ≡ Ok rooms.items) }
-    ensures err { IfErr result (λ e. (e ≡ Memory)
-        ⊎ (table.rooms_of (option_map (λ v. value_view v.now) member.entry) ≡ Err e)) }
+    ensures { Gives result (λ rooms. rooms.items)
+        (table.rooms_of (option_map (λ v. value_view v.now) member.entry)) }
 {
     match member {
         Some(Value::Array(items)) => read_rooms(alloc, items),
@@ -68,12 +83,9 @@ fn rooms_of(alloc: Global, member: Option<&Value>) -> Result<Vec<Room>, CommandE
     }
 }
 
-/// The rooms that texts name.
+/// The rooms that texts of at most 64 bytes name.
 fn read_rooms(alloc: Global, names: &Vec<Value>) -> Result<Vec<Room>, CommandError>
-    ensures ok { IfOk result (λ rooms.
-        table.rooms_named (items_view names.now.items) ≡ Ok rooms.items) }
-    ensures err { IfErr result (λ e. (e ≡ Memory)
-        ⊎ (table.rooms_named (items_view names.now.items) ≡ Err e)) }
+    ensures { Gives result (λ rooms. rooms.items) (table.rooms_named (items_view names.now.items)) }
 {
     let mut rooms = Vec::new(alloc);
     for name in names {
@@ -86,7 +98,7 @@ fn read_rooms(alloc: Global, names: &Vec<Value>) -> Result<Vec<Room>, CommandErr
 }
 
 /// The room that a text names, where it is one of at most 64 bytes.
-pub(crate) fn room_of(name: &Value) -> Option<Room>
+fn room_of(name: &Value) -> Option<Room>
     ensures { result ≡ table.room_of (value_view name.now) }
 {
     Room::read(name.as_str()?)

@@ -1,11 +1,11 @@
 //! What backends are told: the event of each thing that a client did.
 
 ghost use Rattle.std.specs.Prelude.{◌≡◌, ◌++◌, [], ◌∷◌, IfOk, OnOk, string_bytes};
+ghost use Rattle.json.specs.Print.{print};
 ghost use Rattle.switchboard.specs.Telling as table;
 
-use crate::writing::text_of;
-use events::{Arrived, Effect, Emission, Wanted, Who, ending_word};
-use journal::{Ending, Form};
+use events::{Arrived, Effect, Wanted, Who, ending_word};
+use journal::{Cast, Ending, Form};
 use json::Writer;
 use std::alloc::{AllocError, Global};
 use std::str;
@@ -29,11 +29,12 @@ pub(crate) fn tell(alloc: Global, who: &Who, arrived: &Arrived) -> Wanted
             emit(alloc, who, text, Attachments::new(alloc))
         }
         Arrived::Event(message) => {
-            let text = event_text(alloc, who, message.id, message.payload.as_str())?;
+            let text = packet_text(alloc, "event", who, message.id, message.payload.as_str())?;
             emit(alloc, who, text, message.attachments.clone()?)
         }
         Arrived::Stray(stray) => {
-            let text = answer_text(alloc, who, stray.id, stray.payload.as_str())?;
+            let (id, payload) = (Some(stray.id), stray.payload.as_str());
+            let text = packet_text(alloc, "answer", who, id, payload)?;
             emit(alloc, who, text, stray.attachments.clone()?)
         }
         Arrived::Answer(_) => Ok(Vec::new(alloc)),
@@ -55,7 +56,7 @@ fn emit(alloc: Global, who: &Who, payload: Text, attachments: Attachments) -> Wa
         effects.items ≡ table.tell who.now payload attachments ∷ []) }
 {
     let mut effects = Vec::new(alloc);
-    effects.push(Effect::Emit(Emission {
+    effects.push(Effect::Emit(Cast {
         space: Text::copy_of(alloc, BACKENDS)?,
         rooms: Vec::from_slice(alloc, &[first_digit_room(who)])?,
         excepted: Vec::new(alloc),
@@ -66,8 +67,8 @@ fn emit(alloc: Global, who: &Who, payload: Text, attachments: Attachments) -> Wa
     Ok(effects)
 }
 
-/// The room of the first digit of the socket's session id, which is drawn; the last ones name the loop
-/// that it was opened at.
+/// The room of the first digit of the socket's session id, which is drawn; the last ones name the
+/// loop that it was opened at.
 fn first_digit_room(who: &Who) -> Room
     ensures { result ≡ table.first_digit_room who.now }
 {
@@ -107,26 +108,22 @@ fn return_text(alloc: Global, who: &Who, rooms: &[Room]) -> Result<Text, AllocEr
     Ok(Text::from_string(text_of(writer)))
 }
 
-/// That an event came, with the id under which it asks for an acknowledgement, and its elements.
-fn event_text(alloc: Global, who: &Who, id: Option<u64>, payload: &str) -> Result<Text, AllocError>
-    ensures { IfOk result (λ text. text ≡ table.event_text who.now id payload.now) }
+/// That a packet of this name came, with the id under which it asks for an acknowledgement or
+/// answers, and its elements.
+fn packet_text(
+    alloc: Global,
+    name: &str,
+    who: &Who,
+    id: Option<u64>,
+    payload: &str,
+) -> Result<Text, AllocError>
+    ensures { IfOk result (λ text. text ≡ table.packet_text name.now who.now id payload.now) }
 {
-    let mut writer = begin(alloc, "event", who)?;
+    let mut writer = begin(alloc, name, who)?;
     match id {
         Some(id) => writer.u64(id)?,
         None => writer.null()?,
     }
-    let mut text = text_of(writer);
-    push_elements(&mut text, payload)?;
-    Ok(Text::from_string(text))
-}
-
-/// That a question was answered, with its id and the answer's elements.
-fn answer_text(alloc: Global, who: &Who, id: u64, payload: &str) -> Result<Text, AllocError>
-    ensures { IfOk result (λ text. text ≡ table.answer_text who.now id payload.now) }
-{
-    let mut writer = begin(alloc, "answer", who)?;
-    writer.u64(id)?;
     let mut text = text_of(writer);
     push_elements(&mut text, payload)?;
     Ok(Text::from_string(text))
@@ -176,6 +173,17 @@ fn name_of(room: &Room) -> &str
 {
     match str::from_utf8(room.bytes()) {
         Ok(name) => name,
+        Err(_) => unreachable!(),
+    }
+}
+
+/// What was written to a writer that began with nothing.
+pub(crate) fn text_of(writer: Writer) -> String
+    requires { writer.before ≡ [] }
+    ensures { string_bytes result ≡ print writer.tokens }
+{
+    match String::from_utf8(writer.into_inner()) {
+        Ok(text) => text,
         Err(_) => unreachable!(),
     }
 }

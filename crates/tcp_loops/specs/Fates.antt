@@ -1,8 +1,8 @@
 -- What became of clients, as far as the log is told.
 use Rattle.std.specs.Prelude.{◌≡◌, ◌⊎◌, ℕ, Bool, true, Option, None, Some, option_map}
 use Rattle.events.specs.Answer.{Answer}
-use Rattle.links.specs.declared.heard.Concern.{Concern}
-use Rattle.links.specs.declared.heard.Concern.TheVariants as concern
+use Rattle.loop_rules.specs.declared.heard.Concern.{Concern}
+use Rattle.loop_rules.specs.declared.heard.Concern.TheVariants as concern
 use Rattle.tcp_streams.specs.Ending.{ending_of}
 use Rattle.tcp_loops.specs.declared.base.Fate.{Fate}
 use Rattle.tcp_loops.specs.declared.base.Fate.TheVariants as fate

@@ -1,4 +1,9 @@
+pub mod Comes
+pub mod Connections
 pub mod Drawn
 pub mod Fates
 pub mod Holding
+pub mod Sent
+pub mod Services
 pub mod Turns
+pub mod Watch

@@ -3,8 +3,8 @@ use Rattle.std.specs.Prelude.{◌≡◌, ◌-◌, ℕ, Bool, true, false, Option
 use Rattle.loop_rules.specs.Pressures.{known, pressed_at}
 use Rattle.loop_rules.specs.Rotas.{next_of}
 use Rattle.loop_rules.specs.declared.pressure.Pressure.{Pressure}
-use Rattle.links.specs.Rounds.{after_beat, is_beat}
-use Rattle.links.specs.declared.rounds.Round.{Round}
+use Rattle.loop_rules.specs.Rounds.{after_beat, is_beat}
+use Rattle.loop_rules.specs.declared.rounds.Round.{Round}
 
 -- one whose stint goes on is next, and else the first that has something to do, while the round has stints left
 abbrev pub key_next : (active : List ℕ) → (stints : ℕ) → (ready : List ℕ) → Option ℕ

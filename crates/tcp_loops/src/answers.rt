@@ -2,14 +2,13 @@
 
 ghost use Rattle.std.specs.Prelude.{◌≡◌, false};
 ghost use Rattle.loop_rules.specs.Pressures.{IsSame};
-ghost use Rattle.links.specs.Rounds as rounds;
+ghost use Rattle.loop_rules.specs.Rounds as rounds;
 
 use crate::base::Fate;
 use crate::driver::{Driver, Origin};
 use events::{Answered, Outcome};
 use http_edge::{EdgeError, Request, Status, Target, direct};
-use links::{Do, concern_of};
-use loop_rules::{Pressure, owner_of};
+use loop_rules::{Do, Pressure, concern_of, owner_of};
 use metrics::Reason;
 use peers::{Moments, Response, response_to_fault};
 use std::rt::Clock;
@@ -39,7 +38,8 @@ impl<R: Wait + Clock + Copy + Drop, L: Log> Driver<'_, R, L> {
         self.respond(key, &None, response_to_fault(fault));
     }
 
-    /// Answers by this, if by anything, which pages of this origin may read. The connection ends then.
+    /// Answers by this, if by anything, which pages of this origin may read. The connection ends
+    /// then.
     fn respond(&mut self, key: usize, origin: &Option<String>, response: Option<Response<'_>>)
         ensures round { self.new.round ≡ self.old.round }
     {
@@ -99,8 +99,8 @@ impl<R: Wait + Clock + Copy + Drop, L: Log> Driver<'_, R, L> {
         base.shared.note_closed(base.rt, from);
     }
 
-    /// Begins to serve a request. A GET of a client that was told just so that nothing waits is served
-    /// a little later.
+    /// Begins to serve a request. A GET of a client that was told just so that nothing waits is
+    /// served a little later.
     pub(crate) fn serve(&mut self, key: usize, request: Box<Request>, target: Target)
         ensures round { self.new.round ≡ self.old.round }
     {
@@ -153,8 +153,8 @@ impl<R: Wait + Clock + Copy + Drop, L: Log> Driver<'_, R, L> {
         self.obey(key, what);
     }
 
-    /// The answers were heard. Others may begin with what was put for them, while a connection goes on
-    /// that has no more to bring.
+    /// The answers were heard. Others may begin with what was put for them, while a connection goes
+    /// on that has no more to bring.
     pub(crate) fn tell(&mut self)
         ensures told { self.new.round.tells ≡ false }
     {

@@ -1,18 +1,56 @@
-//! What all workers go by.
+//! What all workers go by, and how they tell the time.
 
 ghost use Rattle.std.specs.Prelude.{◌≡◌, ◌≢◌, ℕ, false, nat_eq};
 ghost use Rattle.std.specs.HashMap.{get};
 ghost use Rattle.tcp_loops.specs.Fates as fates;
+ghost use Rattle.tcp_loops.specs.Watch.{told_last};
 
 use events::Answered;
-use links::Concern;
-use loop_rules::Notes;
+use loop_rules::{Concern, Notes};
+use peers::Moments;
 use std::alloc::Global;
 use std::collections::HashMap;
 use std::mem;
+use std::rt::Clock;
 use std::sync::{Arc, Wait};
-use tcp_connections::Watch;
-use tcp_streams::{Ended, Ending, Log, News, Rules, Shared, Shown};
+use std::time::Instant;
+use tcp_streams::{Ending, Log, News, Rules, Shared, Shown};
+
+/// Counts the milliseconds since the server began. Where the clock can't be read, the last moment
+/// is told again.
+#[derive(Clone, Copy, Drop)]
+pub struct Watch<R> {
+    rt: R,
+    start: Instant,
+    last: u64,
+}
+
+impl<R: Clock> Watch<R> {
+    /// The moment 0 was this instant.
+    pub fn new(rt: R, start: Instant) -> Watch<R>
+        ensures { told_last result ≡ 0 }
+    {
+        Watch { rt, start, last: 0 }
+    }
+}
+
+impl<R: Clock> Moments for Watch<R> {
+    ghost use Rattle.std.specs.Prelude.{◌≡◌};
+
+    ghost gives = { λ _ now watch. now ≡ watch.last };
+
+    ghost pauses = { λ old new. new ≡ old };
+
+    fn now(&mut self) -> u64 {
+        if let Ok(passed) = self.start.elapsed(&self.rt) {
+            self.last = u64::try_from(passed.as_millis()).unwrap_or(u64::MAX);
+        }
+        self.last
+    }
+
+    /// A loop waits for all of its connections at once, never here.
+    fn pause(&mut self) {}
+}
 
 /// What became of a client.
 #[derive(Clone, Copy, Debug)]
@@ -25,7 +63,7 @@ pub enum Fate {
 }
 
 impl Fate {
-    /// What became of a client where the answer to an event concerns it so; over a WebSocket or not.
+    /// What the answer to an event that concerns a client so makes of it; over a WebSocket or not.
     pub fn of(got: &Answered, concern: Concern, socket: bool) -> Option<Fate>
         ensures { result ≡ fates.fate_of concern socket got.now }
     {
@@ -38,16 +76,16 @@ impl Fate {
     }
 }
 
-/// This became of a client, which is one of those that are there or isn't: each since when, and whether
-/// over a WebSocket. Answers what was known of one that has ended. Where there is no memory for one that
-/// was opened, nothing is told of it.
+/// This became of a client, of which is known since when it is there, and whether over a WebSocket.
+/// Answers that of one that has ended. Of one that there is no memory for nothing is told.
 fn note_life(
     lives: &mut HashMap<u128, (u64, bool)>,
     client: u128,
     fate: Fate,
     now: u64,
 ) -> Option<(u64, bool)>
-    ensures life { fates.Becomes fate now (get nat_eq lives.old client) (get nat_eq lives.new client) }
+    ensures life { fates.Becomes fate now (get nat_eq lives.old client)
+        (get nat_eq lives.new client) }
     ensures ended { result ≡ fates.life_ended fate (get nat_eq lives.old client) }
     ensures others { (c : ℕ) → c ≢ client → get nat_eq lives.new c ≡ get nat_eq lives.old c }
 {
@@ -94,8 +132,8 @@ impl<R: Wait, L: Log> Base<'_, R, L> {
         }
     }
 
-    /// Takes what the last events of a worker showed. Where a backend is pressed no more, each loop looks
-    /// at all of its connections.
+    /// Takes what the last events of a worker showed. Where a backend is pressed no more, each loop
+    /// looks at all of its connections.
     pub fn take_shown(&self, worker: usize, shown: &mut Shown) {
         self.shared.showing.take(self.rt, worker, shown);
         if shown.relieved {
@@ -110,12 +148,13 @@ impl<R: Wait, L: Log> Base<'_, R, L> {
         };
         let life = note_life(&mut *lives.lock(self.rt), client, fate, now);
         if let (Some((since, socket)), Fate::Ended(ending)) = (life, fate) {
-            self.log.tell(News::Ended(Ended {
+            let lived = now.saturating_sub(since);
+            self.log.tell(News::Ended {
                 client,
                 socket,
                 ending,
-                lived: now.saturating_sub(since),
-            }));
+                lived,
+            });
         }
     }
 }

@@ -3,18 +3,19 @@
 ghost use Rattle.std.specs.Prelude.{◌≡◌, ◌≤◌, ◌<◌, ◌/◌, false, true, [], IfOk, is_some};
 ghost use Rattle.std.specs.Bool.{OnTrue};
 ghost use Rattle.loop_rules.specs.Rotas as rotas;
-ghost use Rattle.links.specs.Concerns.{AllWillLook};
-ghost use Rattle.links.specs.Holding.{called_if};
-ghost use Rattle.links.specs.Links as all;
-ghost use Rattle.links.specs.Moments.{HasNothingToDo};
-ghost use Rattle.links.specs.Rounds as rounds;
-ghost use Rattle.links.specs.Sending.{others_of};
+ghost use Rattle.loop_rules.specs.Concerns.{AllWillLook};
+ghost use Rattle.loop_rules.specs.Holding.{called_if};
+ghost use Rattle.loop_rules.specs.Links as all;
+ghost use Rattle.loop_rules.specs.Moments.{HasNothingToDo};
+ghost use Rattle.loop_rules.specs.Rounds as rounds;
+ghost use Rattle.loop_rules.specs.Sending.{others_of};
 ghost use Rattle.tcp_loops.specs.Turns as turns;
 
-use crate::base::Base;
+use crate::base::{Base, Watch};
+use crate::connections::Connections;
+use crate::stream::Came;
 use events::Event;
-use links::{Do, Links, Round, is_much_unsent};
-use loop_rules::{Mail, Notes, Pause, Pressure};
+use loop_rules::{Do, Links, Mail, Notes, Pause, Pressure, Round, is_much_unsent};
 use mio::Events;
 use peers::Moments;
 use std::alloc::{AllocError, Global};
@@ -23,7 +24,6 @@ use std::mem;
 use std::rt::Clock;
 use std::sync::Wait;
 use std::time::Duration;
-use tcp_connections::{Came, Connections, Watch};
 use tcp_streams::{Accepted, Buffered, Ears, Handed, Inbox, Log, Rules, Shown, Stream};
 
 /// How many reports of streams one wait takes.
@@ -110,7 +110,8 @@ impl<'a, R: Wait + Clock + Copy + Drop, L: Log> Driver<'a, R, L> {
         })
     }
 
-    /// The next connection in its stint; none where the round's stints are over.
+    /// The next connection in its stint, for which the first one that is held is called, if it may
+    /// be read on now; none where the round's stints are over.
     pub(crate) fn next(&mut self) -> Option<usize>
         ensures key { result ≡ turns.key_next self.old.active.items self.old.round.stints
             (called_if (all.next_held self.old.connections.links.receiving)
@@ -122,27 +123,16 @@ impl<'a, R: Wait + Clock + Copy + Drop, L: Log> Driver<'a, R, L> {
         if let Some(key) = self.active.pop_front() {
             return Some(key);
         }
-        self.call_held();
+        if self.connections.links.receiving.next().is_some() {
+            self.round.now = self.watch.now();
+            self.connections.links.call_held(self.round.now);
+        }
         if self.round.stints == 0 {
             return None;
         }
         let key = self.connections.links.begin()?;
         self.round.stints -= 1;
         Some(key)
-    }
-
-    /// Calls the first connection that is held, if it may be read on now.
-    fn call_held(&mut self)
-        ensures rota { self.new.connections.links.roster.rota
-            ≡ called_if (all.next_held self.old.connections.links.receiving)
-            self.old.connections.links.roster.rota }
-        ensures stints { self.new.round.stints ≡ self.old.round.stints }
-        ensures active { self.new.active ≡ self.old.active }
-    {
-        if self.connections.links.receiving.next().is_some() {
-            self.round.now = self.watch.now();
-            self.connections.links.call_held(self.round.now);
-        }
     }
 
     /// A client that is given up, if one is looked for.
@@ -160,9 +150,9 @@ impl<'a, R: Wait + Clock + Copy + Drop, L: Log> Driver<'a, R, L> {
         found
     }
 
-    /// Nobody has anything to do in this round: it ends, and the next begins once the loop has waited for
-    /// streams, for what others hand in, or for the next moment at which something is due. Answers
-    /// whether the loop goes on.
+    /// Nobody has anything to do in this round: it ends, and the next begins once the loop has
+    /// waited for streams, for what others hand in, or for the next moment at which something is
+    /// due. Answers whether the loop goes on.
     pub(crate) fn turn(&mut self) -> bool
         ensures stints { OnTrue result (self.new.round.stints ≡ 1024) }
     {
@@ -248,8 +238,8 @@ impl<'a, R: Wait + Clock + Copy + Drop, L: Log> Driver<'a, R, L> {
         }
     }
 
-    /// Has those look that others woke. Answers whether these are all. So it is where a backend is pressed
-    /// no more: the next event shows which still are.
+    /// Has those look that others woke. Answers whether these are all. So it is where a backend is
+    /// pressed no more: the next event shows which still are.
     fn wake(&mut self) -> bool
         ensures everyone { result ≡ self.old.mail.everyone }
         ensures look { OnTrue result (AllWillLook self.new.connections.links.roster.rota) }
@@ -280,7 +270,7 @@ impl<'a, R: Wait + Clock + Copy + Drop, L: Log> Driver<'a, R, L> {
         }
     }
 
-    /// Does what is due. Once a beat, or where all are to be looked at, each connection's deadline is.
+    /// Does what is due. Each connection's deadline is once a beat, or where all are looked at.
     fn do_due(&mut self, everyone: bool)
         ensures round { self.new.round ≡ turns.after_due everyone self.old.round }
         ensures stints { self.new.round.stints ≡ self.old.round.stints }
@@ -354,8 +344,7 @@ impl<'a, R: Wait + Clock + Copy + Drop, L: Log> Driver<'a, R, L> {
         }
     }
 
-    /// Adds a stream, where there was memory for it, and has its readiness told. One that can't be
-    /// added is closed.
+    /// Adds a stream, where there was memory for it. One that can't be added is closed.
     fn add(&mut self, stream: Option<Stream>, from: u128) -> Option<usize>
         ensures round { self.new.round ≡ self.old.round }
     {
@@ -420,8 +409,7 @@ impl<'a, R: Wait + Clock + Copy + Drop, L: Log> Driver<'a, R, L> {
         self.send_soon(key);
     }
 
-    /// What a connection has to send goes out at the end of the loop's round, or at once where that is
-    /// much.
+    /// What a connection has to send goes out at the end of the round, or at once where it is much.
     fn send_soon(&mut self, key: usize)
         ensures round { self.new.round ≡ self.old.round }
         ensures active { self.new.active ≡ self.old.active }

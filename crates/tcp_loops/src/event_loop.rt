@@ -16,7 +16,8 @@ use tcp_streams::{Ears, Log};
 /// How many events the core gets under one hold of its lock, at the most.
 const EVENTS: usize = 32;
 
-/// How many of these bring packets, at the most: what one puts for others takes time under the lock.
+/// How many of these bring packets, at the most: what one puts for others takes time under the
+/// lock.
 const SAYING: usize = 4;
 
 /// A loop over many connections. It gathers the events of all that have something to do, which the

@@ -11,9 +11,9 @@ use Rattle.events.specs.declared.event.Event.{Event}
 use Rattle.events.specs.declared.event.Event.TheVariants as event
 use Rattle.events.specs.declared.outcome.Outcome.TheVariants as outcome
 use Rattle.events.specs.Event.{client_of}
-use Rattle.expiry.specs.Telling.{EXPIRY}
-use Rattle.tcp_streams.specs.declared.backends.Backends.{Backends}
-use Rattle.tcp_streams.specs.declared.shown.Sign.{Sign}
+use Rattle.guarded.specs.Telling.{EXPIRY}
+use Rattle.tcp_streams.specs.declared.shared.Backends.{Backends}
+use Rattle.tcp_streams.specs.declared.shared.Sign.{Sign}
 
 abbrev pub goes_on : Answer → Bool
 goes_on (Ok (outcome.Done done)) = is_none done.closed

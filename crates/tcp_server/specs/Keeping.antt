@@ -9,7 +9,7 @@ use Rattle.events.specs.Plain.{PlainDone}
 use Rattle.loop_rules.specs.declared.roster.Notes.{Notes}
 use Rattle.loop_rules.specs.Ids.{loop_of}
 use Rattle.loop_rules.specs.Notes.{is_noted}
-use Rattle.tcp_server.specs.declared.round.Round.{Round}
+use Rattle.tcp_server.specs.declared.keeper.Round.{Round}
 
 -- it is asked what is due to the client; where there is none, the hub sweeps
 abbrev pub event_of : Option ℕ → Event

@@ -6,13 +6,13 @@ use Rattle.events.specs.declared.fault.CoreFault.{CoreFault}
 use Rattle.events.specs.declared.fault.CoreFault.TheVariants as fault
 use Rattle.events.specs.declared.outcome.Outcome.TheVariants as outcome
 use Rattle.events.specs.Answer.{Answer}
-use Rattle.tcp_server.specs.declared.progress.Heard.{Heard}
-use Rattle.tcp_server.specs.declared.progress.Heard.TheVariants.{Opened, Took, Worked, Lost, Refused, Other}
-use Rattle.tcp_server.specs.declared.progress.Stage.{Stage}
-use Rattle.tcp_server.specs.declared.progress.Stage.TheVariants.{Opens, Joins, Takes, Answers, Ends}
-use Rattle.tcp_server.specs.declared.progress.Task.{Task}
-use Rattle.tcp_server.specs.declared.progress.Task.TheVariants.{Looks, Strikes, Begins, TellsLoss, WakesAll}
-use Rattle.tcp_server.specs.declared.progress.Progress.{Progress}
+use Rattle.tcp_server.specs.declared.warden.Heard.{Heard}
+use Rattle.tcp_server.specs.declared.warden.Heard.TheVariants.{Opened, Took, Worked, Lost, Refused, Other}
+use Rattle.tcp_server.specs.declared.warden.Stage.{Stage}
+use Rattle.tcp_server.specs.declared.warden.Stage.TheVariants.{Opens, Joins, Takes, Answers, Ends}
+use Rattle.tcp_server.specs.declared.warden.Task.{Task}
+use Rattle.tcp_server.specs.declared.warden.Task.TheVariants.{Looks, Strikes, Begins, TellsLoss, WakesAll}
+use Rattle.tcp_server.specs.declared.warden.Progress.{Progress}
 
 -- ---- what it hears
 

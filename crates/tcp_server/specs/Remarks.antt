@@ -9,8 +9,8 @@ use Rattle.metrics.specs.declared.metrics.Refusals.{Refusals}
 use Rattle.metrics.specs.declared.metrics.Sizes.{Sizes}
 use Rattle.metrics.specs.declared.reason.Reason.{Reason}
 use Rattle.metrics.specs.Reason.{number_of}
-use Rattle.tcp_server.specs.declared.remarks.Remarks.{Remarks}
-use Rattle.tcp_server.specs.declared.remarks.Sums.{Sums}
+use Rattle.tcp_server.specs.declared.keeper.Remarks.{Remarks}
+use Rattle.tcp_server.specs.declared.keeper.Sums.{Sums}
 
 -- ---- the totals
 

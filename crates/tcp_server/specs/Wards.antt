@@ -1,17 +1,17 @@
 -- Whom the warden watches, and what it says.
 use Rattle.std.specs.Prelude.{ℕ, ◌-◌, Bool, true, false, List, ◌++◌, length, codes, Option, None, Some, option_map, slice_get}
-use Rattle.expiry.specs.Deadlines.{Changes, newcomer, until}
-use Rattle.expiry.specs.Telling.{EXPIRY, connect_text, end_text}
-use Rattle.expiry.specs.declared.deadlines.Due.{Due}
-use Rattle.expiry.specs.declared.deadlines.Watched.{Watched}
-use Rattle.expiry.specs.declared.reading.Told.{Told}
-use Rattle.expiry.specs.declared.reading.Told.TheVariants.{Came, Back, Away, Gone}
+use Rattle.guarded.specs.Deadlines.{Changes, newcomer, until}
+use Rattle.guarded.specs.Telling.{EXPIRY, connect_text, end_text}
+use Rattle.guarded.specs.declared.deadlines.Due.{Due}
+use Rattle.guarded.specs.declared.deadlines.Watched.{Watched}
+use Rattle.guarded.specs.declared.warden.Told.{Told}
+use Rattle.guarded.specs.declared.warden.Told.TheVariants.{Came, Back, Away, Gone}
 use Rattle.events.specs.declared.event.Event.{Event}
 use Rattle.events.specs.declared.event.Event.TheVariants as event
 use Rattle.events.specs.declared.event.WsFrame.TheVariants as frame
-use Rattle.tcp_server.specs.declared.progress.Stage.{Stage}
-use Rattle.tcp_server.specs.declared.progress.Stage.TheVariants.{Opens, Joins, Answers, Ends}
-use Rattle.tcp_server.specs.declared.progress.Progress.{Progress}
+use Rattle.tcp_server.specs.declared.warden.Stage.{Stage}
+use Rattle.tcp_server.specs.declared.warden.Stage.TheVariants.{Opens, Joins, Answers, Ends}
+use Rattle.tcp_server.specs.declared.warden.Progress.{Progress}
 
 -- ---- what it is told
 

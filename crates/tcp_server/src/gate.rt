@@ -7,7 +7,7 @@ ghost use Rattle.tcp_server.specs.Gates as gates;
 use backend_watch::{Pressed, Sight, digits_together};
 use dispatch::Core;
 use events::{Answered, Event, Outcome};
-use expiry::EXPIRY;
+use guarded::EXPIRY;
 use hub_gate::Turnstile;
 use hub_state::State;
 use std::alloc::{AllocError, Global};
@@ -36,7 +36,7 @@ fn is_served(event: &Event, got: &Answered) -> bool
     is_done && matches!(event, Event::Frame { .. })
 }
 
-/// The client that is looked at after an event, if one is: where there may be backends, whoever it is of.
+/// The client that is looked at after an event, if one is: any where there may be backends.
 fn looked_at(has_backends: bool, event: &Event, got: &Answered) -> Option<u128>
     ensures { result ≡ gates.looked_at has_backends event.now got.now }
 {
@@ -79,7 +79,7 @@ fn sight_of<'a>(alloc: Global, backends: &'a Backends, state: &'a State) -> Sigh
     }
 }
 
-/// Takes a client off the list that is pressed no more, and lists the backends that its event pressed.
+/// Takes a client off the list that is pressed no more, and lists whom its event pressed.
 fn watch(
     sight: &Sight,
     client: u128,
@@ -100,10 +100,11 @@ fn watch(
     listed
 }
 
-/// How many broadcasts of a client's event went to no backend. What the warden is told of those that it
-/// ends itself isn't for backends.
+/// How many broadcasts of a client's event went to no backend. What the warden is told of those
+/// that it ends itself isn't for backends.
 fn unheard(sight: &Sight, client: u128, got: &Answered, has_warden: bool) -> u64
-    ensures { result ≡ gates.unheard sight.now.state.now sight.now.space.now client got.now has_warden }
+    ensures { result ≡ gates.unheard sight.now.state.now sight.now.space.now client
+        got.now has_warden }
 {
     if has_warden && sight.state.socket_of(client, EXPIRY).is_some() {
         return 0;
@@ -112,31 +113,17 @@ fn unheard(sight: &Sight, client: u128, got: &Answered, has_warden: bool) -> u64
 }
 
 impl<R: Wait> Gate<'_, R> {
-    /// Looks at the backends after an event of a client, and answers the digits of its sockets, if it
-    /// brought messages.
-    fn look(
-        &self,
-        backends: &Backends,
-        state: &State,
-        client: u128,
-        event: &Event,
-        got: &Answered,
-        shown: &mut Shown,
-    ) -> Option<u16> {
-        let sight = sight_of(self.alloc, backends, state);
-        let mut pressed = self.pressed.lock(self.rt);
-        // Where one isn't listed for want of memory, its clients are read on.
-        let _ = watch(&sight, client, got, &mut *pressed, shown);
-        backends.note_unheard(self.rt, unheard(&sight, client, got, self.has_warden));
-        sight.digits_brought(client, event)
-    }
-
-    /// Shows what an event of a client showed.
+    /// Shows what an event of a client showed, of backends, if there may be some, and of itself.
     fn show(&self, state: &State, client: u128, event: &Event, got: &Answered, shown: &mut Shown) {
-        let digits = match &self.shared.backends {
-            Some(backends) => self.look(backends, state, client, event, got, shown),
-            None => None,
-        };
+        let mut digits = None;
+        if let Some(backends) = &self.shared.backends {
+            let sight = sight_of(self.alloc, backends, state);
+            let mut pressed = self.pressed.lock(self.rt);
+            // Where one isn't listed for want of memory, its clients are read on.
+            let _ = watch(&sight, client, got, &mut *pressed, shown);
+            backends.note_unheard(self.rt, unheard(&sight, client, got, self.has_warden));
+            digits = sight.digits_brought(client, event);
+        }
         if let Some(sign) = sign_of(client, rests(state, client, event, got), digits) {
             shown.add(sign);
         }

@@ -1,19 +1,20 @@
 //! The keeper: a peer that brings what the passing of time brings, for all clients.
 
-ghost use Rattle.std.specs.Prelude.{◌≡◌, true, IfOk};
-ghost use Rattle.tcp_server.specs.Keeping.{is_over};
+ghost use Rattle.std.specs.Prelude.{◌≡◌, ◌<◌, ◌+◌, ◌-◌, ℕ, min, true, [], length, map, IfOk, slice_get, slice_index_or};
+ghost use Rattle.loop_rules.specs.Notes.{is_noted};
+ghost use Rattle.journal.specs.Totals.{totals};
+ghost use Rattle.tcp_server.specs.Keeping as keeping;
+ghost use Rattle.tcp_server.specs.Remarks as remarks;
 
-use crate::aide::note_lists;
-use crate::remarks::{Remarks, Sums, counts_of, refused_for};
-use crate::round::{Round, has_news, hides_whom};
-use events::{Answered, Event, Outcome, Peer, PeerFault};
+use dispatch::Core;
+use events::{Answered, CoreFault, Done, Event, Outcome, Peer, PeerFault};
 use hub_gate::Locked;
 use hub_totals::Pass;
 use journal::Totals;
 use loop_rules::{Notes, loop_of};
-use metrics::Reason;
+use metrics::{CoreCounts, Metrics, Reason, Sizes};
 use peers::Moments;
-use std::alloc::AllocError;
+use std::alloc::{AllocError, Global};
 use std::mem;
 use std::rt::Clock;
 use std::sync::Wait;
@@ -33,6 +34,204 @@ const STEPS: usize = 65_536;
 
 /// And one whose entries hold so many bytes.
 const BYTES: u64 = 67_108_864;
+
+/// How often sums are told at the most, in milliseconds.
+const MINUTE: u64 = 60_000;
+
+/// A round of the keeper.
+#[derive(Drop)]
+struct Round {
+    clients: Vec<u128>,
+    /// How many were asked about; one more than there are once the hub was asked to sweep.
+    asked: usize,
+}
+
+impl Round {
+    /// A round that is over, of nobody.
+    fn nobody(alloc: Global) -> Round
+        ensures clients { result.clients.items ≡ [] }
+        ensures over { keeping.is_over result ≡ true }
+    {
+        Round {
+            clients: Vec::new(alloc),
+            asked: 1,
+        }
+    }
+
+    /// A round of these clients that begins.
+    fn of(clients: Vec<u128>) -> Round
+        ensures { result ≡ record { clients = clients; asked = 0 } }
+    {
+        Round { clients, asked: 0 }
+    }
+
+    /// Whether all is asked.
+    fn is_over(&self) -> bool
+        ensures { result ≡ keeping.is_over self.now }
+    {
+        self.asked > self.clients.len()
+    }
+
+    /// What is asked of the next client; once all were asked about, the hub sweeps.
+    fn ask(&mut self) -> Event
+        ensures event { result
+            ≡ keeping.event_of (slice_get self.old.clients.items self.old.asked) }
+        ensures clients { self.new.clients ≡ self.old.clients }
+        ensures asked { self.new.asked ≡ min (self.old.asked + 1) usize.MAX }
+    {
+        let client = self.clients.get(self.asked).copied();
+        self.asked = self.asked.saturating_add(1);
+        match client {
+            Some(client) => Event::Tick { client },
+            None => Event::Sweep,
+        }
+    }
+
+    /// The client that was asked about last, if one was.
+    fn client(&self) -> Option<u128>
+        ensures { result ≡ slice_get self.now.clients.items (self.now.asked - 1) }
+    {
+        self.clients.get(self.asked.saturating_sub(1)).copied()
+    }
+}
+
+/// Whether the client that was asked about has to be looked at.
+fn has_news(ping: bool, done: &Done) -> bool
+    ensures { result ≡ keeping.has_news ping done.now }
+{
+    ping || done.closed.is_some()
+}
+
+/// Whether nobody knows whom an event concerned: it failed, and not since its client was gone.
+fn hides_whom(got: &Answered) -> bool
+    ensures { result ≡ keeping.hides_whom got.now }
+{
+    matches!(got, Err(error) if !matches!(error.fault, CoreFault::UnknownClient))
+}
+
+/// Notes the clients of these lists, for which an event put something, each for its loop.
+pub(crate) fn note_lists(notes: &mut Notes, lists: &[Vec<u128>], loops: usize)
+    requires { 0 < loops }
+    ensures kept { (n c : ℕ) → is_noted n c notes.old ≡ true → is_noted n c notes.new ≡ true }
+    ensures noted { (k : ℕ) → k < length lists.now →
+        keeping.AreNoted loops (slice_index_or (map (λ ids. ids.items) lists.now) k []) notes.new }
+{
+    for list in lists {
+        note_all(notes, list.as_slice(), loops);
+    }
+}
+
+/// Notes these clients, each for its loop.
+fn note_all(notes: &mut Notes, clients: &[u128], loops: usize)
+    requires { 0 < loops }
+    ensures kept { (n c : ℕ) → is_noted n c notes.old ≡ true → is_noted n c notes.new ≡ true }
+    ensures noted { keeping.AreNoted loops clients.now notes.new }
+{
+    for client in clients {
+        notes.note(loop_of(*client, loops), *client);
+    }
+}
+
+/// How much there is of what is told at most once a minute.
+#[derive(Clone, Copy, Default)]
+struct Sums {
+    /// The events of clients that went to no backend.
+    unheard: u64,
+    /// The connections that were refused as those of addresses with many.
+    crowded: u64,
+}
+
+/// What the log was told last, and when it is told more.
+#[derive(Clone, Copy, Default)]
+struct Remarks {
+    /// The moment at which the totals are told next.
+    report: u64,
+    /// The moment from which on it may be told how much more there is.
+    remark: u64,
+    /// How much there was of each when that was told last.
+    told: Sums,
+}
+
+/// How many more there are of what is counted than the log was told of, where it is to be told now.
+fn more_to_tell(sum: u64, told: u64, now: u64, from: u64) -> Option<u64>
+    ensures { result ≡ remarks.more_to_tell sum told now from }
+{
+    (sum > told && now >= from).then(|| sum - told)
+}
+
+impl Remarks {
+    /// Whether the totals are to be told, where they are every so many seconds.
+    fn reports(self, every: Option<u64>, now: u64) -> bool
+        ensures { result ≡ remarks.reports every now self }
+    {
+        every.is_some() && now >= self.report
+    }
+
+    /// How many more events of clients went to no backend, where that is to be told.
+    fn more_unheard(self, sums: Sums, now: u64) -> Option<u64>
+        ensures { result ≡ remarks.more_unheard sums now self }
+    {
+        more_to_tell(sums.unheard, self.told.unheard, now, self.remark)
+    }
+
+    /// How many more connections were refused, where that is to be told.
+    fn more_crowded(self, sums: Sums, now: u64) -> Option<u64>
+        ensures { result ≡ remarks.more_crowded sums now self }
+    {
+        more_to_tell(sums.crowded, self.told.crowded, now, self.remark)
+    }
+
+    /// What the log was told once it is told all of that.
+    fn after(self, every: Option<u64>, sums: Sums, now: u64) -> Remarks
+        ensures { result ≡ remarks.after_remark sums now (remarks.after_report every now self) }
+    {
+        let (told, mut next) = (self.told, self);
+        match every {
+            Some(pause) if now >= self.report => {
+                next.report = now.saturating_add(pause.saturating_mul(1_000));
+            }
+            _ => {}
+        }
+        let has_more = sums.unheard > told.unheard || sums.crowded > told.crowded;
+        if has_more && now >= self.remark {
+            next.remark = now.saturating_add(MINUTE);
+            next.told.unheard = sums.unheard.max(told.unheard);
+            next.told.crowded = sums.crowded.max(told.crowded);
+        }
+        next
+    }
+}
+
+/// What a core has counted so far, and what it holds, without what is the warden's, if there is
+/// one.
+fn counts_of<C: Ledger, T: Ledger>(core: &Core<C, T>, unheard: u64, has_warden: bool) -> CoreCounts
+    ensures counted { let h = core.now.hub.history in
+        result.totals ≡ totals h.base h.limits h.journal }
+    ensures unheard { result.unheard ≡ unheard }
+    ensures sizes { remarks.AreSizes core.now (remarks.own has_warden) result.sizes }
+{
+    let (state, own) = (core.hub().state(), u64::from(has_warden));
+    let (sockets, rooms) = state.mirrors();
+    CoreCounts {
+        totals: state.totals(),
+        unheard,
+        sizes: Sizes {
+            clients: (core.clients_len() as u64).saturating_sub(own),
+            sockets: (sockets.len() as u64).saturating_sub(own),
+            rooms: (rooms.len() as u64).saturating_sub(own),
+            saved: state.saved_len() as u64,
+            logged: state.log_len() as u64,
+        },
+    }
+}
+
+/// How often something was refused for a reason.
+fn refused_for(reason: Reason, counts: &Metrics) -> u64
+    ensures { result ≡ remarks.refused_for reason counts.now.refused.items }
+{
+    let refused = counts.refused.get(reason as usize);
+    refused.map_or(0, |refused| refused.count)
+}
 
 /// Asks for each client what is due to it, has the hub sweep, and seals its journal.
 #[derive(Drop)]
@@ -58,7 +257,7 @@ impl<'a, 'c, R: Wait + Clock + Copy, L: Log, C: Ledger, T: Ledger> Keeper<'a, 'c
         locked: &'c Locked<C, T>,
         pass: Pass<C, T>,
     ) -> Result<Self, AllocError>
-        ensures round { IfOk result (λ keeper. is_over keeper.round ≡ true) }
+        ensures round { IfOk result (λ keeper. keeping.is_over keeper.round ≡ true) }
         ensures pass { IfOk result (λ keeper. keeper.pass ≡ pass) }
     {
         Ok(Keeper {
@@ -111,8 +310,8 @@ impl<'a, 'c, R: Wait + Clock + Copy, L: Log, C: Ledger, T: Ledger> Keeper<'a, 'c
         self.remarks = self.remarks.after(base.rules.report, sums, now);
     }
 
-    /// Waits for the next round, and answers whether all loops have ended. Where the journal is long
-    /// meanwhile, it is sealed.
+    /// Waits for the next round, and answers whether all loops have ended. Where the journal is
+    /// long meanwhile, it is sealed.
     fn rest(&mut self) -> bool {
         let (base, part) = (self.base, Duration::from_millis(ROUND / LOOKS));
         base.send(&mut self.notes);
@@ -161,5 +360,36 @@ impl<R: Wait + Clock + Copy, L: Log, C: Ledger, T: Ledger> Peer for Keeper<'_, '
             note_lists(&mut self.notes, done.clients.lists(), loops);
         }
         Ok(())
+    }
+}
+
+/// Who works beside the loops: who keeps time, or who ends the sockets of tokens that have expired.
+pub(crate) enum Aide<K, W> {
+    Keeper(K),
+    Warden(W),
+}
+
+/// Written out, so that a crate above takes the drop of all that lies in it by this one call.
+impl<K: Drop, W: Drop> Drop for Aide<K, W> {
+    fn drop(self) {
+        match self {
+            Aide::Keeper(_) | Aide::Warden(_) => {}
+        }
+    }
+}
+
+impl<K: Peer, W: Peer> Peer for Aide<K, W> {
+    fn next(&mut self) -> Result<Option<(Event, u64)>, PeerFault> {
+        match self {
+            Aide::Keeper(keeper) => keeper.next(),
+            Aide::Warden(warden) => warden.next(),
+        }
+    }
+
+    fn answer(&mut self, got: &Answered) -> Result<(), PeerFault> {
+        match self {
+            Aide::Keeper(keeper) => keeper.answer(got),
+            Aide::Warden(warden) => warden.answer(got),
+        }
     }
 }

@@ -1,22 +1,35 @@
-//! A server as a program: it tells where it listens, serves any app, and tells what it did and how it
-//! ended.
+//! A server as a program: it tells where it listens, serves any app, and tells what it did and how
+//! it ended; and what a program asks of the system it runs on.
 
-ghost use Rattle.std.specs.Prelude.{◌≡◌, None, OnOk, IfOk};
+ghost use Rattle.std.specs.Prelude.{◌≡◌, ℕ, ◌<◌, ◌≤◌, None, OnOk, IfOk};
 ghost use Rattle.std.specs.Result.{result_unwrap_or};
 ghost use Rattle.settings.specs.Wrong.{wrong_setting};
 ghost use Rattle.tcp_server.specs.Telling as telling;
+ghost use Rattle.terms.specs.Ids.{id_digits};
 
 use crate::server::Server;
 use events::App;
+use rand::rngs::StdRng;
+use rand::{Rng, make_rng};
 use settings::Settings;
+use std::alloc::Global;
 use std::fmt::Display;
 use std::net::Net;
 use std::process::ExitCode;
 use std::random::RandomSource;
 use std::rt::Clock;
-use std::sync::Wait;
+use std::sync::{Arc, Wait};
 use std::thread::Threads;
-use tcp_streams::{Ending, Log, News, ServerFault};
+use std::time::{Duration, SystemTime, UNIX_EPOCH};
+use std::{io, thread};
+use tcp_streams::{Ending, Log, News, ServerFault, Shared};
+use terms::{Text, ascii_text, id_text};
+
+/// How long what is open may take to end once standard input has ended, in milliseconds.
+const GRACE: u64 = 5_000;
+
+/// The most threads that serve where nobody says how many.
+const MOST_WORKERS: usize = 8;
 
 /// Tells standard error of a server. Where that fails, nothing is told.
 #[derive(Drop)]
@@ -46,8 +59,7 @@ fn words_of(ending: Ending) -> (&'static str, &'static str)
     }
 }
 
-/// Whether this is told: the end of each client, and what went to no backend or had too many
-/// connections, only where all is to be.
+/// Whether this is told: all, or just the totals, and that the warden lost its client.
 fn is_told(verbose: bool, news: News) -> bool
     ensures { result ≡ telling.is_told verbose news }
 {
@@ -65,11 +77,14 @@ impl<R: Eprint> Log for ErrorLog<R> {
         }
         let rt = &self.rt;
         let _ = match news {
-            News::Ended(ended) => {
-                let (id, lived) = (ended.client, ended.lived);
-                let transport = transport_name(ended.socket);
-                let (how, cause) = words_of(ended.ending);
-                eprintln!(rt; "client {id:032x}, {transport}, {how}{cause}, after {lived} ms")
+            News::Ended {
+                client,
+                socket,
+                ending,
+                lived,
+            } => {
+                let (transport, (how, cause)) = (transport_name(socket), words_of(ending));
+                eprintln!(rt; "client {client:032x}, {transport}, {how}{cause}, after {lived} ms")
             }
             News::Unheard(count) => eprintln!(rt; "went to no backend: {count}"),
             News::Crowded(count) => {
@@ -99,7 +114,7 @@ pub fn listen<R: Net + Print + Eprint + AllocGlobal + Copy + Drop + Sync>(
     Ok(server)
 }
 
-/// Serves an app until the server is to end, and tells what it did, and then what each worker did of it.
+/// Serves an app until the server is to end, and tells what it did, and each worker of it.
 pub fn serve<R, A: App + Sync>(
     rt: &R,
     server: Server<ErrorLog<R>>,
@@ -137,4 +152,37 @@ pub fn end_with<R: Eprint, E: Display + Drop>(
             ExitCode::FAILURE
         }
     }
+}
+
+/// A text that nobody guesses: 32 hexadecimal digits from a generator that the system seeds.
+pub fn draw_secret<R: RandomSource>(rt: &R, alloc: Global) -> Result<Text, ServerFault>
+    ensures { IfOk result (λ text. (id : ℕ) × (text ≡ id_digits id)) }
+{
+    let mut random = make_rng::<StdRng, R>(rt)?;
+    let (front, back) = (random.next_u64(), random.next_u64());
+    let digits = id_text((front as u128) * 18_446_744_073_709_551_616 + (back as u128));
+    Ok(Text::copy_of(alloc, ascii_text(&digits))?)
+}
+
+/// The wall clock in seconds since 1970. One before that tells 0.
+pub fn seconds_now<R: Clock>(rt: &R) -> Result<u32, ServerFault> {
+    match SystemTime::now(rt)?.duration_since(UNIX_EPOCH) {
+        Ok(since) => Ok(u32::try_from(since.as_secs()).unwrap_or(u32::MAX)),
+        Err(_) => Ok(0),
+    }
+}
+
+/// How many threads serve where nobody says how many.
+pub fn processors(rt: &impl Threads) -> usize
+    ensures some { 0 < result }
+    ensures few { result ≤ 8 }
+{
+    thread::available_parallelism(rt).map_or(1, |number| number.get().min(MOST_WORKERS))
+}
+
+/// Reads standard input to its end, and has the server end then.
+pub fn wait_for_end<R: Wait + Clock + Input>(rt: &R, shared: &Arc<Shared>) {
+    // An input that fails has ended too.
+    let _ = io::copy(&mut rt.reader(), &mut io::sink());
+    shared.stop(rt, Duration::from_millis(GRACE));
 }

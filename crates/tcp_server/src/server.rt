@@ -7,9 +7,8 @@ ghost use Rattle.settings.specs.Wrong.{wrong_setting};
 ghost use Rattle.tcp_server.specs.Faults.{fault_of_core, fault_of_serving};
 ghost use Rattle.tcp_streams.specs.declared.fault.ServerFault.TheVariants.{BadSetting};
 
-use crate::aide::Aide;
 use crate::gate::Gate;
-use crate::keeper::Keeper;
+use crate::keeper::{Aide, Keeper};
 use crate::warden::Warden;
 use dispatch::Core;
 use events::{App, CoreFault, Peer};
@@ -64,7 +63,8 @@ impl<L: Log + Sync + Drop> Server<L> {
         log: L,
     ) -> Result<Server<L>, ServerFault>
         ensures right { OnOk result (wrong_setting settings ≡ None) }
-        ensures wrong { IfSome (wrong_setting settings) (λ setting. result ≡ Err (BadSetting setting)) }
+        ensures wrong { IfSome (wrong_setting settings)
+            (λ setting. result ≡ Err (BadSetting setting)) }
     {
         if let Some(setting) = settings.wrong() {
             return Err(ServerFault::BadSetting(setting));
@@ -100,9 +100,9 @@ impl<L: Log + Sync + Drop> Server<L> {
         Ok(Arc::try_clone(&self.shared)?)
     }
 
-    /// Serves until it is stopped, or had as many connections as it was to have; then all threads have
-    /// ended, and their counts add up to the hub's totals. The last workers are the keeper, and the warden, if
-    /// there is one.
+    /// Serves until it is stopped, or had as many connections as it was to have; then all threads
+    /// have ended, and their counts add up to the hub's totals. The last workers are the keeper,
+    /// and the warden, if there is one.
     pub fn run<
         R: Threads + Wait + Clock + RandomSource + Copy + Drop + Sync + Send + 'static,
         A: App + Sync,

@@ -1,7 +1,7 @@
 -- What is known of the backends before one has come.
 use Rattle.std.specs.Prelude.{ℕ, not, List, filter, bytes_eq}
 use Rattle.journal.specs.Plain.{Limits}
-use Rattle.tcp_streams.specs.declared.backends.Backends.{Backends}
+use Rattle.tcp_streams.specs.declared.shared.Backends.{Backends}
 
 -- the names but for one
 abbrev pub others_than : (space : List ℕ) → (names : List (List ℕ)) → List (List ℕ)

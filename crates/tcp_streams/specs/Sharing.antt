@@ -2,7 +2,7 @@
 use Rattle.std.specs.Prelude.{◌≡◌, ℕ, ◌+◌, min, Bool, Option, is_some, vec_len}
 use Rattle.std.specs.declared.alloc.Global.{Global}
 use Rattle.std.specs.declared.vec.Vec.{Vec}
-use Rattle.tcp_streams.specs.declared.backends.Backends.{Backends}
+use Rattle.tcp_streams.specs.declared.shared.Backends.{Backends}
 use Rattle.tcp_streams.specs.declared.inbox.Inbox.{Inbox}
 use Rattle.tcp_streams.specs.declared.shared.Shared.{Shared}
 use Rattle.tcp_streams.specs.Shown.{places_of}

@@ -2,9 +2,9 @@
 use Rattle.std.specs.Prelude.{◌≡◌, ◌&&◌, ℕ, Bool, false, Option, None, nat_eq, List, [], slice_get, vec_len}
 use Rattle.std.specs.declared.sync.Mutex.{Mutex}
 use Rattle.std.specs.List.{list_any}
-use Rattle.tcp_streams.specs.declared.shown.Shown.{Shown}
-use Rattle.tcp_streams.specs.declared.shown.Showing.{Showing}
-use Rattle.tcp_streams.specs.declared.shown.Sign.{Sign}
+use Rattle.tcp_streams.specs.declared.shared.Shown.{Shown}
+use Rattle.tcp_streams.specs.declared.shared.Showing.{Showing}
+use Rattle.tcp_streams.specs.declared.shared.Sign.{Sign}
 
 pub record ShowsNothing (s : Shown) : Type 0 where
   pub signs : s.signs.items ≡ []

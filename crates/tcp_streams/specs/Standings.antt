@@ -1,8 +1,8 @@
 -- How far a server is, and which connections have a place.
 use Rattle.std.specs.Prelude.{◌≡◌, ◌≢◌, ℕ, ◌+◌, ◌<◌, min, Bool, false, ◌&&◌, ◌==◌, Option, None, Some, option_map}
-use Rattle.loop_rules.specs.declared.addresses.Addresses.{Addresses}
+use Rattle.loop_rules.specs.declared.dealing.Addresses.{Addresses}
 use Rattle.loop_rules.specs.Addresses.{count_from}
-use Rattle.tcp_streams.specs.declared.standing.Standing.{Standing}
+use Rattle.tcp_streams.specs.declared.shared.Standing.{Standing}
 
 -- one more from the address may be open, where that is bounded
 abbrev pub HasPlace : Option Addresses → (from : ℕ) → Type 0

@@ -139,18 +139,16 @@ impl Acceptor {
         shared.stop_accepting(rt);
     }
 
-    /// Waits for a connection, or for as long as it may. Where nothing was reported, those that were
-    /// refused are closed.
+    /// Waits for a connection, or as long as it may. Those refused are closed if none was reported.
     fn wait(&mut self, why: ErrorKind)
         ensures dealing { self.new.dealing ≡ self.old.dealing }
         ensures refused { self.new.refused
             ≡ (if length (items self.new.events) == 0 then [] else self.old.refused) }
     {
         let most = time_to_wait(why == ErrorKind::WouldBlock, !self.refused.is_empty());
+        let most = most.map(Duration::from_millis);
         // A wait that fails is as one that ended early.
-        let _ = self
-            .poll
-            .poll(&mut self.events, most.map(Duration::from_millis));
+        let _ = self.poll.poll(&mut self.events, most);
         if self.events.is_empty() {
             self.refused.clear();
         }

@@ -26,7 +26,7 @@ pub struct Buffered<S> {
     cut: bool,
     /// How many bytes at the most were read of which its reader has brought no message yet.
     pub unbrought: usize,
-    /// With so many of these nothing is read, as if nothing had come, until the other side has ended.
+    /// With so many of these nothing is read, as if none had come, until the other side has ended.
     pub most: usize,
     output: Vec<u8>,
     sent: usize,
@@ -111,9 +111,9 @@ impl<S> Buffered<S> {
         }
     }
 
-    /// A beat has come: where nothing was read or written since the last one, and nothing waits, the
-    /// output buffer is given back. Until then it stays, since who sends in one round sends in the next.
-    /// Answers whether the buffers of who reads and writes are to be given back too.
+    /// A beat has come: where nothing was read or written since the last one, and nothing waits,
+    /// the output buffer is given back. Until then it stays, since who sends in one round sends in
+    /// the next. Answers whether the buffers of who reads and writes are to be given back too.
     pub fn give_back(&mut self) -> bool
         ensures waits { waiting self.new ≡ waiting self.old }
         ensures stream { self.new.inner ≡ self.old.inner }
@@ -134,8 +134,8 @@ impl<S: Write> Buffered<S> {
     ghost use Rattle.std.specs.IoError.{error_kind};
     ghost use Rattle.tcp_streams.specs.Outputs.{HandsFirst, HasGone, reads_by, waiting};
 
-    /// Sends what waits, as far as the stream takes it, and tells how many bytes that were. Where it
-    /// fails, some may have gone, and the others wait on.
+    /// Sends what waits, as far as the stream takes it, and tells how many bytes that were. Where
+    /// it fails, some may have gone, and the others wait on.
     pub fn send(&mut self) -> io::Result<usize>
         ensures first { HandsFirst (S.contents self.old.inner) (S.contents self.new.inner)
             (waiting self.old) (waiting self.new) }

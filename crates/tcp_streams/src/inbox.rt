@@ -103,9 +103,9 @@ impl Inbox {
         done
     }
 
-    /// Hands a new connection in, and tells whether there was space for it within that time; else it is
-    /// closed. It is sent before the bell is rung, and a loop that falls asleep looks for it under
-    /// the lock that the bell's ringer takes.
+    /// Hands a new connection in, and tells whether there was space for it in time; else it is
+    /// closed. It is sent before the bell is rung: a loop looks for it under the lock that the
+    /// ringer takes.
     pub fn give<R: Wait + Clock>(&self, rt: &R, accepted: Accepted) -> bool {
         let most = Duration::from_millis(PATIENCE);
         let given = self.streams.send_timeout(rt, accepted, most).is_ok();

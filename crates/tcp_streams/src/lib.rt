@@ -3,23 +3,17 @@
 #![tactic(auto)]
 
 mod acceptor;
-mod backends;
 mod buffered;
 mod fault;
 mod inbox;
 mod log;
 mod rules;
 mod shared;
-mod shown;
-mod standing;
 
 pub use acceptor::{Acceptor, acceptor_for};
-pub use backends::{Backends, backends_for};
 pub use buffered::{Buffered, Stream};
 pub use fault::ServerFault;
 pub use inbox::{Accepted, Ears, Handed, Inbox, ears_for};
-pub use log::{Ended, Ending, Log, News};
+pub use log::{Ending, Log, News};
 pub use rules::Rules;
-pub use shared::Shared;
-pub use shown::{Showing, Shown, Sign};
-pub use standing::Standing;
+pub use shared::{Backends, Shared, Showing, Shown, Sign, Standing, backends_for};

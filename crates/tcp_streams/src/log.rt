@@ -18,8 +18,13 @@ pub trait Log {
 /// What a server tells of itself.
 #[derive(Clone, Copy)]
 pub enum News {
-    /// A client has ended.
-    Ended(Ended),
+    /// A client has ended, which lived so many milliseconds, and spoke over a WebSocket or not.
+    Ended {
+        client: u128,
+        socket: bool,
+        ending: Ending,
+        lived: u64,
+    },
     /// So many more events of clients went to no backend.
     Unheard(u64),
     /// So many more connections were refused, since their addresses had as many as one may have.
@@ -58,15 +63,4 @@ impl Ending {
             _ => None,
         }
     }
-}
-
-/// A client that has ended.
-#[derive(Clone, Copy)]
-pub struct Ended {
-    pub client: u128,
-    /// It spoke over a WebSocket.
-    pub socket: bool,
-    pub ending: Ending,
-    /// How long it was there, in milliseconds.
-    pub lived: u64,
 }

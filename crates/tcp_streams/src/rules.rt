@@ -1,6 +1,7 @@
 //! What a server's settings come to.
 
 ghost use Rattle.std.specs.Prelude.{◌≡◌, ◌<◌, ◌*◌, ◌/◌, IfOk, option_copied, option_map, string_bytes};
+ghost use Rattle.std.specs.Box.{box_value};
 ghost use Rattle.tcp_streams.specs.Rules as rules;
 
 use connection::Timing;
@@ -45,45 +46,9 @@ pub struct Rules {
     ghost some: { 0 < loops },
 }
 
-impl Rules {
-    /// How many bytes all that one loop is receiving may have.
-    pub fn share(&self) -> usize
-        ensures { result ≡ self.now.receiving / self.now.loops }
-    {
-        self.receiving / self.loops
-    }
-
-    /// How long the clients of a backend for which much waits aren't read at a stretch, in milliseconds:
-    /// less than what they have for the answer to a ping.
-    pub fn stretch(&self) -> u64
-        ensures { result ≡ self.now.timing.ping_timeout / 4 * 3 }
-    {
-        self.timing.ping_timeout / 4 * 3
-    }
-
-    /// Whether a request asks for the counts.
-    pub fn asks_for_counts(&self, request: &Request) -> bool
-        ensures { result ≡ rules.asks_for_counts
-            (option_map string_bytes self.now.metrics) request.now }
-    {
-        let is_get = request.method.as_str() == "GET";
-        is_get && matches!(&self.metrics, Some(path) if path.as_str() == request.path.as_str())
-    }
-
-    /// The file of the page that a request asks for (RFC 9110, sections 9.3.1 and 9.3.2).
-    pub fn file_for(&self, request: &Request) -> Option<&File>
-        ensures { option_copied result ≡ rules.file_for self.now.page request.now }
-    {
-        match request.method.as_str() {
-            "GET" | "HEAD" => self.page.look_up(request.path.as_str()),
-            _ => None,
-        }
-    }
-}
-
-/// How fast one client may send. It waits for no longer than three eighths of the time that it has for
-/// the answer to a ping, so that what it sends now and the answer behind it come in time; but for a second
-/// where that is longer.
+/// How fast one client may send. It waits for no longer than three eighths of the time that it has
+/// for the answer to a ping, so that what it sends now and the answer behind it come in time; but
+/// for a second where that is longer.
 fn pace_of(settings: &Settings) -> Option<Pace>
     ensures { result ≡ rules.pace_of settings.now.timing.ping_timeout settings.now.pace }
 {
@@ -97,7 +62,6 @@ fn pace_of(settings: &Settings) -> Option<Pace>
 }
 
 impl Rules {
-    ghost use Rattle.std.specs.Box.{box_value};
     ghost use Rattle.tcp_streams.specs.Settled.{GoesBy};
 
     /// What the loops go by, and the limits of the hub.
@@ -125,5 +89,39 @@ impl Rules {
             keep: settings.hub.keep,
         };
         Ok((Box::new(alloc, rules)?, Box::new(alloc, settings.hub)?))
+    }
+
+    /// How many bytes all that one loop is receiving may have.
+    pub fn share(&self) -> usize
+        ensures { result ≡ self.now.receiving / self.now.loops }
+    {
+        self.receiving / self.loops
+    }
+
+    /// How long the clients of a backend for which much waits aren't read at a stretch, in
+    /// milliseconds: less than what they have for the answer to a ping.
+    pub fn stretch(&self) -> u64
+        ensures { result ≡ self.now.timing.ping_timeout / 4 * 3 }
+    {
+        self.timing.ping_timeout / 4 * 3
+    }
+
+    /// Whether a request asks for the counts.
+    pub fn asks_for_counts(&self, request: &Request) -> bool
+        ensures { result ≡ rules.asks_for_counts
+            (option_map string_bytes self.now.metrics) request.now }
+    {
+        let is_get = request.method.as_str() == "GET";
+        is_get && matches!(&self.metrics, Some(path) if path.as_str() == request.path.as_str())
+    }
+
+    /// The file of the page that a request asks for (RFC 9110, sections 9.3.1 and 9.3.2).
+    pub fn file_for(&self, request: &Request) -> Option<&File>
+        ensures { option_copied result ≡ rules.file_for self.now.page request.now }
+    {
+        match request.method.as_str() {
+            "GET" | "HEAD" => self.page.look_up(request.path.as_str()),
+            _ => None,
+        }
     }
 }

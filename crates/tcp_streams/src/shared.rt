@@ -1,22 +1,27 @@
 //! What all threads of a server share, beside the core.
 
-ghost use Rattle.std.specs.Prelude.{◌≡◌, IsTrue, IfOk};
+ghost use Rattle.std.specs.Prelude.{◌≡◌, ◌≤◌, ◌+◌, ◌-◌, ◌↔◌, ◌⊎◌, ◌++◌, ◌∷◌, [], IsTrue, IsErrOf, IfOk, IfErr, IfNone, OnOk, OnErr, None, false, option_copied, option_map};
 ghost use Rattle.std.specs.Arc.{arc_value};
+ghost use Rattle.tcp_streams.specs.Backends as backends;
 ghost use Rattle.tcp_streams.specs.Sharing.{Begins};
+ghost use Rattle.tcp_streams.specs.Shown as shown;
+ghost use Rattle.tcp_streams.specs.Shown.{ShowsNothing, place_of, places_of};
+ghost use Rattle.tcp_streams.specs.Standings as standings;
+ghost use Rattle.tcp_streams.specs.Standings.{HasPlace, IsCrowded};
 
-use crate::backends::Backends;
 use crate::fault::ServerFault;
 use crate::inbox::Inbox;
-use crate::shown::Showing;
-use crate::standing::Standing;
-use metrics::Metrics;
+use loop_rules::Addresses;
+use metrics::{Metrics, Reason};
 use mio::Waker;
-use std::alloc::Global;
+use settings::Settings;
+use std::alloc::{AllocError, Global};
 use std::collections::HashMap;
+use std::mem;
 use std::rt::Clock;
 use std::sync::{Arc, Condvar, CondvarTimeouts, Mutex, Wait};
 use std::time::Duration;
-use terms::let_go;
+use terms::{Text, let_go};
 
 /// What all threads of a server share, beside the core.
 pub struct Shared {
@@ -74,8 +79,8 @@ impl Arrivals {
 }
 
 impl Shared {
-    /// Nothing is open yet, and each loop is at work. Somebody hears of clients, or not. From one address
-    /// so many connections may be open, if that is bounded.
+    /// Nothing is open yet, and each loop is at work. Somebody hears of clients, or not. From one
+    /// address so many connections may be open, if that is bounded.
     pub fn new(
         alloc: Global,
         inboxes: Vec<Inbox>,
@@ -128,6 +133,231 @@ impl Shared {
     pub fn wake_everyone(&self, rt: &impl Wait) {
         for inbox in self.inboxes.iter() {
             inbox.put(rt, |mailbox| mailbox.wake_everyone());
+        }
+    }
+}
+
+/// How far a server is.
+#[derive(Drop)]
+pub struct Standing {
+    /// The connections that are open, those on their way to a loop among them.
+    pub connections: u64,
+    /// How many are open from each address, if that is bounded.
+    pub addresses: Option<Addresses>,
+    /// No more connections are accepted.
+    pub closing: bool,
+    /// What is still open is to end.
+    pub cutting: bool,
+}
+
+impl Standing {
+    /// Nothing is open yet. From one address so many connections may be, if that is bounded.
+    pub fn new(alloc: Global, connections_from: Option<u64>) -> Standing
+        ensures { standings.Begins connections_from result }
+    {
+        Standing {
+            connections: 0,
+            addresses: connections_from.map(|most| Addresses::new(alloc, most)),
+            closing: false,
+            cutting: false,
+        }
+    }
+
+    /// Whether nothing is open, and nothing more will be.
+    pub fn is_over(&self) -> bool
+        ensures { result ≡ standings.is_over self.now }
+    {
+        self.closing && self.connections == 0
+    }
+
+    /// A connection from an address came, where so many may be open. Answers why it has no place.
+    pub fn admit(&mut self, most: u64, from: u128) -> Result<(), Reason>
+        ensures full { IsErrOf result Reason.NoPlace ↔ (most ≤ self.old.connections) }
+        ensures crowded { IfErr result (λ reason. (reason ≡ Reason.NoPlace)
+            ⊎ ((reason ≡ Reason.ManyFromAddress) × IsCrowded self.old.addresses from)) }
+        ensures place { OnOk result (HasPlace self.old.addresses from) }
+        ensures counted { OnOk result (standings.Admits from self.old self.new) }
+        ensures kept { OnErr result (standings.Stays from self.old self.new) }
+    {
+        if self.connections >= most {
+            return Err(Reason::NoPlace);
+        }
+        let has_place = match &mut self.addresses {
+            Some(addresses) => addresses.admit(from),
+            None => true,
+        };
+        if !has_place {
+            return Err(Reason::ManyFromAddress);
+        }
+        self.connections = self.connections.saturating_add(1);
+        Ok(())
+    }
+
+    /// A connection from an address was closed. Answers whether nothing is or will be open now.
+    pub fn leave(&mut self, from: u128) -> bool
+        ensures over { result ≡ standings.is_over self.new }
+        ensures left { self.new.connections ≡ self.old.connections - 1 }
+        ensures released { standings.Counts (λ n. n - 1) from
+            self.old.addresses self.new.addresses }
+        ensures stays { standings.IsAsFar self.old self.new }
+    {
+        if let Some(addresses) = &mut self.addresses {
+            addresses.release(from);
+        }
+        self.connections = self.connections.saturating_sub(1);
+        self.is_over()
+    }
+}
+
+/// What the threads of a server know of its backends.
+#[derive(Drop)]
+pub struct Backends {
+    /// The namespace that they join, and the names of the others.
+    pub space: Text,
+    pub others: Vec<Text>,
+    /// How many entries and bytes an outbox may have.
+    pub capacity: usize,
+    pub bytes: usize,
+    /// How many events of clients went to no backend.
+    unheard: Mutex<u64>,
+}
+
+/// Copies of these names but for one.
+fn others_than(alloc: Global, space: &str, names: &[Text]) -> Result<Vec<Text>, AllocError>
+    ensures { IfOk result (λ others. others.items ≡ backends.others_than space.now names.now) }
+{
+    let mut others = Vec::new(alloc);
+    for name in names {
+        if name.as_str() != space {
+            others.push(Text::copy_of(alloc, name.as_str())?)?;
+        }
+    }
+    Ok(others)
+}
+
+/// What is known of the backends before one has come, if there may be some.
+pub fn backends_for(alloc: Global, settings: &Settings) -> Result<Option<Backends>, AllocError>
+    ensures { IfOk result (λ known. option_map backends.known_of known
+        ≡ option_map (backends.known_by settings.now.hub) settings.now.backends) }
+{
+    let Some(space) = &settings.backends else {
+        return Ok(None);
+    };
+    Ok(Some(Backends {
+        space: Text::copy_of(alloc, space.as_str())?,
+        others: others_than(alloc, space.as_str(), &settings.hub.spaces)?,
+        capacity: settings.hub.capacity,
+        bytes: settings.hub.bytes,
+        unheard: Mutex::default(),
+    }))
+}
+
+impl Backends {
+    /// So many more events of clients went to no backend. Answers how many have, these among them.
+    pub fn note_unheard(&self, rt: &impl Wait, more: u64) -> u64
+        ensures { more ≤ result }
+    {
+        let mut unheard = self.unheard.lock(rt);
+        *unheard = unheard.saturating_add(more);
+        *unheard
+    }
+}
+
+/// What an event of a client showed.
+#[derive(Clone, Copy)]
+pub struct Sign {
+    pub client: u128,
+    /// It was a message, after which nothing waited for its client.
+    pub rests: bool,
+    /// The digits with which the ids of the client's sockets begin, a bit each, where it brought
+    /// messages that backends hear of; none where it is a backend.
+    pub digits: Option<u16>,
+}
+
+/// What the events of a worker showed since it looked last.
+#[derive(Drop)]
+pub struct Shown {
+    pub signs: Vec<Sign>,
+    /// The digits of the backends that are pressed, a bit each, if there may be backends.
+    pub pressed: Option<u16>,
+    /// One of them is pressed no more.
+    pub relieved: bool,
+}
+
+impl Shown {
+    /// Nothing was shown yet.
+    pub fn new(alloc: Global) -> Shown
+        ensures { ShowsNothing result }
+    {
+        Shown {
+            signs: Vec::new(alloc),
+            pressed: None,
+            relieved: false,
+        }
+    }
+
+    /// An event showed this. Where there is no memory for it, it is as if it had shown nothing.
+    pub fn add(&mut self, sign: Sign)
+        ensures sign { (self.new.signs.items ≡ self.old.signs.items ++ sign ∷ [])
+            ⊎ (self.new.signs.items ≡ self.old.signs.items) }
+        ensures pressed { self.new.pressed ≡ self.old.pressed }
+        ensures relieved { self.new.relieved ≡ self.old.relieved }
+    {
+        let _ = self.signs.push(sign);
+    }
+
+    /// Whether nothing waited for a client after its message.
+    pub fn rests(&self, client: u128) -> bool
+        ensures { result ≡ shown.rests client self.now.signs.items }
+    {
+        self.signs
+            .iter()
+            .any(|sign| sign.client == client && sign.rests)
+    }
+
+    /// All of it was heeded.
+    pub fn clear(&mut self)
+        ensures { ShowsNothing self.new }
+    {
+        self.signs.clear();
+        self.pressed = None;
+        self.relieved = false;
+    }
+}
+
+/// What was shown to each worker.
+#[derive(Drop)]
+pub struct Showing {
+    places: Vec<Mutex<Shown>>,
+}
+
+impl Showing {
+    /// Nothing was shown to so many workers yet.
+    pub fn new(alloc: Global, workers: usize) -> Result<Showing, AllocError>
+        ensures { IfOk result (λ showing. places_of showing ≡ workers) }
+    {
+        let mut places = Vec::new(alloc);
+        for _worker in 0..workers {
+            places.push(Mutex::new(Shown::new(alloc)))?;
+        }
+        Ok(Showing { places })
+    }
+
+    /// Where what is shown to a worker lies, if something is.
+    pub fn of(&self, worker: usize) -> Option<&Mutex<Shown>>
+        ensures { option_copied result ≡ place_of worker self.now }
+    {
+        self.places.get(worker)
+    }
+
+    /// Takes what was shown to a worker, and leaves this in its place, of which all was heeded. To
+    /// one that has no place nothing was shown.
+    pub fn take(&self, rt: &impl Wait, worker: usize, shown: &mut Shown)
+        ensures { IfNone (place_of worker self.now) (ShowsNothing shown.new) }
+    {
+        shown.clear();
+        if let Some(place) = self.of(worker) {
+            mem::swap(&mut *place.lock(rt), shown);
         }
     }
 }

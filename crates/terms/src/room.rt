@@ -1,6 +1,6 @@
-//! The names of rooms (Socket.IO server documentation, "Rooms").
+//! The ids of sockets, and the names of rooms (Socket.IO server documentation, "Rooms").
 
-ghost use Rattle.std.specs.Prelude.{◌≡◌, ◌≤◌, ◌↔◌, ℕ, List, length, take, IfSome, IsSome};
+ghost use Rattle.std.specs.Prelude.{◌≡◌, ℕ, ◌≤◌, ◌↔◌, List, length, take, IfSome, IsSome};
 ghost use Rattle.std.specs.Str.{IsUtf8};
 ghost use Rattle.std.specs.Ordering.{as_partial_cmp};
 ghost use Rattle.std.specs.Cmp.Rules.{comparing};
@@ -8,11 +8,37 @@ ghost use Rattle.std.proofs.Common.{rules};
 ghost use Rattle.terms.specs.Room.{room_cmp, same_room, padded, own_room, HoldsName};
 
 use crate::hexadecimal::id_text;
-use crate::sid::Sid;
 use std::cmp::Ordering;
 use std::marker::Model;
 
-/// The most bytes of a room's name.
+/// The id of a socket of one namespace, which a contract sees as its number.
+#[derive(Clone, Copy, Debug, PartialEq, Eq, PartialOrd, Ord)]
+pub struct Sid(u128);
+
+impl Model for Sid {
+    ghost Value = { ℕ };
+
+    ghost view = { λ s. s.0 };
+
+    ghost inverse = { λ n. record { 0 = n } };
+}
+
+impl Sid {
+    /// The id that has this number.
+    pub fn new(number: u128) -> Sid
+        ensures { result ≡ number }
+    {
+        Sid(number)
+    }
+
+    /// The number of the id.
+    pub fn number(self) -> u128
+        ensures { result ≡ self }
+    {
+        self.0
+    }
+}
+
 const MOST_BYTES: usize = 64;
 
 /// The name of a room: a text of at most 64 bytes, which may be empty. Rooms are ordered by their

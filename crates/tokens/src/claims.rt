@@ -1,12 +1,14 @@
 //! What a token says: its claims (RFC 7519, section 4.1).
 
-ghost use Rattle.std.specs.Prelude.{◌≡◌, IfOk, option_map, Option, List, ℕ};
-ghost use Rattle.std.specs.List.{list_any};
+ghost use Rattle.std.specs.Prelude.{◌≡◌, IfOk, option_map, Some};
+ghost use Rattle.std.specs.List.{list_all, list_any};
+ghost use Rattle.std.specs.Char.{is_ascii_digit};
 ghost use Rattle.json.specs.Value.{value_view, items_view};
 ghost use Rattle.tokens.specs.Claims as table;
+ghost use Rattle.tokens.specs.Dates as dates;
+ghost use Rattle.tokens.specs.Expires.{expires_in};
 
-use crate::dates::date_in;
-use crate::object::object_of;
+use crate::payload::object_of;
 use crate::verifier::Flaw;
 use json::{Scratch, Value};
 use std::alloc::{AllocError, Global};
@@ -62,9 +64,7 @@ fn check_members(claims: &Value, audience: &Option<Text>, seconds: u64) -> Resul
 {
     let expires = date_in(claims.get("exp"))?;
     let begins = date_in(claims.get("nbf"))?;
-    if let Err(flaw) = check_audience(claims.get("aud"), audience) {
-        return Err(flaw);
-    }
+    check_audience(claims.get("aud"), audience)?;
     if is_early(begins, seconds) {
         return Err(Flaw::Early);
     }
@@ -78,20 +78,15 @@ fn check_members(claims: &Value, audience: &Option<Text>, seconds: u64) -> Resul
 fn is_early(begins: Option<u64>, seconds: u64) -> bool
     ensures { result ≡ table.is_early begins seconds }
 {
-    match begins {
-        Some(begins) => begins > LEEWAY && begins - LEEWAY > seconds,
-        None => false,
-    }
+    begins.is_some_and(|begins| begins > LEEWAY && begins - LEEWAY > seconds)
 }
 
-/// Whether it is over (RFC 7519, section 4.1.4).
-pub(crate) fn is_late(expires: Option<u64>, seconds: u64) -> bool
+/// Whether the time of a token that expires so is over (RFC 7519, section 4.1.4): from thirty
+/// seconds after that on it isn't valid. Both are in seconds since 1970.
+fn is_late(expires: Option<u64>, seconds: u64) -> bool
     ensures { result ≡ table.is_late expires seconds }
 {
-    match expires {
-        Some(expires) => seconds >= LEEWAY && seconds - LEEWAY >= expires,
-        None => false,
-    }
+    expires.is_some_and(|expires| seconds >= LEEWAY && seconds - LEEWAY >= expires)
 }
 
 /// Whether what `aud` says is this audience, or a list that has it (RFC 7519, section 4.1.3).
@@ -122,4 +117,86 @@ fn has_name(values: &Vec<Value>, name: &str) -> bool
         }
     }
     false
+}
+
+/// When claims say that their token expires, in whole seconds since 1970. `None` where they don't
+/// say so, or are no object.
+pub fn expires_in(alloc: Global, claims: &str) -> Result<Option<u64>, AllocError>
+    ensures { IfOk result (λ expires. expires ≡ expires_in claims.now) }
+{
+    let mut scratch = Scratch::new(alloc);
+    match object_of(alloc, claims, &mut scratch)? {
+        Some(claims) => Ok(date_in(claims.get("exp")).unwrap_or(None)),
+        None => Ok(None),
+    }
+}
+
+/// The seconds that a member says, if it is there.
+fn date_in(member: Option<&Value>) -> Result<Option<u64>, Flaw>
+    ensures { result ≡ dates.date_in (option_map (λ v. value_view v.now) member.entry) }
+{
+    match member {
+        Some(value) => Ok(Some(date_of(value).ok_or(Flaw::Claims)?)),
+        None => Ok(None),
+    }
+}
+
+/// The seconds since 1970 that a value says, where it is a number that `exp` may be (RFC 7519,
+/// section 2, "NumericDate").
+fn date_of(value: &Value) -> Option<u64>
+    ensures { result ≡ dates.date_of (value_view value.now) }
+{
+    read_seconds(value.as_number()?)
+}
+
+/// The whole seconds that a number's digits write, where there is no sign and no exponent.
+#[tactic(auto, unfolding(crate::specs::Dates::read_seconds))]
+fn read_seconds(text: &str) -> Option<u64>
+    ensures { result ≡ dates.read_seconds text.now }
+{
+    let (whole, fraction) = text.split_once('.').unwrap_or((text, ""));
+    if are_digits(fraction.as_bytes()) {
+        read_whole(whole)
+    } else {
+        None
+    }
+}
+
+/// Whether all of the bytes are digits.
+fn are_digits(bytes: &[u8]) -> bool
+    ensures { result ≡ list_all is_ascii_digit bytes.now }
+{
+    bytes.iter().all(|byte| byte.is_ascii_digit())
+}
+
+/// The integer that at most fifteen digits write.
+fn read_whole(text: &str) -> Option<u64>
+    ensures { result ≡ dates.read_whole text.now }
+{
+    if text.len() > 15 {
+        return None;
+    }
+    let mut seconds: u64 = 0;
+    for digit in text.as_bytes() {
+        if !digit.is_ascii_digit() {
+            return None;
+        }
+        seconds = seconds * 10 + u64::from(*digit - b'0');
+    }
+    Some(seconds)
+}
+
+/// The seconds that a number says, where it is one that `exp` may be.
+pub fn seconds_of(value: &Value) -> Option<u64>
+    ensures { result ≡ dates.date_of (value_view value.now) }
+{
+    date_of(value)
+}
+
+/// Whether the time of a token that expires so is over: from thirty seconds after that on it isn't
+/// valid. Both are in seconds since 1970.
+pub fn is_over(expires: u64, seconds: u64) -> bool
+    ensures { result ≡ table.is_late (Some expires) seconds }
+{
+    is_late(Some(expires), seconds)
 }

@@ -1,15 +1,25 @@
-//! The compact form of a token: three texts of base64url between dots (RFC 7515, section 7.1).
+//! The compact form of a token, three texts of base64url between dots (RFC 7515, section 7.1), and
+//! its header: how it is signed, and by which key (RFC 7515, section 4.1).
 
-ghost use Rattle.std.specs.Prelude.{◌≡◌, ◌∷◌, ◌++◌, IfOk};
-ghost use Rattle.tokens.specs.Steps.{seen_by};
+ghost use Rattle.std.specs.Prelude.{◌≡◌, ◌∷◌, ◌++◌, IfOk, option_map};
+ghost use Rattle.json.specs.Value.{value_view};
 ghost use Rattle.tokens.specs.Form as table;
+ghost use Rattle.tokens.specs.Form.{opened_view};
+ghost use Rattle.tokens.specs.Header as headers;
+ghost use Rattle.tokens.specs.Steps.{seen_by};
 
+use crate::keys::{Key, check_signature};
+use crate::payload::object_of;
 use crate::verifier::Flaw;
 use base64::DecodeAllocError;
 use base64::engine::general_purpose::URL_SAFE_NO_PAD;
+use json::{Scratch, Value};
 use std::alloc::{AllocError, Global};
 use std::str;
 use terms::Text;
+
+/// The one algorithm (RFC 7518, section 3.2).
+const ALGORITHM: &str = "HS256";
 
 /// The three parts of a token, as they stand there.
 #[derive(Drop)]
@@ -118,5 +128,57 @@ fn bytes_in(alloc: Global, part: &str) -> Result<Result<Vec<u8>, Flaw>, AllocErr
         Ok(bytes) => Ok(Ok(bytes)),
         Err(DecodeAllocError::OutOfMemory) => Err(AllocError),
         Err(DecodeAllocError::DecodeError(_)) => Ok(Err(Flaw::Form)),
+    }
+}
+
+/// Whether one of the keys, that which the header names, signed the token.
+#[tactic(auto, unfolding(crate::specs::Header::check_header))]
+pub(crate) fn check_header(
+    alloc: Global,
+    keys: &[Key],
+    token: &Opened,
+) -> Result<Result<(), Flaw>, AllocError>
+    ensures { IfOk result (λ checked. checked
+        ≡ headers.check_header keys.now (opened_view token.now)) }
+{
+    let mut scratch = Scratch::new(alloc);
+    let Some(header) = object_of(alloc, token.header.as_str(), &mut scratch)? else {
+        return Ok(Err(Flaw::Header));
+    };
+    match key_name(&header) {
+        Ok(name) => Ok(check_signature(keys, name, token.signed, &token.signature)),
+        Err(flaw) => Ok(Err(flaw)),
+    }
+}
+
+/// The key that a header names, if it names one. The algorithm that it names is compared, and
+/// never followed; what it says is critical isn't known here.
+#[tactic(auto, unfolding(crate::specs::Header::key_name))]
+fn key_name<'v>(header: &'v Value) -> Result<Option<&'v str>, Flaw>
+    ensures { seen_by (option_map (λ name. name.now)) result
+        ≡ headers.key_name (value_view header.now) }
+{
+    let algorithm = header
+        .get("alg")
+        .and_then(Value::as_str)
+        .ok_or(Flaw::Header)?;
+    if header.get("crit").is_some() {
+        return Err(Flaw::Header);
+    }
+    let name = named_in(header.get("kid"))?;
+    if algorithm != ALGORITHM {
+        return Err(Flaw::Algorithm);
+    }
+    Ok(name)
+}
+
+/// The name that a member says, if it is there. It has to be a text.
+fn named_in<'v>(member: Option<&Value<'v>>) -> Result<Option<&'v str>, Flaw>
+    ensures { seen_by (option_map (λ name. name.now)) result
+        ≡ headers.named_in (option_map (λ v. value_view v.now) member.entry) }
+{
+    match member {
+        Some(value) => Ok(Some(value.as_str().ok_or(Flaw::Header)?)),
+        None => Ok(None),
     }
 }

@@ -1,11 +1,13 @@
-//! The keys of tokens, and what they signed (RFC 7518, section 3.2).
+//! The keys of tokens, and what they signed (RFC 7518, section 3.2): keyed hashing (RFC 2104) with
+//! SHA-256, and comparing secrets.
 
-ghost use Rattle.std.specs.Prelude.{◌≡◌, option_map};
+ghost use Rattle.std.specs.Prelude.{◌≡◌, ◌≤◌, ◌++◌, bytes_eq, length, option_map};
+ghost use Rattle.sha2.specs.Sha256.{sha256};
+ghost use Rattle.tokens.specs.Hmac as hmac;
 ghost use Rattle.tokens.specs.Keys as table;
 
-use crate::hmac::hmac_sha256;
-use crate::secret::is_same;
 use crate::verifier::Flaw;
+use sha2::{Digest, Sha256};
 use terms::Text;
 
 /// A key that tokens are signed with. `Debug` doesn't show it, since it is a secret.
@@ -29,10 +31,10 @@ pub(crate) fn check_signature(
         signed.now signature.now }
 {
     let has_signed = match name {
-        Some(name) => match key_named(keys, name) {
-            Some(key) => key.has_signed(signed, signature),
-            None => return Err(Flaw::Key),
-        },
+        Some(name) => {
+            let key = key_named(keys, name).ok_or(Flaw::Key)?;
+            key.has_signed(signed, signature)
+        }
         None => any_signed(keys, signed, signature),
     };
     if has_signed {
@@ -58,12 +60,7 @@ fn key_named<'k>(keys: &'k [Key], name: &str) -> Option<&'k Key>
 fn any_signed(keys: &[Key], signed: &[u8], signature: &[u8]) -> bool
     ensures { result ≡ table.any_signed keys.now signed.now signature.now }
 {
-    for key in keys {
-        if key.has_signed(signed, signature) {
-            return true;
-        }
-    }
-    false
+    keys.iter().any(|key| key.has_signed(signed, signature))
 }
 
 impl Key {
@@ -73,4 +70,62 @@ impl Key {
     {
         !self.secret.is_empty() && is_same(signature, &hmac_sha256(&self.secret, signed))
     }
+}
+
+/// The HMAC of a text under a key of any length, by SHA-256 (RFC 2104, section 2).
+#[tactic(auto, unfolding(crate::specs::Hmac::hmac_sha256))]
+pub fn hmac_sha256(key: &[u8], text: &[u8]) -> [u8; 32]
+    ensures { result ≡ hmac.hmac_sha256 key.now text.now }
+{
+    if key.len() > 64 {
+        hmac_by(&Sha256::digest(key), text)
+    } else {
+        hmac_by(key, text)
+    }
+}
+
+/// The HMAC under a key of at most 64 bytes, as many as SHA-256 takes at a time.
+fn hmac_by(key: &[u8], text: &[u8]) -> [u8; 32]
+    requires { length key.now ≤ 64 }
+    ensures { result ≡ hmac.hmac_by (hmac.filled key.now) text.now }
+{
+    let inner = digest_of_both(&padded(key, 0x36), text);
+    digest_of_both(&padded(key, 0x5c), &inner)
+}
+
+/// The key as a block, with zeros behind it, each byte of which is changed by the pad.
+fn padded(key: &[u8], pad: u8) -> [u8; 64]
+    requires { length key.now ≤ 64 }
+    ensures { result ≡ hmac.padded (hmac.filled key.now) pad }
+{
+    let mut block = [pad; 64];
+    for index in 0..key.len() {
+        block[index] = key[index] ^ pad;
+    }
+    block
+}
+
+/// The digest of two texts, one behind the other.
+fn digest_of_both(first: &[u8], second: &[u8]) -> [u8; 32]
+    ensures { result ≡ sha256 (first.now ++ second.now) }
+{
+    let mut hasher = Sha256::new();
+    hasher.update(first);
+    hasher.update(second);
+    hasher.finalize()
+}
+
+/// Whether two texts are the same. How long it takes tells whether they are of one length, and not
+/// where they differ.
+pub fn is_same(text: &[u8], secret: &[u8]) -> bool
+    ensures { result ≡ bytes_eq text.now secret.now }
+{
+    if text.len() != secret.len() {
+        return false;
+    }
+    let mut differing = 0u8;
+    for index in 0..text.len() {
+        differing |= text[index] ^ secret[index];
+    }
+    differing == 0
 }

@@ -1,11 +1,13 @@
 //! The token in the payload of a CONNECT, an object (Socket.IO protocol 5, "Connection to a
-//! namespace").
+//! namespace"), and JSON objects in which no object names a member twice (RFC 7515, section 4;
+//! RFC 7519, section 4).
 
-ghost use Rattle.std.specs.Prelude.{◌≡◌, [], IfOk, string_bytes};
+ghost use Rattle.std.specs.Prelude.{◌≡◌, [], IfOk, option_map, string_bytes};
 ghost use Rattle.json.specs.Find.{as_object};
 ghost use Rattle.json.specs.Print.{print};
 ghost use Rattle.json.specs.Tree.{HasNumbers, MembersHaveNumbers};
 ghost use Rattle.json.specs.Value.{value_view, members_view};
+ghost use Rattle.tokens.specs.Object as objects;
 ghost use Rattle.tokens.specs.Payload as table;
 
 use json::{Error, Scratch, Value, Writer};
@@ -81,5 +83,31 @@ fn text_of(writer: Writer) -> String
     match String::from_utf8(writer.into_inner()) {
         Ok(text) => text,
         Err(_) => unreachable!(),
+    }
+}
+
+/// The object that a text is, where neither it nor an object in it names a member twice.
+#[tactic(auto, using(crate::proofs::ObjectLemmas::object_read, crate::proofs::ObjectLemmas::no_document, crate::proofs::ObjectLemmas::doubled))]
+pub(crate) fn object_of<'a>(
+    alloc: Global,
+    text: &'a str,
+    scratch: &'a mut Scratch,
+) -> Result<Option<Value<'a>>, AllocError>
+    ensures { IfOk result (λ object. option_map value_view object ≡ objects.object_of text.now) }
+{
+    match Value::parse_strict(alloc, text, scratch) {
+        Ok(value) => Ok(if_object(value)),
+        Err(Error::OutOfMemory) => Err(AllocError),
+        Err(_) => Ok(None),
+    }
+}
+
+/// A value, where it is an object.
+fn if_object(value: Value<'_>) -> Option<Value<'_>>
+    ensures { option_map value_view result ≡ objects.if_object (value_view value.entry) }
+{
+    match value {
+        Value::Object(_) => Some(value),
+        _ => None,
     }
 }

@@ -1,17 +1,21 @@
-//! Whether a token is valid (RFC 7519, section 7.2).
+//! Whether a token is valid (RFC 7519, section 7.2), and the claims of one that a key signed.
 
-ghost use Rattle.std.specs.Prelude.{◌≡◌, IfOk};
+ghost use Rattle.std.specs.Prelude.{◌≡◌, false, IfOk, IfSome};
+ghost use Rattle.std.specs.List.{list_any};
+ghost use Rattle.tokens.specs.Claims.{is_separator};
+ghost use Rattle.tokens.specs.Signed as signed;
 ghost use Rattle.tokens.specs.Verified as table;
 
-use crate::claims::{Claims, check_claims};
-use crate::form::read_parts;
-use crate::header::check_header;
+use crate::claims::{Claims, check_claims, has_separator};
+use crate::form::{check_header, read_parts};
 use crate::keys::Key;
+use crate::payload::object_of;
+use json::Scratch;
 use std::alloc::{AllocError, Global};
 use terms::Text;
 
 /// How many bytes a token may have.
-pub(crate) const MAX_TOKEN: usize = 8192;
+const MAX_TOKEN: usize = 8192;
 
 /// What tokens are verified by. `Debug` doesn't show it, since keys are secrets.
 #[derive(Drop)]
@@ -37,7 +41,7 @@ pub enum Flaw {
     Key,
     /// It wasn't signed by the key that is named, or, where none is named, by any.
     Signature,
-    /// The claims are no JSON object whose members are what they have to be, or name a member twice.
+    /// The claims are no JSON object whose members are what they must be, or name one twice.
     Claims,
     /// It is for another audience, or for none.
     Audience,
@@ -76,4 +80,37 @@ impl Verifier {
             Err(flaw) => Ok(Err(flaw)),
         }
     }
+
+    /// The claims of a token that one of the keys signed, whatever they say of times and audiences,
+    /// or none. They hold no U+001E.
+    #[tactic(auto, unfolding(crate::specs::Signed::signed_by))]
+    pub fn signed_claims(&self, alloc: Global, token: &str) -> Result<Option<Text>, AllocError>
+        ensures signed { IfOk result (λ claims.
+            claims ≡ signed.signed_claims self.now token.now) }
+        ensures whole { IfOk result (λ claims. IfSome claims (λ text.
+            list_any is_separator text ≡ false)) }
+    {
+        if token.len() > MAX_TOKEN {
+            return Ok(None);
+        }
+        let Ok(opened) = read_parts(alloc, token)? else {
+            return Ok(None);
+        };
+        if let Err(_) = check_header(alloc, &self.keys, &opened)? {
+            return Ok(None);
+        }
+        let text = opened.claims;
+        if has_separator(text.as_str().as_bytes()) || !is_object(alloc, text.as_str())? {
+            return Ok(None);
+        }
+        Ok(Some(text))
+    }
+}
+
+/// Whether a text is a JSON object that names no member twice.
+fn is_object(alloc: Global, text: &str) -> Result<bool, AllocError>
+    ensures { IfOk result (λ is. is ≡ signed.is_object text.now) }
+{
+    let mut scratch = Scratch::new(alloc);
+    Ok(object_of(alloc, text, &mut scratch)?.is_some())
 }

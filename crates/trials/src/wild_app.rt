@@ -4,8 +4,8 @@
 ghost use Rattle.std.specs.Prelude.{IfOk, IfSome};
 ghost use Rattle.events.specs.App.{AllClean, IsCleanEffect};
 
-use events::{App, Arrived, Effect, Emission, Inquiry, Reply, Selection, Verdict, Wanted, Who};
-use journal::{Ending, Form};
+use events::{App, Arrived, Effect, Inquiry, Reply, Selection, Verdict, Wanted, Who};
+use journal::{Cast, Ending, Form};
 use relay::{Presence, RelayApp};
 use std::alloc::{AllocError, Global};
 use terms::{Attachments, Room, Sid, Text};
@@ -31,7 +31,7 @@ fn no_array(alloc: Global, space: &str, wish: &str) -> Result<Option<Effect>, Al
     let payload = Text::from_string(String::new(alloc));
     let attachments = Attachments::new(alloc);
     Ok(match wish {
-        "[\"mute\"]" => Some(Effect::Emit(Emission {
+        "[\"mute\"]" => Some(Effect::Emit(Cast {
             space: Text::copy_of(alloc, space)?,
             rooms: Vec::new(alloc),
             excepted: Vec::new(alloc),
@@ -64,7 +64,7 @@ const HEARD: &str = "[\"heard\"]";
 fn sent_to(alloc: Global, space: &str, form: Form) -> Result<Effect, AllocError>
     ensures { IfOk result IsCleanEffect }
 {
-    Ok(Effect::Emit(Emission {
+    Ok(Effect::Emit(Cast {
         space: Text::copy_of(alloc, space)?,
         rooms: Vec::new(alloc),
         excepted: Vec::new(alloc),

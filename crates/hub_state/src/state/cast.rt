@@ -1,36 +1,143 @@
-//! Broadcasts are put into the outboxes of those whom they are for (Socket.IO server documentation,
-//! "Rooms" and "Adapter"; Socket.IO protocol 5, "Sending and receiving data" and
+//! Broadcasts are put into the outboxes of those whom they are for: the sockets of a namespace that
+//! are in one of the rooms and in no excepted one, and their clients (Socket.IO server
+//! documentation, "Rooms" and "Adapter"; Socket.IO protocol 5, "Sending and receiving data" and
 //! "Acknowledgement").
 
-ghost use Rattle.std.specs.Prelude.{◌≡◌, ◌<◌, ◌≤◌, ◌^◌, ℕ, false, map, nat_eq, None, Some, IfSome, IfOk, IfErr, OnOk, OnErr, [], length, get_or};
-ghost use Rattle.std.specs.List.{IsDistinct, AllByRecursion, list_any};
-ghost use Rattle.std.specs.Option.{option_map, option_map_or};
+ghost use Rattle.std.specs.Prelude.{◌≡◌, not, ◌++◌, filter, IfOk, OnOk, ◌<◌, ◌≤◌, ◌^◌, ℕ, false, map, nat_eq, None, Some, IfSome, IfErr, OnErr, [], length, get_or};
+ghost use Rattle.std.specs.List.{flat_map, list_any, IsDistinct, AllByRecursion};
 ghost use Rattle.std.specs.Ordering.{nat_cmp};
 ghost use Rattle.std.specs.BTreeMap.{get};
 ghost use Rattle.std.specs.Arc.{arc_value};
+ghost use Rattle.room_maps.specs.Membership.{is_in};
+ghost use Rattle.room_maps.specs.Addressed.{is_addressed};
+ghost use Rattle.journal.specs.Membership.{is_in_space, place_of};
+ghost use Rattle.journal.specs.Casting.{in_space, ListsInside, is_full_in, message_for, missing_of, receiver_of, pair_of, with_entries, with_logged, refusal_of, offset_of, has_no_offset, IsCastOf, IsCastError, CastDoes};
+ghost use Rattle.journal.specs.Casting as casting;
+ghost use Rattle.hub_state.specs.Words.{rooms_now, aimed, TellsNow, AllHear};
+ghost use Rattle.std.specs.Option.{option_map, option_map_or};
 ghost use Rattle.sio_wire.specs.Header.{Plain};
-ghost use Rattle.sio_wire.specs.Offset.{is_bracket, payload_with_offset};
+ghost use Rattle.sio_wire.specs.Offset.{payload_with_offset};
 ghost use Rattle.journal.specs.Outboxes.{entries_for};
-ghost use Rattle.journal.specs.Membership.{place_of};
-ghost use Rattle.journal.specs.Casting.{is_full_in, receiver_of, pair_of, with_entries, with_logged, refusal_of, offset_of, has_no_offset, IsCastOf, IsCastError, CastDoes};
 ghost use Rattle.journal.specs.Log.{logged, next};
 ghost use Rattle.journal.specs.Journal.{moment_at};
 ghost use Rattle.journal.specs.Broadcast.{IsOfAForm, broadcast_header, id_of};
 ghost use Rattle.journal.specs.declared.step.What.{What};
 ghost use Rattle.hub_state.specs.Changes.{SameClients, WithoutNewest, MakesStep};
 ghost use Rattle.hub_state.specs.Sending.{done_of, IsCounted};
-ghost use Rattle.hub_state.specs.Words.{TellsNow, AllHear};
 
+use crate::client::Client;
+use crate::seats::Seats;
 use crate::state::deliver::{put_entry, take_back};
 use crate::state::{NONE, State};
-use hub_parts::Client;
-use journal::{Broadcast, Cast, CastDone, Counts, Form, HubError, Message, What};
+use journal::{Broadcast, Cast, CastDone, Counts, Form, HubError, Message, Socket, What};
 use recovery::{Logged, PacketLog};
+use room_maps::Rooms;
 use sio_wire::{Header, with_offset, write_header};
 use std::alloc::{AllocError, Global};
 use std::collections::BTreeMap;
 use std::sync::Arc;
-use terms::{Attachments, Entry, Text};
+use terms::{Attachments, Entry, Room, Sid, Text};
+
+/// Adds the socket with an id, where it is in the namespace at a place.
+fn add_socket(
+    sockets: &mut Vec<Socket>,
+    seats: &Seats,
+    sid: Sid,
+    space: u16,
+) -> Result<(), AllocError>
+    ensures ok { OnOk result (sockets.new.items
+        ≡ sockets.old.items ++ in_space space (get nat_cmp seats.now sid)) }
+{
+    if let Some(socket) = seats.get(sid) {
+        if socket.space == space {
+            sockets.push(*socket)?;
+        }
+    }
+    Ok(())
+}
+
+/// Those of the sockets with these ids that are in the namespace at a place, in the same order.
+pub(crate) fn sockets_in(
+    alloc: Global,
+    seats: &Seats,
+    sids: &[Sid],
+    space: u16,
+) -> Result<Vec<Socket>, AllocError>
+    ensures ok { IfOk result (λ sockets. sockets.items
+        ≡ flat_map (λ s. in_space space (get nat_cmp seats.now s)) sids.now) }
+{
+    let mut sockets = Vec::new(alloc);
+    for sid in sids {
+        add_socket(&mut sockets, seats, *sid, space)?;
+    }
+    Ok(sockets)
+}
+
+/// Whether the socket is in one of the rooms.
+fn is_in_any(inside: &Rooms, sid: Sid, rooms: &[Room]) -> bool
+    ensures { result ≡ list_any (is_in inside.now sid) rooms.now }
+{
+    rooms.iter().any(|room| inside.is_in(sid, *room))
+}
+
+/// Keeps the sockets that are in none of the rooms.
+fn retain_outside(sids: &mut Vec<Sid>, inside: &Rooms, rooms: &[Room])
+    ensures { sids.new.items
+        ≡ filter (λ s. not (list_any (is_in inside.now s) rooms.now)) sids.old.items }
+{
+    sids.retain(|sid| !is_in_any(inside, *sid, rooms));
+}
+
+/// Whether the client's outbox has no space for the entry.
+pub(crate) fn is_full(clients: &BTreeMap<u128, Client>, client: u128, entry: &Entry) -> bool
+    ensures { result ≡ is_full_in (get nat_cmp clients.now) entry.now client }
+{
+    clients
+        .get(&client)
+        .is_some_and(|known| known.outbox.has_no_space(entry))
+}
+
+/// Adds a message for the socket's client where its outbox has space, and else who misses it.
+fn address(
+    messages: &mut Vec<Message>,
+    missing: &mut Vec<Sid>,
+    clients: &BTreeMap<u128, Client>,
+    socket: &Socket,
+    entry: &Arc<Entry>,
+) -> Result<(), AllocError>
+    ensures told { OnOk result (messages.new.items ≡ messages.old.items
+        ++ message_for (get nat_cmp clients.now) (arc_value entry.now) socket.now.client) }
+    ensures missing { OnOk result (missing.new.items ≡ missing.old.items
+        ++ missing_of (get nat_cmp clients.now) (arc_value entry.now) socket.now) }
+{
+    let client = socket.client;
+    if is_full(clients, client, entry) {
+        missing.push(socket.sid)?;
+    } else {
+        let entry = Arc::try_clone(entry)?;
+        messages.push(Message { client, entry })?;
+    }
+    Ok(())
+}
+
+/// A message for each of the sockets whose client's outbox has space, and the ids of the others.
+pub(crate) fn messages_for(
+    alloc: Global,
+    clients: &BTreeMap<u128, Client>,
+    sockets: &[Socket],
+    entry: &Arc<Entry>,
+) -> Result<(Vec<Message>, Vec<Sid>), AllocError>
+    ensures told { IfOk result (λ both. both.0.items
+        ≡ casting.messages_for (get nat_cmp clients.now) (arc_value entry.now) sockets.now) }
+    ensures missing { IfOk result (λ both. both.1.items
+        ≡ casting.missing (get nat_cmp clients.now) (arc_value entry.now) sockets.now) }
+{
+    let (mut messages, mut missing) = (Vec::new(alloc), Vec::new(alloc));
+    for socket in sockets {
+        address(&mut messages, &mut missing, clients, socket, entry)?;
+    }
+    Ok((messages, missing))
+}
 
 /// Takes the newest entry of each of these clients' outboxes away again.
 fn take_all_back(clients: &mut BTreeMap<u128, Client>, receivers: &[u128])
@@ -41,9 +148,8 @@ fn take_all_back(clients: &mut BTreeMap<u128, Client>, receivers: &[u128])
     }
 }
 
-/// Puts each message into the outbox of its client, which is named at the same place of the list
-/// and has space for it. No two of them are for one client. Where memory is refused in the middle,
-/// what was put is taken back.
+/// Puts each message into the outbox of its client, which is named at the same place of the list,
+/// or where memory is refused in the middle none.
 pub(crate) fn put_messages(
     clients: &mut BTreeMap<u128, Client>,
     messages: Vec<Message>,
@@ -111,13 +217,6 @@ pub(crate) fn receivers(alloc: Global, messages: &[Message]) -> Result<Vec<u128>
     messages.iter().map(|message| message.client).collect(alloc)
 }
 
-/// Whether the text has a `]`.
-pub(crate) fn has_bracket(text: &str) -> bool
-    ensures { result ≡ list_any is_bracket text.now }
-{
-    text.as_bytes().contains(&b']')
-}
-
 /// The payload with the offset as its last element, where there is one.
 fn payload_of(alloc: Global, payload: Text, offset: Option<u64>) -> Result<Text, AllocError>
     ensures ok { IfOk result (λ t. t ≡ option_map_or (payload_with_offset payload) offset payload) }
@@ -130,8 +229,58 @@ fn payload_of(alloc: Global, payload: Text, offset: Option<u64>) -> Result<Text,
 }
 
 impl State {
-    /// The offset of the next broadcast that is logged, or `None` where the greatest has been
-    /// used.
+    /// For whom a broadcast is, with sockets of other namespaces where rooms are named.
+    pub(crate) fn listeners(
+        &self,
+        alloc: Global,
+        space: u16,
+        rooms: &[Room],
+        excepted: &[Room],
+    ) -> Result<Vec<Sid>, AllocError>
+        ensures ok { let h = self.now in IfOk result (λ sids.
+            ListsInside (is_in_space h.base h.journal space)
+            (is_addressed (rooms_now h) rooms.now excepted.now) sids.items) }
+    {
+        if rooms.is_empty() {
+            let mut sids = self.live.seats.sids_in(alloc, space)?;
+            retain_outside(&mut sids, &self.live.rooms, excepted);
+            return Ok(sids);
+        }
+        match self.live.rooms.addressees(alloc, rooms, excepted) {
+            Ok(sids) => Ok(sids),
+            Err(_) => Err(AllocError),
+        }
+    }
+
+    /// The broadcast with those who miss it, and the messages for the others.
+    pub(crate) fn aim(
+        &self,
+        alloc: Global,
+        space: u16,
+        rooms: Vec<Room>,
+        excepted: Vec<Room>,
+        offset: Option<u64>,
+        entry: Arc<Entry>,
+    ) -> Result<(Broadcast, Vec<Message>), AllocError>
+        ensures broadcast { IfOk result (λ both. both.0
+            ≡ aimed space rooms.items excepted.items offset (arc_value entry) both.0.dropped) }
+        ensures tells { IfOk result (λ both. TellsNow self.now both.0 both.1.items) }
+    {
+        let sids = self.listeners(alloc, space, &rooms, &excepted)?;
+        let sockets = sockets_in(alloc, &self.live.seats, &sids, space)?;
+        let (messages, dropped) = messages_for(alloc, &self.clients, &sockets, &entry)?;
+        let broadcast = Broadcast {
+            space,
+            rooms,
+            excepted,
+            offset,
+            entry,
+            dropped,
+        };
+        Ok((broadcast, messages))
+    }
+
+    /// The offset of the next broadcast that is logged, or `None` where the greatest was used.
     pub fn next_offset(&self) -> Option<u64>
         ensures { result ≡ next self.now.base self.now.journal }
     {
@@ -183,7 +332,8 @@ impl State {
             (refusal_of self.now cast.now)) }
     {
         let place = self.place_of(cast.space.as_str())?;
-        if !has_bracket(cast.payload.as_str()) || cast.attachments.len() > 32 {
+        let has_bracket = cast.payload.as_str().as_bytes().contains(&b']');
+        if !has_bracket || cast.attachments.len() > 32 {
             return Err(HubError::BadPayload);
         }
         if !cast.form.is_logged() {
@@ -193,8 +343,7 @@ impl State {
         Ok((place, Some(offset)))
     }
 
-    /// The broadcast that a cast asks for, which has this place and offset, and the messages for
-    /// those whom it reaches.
+    /// The broadcast that a cast asks for, and the messages for those whom it reaches.
     fn build(
         &self,
         alloc: Global,
@@ -229,14 +378,10 @@ impl State {
 
     /// Puts an event, a question or an answer into the outboxes of the sockets of a namespace that
     /// are in one of the rooms, or where none is named of all, but for those in an excepted room. A
-    /// socket whose client's outbox has no space for it is counted as dropped. A question asks each
-    /// socket for an acknowledgement under its id, and an answer acknowledges the event that has
-    /// its id (Socket.IO protocol 5, "Acknowledgement"). Where an event is logged, it gets the next
-    /// offset as its payload's last element (Socket.IO server documentation, "Connection
+    /// socket whose client's outbox has no space for it is counted as dropped. A logged event gets
+    /// the next offset as its payload's last element (Socket.IO server documentation, "Connection
     /// state recovery"). Refused as `UnknownNamespace`, `BadPayload`, `Spent`, then for `Memory`,
-    /// which may come instead of `Spent`. It takes the logarithm of the namespaces, and walks the
-    /// members of the rooms in all namespaces, or where no room is named the sockets of its
-    /// namespace alone, each with the logarithm and the excepted rooms.
+    /// which may come instead of `Spent`. It takes as much as `sockets_join`.
     ///
     /// After it, accepted or refused, each connected session has heard just the journal's logged
     /// broadcasts that are due to it, as `facts` says.

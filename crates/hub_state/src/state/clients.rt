@@ -1,17 +1,26 @@
-//! Clients are opened and closed.
+//! Clients are opened and closed, or lost, so that their sockets' sessions are saved; what is
+//! outdated is dropped (Socket.IO server documentation, "Connection state recovery").
 
-ghost use Rattle.std.specs.Prelude.{◌≡◌, ℕ, length, ◌==◌, IfOk, if◌then◌else◌, None};
+ghost use Rattle.std.specs.Prelude.{◌≡◌, ℕ, length, ◌==◌, IfOk, if◌then◌else◌, None, ◌-◌, OnOk, OnErr, ◌+◌, max};
 ghost use Rattle.std.specs.Ordering.{nat_cmp};
 ghost use Rattle.std.specs.BTreeMap.{get};
 ghost use Rattle.journal.specs.Command.{Does};
 ghost use Rattle.journal.specs.Fields.{new_client, held_entries};
 ghost use Rattle.journal.specs.declared.step.What.{What};
 ghost use Rattle.hub_state.specs.Changes.{refusal_now, Reports};
+ghost use Rattle.recovery.specs.SavedTable as table;
+ghost use Rattle.recovery.specs.PacketLog.{swept};
+ghost use Rattle.recovery.specs.SavedTable.{table_swept};
+ghost use Rattle.journal.specs.Parking.{lost_in, HasNoneOf, with_lost, without_lost};
+ghost use Rattle.hub_state.specs.Words.{saves, logs};
 
-use crate::state::note_ended::as_ended;
+use crate::client::{Client, Outbox, Sockets};
+use crate::limits::Limits;
+use crate::state::end::{as_ended, rooms_in};
 use crate::state::{NONE, State};
-use hub_parts::{Client, Outbox, Sockets};
-use journal::{Config, Counts, Ending, HubError, What};
+use journal::{Config, Counts, Ending, HubError, Socket, Swept, What};
+use recovery::{PacketLog, Saved, SavedTable};
+use room_maps::Rooms;
 use std::alloc::{AllocError, Global};
 use std::collections::BTreeMap;
 
@@ -27,14 +36,79 @@ fn new_client(alloc: Global, config: &Config) -> Result<Client, AllocError>
 }
 
 /// Forgets a client, and says how many entries waited for it.
-pub(crate) fn forget_client(clients: &mut BTreeMap<u128, Client>, client: u128) -> usize
+fn forget_client(clients: &mut BTreeMap<u128, Client>, client: u128) -> u64
     ensures discards { result ≡ length (held_entries (get nat_cmp clients.old client)) }
     ensures clients { (q : ℕ) → get nat_cmp clients.new q
         ≡ (if client == q then None else get nat_cmp clients.old q) }
 {
     match clients.remove(&client) {
-        Some(known) => known.outbox.len(),
+        Some(known) => known.outbox.len() as u64,
         None => 0,
+    }
+}
+
+/// Saves the session of a socket that is lost.
+fn save_one(
+    saved: &mut SavedTable,
+    rooms: &Rooms,
+    alloc: Global,
+    socket: Socket,
+    at: u64,
+) -> Result<(), AllocError>
+    ensures saved { OnOk result (saved.new ≡ table.saved saved.old (lost_in rooms.now at socket)) }
+    ensures unchanged { OnErr result (saved.new ≡ saved.old) }
+{
+    let session = Saved {
+        sid: socket.sid,
+        pid: socket.pid,
+        space: socket.space,
+        rooms: rooms_in(rooms, alloc, socket.sid)?,
+        lost_at: at,
+    };
+    saved.save(alloc, session).map_err(|_| AllocError)
+}
+
+/// Takes the sessions of sockets out of the table, as far as it has them.
+fn take_back(saved: &mut SavedTable, sockets: &[Socket])
+    ensures { saved.new ≡ without_lost sockets.now saved.old }
+{
+    for socket in sockets {
+        let _session = saved.remove(socket.pid);
+    }
+}
+
+/// Saves the sessions of sockets that are lost, or where memory is refused in the middle none.
+fn save_all(
+    saved: &mut SavedTable,
+    rooms: &Rooms,
+    alloc: Global,
+    sockets: &[Socket],
+    at: u64,
+) -> Result<(), AllocError>
+    requires { HasNoneOf sockets.now saved.old }
+    ensures saved { OnOk result (saved.new ≡ with_lost rooms.now at sockets.now saved.old) }
+    ensures unchanged { OnErr result (saved.new ≡ saved.old) }
+{
+    for socket in sockets {
+        if let Err(refusal) = save_one(saved, rooms, alloc, *socket, at) {
+            take_back(saved, sockets);
+            return Err(refusal);
+        }
+    }
+    Ok(())
+}
+
+/// Drops what is outdated at a moment.
+fn drop_outdated(log: &mut PacketLog, saved: &mut SavedTable, limits: &Limits, at: u64) -> Swept
+    ensures log { log.new ≡ swept log.old limits.now.keep (max log.old.last at) }
+    ensures saved { saved.new ≡ table_swept saved.old limits.now.keep at }
+    ensures log_count { length log.new.entries + result.log ≡ length log.old.entries }
+    ensures saved_count { length saved.new.sessions + result.saved ≡ length saved.old.sessions }
+{
+    let keep = limits.config().keep;
+    Swept {
+        log: log.sweep(at, keep),
+        saved: saved.sweep(at, keep),
     }
 }
 
@@ -51,9 +125,9 @@ impl State {
         self.may_count(0, 0)
     }
 
-    /// Opens a client, with no sockets and an empty outbox. Refused as `IdTaken`,
-    /// `TooManyClients`, `Spent`, then for `Memory`. It takes the logarithm of the clients. The
-    /// outbox takes its memory as entries come.
+    /// Opens a client, with no sockets and an empty outbox, which takes its memory as entries come.
+    /// Refused as `IdTaken`, `TooManyClients`, `Spent`, then for `Memory`. It takes the logarithm
+    /// of the clients.
     pub fn open(&mut self, alloc: Global, client: u128, now: u64) -> Result<(), HubError>
         ensures { Does self.old self.new now (What.Opened client) result }
     {
@@ -77,8 +151,7 @@ impl State {
 
     /// Closes a client: its sockets end, nothing of them is saved, and what waits for it is
     /// discarded. Refused as `UnknownClient`, `Spent`, then for `Memory`. It takes the logarithm of
-    /// the clients and, for each of the client's sockets, that of the sockets, and each of their
-    /// rooms takes the logarithm of the sockets and of the rooms.
+    /// the clients, and for each room of its sockets that of the sockets and of the rooms.
     pub fn close(&mut self, alloc: Global, client: u128, now: u64) -> Result<(), HubError>
         ensures { Does self.old self.new now (What.Closed client) result }
     {
@@ -87,12 +160,69 @@ impl State {
         let mut ended = as_ended(&self.live.rooms, alloc, Ending::Closed, &sockets)?;
         self.records.steps.reserve()?;
         self.ended_sockets.append(&mut ended)?;
-        let discards = forget_client(&mut self.clients, client);
+        let discarded = forget_client(&mut self.clients, client);
         self.live.forget_all(&sockets);
         self.live.rooms.kept_facts();
-        let discarded = discards as u64;
         let added = Counts { discarded, ..NONE };
         self.records.add(now, What::Closed(client), added);
         Ok(())
+    }
+
+    fn may_park(&self, client: u128) -> Result<(), HubError>
+        ensures { Reports result (refusal_now self.now (What.Parked client)) }
+    {
+        self.facts();
+        let Some(known) = self.clients.get(&client) else {
+            return Err(HubError::UnknownClient);
+        };
+        let free = self.limits.config().saved.saturating_sub(self.saved.len());
+        if free < known.sockets.len() {
+            return Err(HubError::SavedFull);
+        }
+        self.may_count(0, 0)
+    }
+
+    /// Parks a client that was lost: the sessions of its sockets are saved with their rooms, its
+    /// sockets end, and what waits for it is discarded. Refused as `UnknownClient`, `SavedFull`
+    /// where the saved sessions leave fewer places than it has sockets, `Spent`, then for `Memory`.
+    /// It takes as much as `close`, and the logarithm of the saved sessions for each of its sockets.
+    pub fn park(&mut self, alloc: Global, client: u128, now: u64) -> Result<(), HubError>
+        ensures { Does self.old self.new now (What.Parked client) result }
+    {
+        self.may_park(client)?;
+        let at = now.max(self.records.last);
+        let sockets = self.its_sockets(alloc, client)?;
+        let mut ended = as_ended(&self.live.rooms, alloc, Ending::Saved, &sockets)?;
+        self.records.steps.reserve()?;
+        let before = self.ended_sockets.len();
+        self.ended_sockets.append(&mut ended)?;
+        let rooms = &self.live.rooms;
+        if let Err(AllocError) = save_all(&mut self.saved, rooms, alloc, &sockets, at) {
+            self.ended_sockets.truncate(before);
+            return Err(HubError::Memory);
+        }
+        let discarded = forget_client(&mut self.clients, client);
+        self.live.forget_all(&sockets);
+        self.live.rooms.kept_facts();
+        let added = Counts { discarded, ..NONE };
+        self.records.add(now, What::Parked(client), added);
+        Ok(())
+    }
+
+    /// Drops the entries of the log and the saved sessions that are older than the hub keeps them,
+    /// and says how many. Refused as `Spent`, then for `Memory`. Each that is dropped takes the
+    /// logarithm of the saved sessions, and it looks at one more of both.
+    pub fn sweep(&mut self, _alloc: Global, now: u64) -> Result<Swept, HubError>
+        ensures does { Does self.old self.new now What.Swept result }
+        ensures counts { IfOk result (λ dropped.
+            (length (logs self.old) ≡ length (logs self.new) + dropped.log)
+            × (length (saves self.old) ≡ length (saves self.new) + dropped.saved)) }
+    {
+        self.may_count(0, 0)?;
+        let at = now.max(self.records.last);
+        self.records.steps.reserve()?;
+        let swept = drop_outdated(&mut self.log, &mut self.saved, &self.limits, at);
+        self.records.add(now, What::Swept, NONE);
+        Ok(swept)
     }
 }

@@ -17,9 +17,9 @@ ghost use Rattle.journal.specs.declared.step.What.{What};
 ghost use Rattle.hub_state.specs.Changes.{ChangesClient, SameClients, SameLive, WithSocket, IsNew, IsAlone, refusal_now};
 ghost use Rattle.hub_state.specs.Words.{opened, plain_entry, socket_for, answer_at};
 
+use crate::client::Client;
 use crate::state::deliver::{put_entry, shared_text, take_back};
 use crate::state::{Live, NONE, State};
-use hub_parts::Client;
 use journal::{Counts, HubError, Socket, What};
 use recovery::Pid;
 use sio_wire::connected_text;
@@ -33,10 +33,8 @@ fn answer_to(alloc: Global, name: &str, sid: Sid, pid: Pid) -> Result<Arc<Entry>
     ensures ok { IfOk result (λ entry.
         arc_value entry ≡ plain_entry (connect_answer.connected_text name.now sid pid)) }
 {
-    match connected_text(alloc, name, sid.number(), pid.number()) {
-        Ok(text) => shared_text(alloc, text),
-        Err(_) => Err(AllocError),
-    }
+    let text = connected_text(alloc, name, sid.number(), pid.number()).map_err(|_| AllocError)?;
+    shared_text(alloc, text)
 }
 
 impl Live {
@@ -85,7 +83,7 @@ fn drop_socket(clients: &mut BTreeMap<u128, Client>, client: u128)
 }
 
 /// Gives a socket whose ids are free to its client, as the newest, and makes it known by them, in
-/// its own room and in these. Where memory is refused, all stays as it was.
+/// its own room and in these, or for want of memory does nothing.
 pub(crate) fn seat(
     alloc: Global,
     clients: &mut BTreeMap<u128, Client>,
@@ -120,11 +118,8 @@ impl State {
         ensures refused { IfErr result (λ e. e ≡ HubError.UnknownNamespace) }
     {
         let _few = self.spaces();
-        let place = self
-            .limits
-            .place_of(space)
-            .ok_or(HubError::UnknownNamespace)?;
-        Ok(place as u16)
+        let place = self.limits.place_of(space);
+        Ok(place.ok_or(HubError::UnknownNamespace)? as u16)
     }
 
     /// The namespaces.
@@ -142,8 +137,8 @@ impl State {
         self.clients.get(&client)?.sockets.at(place)
     }
 
-    /// The session id of a client's socket in a namespace, or `None` where it has none there. It
-    /// takes the logarithm of the clients, of the namespaces and of the client's sockets.
+    /// The session id of a client's socket in a namespace. It takes the logarithm of the clients,
+    /// of the namespaces and of the client's sockets.
     pub fn socket_of(&self, client: u128, space: &str) -> Option<Sid>
         ensures { let place = place_of self.now.limits space.now
             in result ≡ option_map sid_of (socket_of self.now.base self.now.journal client place) }
@@ -204,10 +199,9 @@ impl State {
             ≡ is_full h.base h.limits h.journal client (answer_at h client place sid pid) }
     {
         let size = self.answer_size(place);
-        match self.clients.get(&client) {
-            Some(known) => known.outbox.lacks(size),
-            None => false,
-        }
+        self.clients
+            .get(&client)
+            .is_some_and(|known| known.outbox.lacks(size))
     }
 
     /// The socket that is to be connected, or why it can't be.

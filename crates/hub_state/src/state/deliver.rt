@@ -11,9 +11,9 @@ ghost use Rattle.journal.specs.declared.step.What.{What};
 ghost use Rattle.hub_state.specs.Changes.{ChangesClient, SameClients, without_newest, refusal_now, Reports};
 ghost use Rattle.hub_state.specs.Words.{opened, waits, plain_entry, told, took};
 
-use crate::state::aim::is_full;
+use crate::client::Client;
+use crate::state::cast::is_full;
 use crate::state::{NONE, State};
-use hub_parts::Client;
 use journal::{Counts, HubError, Message, What};
 use std::alloc::{AllocError, Global};
 use std::collections::BTreeMap;
@@ -38,8 +38,7 @@ pub(crate) fn shared_text(alloc: Global, text: String) -> Result<Arc<Entry>, All
     Ok(Arc::new(alloc, Entry { text, attachments })?)
 }
 
-/// Puts an entry at the end of a client's outbox, which has space for it. Where memory is refused,
-/// all stays as it was.
+/// Puts an entry at the end of a client's outbox, which has space for it.
 pub(crate) fn put_entry(
     clients: &mut BTreeMap<u128, Client>,
     client: u128,
@@ -117,18 +116,6 @@ impl State {
         Ok(most.min(waits))
     }
 
-    /// Copies of the first entries that wait for a client.
-    fn copies(&self, alloc: Global, client: u128, count: usize) -> Result<Vec<Entry>, AllocError>
-        requires { count ≤ length (waits self.now client) }
-        ensures ok { IfOk result (λ entries. opened self.now client ≡ true
-            → entries.items ≡ take count (waits self.now client)) }
-    {
-        match self.clients.get(&client) {
-            Some(known) => known.outbox.copies(alloc, count),
-            None => Ok(Vec::new(alloc)),
-        }
-    }
-
     /// Hands out the first `most` entries that wait for a client, or all where fewer wait. Refused
     /// as `UnknownClient`, `Spent`, then for `Memory`. It takes the logarithm of the clients, and
     /// copies what it hands out.
@@ -143,15 +130,16 @@ impl State {
         ensures does { Does self.old self.new now (took self.old client most) result }
     {
         let number = self.takes(client, most)?;
-        let entries = self.copies(alloc, client, number)?;
+        let entries = match self.clients.get(&client) {
+            Some(known) => known.outbox.copies(alloc, number)?,
+            None => Vec::new(alloc),
+        };
         self.take_away(alloc, client, most, now)?;
         Ok(entries)
     }
 
-    /// The first `most` entries that wait for a client, or all where fewer wait, are taken as by
-    /// `take`, but not handed out: who wants them has read them by `outbox`. Tells how many they
-    /// are. Refused as `UnknownClient`, `Spent`, then for `Memory`. It takes the logarithm of the
-    /// clients, and copies nothing.
+    /// Takes entries as `take`, but copies none: who wants them has read them by `outbox`. It tells
+    /// how many they are.
     pub fn take_away(
         &mut self,
         _alloc: Global,
@@ -163,11 +151,12 @@ impl State {
         ensures does { Does self.old self.new now (took self.old client most) result }
     {
         let number = self.takes(client, most)?;
+        self.records.steps.reserve()?;
+        hand_out(&mut self.clients, client, number);
         let taken = number as u64;
         let added = Counts { taken, ..NONE };
-        let what = What::Took(client, most, number);
-        self.records.write(now, what, added)?;
-        hand_out(&mut self.clients, client, number);
+        self.records
+            .add(now, What::Took(client, most, number), added);
         Ok(number)
     }
 }

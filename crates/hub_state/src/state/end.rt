@@ -1,21 +1,100 @@
-//! Sockets are ended.
+//! Sockets are ended, alone or many of a namespace, and noted (Socket.IO server documentation,
+//! "Server API": `disconnectSockets`, and the events `disconnecting` and `disconnect`).
 
-ghost use Rattle.std.specs.Prelude.{◌≡◌, true, Some};
+ghost use Rattle.std.specs.Prelude.{◌≡◌, min, map, true, IfOk, Some, ℕ, ◌==◌, false, if◌then◌else◌};
+ghost use Rattle.hub_state.specs.EndedSockets.{ended_size, PlainEnded, as_ended, ended_sockets};
+ghost use Rattle.std.specs.List.{AllByRecursion, list_any};
+ghost use Rattle.journal.specs.Membership.{is_space, sockets_of, socket_with, sid_of, place_of};
+ghost use Rattle.journal.specs.Sessions.{rooms_rising};
 ghost use Rattle.room_maps.specs.Membership as room_maps;
-ghost use Rattle.journal.specs.Membership.{socket_with, sid_of};
 ghost use Rattle.journal.specs.Command.{Does};
 ghost use Rattle.journal.specs.Fields.{without_place};
 ghost use Rattle.journal.specs.declared.step.What.{What};
-ghost use Rattle.hub_parts.specs.Seats.{WithoutSeat};
-ghost use Rattle.hub_state.specs.Changes.{ChangesClient, WithoutPid, WithoutSockets, CanForget};
+ghost use Rattle.hub_state.specs.Seats.{WithoutSeat};
+ghost use Rattle.hub_state.specs.Changes.{ChangesClient, WithoutPid, WithoutSockets, CanForget, MakesStep};
+ghost use Rattle.std.specs.Option.{option_map};
+ghost use Rattle.std.specs.Ordering.{nat_cmp};
+ghost use Rattle.std.specs.BTreeMap.{get};
+ghost use Rattle.std.specs.Arc.{arc_value};
+ghost use Rattle.journal.specs.Outboxes as outboxes;
+ghost use Rattle.journal.specs.ManySockets.{dismissal};
+ghost use Rattle.journal.specs.Totals.{is_spent};
+ghost use Rattle.journal.specs.declared.socket.Socket.{Socket};
+ghost use Rattle.hub_state.specs.Words.{DismissesNow};
 
-use crate::state::note_ended::as_ended;
+use crate::client::Client;
+use crate::state::cast::{messages_for, put_messages, receivers, sockets_in};
+use crate::state::deliver::shared_text;
 use crate::state::{Live, NONE, State};
-use hub_parts::Client;
-use journal::{Ending, HubError, Side, Socket, What};
-use std::alloc::Global;
+use journal::{Counts, Dismissal, Dismissed, Ending, HubError, Message, Side, Socket, What};
+use room_maps::Rooms;
+use sio_wire::disconnect_text;
+use std::alloc::{AllocError, Global};
 use std::collections::BTreeMap;
-use terms::Sid;
+use std::marker::Model;
+use std::sync::Arc;
+use terms::{Entry, Room, Sid};
+
+/// A socket that ended. In a contract it is plain data.
+#[derive(Drop)]
+pub struct EndedSocket {
+    pub socket: Socket,
+    /// The rooms that it was in, its own among them, rising by their bytes.
+    pub rooms: Vec<Room>,
+    pub ending: Ending,
+}
+
+impl Model for EndedSocket {
+    ghost Value = { PlainEnded };
+
+    ghost view = { λ d. record { socket = d.socket; rooms = d.rooms.items; ending = d.ending } };
+}
+
+/// How many bytes a socket that ended takes, beside its rooms.
+const SOCKET: u64 = 96;
+
+/// How many bytes the name of a room takes, however long it is.
+const ROOM: u64 = 65;
+
+impl EndedSocket {
+    /// How many bytes it takes with its rooms, or the greatest u64.
+    pub(crate) fn size(&self) -> u64
+        ensures { result ≡ min (ended_size self.now) u64.MAX }
+    {
+        ROOM.saturating_mul(self.rooms.len() as u64)
+            .saturating_add(SOCKET)
+    }
+}
+
+/// The rooms that a socket is in, rising.
+pub(crate) fn rooms_in(rooms: &Rooms, alloc: Global, sid: Sid) -> Result<Vec<Room>, AllocError>
+    ensures rooms { IfOk result (λ inside. inside.items ≡ rooms_rising rooms.now sid) }
+{
+    match rooms.rooms_of(alloc, sid) {
+        Ok(inside) => Ok(inside),
+        Err(_) => Err(AllocError),
+    }
+}
+
+/// Sockets as they end now.
+pub(crate) fn as_ended(
+    rooms: &Rooms,
+    alloc: Global,
+    ending: Ending,
+    sockets: &[Socket],
+) -> Result<Vec<EndedSocket>, AllocError>
+    ensures ok { IfOk result (λ list. list.items ≡ map (as_ended ending rooms.now) sockets.now) }
+{
+    let mut list = Vec::new(alloc);
+    for socket in sockets {
+        list.push(EndedSocket {
+            socket: *socket,
+            rooms: rooms_in(rooms, alloc, socket.sid)?,
+            ending,
+        })?;
+    }
+    Ok(list)
+}
 
 /// Takes the socket at a place out of its client's list.
 pub(crate) fn drop_from(clients: &mut BTreeMap<u128, Client>, client: u128, place: usize)
@@ -50,7 +129,50 @@ impl Live {
     }
 }
 
+/// The ids of the sockets, in the same order.
+fn ids_of(alloc: Global, sockets: &[Socket]) -> Result<Vec<Sid>, AllocError>
+    ensures ok { IfOk result (λ sids. sids.items ≡ map sid_of sockets.now) }
+{
+    sockets.iter().map(|socket| socket.sid).collect(alloc)
+}
+
+/// Takes the sockets, which are all at this place, out of their clients' lists.
+fn drop_all(clients: &mut BTreeMap<u128, Client>, sockets: &[Socket], place: usize)
+    ensures { (q : ℕ) → get nat_cmp clients.new q
+        ≡ (if list_any (λ (k : Socket). k.client == q) sockets.now
+        then option_map (without_place place) (get nat_cmp clients.old q)
+        else get nat_cmp clients.old q) }
+{
+    for socket in sockets {
+        drop_from(clients, socket.client, place);
+    }
+}
+
 impl State {
+    /// The sockets that ended since the base, in order. They grow until a seal.
+    pub fn ended_sockets(&self) -> &[EndedSocket]
+        ensures all { result.now ≡ ended_sockets self.now.base self.now.journal }
+        ensures in_spaces { let h = self.now in AllByRecursion
+            (λ (gone : PlainEnded). is_space h.limits gone.socket.space ≡ true) result.now }
+    {
+        self.ended_sockets.as_slice()
+    }
+
+    /// The sockets of a client.
+    pub(crate) fn its_sockets(&self, alloc: Global, client: u128) -> Result<Vec<Socket>, AllocError>
+        ensures ok { let h = self.now
+            in IfOk result (λ all. all.items ≡ sockets_of h.base h.journal client) }
+    {
+        let mut list = Vec::new(alloc);
+        let Some(known) = self.clients.get(&client) else {
+            return Ok(list);
+        };
+        for socket in known.sockets.values() {
+            list.push(*socket)?;
+        }
+        Ok(list)
+    }
+
     /// The connected socket with a session id.
     pub(crate) fn socket_with(&self, sid: Sid) -> Option<Socket>
         ensures { result ≡ socket_with sid_of self.now.base self.now.journal sid }
@@ -58,9 +180,9 @@ impl State {
         self.live.seats.get(sid).copied()
     }
 
-    /// Ends a socket alone, by this side: it leaves its client and all its rooms, and nothing is
-    /// saved. Refused as `UnknownSocket`, `Spent`, then for `Memory`. It takes the logarithm of the
-    /// clients and sockets, and each of its rooms takes the logarithm of the sockets and rooms.
+    /// Ends a socket alone, by this side: nothing is saved. Refused as `UnknownSocket`, `Spent`,
+    /// then for `Memory`. It takes the logarithm of the clients, and for each of its rooms that of
+    /// the sockets and rooms.
     pub fn end(&mut self, alloc: Global, sid: Sid, by: Side, now: u64) -> Result<(), HubError>
         ensures { Does self.old self.new now (What.Ended sid by) result }
     {
@@ -74,5 +196,111 @@ impl State {
         self.live.rooms.kept_facts();
         self.records.add(now, What::Ended(sid, by), NONE);
         Ok(())
+    }
+
+    /// What a client is told whose socket in the namespace at a place is ended.
+    fn farewell(&self, alloc: Global, place: usize) -> Result<Arc<Entry>, AllocError>
+        ensures ok { IfOk result (λ e. arc_value e ≡ outboxes.farewell self.now.limits place) }
+    {
+        match disconnect_text(alloc, self.name_at(place)) {
+            Ok(text) => shared_text(alloc, text),
+            Err(_) => Err(AllocError),
+        }
+    }
+
+    /// The dismissal that is asked for, the sockets that it ends, and what it tells their clients.
+    fn plan(
+        &self,
+        alloc: Global,
+        space: u16,
+        rooms: Vec<Room>,
+        excepted: Vec<Room>,
+    ) -> Result<(Dismissal, Vec<Socket>, Vec<Message>), AllocError>
+        ensures asked { IfOk result (λ plan.
+            plan.0 ≡ dismissal self.now space rooms.items excepted.items) }
+        ensures makes { IfOk result (λ p. DismissesNow self.now p.0 p.1.items p.2.items) }
+    {
+        let sids = self.listeners(alloc, space, &rooms, &excepted)?;
+        let sockets = sockets_in(alloc, &self.live.seats, &sids, space)?;
+        let entry = self.farewell(alloc, usize::from(space))?;
+        let (messages, _missing) = messages_for(alloc, &self.clients, &sockets, &entry)?;
+        let ended = ids_of(alloc, &sockets)?;
+        let mut told = receivers(alloc, &messages)?;
+        told.sort_unstable();
+        let dismissal = Dismissal {
+            space,
+            rooms,
+            excepted,
+            ended,
+            told,
+        };
+        Ok((dismissal, sockets, messages))
+    }
+
+    /// Tells the clients and ends the sockets of a dismissal that may be made.
+    fn dismiss(
+        &mut self,
+        alloc: Global,
+        dismissal: Dismissal,
+        sockets: Vec<Socket>,
+        messages: Vec<Message>,
+        now: u64,
+    ) -> Result<(), HubError>
+        requires known { is_space self.old.limits dismissal.space ≡ true }
+        requires makes { DismissesNow self.old dismissal sockets.items messages.items }
+        requires unspent { let what = What.AllEnded dismissal
+            in is_spent self.old.base self.old.limits self.old.journal what ≡ false }
+        ensures { MakesStep self.old self.new now (What.AllEnded dismissal) result }
+    {
+        let place = usize::from(dismissal.space);
+        let placed = dismissal.told.len() as u64;
+        let added = Counts { placed, ..NONE };
+        let gone = sockets_in(alloc, &self.live.seats, &dismissal.ended, dismissal.space)?;
+        let mut ended = as_ended(&self.live.rooms, alloc, Ending::Together, &gone)?;
+        let told = receivers(alloc, &messages)?;
+        self.records.steps.reserve()?;
+        let before = self.ended_sockets.len();
+        self.ended_sockets.append(&mut ended)?;
+        if let Err(AllocError) = put_messages(&mut self.clients, messages, &told) {
+            self.ended_sockets.truncate(before);
+            return Err(HubError::Memory);
+        }
+        drop_all(&mut self.clients, &sockets, place);
+        self.live.forget_all(&sockets);
+        self.live.rooms.kept_facts();
+        self.records.add(now, What::AllEnded(dismissal), added);
+        Ok(())
+    }
+
+    /// Ends all connected sockets of a namespace that are in one of the rooms, or where none is
+    /// named all, but for those in an excepted room: each client is told so by a DISCONNECT packet
+    /// where its outbox has space for it, nothing is saved, and no drop is counted. It gives the
+    /// sockets that ended, rising, and the clients that were told, rising. Refused as
+    /// `UnknownNamespace`, then as `Spent` and for `Memory` in either order. It takes as much as
+    /// `sockets_join`, and for each room of a socket that ends the logarithm of sockets and rooms.
+    pub fn disconnect_sockets(
+        &mut self,
+        alloc: Global,
+        space: &str,
+        rooms: Vec<Room>,
+        excepted: Vec<Room>,
+        now: u64,
+    ) -> Result<Dismissed, HubError>
+        ensures done { let place = place_of self.old.limits space.now
+            in IfOk result (λ done. let d = dismissal self.old place rooms.items excepted.items
+            in (done.ended.items ≡ d.ended) × (done.told.items ≡ d.told)) }
+        ensures does { let place = place_of self.old.limits space.now
+            in let d = dismissal self.old place rooms.items excepted.items
+            in Does self.old self.new now (What.AllEnded d) result }
+    {
+        let place = self.place_of(space)?;
+        let (dismissal, sockets, messages) = self.plan(alloc, place, rooms, excepted)?;
+        let done = Dismissed {
+            ended: Vec::from_slice(alloc, &dismissal.ended)?,
+            told: Vec::from_slice(alloc, &dismissal.told)?,
+        };
+        self.may_count(dismissal.told.len() as u64, 0)?;
+        self.dismiss(alloc, dismissal, sockets, messages, now)?;
+        Ok(done)
     }
 }

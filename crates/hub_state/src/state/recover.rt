@@ -1,38 +1,133 @@
-//! Saved sessions come back (Socket.IO server documentation, "Connection state recovery").
+//! Saved sessions come back, with what they have missed (Socket.IO server documentation,
+//! "Connection state recovery").
 
-ghost use Rattle.std.specs.Prelude.{◌≡◌, ℕ, ◌+◌, ◌^◌, ◌<◌, ◌≤◌, ◌||◌, true, false, ◌++◌, length, map, IfOk, IfErr, OnOk, OnErr, IfSome, IfNone, None, Some, is_some, nat_lt};
+ghost use Rattle.std.specs.Prelude.{◌≡◌, ◌+◌, ◌≤◌, ◌||◌, true, [], ◌∷◌, ◌++◌, length, map, filter, nat_lt, OnOk, IfSome, IfNone, ℕ, ◌^◌, ◌<◌, false, IfOk, IfErr, OnErr, None, Some, is_some};
+ghost use Rattle.std.specs.Arc.{arc_value};
+ghost use Rattle.recovery.specs.Missed.{is_for};
+ghost use Rattle.journal.specs.Outboxes.{total_size, waiting};
+ghost use Rattle.journal.specs.Recovery.{gets, brought_back, with_entries};
+ghost use Rattle.hub_state.specs.Recovering.{gets_back, recovery_asked, session_refusal_at, recover_refusal_of, puts_again};
 ghost use Rattle.std.specs.Ordering.{nat_cmp};
 ghost use Rattle.std.specs.BTreeMap.{get};
-ghost use Rattle.std.specs.Arc.{arc_value};
 ghost use Rattle.recovery.specs.PacketLog.{later_than};
 ghost use Rattle.terms.specs.Entry.{entry_size};
 ghost use Rattle.journal.specs.Journal.{moment_at};
 ghost use Rattle.journal.specs.Membership.{place_of};
 ghost use Rattle.journal.specs.Sessions.{session_with};
-ghost use Rattle.journal.specs.Outboxes.{waiting, total_size};
-ghost use Rattle.journal.specs.Recovery.{brought_back, with_entries};
 ghost use Rattle.journal.specs.Refusals.{have_no_space, recovered_entries};
 ghost use Rattle.journal.specs.Legal.{RightRecovery};
 ghost use Rattle.journal.specs.Command.{refusal, Does};
 ghost use Rattle.journal.specs.declared.step.What.{What};
 ghost use Rattle.hub_state.specs.Changes.{ChangesClient, SameClients, MakesStep};
-ghost use Rattle.hub_state.specs.Recovering.{recovery_asked, session_refusal_at, recover_refusal_of, puts_again};
 ghost use Rattle.hub_state.specs.Words.{opened, waits, logs, saves, answer_at, AllHear};
 
+use crate::client::{Client, Outbox, free_after};
 use crate::state::connect::seat;
 use crate::state::deliver::take_back;
-use crate::state::missed::{FoundSession, add_missed};
 use crate::state::{NONE, State};
-use hub_parts::{Client, Outbox};
 use journal::{Counts, HubError, Recovery, RecoveryRefusal, Socket, What};
-use recovery::{Pid, Saved};
+use recovery::{Logged, Pid, Saved};
 use std::alloc::{AllocError, Global};
 use std::collections::BTreeMap;
 use std::sync::Arc;
-use terms::{Entry, Sid};
+use terms::{Entry, Room, Sid};
 
-/// Puts entries at the end of an outbox, which has space for all. Where memory is refused in the
-/// middle, what was put is taken back.
+/// A saved session that may come back, and what the log has past the offset that its client named,
+/// in two pieces.
+#[derive(Clone, Copy)]
+pub(crate) struct FoundSession<'a> {
+    pub(crate) session: &'a Saved,
+    pub(crate) front: &'a [Logged],
+    pub(crate) back: &'a [Logged],
+}
+
+impl FoundSession<'_> {
+    /// How many of the broadcasts the session gets, where places and bytes are enough for them.
+    pub(crate) fn count(self, places: usize, bytes: usize) -> Option<usize>
+        ensures number { IfSome result (λ number. number ≡ length (gets_back self.entry)) }
+        ensures places { IfSome result (λ number. number ≤ places) }
+        ensures bytes { IfSome result (λ number. total_size (gets_back self.entry) ≤ bytes) }
+        ensures none { let puts = gets_back self.entry in IfNone result
+            ((nat_lt places (length puts) || nat_lt bytes (total_size puts)) ≡ true) }
+    {
+        let FoundSession {
+            session,
+            front,
+            back,
+        } = self;
+        let first = left_after(front, session.space, &session.rooms, places, bytes)?;
+        let last = left_after(back, session.space, &session.rooms, first.0, first.1)?;
+        Some(places - last.0)
+    }
+}
+
+/// What is left of the places and bytes once a socket has what it gets of the broadcasts.
+fn left_after(
+    broadcasts: &[Logged],
+    space: u16,
+    rooms: &[Room],
+    places: usize,
+    bytes: usize,
+) -> Option<(usize, usize)>
+    ensures places { let puts = gets space rooms.now broadcasts.now
+        in IfSome result (λ left. left.0 + length puts ≡ places) }
+    ensures bytes { let puts = gets space rooms.now broadcasts.now
+        in IfSome result (λ left. left.1 + total_size puts ≡ bytes) }
+    ensures none { let puts = gets space rooms.now broadcasts.now
+        in IfNone result ((nat_lt places (length puts) || nat_lt bytes (total_size puts)) ≡ true) }
+{
+    let mut left = (places, bytes);
+    for logged in broadcasts {
+        left = left_after_one(logged, space, rooms, left)?;
+    }
+    Some(left)
+}
+
+/// What is left of the places and bytes once a socket has the broadcast, where it gets it.
+fn left_after_one(
+    logged: &Logged,
+    space: u16,
+    rooms: &[Room],
+    left: (usize, usize),
+) -> Option<(usize, usize)>
+    ensures places { let puts = gets space rooms.now (logged.now ∷ [])
+        in IfSome result (λ less. less.0 + length puts ≡ left.0) }
+    ensures bytes { let puts = gets space rooms.now (logged.now ∷ [])
+        in IfSome result (λ less. less.1 + total_size puts ≡ left.1) }
+    ensures none { let puts = gets space rooms.now (logged.now ∷ []) in IfNone result
+        ((nat_lt left.0 (length puts) || nat_lt left.1 (total_size puts)) ≡ true) }
+{
+    if !logged.is_for(space, rooms) {
+        return Some(left);
+    }
+    let places = left.0.checked_sub(1)?;
+    let bytes = free_after(left.1, &logged.entry)?;
+    Some((places, bytes))
+}
+
+/// Adds what a socket gets of the broadcasts, and their offsets, to two lists.
+pub(crate) fn add_missed(
+    broadcasts: &[Logged],
+    space: u16,
+    rooms: &[Room],
+    entries: &mut Vec<Arc<Entry>>,
+    offsets: &mut Vec<u64>,
+) -> Result<(), AllocError>
+    ensures entries { OnOk result (map arc_value entries.new.items
+        ≡ map arc_value entries.old.items ++ gets space rooms.now broadcasts.now) }
+    ensures offsets { OnOk result (offsets.new.items ≡ offsets.old.items
+        ++ map (λ entry. entry.offset) (filter (is_for space rooms.now) broadcasts.now)) }
+{
+    for logged in broadcasts {
+        if logged.is_for(space, rooms) {
+            entries.push(Arc::try_clone(&logged.entry)?)?;
+            offsets.push(logged.offset)?;
+        }
+    }
+    Ok(())
+}
+
+/// Puts entries at the end of an outbox, or where memory is refused in the middle none.
 fn push_all(outbox: &mut Outbox, entries: Vec<Arc<Entry>>) -> Result<(), AllocError>
     requires places { length outbox.old.waiting + length entries.items ≤ outbox.old.capacity }
     requires bytes { let puts = map arc_value entries.items
@@ -51,8 +146,7 @@ fn push_all(outbox: &mut Outbox, entries: Vec<Arc<Entry>>) -> Result<(), AllocEr
     Ok(())
 }
 
-/// Puts entries at the end of a client's outbox, which has space for all. Where memory is refused,
-/// all stays as it was.
+/// Puts entries at the end of a client's outbox, or where memory is refused none.
 fn put_all(
     clients: &mut BTreeMap<u128, Client>,
     client: u128,
@@ -96,8 +190,7 @@ impl State {
         if usize::from(session.space) != place {
             return Err(HubError::NotRecoverable(RecoveryRefusal::UnknownPid));
         }
-        let keep = self.limits.config().keep;
-        if session.is_outdated(keep, at) {
+        if session.is_outdated(self.limits.config().keep, at) {
             return Err(HubError::NotRecoverable(RecoveryRefusal::Expired));
         }
         let Some((front, back)) = self.log.later(offset) else {
@@ -110,8 +203,7 @@ impl State {
         })
     }
 
-    /// How many entries and bytes are free in an open client's outbox beside the answer to
-    /// a CONNECT, or `None` where there is none for the answer.
+    /// How many entries and bytes are free in an open client's outbox beside a CONNECT's answer.
     fn free_beside_answer(&self, client: u128, place: usize) -> Option<(usize, usize)>
         requires { opened self.now client ≡ true }
         ensures places { let h = self.now in IfSome result (λ free.
@@ -134,8 +226,7 @@ impl State {
         Some((places, bytes))
     }
 
-    /// How many entries the recovery of a session puts for an open client, or `None` where there
-    /// is no place for all.
+    /// How many entries the recovery of a session puts for an open client, if all have a place.
     fn put_count(&self, client: u128, found: FoundSession, offset: u64) -> Option<u64>
         requires open { opened self.now client ≡ true }
         requires later { found.front.now ++ found.back.now ≡ later_than offset (logs self.now) }

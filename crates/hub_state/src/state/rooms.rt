@@ -1,7 +1,8 @@
-//! Sockets join and leave rooms, alone or all of a namespace that match (Socket.IO server
-//! documentation, "Rooms", and "Server API", `socketsJoin` and `socketsLeave`).
+//! Sockets join and leave rooms, alone or all of a namespace that match, and who is in which
+//! (Socket.IO server documentation, "Rooms", and "Server API", `socketsJoin`, `socketsLeave`,
+//! `fetchSockets` and `socket.rooms`).
 
-ghost use Rattle.std.specs.Prelude.{◌≡◌, not, filter, IfOk};
+ghost use Rattle.std.specs.Prelude.{◌≡◌, not, filter, IfOk, true, false, IfErr, Err};
 ghost use Rattle.std.specs.Ordering.{nat_cmp};
 ghost use Rattle.std.specs.BTreeMap.{get};
 ghost use Rattle.room_maps.specs.Membership.{is_in};
@@ -12,9 +13,12 @@ ghost use Rattle.journal.specs.ManySockets.{RightJoining, RightLeaving};
 ghost use Rattle.journal.specs.Casting as casting;
 ghost use Rattle.journal.specs.declared.step.What.{What};
 ghost use Rattle.hub_state.specs.Changes.{refusal_now, Reports};
+ghost use Rattle.journal.specs.Sessions.{rooms_rising};
+ghost use Rattle.hub_state.specs.Words.{ListsMembers, rooms_now, selected};
 
+use crate::seats::Seats;
+use crate::state::end::rooms_in;
 use crate::state::{NONE, State};
-use hub_parts::Seats;
 use journal::{HubError, RoomChange, What};
 use room_maps::Rooms;
 use std::alloc::{AllocError, Global};
@@ -95,9 +99,10 @@ impl State {
         ensures { Does self.old self.new now (What.Left sid room) result }
     {
         self.may_leave(sid, room)?;
-        self.records.write(now, What::Left(sid, room), NONE)?;
+        self.records.steps.reserve()?;
         let _left = self.live.rooms.leave(sid, room);
         self.live.rooms.kept_facts();
+        self.records.add(now, What::Left(sid, room), NONE);
         Ok(())
     }
 
@@ -224,5 +229,55 @@ impl State {
         self.live.rooms.kept_facts();
         self.records.add(now, What::AllLeft(change), NONE);
         Ok(left)
+    }
+
+    /// The connected sockets of a namespace that are in a room, rising by their ids. Refused as
+    /// `UnknownNamespace`, then for `Memory`. It takes the logarithm of the namespaces, and
+    /// walks the room's members of all namespaces, each with the logarithm.
+    pub fn members(&self, alloc: Global, space: &str, room: Room) -> Result<Vec<Sid>, HubError>
+        ensures members { let place = place_of self.now.limits space.now
+            in IfOk result (λ sids. ListsMembers self.now place room sids.items) }
+        ensures refused { is_space self.now.limits (place_of self.now.limits space.now) ≡ false
+            → result ≡ Err HubError.UnknownNamespace }
+        ensures memory { is_space self.now.limits (place_of self.now.limits space.now) ≡ true
+            → IfErr result (λ e. e ≡ HubError.Memory) }
+    {
+        let place = self.place_of(space)?;
+        let Ok(mut sids) = self.live.rooms.members_of(alloc, room) else {
+            return Err(HubError::Memory);
+        };
+        keep_here(&mut sids, &self.live.seats, place);
+        Ok(sids)
+    }
+
+    /// The connected sockets of a namespace that are in one of the rooms, or where none is named
+    /// all, but for those in an excepted room, rising by their ids. Refused as `UnknownNamespace`,
+    /// then for `Memory`. It takes as much as `sockets_join`.
+    pub fn selected(
+        &self,
+        alloc: Global,
+        space: &str,
+        rooms: &[Room],
+        excepted: &[Room],
+    ) -> Result<Vec<Sid>, HubError>
+        ensures selected { let place = place_of self.now.limits space.now
+            in IfOk result (λ sids. sids.items ≡ selected self.now place rooms.now excepted.now) }
+        ensures refused { is_space self.now.limits (place_of self.now.limits space.now) ≡ false
+            → result ≡ Err HubError.UnknownNamespace }
+        ensures memory { is_space self.now.limits (place_of self.now.limits space.now) ≡ true
+            → IfErr result (λ e. e ≡ HubError.Memory) }
+    {
+        let place = self.place_of(space)?;
+        let mut sids = self.listeners(alloc, place, rooms, excepted)?;
+        keep_here(&mut sids, &self.live.seats, place);
+        Ok(sids)
+    }
+
+    /// The rooms that a socket is in, its own among them, rising by their bytes; none where it isn't
+    /// connected. It takes as many steps as it has rooms.
+    pub fn rooms_of(&self, alloc: Global, sid: Sid) -> Result<Vec<Room>, AllocError>
+        ensures { IfOk result (λ rooms. rooms.items ≡ rooms_rising (rooms_now self.now) sid) }
+    {
+        rooms_in(&self.live.rooms, alloc, sid)
     }
 }

@@ -6,8 +6,8 @@ ghost use Rattle.std.specs.BTreeMap.{IsOrdered};
 ghost use Rattle.journal.specs.Seal.{ids_of, base_of, LeadsTo, Seals};
 ghost use Rattle.hub_state.specs.Words.{RunsOn};
 
+use crate::client::{Client, Sockets};
 use crate::state::State;
-use hub_parts::{Client, Sockets};
 use journal::{Base, BaseClient, Epoch, HubError};
 use recovery::Pid;
 use std::alloc::{AllocError, Global};
@@ -39,7 +39,7 @@ fn copy_clients(
         copies.push(BaseClient {
             client: *client,
             sockets: socket_ids(alloc, &known.sockets)?,
-            waiting: known.outbox.shares(alloc)?,
+            waiting: known.outbox.share_first(alloc, known.outbox.len())?,
         })?;
     }
     Ok(copies)

@@ -9,7 +9,7 @@ ghost use Rattle.room_maps.specs.Membership.{is_socket, is_in, is_full, is_named
 ghost use Rattle.room_maps.specs.Membership as membership;
 
 use crate::error::RoomError;
-use crate::lookup;
+use crate::links;
 use crate::rooms::Rooms;
 use std::alloc::{AllocError, Global};
 use terms::{Room, Sid};
@@ -141,7 +141,7 @@ impl Rooms {
             .copied()
             .filter(|sid| self.is_in(*sid, room) == inside)
             .collect(alloc)?;
-        Ok(lookup::rising(those))
+        Ok(links::rising(those))
     }
 
     /// Adds the sockets. Where a growth is refused, those before it stay.

@@ -51,7 +51,10 @@ impl OnCore for OneList {
     ) -> Result<bool, AllocError> {
         let events = events(alloc)?;
         let UsualCore { core, pass, ids } = usual;
-        let answers = core.apply_all(alloc, pass, &Vague, events.as_slice(), ids)?;
+        let mut answers = Vec::with_capacity(alloc, events.len())?;
+        for (event, now) in events.as_slice() {
+            answers.push(core.apply(alloc, pass, &Vague, event, *now, ids))?;
+        }
         let mut rows = ROWS.iter().zip(answers.as_slice());
         let are_right = rows.all(|((_, want), got)| *want == got.as_ref().err().map(parts_of));
         let is_whole = answers.len() == ROWS.len();

@@ -1,7 +1,7 @@
 use Rattle.std.proofs.Common.{rules, ◌≡◌, ℕ, ◌==◌, true, false, None, is_some, sym, ◌∙◌, refl, arith}
 use Rattle.std.proofs.lemmas.Grind.{common_steps}
 use Rattle.journal.specs.declared.step.What.TheVariants as what
-use Rattle.effects.specs.Commands.{StopsAt}
+use Rattle.dispatch.specs.Commands.{StopsAt}
 use Rattle.dispatch.specs.Holding.{line_of}
 use Rattle.dispatch.proofs.TurnLemmas.{not-again, put-forgotten}
 use Rattle.dispatch.proofs.clients.open.Goals as goal

@@ -1,6 +1,6 @@
 use Rattle.std.proofs.Common.{rules, ◌≡◌, ◌∙◌, ap, Some, Err, refl, subst}
 use Rattle.connection.specs.Line.{PlainLine}
-use Rattle.effects.specs.Scene.{seen, visit_at}
+use Rattle.dispatch.specs.Scene.{seen, visit_at}
 use Rattle.dispatch.specs.Machine.{opening}
 use Rattle.dispatch.specs.Packets.{course, BreaksAfter}
 use Rattle.dispatch.specs.Holding.{line_of, holding, KeepsOthers}

@@ -1,5 +1,5 @@
 use Rattle.std.proofs.Common.{rules}
-use Rattle.effects.specs.Scene.{seen}
+use Rattle.dispatch.specs.Scene.{seen}
 use Rattle.dispatch.specs.Packets.{course}
 use Rattle.dispatch.proofs.PacketLemmas.{takes-text}
 use Rattle.dispatch.proofs.packets.handle.Goals as goal

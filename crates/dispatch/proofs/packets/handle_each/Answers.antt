@@ -1,13 +1,13 @@
 use Rattle.std.proofs.Common.{◌+◌, ℕ, length, take, refl, sym, ◌∙◌, ap, is_none, Option, Ok, Err, subst, rules}
 use Rattle.std.proofs.lemmas.Option.{slice_get_read}
 use Rattle.events.specs.declared.cause.Cause.{Cause}
-use Rattle.effects.specs.declared.scene.Visit.{Visit}
-use Rattle.effects.specs.Scene.{seen, visit_of}
-use Rattle.effects.proofs.RunsLemmas.{runs-none}
+use Rattle.dispatch.specs.declared.scene.Visit.{Visit}
+use Rattle.dispatch.specs.Scene.{seen, visit_of}
+use Rattle.dispatch.proofs.RunsLemmas.{runs-none}
 use Rattle.dispatch.specs.Packets.{Course, course, HandlesInTurn, HandlesOrBreaks}
 use Rattle.dispatch.proofs.PacketLaws.{all-after}
 use Rattle.dispatch.proofs.PacketLemmas.{in-turn, out-of-turn, still-open}
-use Rattle.dispatch.proofs.RunLemmas.{runs-take}
+use Rattle.dispatch.proofs.RunsLemmas.{runs-take}
 use Rattle.dispatch.proofs.TurnLemmas.{working-none}
 use Rattle.dispatch.proofs.packets.handle_each.Goals as goal
 use Rattle.dispatch.proofs.packets.handle_each.Goals.{then-not-is_closed+in_default, else-not-is_closed}

@@ -1,6 +1,6 @@
 use Rattle.std.proofs.Common.{◌≡◌, take}
-use Rattle.effects.specs.Runs.{Runs}
-use Rattle.effects.specs.Scene.{seen, IsSameEvent, visit_of}
+use Rattle.dispatch.specs.Runs.{Runs}
+use Rattle.dispatch.specs.Scene.{seen, IsSameEvent, visit_of}
 use Rattle.dispatch.specs.Packets.{course, HandlesInTurn}
 use Rattle.dispatch.proofs.packets.handle_each.Given as goal
 

@@ -1,6 +1,6 @@
 use Rattle.std.proofs.Common.{◌≡◌}
 use Rattle.guarded.specs.Guarded.{pass_into}
-use Rattle.expiry.specs.Expiring.{Allows}
+use Rattle.guarded.specs.Expiring.{Allows}
 use Rattle.switchboard.specs.Switchboard.{verdict_of}
 use Rattle.epochs.proofs.BackendLemmas.{backends-came}
 use Rattle.epochs.proofs.EntranceLemmas.{admitted}

@@ -1,5 +1,5 @@
 use Rattle.std.proofs.Common.{[]}
-use Rattle.effects.proofs.StepLemmas.{spared}
+use Rattle.dispatch.proofs.StepLemmas.{spared}
 use Rattle.epochs.proofs.EpochLaws.{spared-in-all, put-in-all}
 use Rattle.epochs.proofs.laws.others_are_spared_in_all_epochs.Goals as goal
 

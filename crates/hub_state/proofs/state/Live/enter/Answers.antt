@@ -1,5 +1,5 @@
 use Rattle.std.proofs.Common.{rules}
-use Rattle.hub_parts.specs.Seats.{SameSeats}
+use Rattle.hub_state.specs.Seats.{SameSeats}
 use Rattle.hub_state.specs.Changes.{SamePids, WithPid, WithoutPid}
 use Rattle.hub_state.proofs.state.Live.enter.Goals as goal
 

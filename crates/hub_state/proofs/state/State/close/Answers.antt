@@ -14,14 +14,14 @@ invariant_of-self-2 c =
     c.deref-2.ensures.value ∙ listed ∙ sym (held-all hub.base hub.limits (get nat_cmp hub.clients) hub.records.steps.steps c.args.client c.self.invariant.0.clients c.self.invariant.2.of_open_clients) in
     let gone = rw its at c.forget_all.ensures in
     rw (c.add.ensures.steps, c.add.ensures.last, c.reserve.ensures.same, c.add.ensures.counts)
-    (plus (closed _ _ c.args.client c.forget_client-discards.result c.args.now _ _ _ _ _ _ _ _ _ _ _ _ _ (hub-of c.self.inside c.self.invariant) (search rules) c.forget_client-discards.ensures.discards c.forget_client-discards.ensures.clients
+    (plus (closed _ _ c.args.client c.forget_client-discarded.result c.args.now _ _ _ _ _ _ _ _ _ _ _ _ _ (hub-of c.self.inside c.self.invariant) (search rules) c.forget_client-discarded.ensures.discards c.forget_client-discarded.ensures.clients
     gone.0 gone.1 gone.2 c.kept_facts.ensures)
     (some-ended _ _ _ _ _ _ c.self.invariant.4 (rw (c.deref.ensures.value, listed, c.self.invariant.0.rooms_are) at c.in_ok-ended.ensures.ok) c.in_ok-append.ensures.items))
 
 pub add-requires-clause-counted : goal.add-requires-clause-counted
 add-requires-clause-counted c =
     can_close c.self.inside.base c.self.inside.limits (get nat_cmp c.self.inside.clients) c.self.inside.records.steps.steps c.self.inside.records.counts c.self.invariant.3 c.self.invariant.2 c.self.invariant.0.clients
-    c.args.client c.forget_client-discards.result (search rules) c.forget_client-discards.ensures.discards
+    c.args.client c.forget_client-discarded.result (search rules) c.forget_client-discarded.ensures.discards
 
 pub forget_all-requires : goal.forget_all-requires
 forget_all-requires c =

@@ -7,16 +7,16 @@ use Rattle.hub_state.proofs.state.State.sweep.Goals as goal
 pub invariant_of-self-2 : goal.invariant_of-self-2
 invariant_of-self-2 c =
     let hub = hub-of c.self.inside c.self.invariant in
-    rw (c.in_ok-write.ensures.steps, c.in_ok-write.ensures.last, c.in_ok-write.ensures.counts)
+    rw (c.add.ensures.steps, c.add.ensures.last, c.reserve.ensures.same, c.add.ensures.counts)
     (plus (swept-hub _ _ c.args.now _ c.max-at.result _ _ _ _ _ _ _ _ _ _ hub (let s = c.in_ok-may_count.ensures Swept (puts_swept _ _ _) refl (omega arith) in search (rules, s)) (search rules) c.drop_outdated-swept.ensures.saved c.drop_outdated-swept.ensures.log)
     (none-ended _ _ _ _ c.self.invariant.4 refl))
 
-pub write-requires : goal.write-requires
-write-requires c = can_sweep _ _ _ _ c.self.invariant.3 c.self.invariant.2 (let s = c.in_ok-may_count.ensures Swept (puts_swept _ _ _) refl (omega arith) in search (rules, s))
+pub add-requires-clause-counted : goal.add-requires-clause-counted
+add-requires-clause-counted c = can_sweep _ _ _ _ c.self.invariant.3 c.self.invariant.2 (let s = c.in_ok-may_count.ensures Swept (puts_swept _ _ _) refl (omega arith) in search (rules, s))
 
 pub returns-clause-counts : goal.returns-clause-counts
 returns-clause-counts c =
-    rw (← c.self.view_is, c.in_ok-write.ensures.steps) (
+    rw (← c.self.view_is, c.add.ensures.steps, c.reserve.ensures.same) (
       sym (dropped-log _ _ c.args.now c.self.inside.records.last c.max-at.result _ _ _ _ c.self.invariant.2.log_rises c.self.invariant.0.log_is c.self.invariant.0.log_last (search rules) c.drop_outdated-swept.ensures.log c.drop_outdated-swept.ensures.log_count),
       sym (dropped-saved _ _ c.args.now c.self.inside.records.last c.max-at.result _ _ _ _ c.self.invariant.0.saved_is (search rules) c.drop_outdated-swept.ensures.saved c.drop_outdated-swept.ensures.saved_count),
     )
@@ -24,8 +24,8 @@ returns-clause-counts c =
 pub returns-in_err-may_count-clause-does : goal.returns-in_err-may_count-clause-does
 returns-in_err-may_count-clause-does c = let s = c.in_err-may_count.ensures Swept (puts_swept _ _ _) refl (omega arith) in search (rules, s)
 
-pub returns-in_err-write-clause-does : goal.returns-in_err-write-clause-does
-returns-in_err-write-clause-does c = let s = c.in_ok-may_count.ensures Swept (puts_swept _ _ _) refl (omega arith) in search (rules, s)
+pub returns-in_err-reserve-clause-does : goal.returns-in_err-reserve-clause-does
+returns-in_err-reserve-clause-does c = let s = c.in_ok-may_count.ensures Swept (puts_swept _ _ _) refl (omega arith) in search (rules, s)
 
 pub returns-clause-does : goal.returns-clause-does
 returns-clause-does c = let s = c.in_ok-may_count.ensures Swept (puts_swept _ _ _) refl (omega arith) in search (rules, s)

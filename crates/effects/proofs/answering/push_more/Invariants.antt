@@ -1,6 +1,0 @@
-use Rattle.std.proofs.Common.{◌≡◌, ◌++◌, take, string_bytes}
-use Rattle.effects.specs.Answering as answering
-use Rattle.effects.proofs.answering.push_more.Given as goal
-
-abbrev pub invariant-loop-sid : goal.invariant-loop-sid
-invariant-loop-sid l = string_bytes l.text ≡ string_bytes l.fn.text ++ answering.more_ids (take l.sid-index l.sids)

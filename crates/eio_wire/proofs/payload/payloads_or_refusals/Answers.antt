@@ -1,5 +1,0 @@
-use Rattle.eio_wire.proofs.PayloadLemmas.{no_refusal}
-use Rattle.eio_wire.proofs.payload.payloads_or_refusals.Goals as goal
-
-pub returns : goal.returns
-returns c = no_refusal

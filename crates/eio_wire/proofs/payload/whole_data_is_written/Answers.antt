@@ -1,5 +1,0 @@
-use Rattle.eio_wire.proofs.PayloadLemmas.{whole_data_written}
-use Rattle.eio_wire.proofs.payload.whole_data_is_written.Goals as goal
-
-pub returns : goal.returns
-returns c = whole_data_written

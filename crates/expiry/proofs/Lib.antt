@@ -1,2 +1,0 @@
-mod CleanLemmas
-mod DeadlinesLemmas

@@ -1,6 +1,0 @@
-use Rattle.expiry.proofs.CleanLemmas.{clean-ended}
-use Rattle.expiry.proofs.expiring.ExpiringApp.ended.Goals as goal
-
-pub returns-clause-clean : goal.returns-clause-clean
-returns-clause-clean g c =
-    clean-ended (λ effects. effects.items) c.args.who.now c.args.ending c.in_ok-told.told c.in_ok-ended.field-0.items c.with_told.result c.in_ok-told.ensures c.in_ok-ended.ensures.clean c.with_told.ensures

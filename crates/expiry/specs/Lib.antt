@@ -1,5 +1,0 @@
-pub mod Telling
-pub mod Commands
-pub mod Reading
-pub mod Expiring
-pub mod Deadlines

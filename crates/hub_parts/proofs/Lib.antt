@@ -1,3 +1,0 @@
-pub mod SocketIndexLemmas
-pub mod SeatsLemmas
-pub mod OutboxLemmas

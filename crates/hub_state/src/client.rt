@@ -1,0 +1,352 @@
+//! What a hub holds of a client: its sockets, and what waits for it, which is bounded by the number
+//! of the entries and by their bytes.
+
+ghost use Rattle.std.specs.Prelude.{◌≡◌, ◌-◌, ◌<◌, ◌==◌, not, List, [], ◌∷◌, ◌++◌, length, take, filter, OnOk, OnErr, IfSome, IsSome, None, ◌+◌, ◌≤◌, drop, map, false, ◌||◌, nat_le, nat_lt, IfOk, IfNone, option_copied, slice_get, Some};
+ghost use Rattle.std.specs.List.{find, All};
+ghost use Rattle.std.specs.Ordering.{nat_cmp};
+ghost use Rattle.std.specs.Map.{keys_of, values_of};
+ghost use Rattle.std.specs.BTreeMap.{get};
+ghost use Rattle.journal.specs.Plain.{PlainClient, PlainOutbox};
+ghost use Rattle.journal.specs.declared.socket.Socket.{Socket};
+ghost use Rattle.hub_state.specs.Sockets.{IsIndex};
+ghost use Rattle.std.specs.Arc.{arc_value};
+ghost use Rattle.terms.specs.Entry.{entry_size};
+ghost use Rattle.journal.specs.Outboxes.{total_size, has_no_space};
+
+use circular_buffer::HeapCircularBuffer;
+use journal::Socket;
+use std::alloc::{AllocError, Global};
+use std::collections::BTreeMap;
+use std::collections::btree_map::Values;
+use std::marker::Model;
+use std::sync::Arc;
+use terms::Entry;
+
+/// A client: its sockets, in the order in which they were connected, and what waits for it.
+#[derive(Drop)]
+pub struct Client {
+    pub sockets: Sockets,
+    pub outbox: Outbox,
+}
+
+impl Model for Client {
+    ghost Value = { PlainClient };
+
+    ghost view = { λ c. record { sockets = c.sockets; outbox = c.outbox } };
+}
+
+/// The sockets of a client, at most one in each namespace. In a contract it is the list of them,
+/// in the order in which they were connected.
+#[derive(Drop)]
+pub struct Sockets {
+    /// The sockets by serials, which rise in that order.
+    by_serial: BTreeMap<u64, Socket>,
+    /// The serial of the socket at each place of a namespace.
+    by_place: BTreeMap<usize, u64>,
+}
+
+impl Model for Sockets {
+    ghost Value = { List Socket };
+
+    ghost view = { λ s. values_of s.by_serial.entries };
+
+    ghost invariant = { λ s. IsIndex s.by_serial.entries s.by_place.entries };
+}
+
+impl Sockets {
+    /// No sockets.
+    pub fn new(alloc: Global) -> Sockets
+        ensures { result ≡ [] }
+    {
+        Sockets {
+            by_serial: BTreeMap::new(alloc),
+            by_place: BTreeMap::new(alloc),
+        }
+    }
+
+    /// How many sockets there are.
+    pub fn len(&self) -> usize
+        ensures { result ≡ length self.now }
+    {
+        self.by_serial.len()
+    }
+
+    /// All sockets, in their order.
+    pub fn values(&self) -> Values<'_, u64, Socket>
+        ensures { result ≡ self.now }
+    {
+        self.by_serial.values()
+    }
+
+    /// A copy of the socket at a place. It takes the logarithm of the sockets.
+    pub fn at(&self, place: usize) -> Option<Socket>
+        ensures { result ≡ find (λ (k : Socket). k.space == place) self.now }
+    {
+        match self.by_place.get(&place) {
+            Some(serial) => self.by_serial.get(serial).copied(),
+            None => None,
+        }
+    }
+
+    /// Adds the newest socket, in the logarithm of the sockets. Without a serial it is refused.
+    pub fn push(&mut self, socket: Socket) -> Result<(), AllocError>
+        requires free { find (λ (k : Socket). k.space == socket.space) self.old ≡ None }
+        ensures ok { OnOk result (self.new ≡ self.old ++ socket ∷ []) }
+        ensures err { OnErr result (self.new ≡ self.old) }
+    {
+        let Some(serial) = next_serial(&self.by_serial) else {
+            return Err(AllocError);
+        };
+        let place = usize::from(socket.space);
+        self.by_serial.insert(serial, socket)?;
+        let Ok(_) = self.by_place.insert(place, serial) else {
+            self.by_serial.remove(&serial);
+            return Err(AllocError);
+        };
+        Ok(())
+    }
+
+    /// Takes the newest socket away, where there is one, in the logarithm of the sockets.
+    pub fn pop(&mut self)
+        ensures { self.new ≡ take (length self.old - 1) self.old }
+    {
+        if let Some((_, socket)) = self.by_serial.pop_last() {
+            self.by_place.remove(&usize::from(socket.space));
+        }
+    }
+
+    /// Takes the socket at a place away, in the logarithm of the sockets.
+    pub fn remove(&mut self, place: usize)
+        ensures { self.new ≡ filter (λ (k : Socket). not (k.space == place)) self.old }
+    {
+        if let Some(serial) = self.by_place.remove(&place) {
+            self.by_serial.remove(&serial);
+        }
+    }
+}
+
+/// A serial past all others, or `None` where there is none.
+fn next_serial(by_serial: &BTreeMap<u64, Socket>) -> Option<u64>
+    ensures next { IfSome result (λ n. All (λ other. other < n) (keys_of by_serial.now.entries)) }
+    ensures none { result ≡ None → IsSome (get nat_cmp by_serial.now u64.MAX) }
+{
+    match by_serial.last_key_value() {
+        Some((last, _)) => last.checked_add(1),
+        None => Some(0),
+    }
+}
+
+/// How many places a ring has at least, once it has any, where its outbox may have so many.
+const FEWEST_PLACES: usize = 8;
+
+/// How many places the ring of an outbox may keep that has emptied.
+const KEPT_PLACES: usize = 64;
+
+/// What waits for a client, the oldest first. Its ring takes memory as entries come, and gives it
+/// back when none waits.
+#[derive(Drop)]
+pub struct Outbox {
+    ring: HeapCircularBuffer<Arc<Entry>>,
+    /// How many entries may wait. The ring has no more places.
+    capacity: usize,
+    /// How many bytes may wait.
+    bytes: usize,
+    /// How many more bytes it takes.
+    free: usize,
+}
+
+impl Model for Outbox {
+    ghost Value = { PlainOutbox };
+
+    ghost view = { λ o. record {
+      waiting = map arc_value o.ring.items;
+      capacity = o.capacity;
+      bytes = o.bytes;
+    } };
+
+    ghost invariant = { λ o. (o.free + total_size (map arc_value o.ring.items) ≡ o.bytes)
+        × (o.ring.capacity ≤ o.capacity) };
+}
+
+/// How many bytes are free after an entry, or `None` where it has more than these.
+pub fn free_after(free: usize, entry: &Entry) -> Option<usize>
+    ensures some { IfSome result (λ left. left + entry_size entry.now ≡ free) }
+    ensures none { IfNone result (free < entry_size entry.now) }
+{
+    free.checked_sub(entry.size()?)
+}
+
+/// Makes a place for one more entry in a ring, which may have this many.
+fn make_place(ring: &mut HeapCircularBuffer<Arc<Entry>>, capacity: usize) -> Result<(), AllocError>
+    requires few { length ring.old.items < capacity }
+    requires within { ring.old.capacity ≤ capacity }
+    ensures same { ring.new.items ≡ ring.old.items }
+    ensures within { ring.new.capacity ≤ capacity }
+    ensures place { OnOk result (length ring.new.items < ring.new.capacity) }
+{
+    let waits = ring.len();
+    if waits < ring.capacity() {
+        return Ok(());
+    }
+    ring.resize((2 * waits).max(FEWEST_PLACES).min(capacity))
+}
+
+impl Outbox {
+    /// An empty outbox, which takes no memory yet.
+    #[tactic(auto, unfolding(journal::specs::Outboxes::total_size))]
+    pub fn new(alloc: Global, capacity: usize, bytes: usize) -> Result<Outbox, AllocError>
+        ensures { IfOk result (λ outbox.
+            outbox ≡ record { waiting = []; capacity = capacity; bytes = bytes }) }
+    {
+        let ring = HeapCircularBuffer::with_capacity(alloc, 0)?;
+        Ok(Outbox {
+            ring,
+            capacity,
+            bytes,
+            free: bytes,
+        })
+    }
+
+    /// How many entries wait.
+    pub fn len(&self) -> usize
+        ensures { result ≡ length self.now.waiting }
+    {
+        self.ring.len()
+    }
+
+    /// How many bytes the entries that wait have together.
+    pub fn used(&self) -> usize
+        ensures { result ≡ total_size self.now.waiting }
+    {
+        self.bytes - self.free
+    }
+
+    /// An entry that waits, counted from the oldest.
+    pub fn get(&self, index: usize) -> Option<&Entry>
+        ensures { option_copied result ≡ slice_get self.now.waiting index }
+    {
+        Some(&**self.ring.get(index)?)
+    }
+
+    /// Whether there is no space for an entry.
+    pub fn has_no_space(&self, entry: &Entry) -> bool
+        ensures { result
+            ≡ has_no_space self.now.capacity self.now.bytes self.now.waiting entry.now }
+    {
+        self.ring.len() >= self.capacity || free_after(self.free, entry).is_none()
+    }
+
+    /// Whether there is no space for an entry of this many bytes.
+    pub fn lacks(&self, size: usize) -> bool
+        ensures { result ≡ (nat_le self.now.capacity (length self.now.waiting)
+            || nat_lt self.now.bytes (total_size self.now.waiting + size)) }
+    {
+        self.ring.len() >= self.capacity || self.free < size
+    }
+
+    /// Puts an entry at the end, where there is space for it. A full ring takes memory for twice as
+    /// many entries as wait.
+    pub fn push(&mut self, entry: Arc<Entry>) -> Result<(), AllocError>
+        requires { let o = self.old
+            in has_no_space o.capacity o.bytes o.waiting (arc_value entry) ≡ false }
+        ensures ok { OnOk result (self.new
+            ≡ record self.old { waiting = self.old.waiting ++ arc_value entry ∷ [] }) }
+        ensures err { OnErr result (self.new ≡ self.old) }
+    {
+        let Some(left) = free_after(self.free, &entry) else {
+            unreachable!()
+        };
+        make_place(&mut self.ring, self.capacity)?;
+        self.free = left;
+        let Ok(()) = self.ring.try_push_back(entry) else {
+            unreachable!()
+        };
+        Ok(())
+    }
+
+    /// Takes the newest entry away again.
+    pub fn pop_newest(&mut self)
+        ensures { self.new ≡ record self.old {
+          waiting = take (length self.old.waiting - 1) self.old.waiting;
+        } }
+    {
+        if let Some(newest) = self.ring.pop_back() {
+            // What waits has no more bytes than the outbox may hold.
+            self.free += newest.size().unwrap_or(0);
+        }
+    }
+
+    /// Takes the newest entries away again, as many as are named.
+    pub fn pop_last(&mut self, count: usize)
+        ensures { self.new ≡ record self.old {
+          waiting = take (length self.old.waiting - count) self.old.waiting;
+        } }
+    {
+        for _turn in 0..count {
+            self.pop_newest();
+        }
+        self.give_back();
+    }
+
+    /// Takes the oldest entry away.
+    pub fn pop(&mut self)
+        ensures { self.new ≡ record self.old { waiting = drop 1 self.old.waiting } }
+    {
+        if let Some(oldest) = self.ring.pop_front() {
+            // What waits has no more bytes than the outbox may hold.
+            self.free += oldest.size().unwrap_or(0);
+        }
+        self.give_back();
+    }
+
+    /// Gives the ring's memory back, where no entry waits and it has more places than an empty
+    /// outbox keeps.
+    fn give_back(&mut self)
+        ensures { self.new ≡ self.old }
+    {
+        if self.ring.is_empty() && self.ring.capacity() > KEPT_PLACES {
+            let _given = self.ring.resize(0);
+        }
+    }
+
+    /// Takes the oldest entries away, as many as are named.
+    pub fn pop_first(&mut self, count: usize)
+        ensures { self.new ≡ record self.old { waiting = drop count self.old.waiting } }
+    {
+        for _index in 0..count {
+            self.pop();
+        }
+    }
+
+    /// Copies of the oldest entries, as many as are named.
+    #[tactic(auto, using(journal::proofs::OutboxesLemmas::take_next))]
+    pub fn copies(&self, alloc: Global, count: usize) -> Result<Vec<Entry>, AllocError>
+        requires { count ≤ length self.now.waiting }
+        ensures { IfOk result (λ entries. entries.items ≡ take count self.now.waiting) }
+    {
+        let mut entries = Vec::with_capacity(alloc, count)?;
+        for index in 0..count {
+            let Some(entry) = self.get(index) else {
+                unreachable!()
+            };
+            entries.push(entry.clone()?)?;
+        }
+        Ok(entries)
+    }
+
+    /// The oldest entries, as many as are named, each shared.
+    pub fn share_first(&self, alloc: Global, count: usize) -> Result<Vec<Arc<Entry>>, AllocError>
+        requires { count ≤ length self.now.waiting }
+        ensures { IfOk result (λ entries.
+            map arc_value entries.items ≡ take count self.now.waiting) }
+    {
+        let mut entries = Vec::with_capacity(alloc, count)?;
+        for index in 0..count {
+            let Some(entry) = self.ring.get(index) else {
+                unreachable!()
+            };
+            entries.push(Arc::try_clone(entry)?)?;
+        }
+        Ok(entries)
+    }
+}

@@ -1,0 +1,116 @@
+//! The connected sockets by their session ids, and those of each namespace.
+
+ghost use Rattle.std.specs.Prelude.{◌≡◌, map, IfOk, OnOk, OnErr, None, option_copied, is_some};
+ghost use Rattle.std.specs.Ordering.{nat_cmp};
+ghost use Rattle.std.specs.BTreeMap.{get, IsEmpty};
+ghost use Rattle.std.specs.BTreeMap.Range.{IsLeBy};
+ghost use Rattle.std.specs.BTreeSet as sorted;
+ghost use Rattle.terms.specs.Listing.{ListsRising};
+ghost use Rattle.std.specs.declared.ops.Bound.{Bound};
+ghost use Rattle.journal.specs.Casting.{is_here};
+ghost use Rattle.hub_state.specs.Seats.{IsIndex, SeatMap, seat_cmp, seat_map_code, SameSeats, WithSeat, WithoutSeat};
+
+use journal::Socket;
+use std::alloc::{AllocError, Global};
+use std::collections::{BTreeMap, BTreeSet};
+use std::marker::Model;
+use terms::Sid;
+
+/// The connected sockets. In a contract they are the map from session ids to sockets. In the costs
+/// below, "the logarithm" is that of the number of sockets of all namespaces.
+#[derive(Drop)]
+pub struct Seats {
+    by_sid: BTreeMap<Sid, Socket>,
+    /// The place of each socket's namespace, and its session id. A place is a `u32` here, so that
+    /// there is one after the greatest.
+    by_space: BTreeSet<(u32, Sid)>,
+}
+
+impl Model for Seats {
+    ghost Value = { SeatMap };
+
+    ghost coded = { seat_map_code };
+
+    ghost view = { λ a. a.by_sid };
+
+    ghost invariant = { λ a. IsIndex a.by_sid a.by_space };
+}
+
+impl Seats {
+    /// No sockets.
+    pub fn new(alloc: Global) -> Seats
+        ensures { IsEmpty result }
+    {
+        Seats {
+            by_sid: BTreeMap::new(alloc),
+            by_space: BTreeSet::new(alloc),
+        }
+    }
+
+    /// The socket with a session id. It takes the logarithm.
+    pub fn get(&self, sid: Sid) -> Option<&Socket>
+        ensures { option_copied result ≡ get nat_cmp self.now sid }
+    {
+        self.by_sid.get(&sid)
+    }
+
+    /// Whether there is a socket with this session id. It takes the logarithm.
+    pub fn contains_key(&self, sid: Sid) -> bool
+        ensures { result ≡ is_some (get nat_cmp self.now sid) }
+    {
+        self.by_sid.contains_key(&sid)
+    }
+
+    /// Adds a socket whose session id is free. It takes the logarithm.
+    pub fn insert(&mut self, socket: Socket) -> Result<(), AllocError>
+        requires free { get nat_cmp self.old socket.sid ≡ None }
+        ensures ok { OnOk result (WithSeat socket self.old self.new) }
+        ensures err { OnErr result (SameSeats self.old self.new) }
+    {
+        let sid = socket.sid;
+        let space = u32::from(socket.space);
+        self.by_sid.insert(sid, socket)?;
+        let Ok(_) = self.by_space.insert((space, sid)) else {
+            self.by_sid.remove(&sid);
+            return Err(AllocError);
+        };
+        Ok(())
+    }
+
+    /// Takes the socket with a session id out, if there is one. It takes the logarithm and no
+    /// memory.
+    pub fn remove(&mut self, sid: Sid)
+        ensures { WithoutSeat sid self.old self.new }
+    {
+        if let Some(socket) = self.by_sid.remove(&sid) {
+            self.by_space.remove(&(u32::from(socket.space), sid));
+        }
+    }
+
+    /// The session ids of the sockets in the namespace at a place, rising. It takes the logarithm,
+    /// and walks these sockets alone.
+    pub fn sids_in(&self, alloc: Global, space: u16) -> Result<Vec<Sid>, AllocError>
+        ensures { IfOk result (λ sids.
+            ListsRising nat_cmp (λ s. is_here space (get nat_cmp self.now s)) sids.items) }
+    {
+        let place = u32::from(space);
+        let least = Sid::new(0);
+        sids_between(alloc, &self.by_space, (place, least), (place + 1, least))
+    }
+}
+
+/// The session ids of what stands between two pairs, in its order.
+fn sids_between(
+    alloc: Global,
+    by_space: &BTreeSet<(u32, Sid)>,
+    from: (u32, Sid),
+    to: (u32, Sid),
+) -> Result<Vec<Sid>, AllocError>
+    requires { IsLeBy seat_cmp from to }
+    ensures ordered { sorted.IsOrdered seat_cmp by_space.now }
+    ensures items { IfOk result (λ sids.
+        let inside = sorted.keys_between seat_cmp (Bound.Included from) (Bound.Excluded to)
+        in sids.items ≡ map (λ q. q.1) (inside by_space.now)) }
+{
+    by_space.range(from..to).map(|(_, sid)| *sid).collect(alloc)
+}

@@ -1,2 +1,0 @@
-pub mod DelayLemmas
-pub mod WokenLemmas

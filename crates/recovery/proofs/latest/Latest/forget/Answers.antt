@@ -1,6 +1,0 @@
-use Rattle.std.proofs.Common.{refl, ◌∙◌}
-use Rattle.std.proofs.lemmas.List.{drop-drop}
-use Rattle.recovery.proofs.latest.Latest.forget.Goals as goal
-
-pub loop-entry-preserved : goal.loop-entry-preserved
-loop-entry-preserved c = c.forget_oldest.ensures ∙ rw (c.loop-entry.invariant, drop-drop) refl

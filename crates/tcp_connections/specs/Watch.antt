@@ -1,7 +1,0 @@
--- What a watch tells.
-use Rattle.std.specs.Prelude.{ℕ}
-use Rattle.tcp_connections.specs.declared.watch.Watch.{Watch}
-
--- the moment that it told last
-abbrev pub told_last : {R : Type 0} → Watch R → ℕ
-told_last w = w.last
