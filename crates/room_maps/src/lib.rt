@@ -7,4 +7,4 @@ mod links;
 mod rooms;
 
 pub use error::RoomError;
-pub use rooms::Rooms;
+pub use rooms::{RoomMap, Rooms, SocketMap};

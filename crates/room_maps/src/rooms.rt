@@ -22,6 +22,9 @@ use std::collections::{BTreeMap, BTreeSet};
 use std::marker::Model;
 use terms::{Room, Sid};
 
+/// What a call on rooms answers, or why it is refused.
+type Result<X = (), E = RoomError> = std::result::Result<X, E>;
+
 /// A socket is in at most so many rooms, its own among them.
 const MOST_ROOMS: usize = 256;
 
@@ -119,46 +122,34 @@ impl Rooms {
         }
     }
 
-    fn enter_all_refusal(&self, sid: Sid, rooms: &[Room]) -> Option<RoomError>
-        ensures { result ≡ enter_all_refusal self.now sid rooms.now }
-    {
-        if self.is_socket(sid) {
-            Some(RoomError::SidTaken)
-        } else if are_too_many(sid, rooms) {
-            Some(RoomError::TooManyRooms)
-        } else {
-            None
-        }
-    }
-
     /// A new socket, which is in its own room. Refused as `SidTaken`, then for `Memory`. It takes
     /// the logarithm.
-    pub fn enter(&mut self, alloc: Global, sid: Sid) -> Result<(), RoomError>
+    pub fn enter(&mut self, alloc: Global, sid: Sid) -> Result
         ensures refused { IfSome (enter_refusal self.old sid) (λ e. result ≡ Err e) }
         ensures memory_alone { enter_refusal self.old sid ≡ None
             → IfErr result (λ e. e ≡ RoomError.Memory) }
         ensures entered { OnOk result (self.new ≡ with_socket self.old sid) }
         ensures unchanged { OnErr result (self.new ≡ self.old) }
     {
-        if self.is_socket(sid) {
-            return Err(RoomError::SidTaken);
-        }
-        Ok(self.add_socket(alloc, sid)?)
+        self.enter_all(alloc, sid, &[])
     }
 
     /// A new socket, which is in its own room and in all of these, or nothing. A room that is named
     /// twice counts once, and so does the socket's own one. Refused as `SidTaken`, `TooManyRooms`,
     /// then for `Memory`. Each room takes the logarithm, and where 256 or more are named, a
     /// comparison with each that is named after it.
-    pub fn enter_all(&mut self, alloc: Global, sid: Sid, rooms: &[Room]) -> Result<(), RoomError>
+    pub fn enter_all(&mut self, alloc: Global, sid: Sid, rooms: &[Room]) -> Result
         ensures refused { IfSome (enter_all_refusal self.old sid rooms.now) (λ e. result ≡ Err e) }
         ensures memory_alone { enter_all_refusal self.old sid rooms.now ≡ None
             → IfErr result (λ e. e ≡ RoomError.Memory) }
         ensures entered { OnOk result (self.new ≡ with_socket_in self.old sid rooms.now) }
         ensures unchanged { OnErr result (self.new ≡ self.old) }
     {
-        if let Some(refusal) = self.enter_all_refusal(sid, rooms) {
-            return Err(refusal);
+        if self.is_socket(sid) {
+            return Err(RoomError::SidTaken);
+        }
+        if are_too_many(sid, rooms) {
+            return Err(RoomError::TooManyRooms);
         }
         self.kept_facts();
         self.add_socket(alloc, sid)?;
@@ -172,7 +163,7 @@ impl Rooms {
 
     /// The socket is in one room more. Refused as `UnknownSocket`, `AlreadyIn`, `TooManyRooms`,
     /// then for `Memory`. It takes the logarithm.
-    pub fn join(&mut self, alloc: Global, sid: Sid, room: Room) -> Result<(), RoomError>
+    pub fn join(&mut self, alloc: Global, sid: Sid, room: Room) -> Result
         ensures refused { IfSome (join_refusal self.old sid room) (λ e. result ≡ Err e) }
         ensures memory_alone { join_refusal self.old sid room ≡ None
             → IfErr result (λ e. e ≡ RoomError.Memory) }
@@ -187,7 +178,7 @@ impl Rooms {
 
     /// The socket is in one room less. Refused as `UnknownSocket`, `OwnRoom`, `NotIn`. It takes the
     /// logarithm and no memory.
-    pub fn leave(&mut self, sid: Sid, room: Room) -> Result<(), RoomError>
+    pub fn leave(&mut self, sid: Sid, room: Room) -> Result
         ensures answer { result ≡ ok_unless (leave_refusal self.old sid room) }
         ensures left { OnOk result (self.new ≡ without_pair self.old sid room) }
         ensures unchanged { OnErr result (self.new ≡ self.old) }
@@ -201,7 +192,7 @@ impl Rooms {
 
     /// Ends a socket, and with it all its pairs. Refused as `UnknownSocket`. Each of its rooms
     /// takes the logarithm. It takes no memory.
-    pub fn end(&mut self, sid: Sid) -> Result<(), RoomError>
+    pub fn end(&mut self, sid: Sid) -> Result
         ensures answer { result ≡ ok_unless (unknown_refusal self.old sid) }
         ensures ended { OnOk result (self.new ≡ without_socket self.old sid) }
         ensures unchanged { OnErr result (self.new ≡ self.old) }
@@ -215,7 +206,7 @@ impl Rooms {
 
     /// The rooms that a socket is in, rising by their bytes. Refused as `UnknownSocket`, then for
     /// `Memory`. It takes the logarithm, and walks the socket's rooms.
-    pub fn rooms_of(&self, alloc: Global, sid: Sid) -> Result<Vec<Room>, RoomError>
+    pub fn rooms_of(&self, alloc: Global, sid: Sid) -> Result<Vec<Room>>
         ensures refused { IfSome (unknown_refusal self.now sid) (λ e. result ≡ Err e) }
         ensures memory_alone { unknown_refusal self.now sid ≡ None
             → IfErr result (λ e. e ≡ RoomError.Memory) }
@@ -232,7 +223,7 @@ impl Rooms {
 
     /// The sockets in a room, rising by their ids. Refused for `Memory` alone. It takes the
     /// logarithm, and walks the room's members.
-    pub fn members_of(&self, alloc: Global, room: Room) -> Result<Vec<Sid>, RoomError>
+    pub fn members_of(&self, alloc: Global, room: Room) -> Result<Vec<Sid>>
         ensures members { IfOk result
             (λ sids. ListsRising nat_cmp (λ sid. is_in self.now sid room) sids.items) }
         ensures memory_alone { IfErr result (λ e. e ≡ RoomError.Memory) }
@@ -247,12 +238,7 @@ impl Rooms {
     /// named all, but for those in one of the excepted rooms. They rise by their ids, each once.
     /// Refused for `Memory` alone. With rooms named it walks their members, each with the logarithm
     /// and the excepted rooms. With none it walks all sockets once, each with the excepted rooms.
-    pub fn addressees(
-        &self,
-        alloc: Global,
-        rooms: &[Room],
-        excepted: &[Room],
-    ) -> Result<Vec<Sid>, RoomError>
+    pub fn addressees(&self, alloc: Global, rooms: &[Room], excepted: &[Room]) -> Result<Vec<Sid>>
         ensures addressed { IfOk result (λ sids. ListsRising nat_cmp
             (is_addressed self.now rooms.now excepted.now) sids.items) }
         ensures memory_alone { IfErr result (λ e. e ≡ RoomError.Memory) }
@@ -266,7 +252,7 @@ impl Rooms {
 
     /// Each socket with each room that it is in, rising by the sockets' ids and each socket's rooms
     /// by their bytes. Refused for `Memory` alone. It walks the pairs once.
-    pub fn pairs(&self, alloc: Global) -> Result<Vec<(Sid, Room)>, RoomError>
+    pub fn pairs(&self, alloc: Global) -> Result<Vec<(Sid, Room)>>
         ensures pairs { IfOk result
             (λ pairs. ListsRising pair_cmp (λ pair. is_in self.now pair.0 pair.1) pairs.items) }
         ensures memory_alone { IfErr result (λ e. e ≡ RoomError.Memory) }

@@ -10,16 +10,9 @@ ghost use Rattle.room_maps.specs.Membership as membership;
 
 use crate::error::RoomError;
 use crate::links;
-use crate::rooms::Rooms;
+use crate::rooms::{Result, Rooms};
 use std::alloc::{AllocError, Global};
 use terms::{Room, Sid};
-
-/// Whether the room is the own one of one of these.
-fn has_own_room(sids: &[Sid], room: Room) -> bool
-    ensures { result ≡ membership.has_own_room sids.now room }
-{
-    sids.iter().any(|sid| Room::own(*sid) == room)
-}
 
 impl Rooms {
     /// Whether one of these isn't a socket.
@@ -58,7 +51,7 @@ impl Rooms {
     {
         if self.has_unknown(sids) {
             Some(RoomError::UnknownSocket)
-        } else if has_own_room(sids, room) {
+        } else if sids.iter().any(|sid| Room::own(*sid) == room) {
             Some(RoomError::OwnRoom)
         } else {
             None
@@ -70,12 +63,7 @@ impl Rooms {
     /// ids. Refused where one of them is unknown, as `UnknownSocket`, where one that isn't in the
     /// room has no space for it, as `TooManyRooms`, then for `Memory`. Each socket takes the
     /// logarithm, and that of their number.
-    pub fn join_all(
-        &mut self,
-        alloc: Global,
-        sids: &[Sid],
-        room: Room,
-    ) -> Result<Vec<Sid>, RoomError>
+    pub fn join_all(&mut self, alloc: Global, sids: &[Sid], room: Room) -> Result<Vec<Sid>>
         ensures refused { IfSome (join_all_refusal self.old sids.now room) (λ e. result ≡ Err e) }
         ensures memory_alone { join_all_refusal self.old sids.now room ≡ None
             → IfErr result (λ e. e ≡ RoomError.Memory) }
@@ -102,12 +90,7 @@ impl Rooms {
     /// their ids. Refused where one of them is unknown, as `UnknownSocket`, where the room is the
     /// own one of one of them, as `OwnRoom`, then for `Memory`, which only the answer takes. Each
     /// socket takes the logarithm, and that of their number.
-    pub fn leave_all(
-        &mut self,
-        alloc: Global,
-        sids: &[Sid],
-        room: Room,
-    ) -> Result<Vec<Sid>, RoomError>
+    pub fn leave_all(&mut self, alloc: Global, sids: &[Sid], room: Room) -> Result<Vec<Sid>>
         ensures refused { IfSome (leave_all_refusal self.old sids.now room) (λ e. result ≡ Err e) }
         ensures memory_alone { leave_all_refusal self.old sids.now room ≡ None
             → IfErr result (λ e. e ≡ RoomError.Memory) }
