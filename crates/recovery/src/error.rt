@@ -3,6 +3,9 @@ ghost use Rattle.recovery.specs.declared.error.RecoveryError.TheVariants.{Memory
 
 use std::alloc::{AllocError, AllocFailed};
 
+/// What a call answers, or why it is refused.
+pub(crate) type Result<X = (), E = RecoveryError> = std::result::Result<X, E>;
+
 /// Why a call was refused.
 #[derive(Clone, Copy, Debug, PartialEq, Eq)]
 pub enum RecoveryError {

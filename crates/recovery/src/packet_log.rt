@@ -9,7 +9,7 @@ ghost use Rattle.recovery.specs.PacketLog.{LogCall, LogContents, PlainLogged, Pu
 ghost use Rattle.recovery.specs.Missed.{missed, missed_refusal, is_for, is_one_of};
 ghost use Rattle.recovery.specs.Latest.{Shelf, shelf};
 
-use crate::error::RecoveryError;
+use crate::error::{RecoveryError, Result};
 use crate::saved_table::is_outdated;
 use circular_buffer::HeapCircularBuffer;
 use std::alloc::{AllocError, Global};
@@ -119,12 +119,7 @@ impl Model for PacketLog {
 impl PacketLog {
     /// A log of at most `limit` broadcasts, which have at most `bytes` bytes together. It numbers
     /// them from `first` on.
-    pub fn new(
-        alloc: Global,
-        limit: usize,
-        bytes: usize,
-        first: u64,
-    ) -> Result<PacketLog, RecoveryError>
+    pub fn new(alloc: Global, limit: usize, bytes: usize, first: u64) -> Result<PacketLog>
         requires limit { 1 ≤ limit }
         requires first { 1 ≤ first }
         ensures empty { IfOk result (λ log. log ≡ contents limit bytes (Some first) 0 []) }
@@ -164,7 +159,7 @@ impl PacketLog {
         rooms: Vec<Room>,
         excepted: Vec<Room>,
         entry: Arc<Entry>,
-    ) -> Result<u64, RecoveryError>
+    ) -> Result<u64>
         ensures offset { result ≡ offset_or_spent self.old.next }
         ensures entry { IfOk result (λ offset. self.new ≡ with_entry self.old
             (logged_as self.old offset at space rooms.items excepted.items (arc_value entry))) }
@@ -250,13 +245,7 @@ impl PacketLog {
 
     /// The offsets of the broadcasts past this one that a socket of the namespace, in these
     /// rooms, should have got, in their order. Refused where the log has no such offset.
-    pub fn missed(
-        &self,
-        alloc: Global,
-        offset: u64,
-        space: u16,
-        rooms: &[Room],
-    ) -> Result<Vec<u64>, RecoveryError>
+    pub fn missed(&self, alloc: Global, offset: u64, space: u16, rooms: &[Room]) -> Result<Vec<u64>>
         ensures refused { IfSome (missed_refusal self.now offset) (λ error. result ≡ Err error) }
         ensures memory { IfNone (missed_refusal self.now offset)
             (IfErr result (λ error. error ≡ RecoveryError.Memory)) }
@@ -273,7 +262,7 @@ impl PacketLog {
     }
 
     /// Copies of all entries, their offsets rising. The sent data is shared, not copied.
-    pub fn list(&self, alloc: Global) -> Result<Vec<Logged>, RecoveryError>
+    pub fn list(&self, alloc: Global) -> Result<Vec<Logged>>
         ensures entries { IfOk result (λ list. list.items ≡ self.now.entries) }
         ensures rises { IsRun (number_of self.now.next) self.now.entries }
         ensures memory { IfErr result (λ error. error ≡ RecoveryError.Memory) }

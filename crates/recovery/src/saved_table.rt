@@ -10,7 +10,7 @@ ghost use Rattle.recovery.specs.Expiry as expiry;
 ghost use Rattle.recovery.specs.SavedTable.{PlainSaved, TableContents, IsTable, session, save_refusal, find_refusal, or_unknown, table_swept, is_alive};
 ghost use Rattle.recovery.specs.SavedTable as table;
 
-use crate::error::RecoveryError;
+use crate::error::{RecoveryError, Result};
 use std::alloc::{AllocError, Global};
 use std::collections::{BTreeMap, BTreeSet};
 use std::marker::Model;
@@ -174,7 +174,7 @@ impl SavedTable {
 
     /// Saves a session, or drops it. Refused in this order: its private id is taken; the table is
     /// full.
-    pub fn save(&mut self, _alloc: Global, saved: Saved) -> Result<(), RecoveryError>
+    pub fn save(&mut self, _alloc: Global, saved: Saved) -> Result
         ensures refused { IfSome (save_refusal self.old saved.pid) (λ error. result ≡ Err error) }
         ensures memory { IfNone (save_refusal self.old saved.pid)
             (IfErr result (λ error. error ≡ RecoveryError.Memory)) }
@@ -205,7 +205,7 @@ impl SavedTable {
     }
 
     /// The session with this private id. Refused in this order: there is none; it is outdated.
-    pub fn find(&self, pid: Pid, now: u64, keep: u64) -> Result<&Saved, RecoveryError>
+    pub fn find(&self, pid: Pid, now: u64, keep: u64) -> Result<&Saved>
         ensures refused { IfSome (find_refusal self.now pid keep now) (λ e. result ≡ Err e) }
         ensures found { IfNone (find_refusal self.now pid keep now)
             (IsOkAnd result (λ saved. session self.now pid ≡ Some saved.now)) }
@@ -218,7 +218,7 @@ impl SavedTable {
     }
 
     /// Takes a session out of the table. Refused where there is none with this private id.
-    pub fn remove(&mut self, pid: Pid) -> Result<Saved, RecoveryError>
+    pub fn remove(&mut self, pid: Pid) -> Result<Saved>
         ensures answer { result ≡ or_unknown (session self.old pid) }
         ensures removed { self.new ≡ table.removed self.old pid }
         ensures unchanged { OnErr result (self.new ≡ self.old) }
@@ -258,7 +258,7 @@ impl SavedTable {
     }
 
     /// Copies of all sessions, their private ids rising.
-    pub fn list(&self, alloc: Global) -> Result<Vec<Saved>, RecoveryError>
+    pub fn list(&self, alloc: Global) -> Result<Vec<Saved>>
         ensures sessions { IfOk result (λ list. list.items ≡ self.now.sessions) }
         ensures rises { IsStrictlySortedBy nat_cmp
             (map (λ (saved : PlainSaved). saved.pid) self.now.sessions) }
