@@ -1,7 +1,6 @@
 //! What a hub is made with.
 
-ghost use Rattle.std.specs.Prelude.{◌≡◌, ◌≤◌, ◌==◌, ◌||◌, false, length, not, nat_lt, bytes_eq};
-ghost use Rattle.std.specs.List.{list_any};
+ghost use Rattle.std.specs.Prelude.{◌≡◌, ◌≤◌, ◌==◌, ◌||◌, false, length};
 ghost use Rattle.journal.specs.Config as rules;
 ghost use Rattle.journal.specs.Plain.{Limits};
 
@@ -66,29 +65,16 @@ impl Config {
             || self.spaces.len() == 0
             || self.spaces.len() > 65_536
             || has_repeat(&self.spaces)
-            || has_stranger(&self.spaces)
+            || self.spaces.iter().any(|name| !is_namespace(name.as_str()))
     }
 }
 
-/// Whether one of the bytes is a comma or under U+0020.
-fn has_forbidden(bytes: &[u8]) -> bool
-    ensures { result ≡ list_any (λ b. b == 44 || nat_lt b 32) bytes.now }
-{
-    bytes.iter().any(|byte| *byte == b',' || *byte < 32)
-}
-
-/// Whether a name is that of a namespace.
+/// Whether a name is that of a namespace: no byte of it is a comma or under U+0020.
 fn is_namespace(name: &str) -> bool
     ensures { result ≡ rules.is_namespace name.now }
 {
-    name.starts_with('/') && !has_forbidden(name.as_bytes())
-}
-
-/// Whether a name is among these.
-fn is_among(name: &str, names: &[Text]) -> bool
-    ensures { result ≡ list_any (bytes_eq name.now) names.now }
-{
-    names.iter().any(|other| name == other.as_str())
+    let mut bytes = name.as_bytes().iter();
+    name.starts_with('/') && !bytes.any(|byte| *byte == b',' || *byte < 32)
 }
 
 /// Whether some name stands twice. It compares each two.
@@ -97,17 +83,10 @@ fn has_repeat(names: &[Text]) -> bool
 {
     let mut rest = names;
     while let Some((name, others)) = rest.split_first() {
-        if is_among(name.as_str(), others) {
+        if others.iter().any(|other| name.as_str() == other.as_str()) {
             return true;
         }
         rest = others;
     }
     false
-}
-
-/// Whether some name is none of a namespace.
-fn has_stranger(names: &[Text]) -> bool
-    ensures { result ≡ list_any (λ name. not (rules.is_namespace name)) names.now }
-{
-    names.iter().any(|name| !is_namespace(name.as_str()))
 }
