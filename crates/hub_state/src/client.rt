@@ -29,6 +29,9 @@ pub struct Client {
     pub outbox: Outbox,
 }
 
+/// The open clients by their ids.
+pub type Clients = BTreeMap<u128, Client>;
+
 impl Model for Client {
     ghost Value = { PlainClient };
 
@@ -82,10 +85,7 @@ impl Sockets {
     pub fn at(&self, place: usize) -> Option<Socket>
         ensures { result ≡ find (λ (k : Socket). k.space == place) self.now }
     {
-        match self.by_place.get(&place) {
-            Some(serial) => self.by_serial.get(serial).copied(),
-            None => None,
-        }
+        self.by_serial.get(self.by_place.get(&place)?).copied()
     }
 
     /// Adds the newest socket, in the logarithm of the sockets. Without a serial it is refused.

@@ -1,14 +1,11 @@
 //! The connected sockets by their session ids, and those of each namespace.
 
-ghost use Rattle.std.specs.Prelude.{◌≡◌, map, IfOk, OnOk, OnErr, None, option_copied, is_some};
+ghost use Rattle.std.specs.Prelude.{◌≡◌, map, IfOk, OnOk, OnErr, None, option_copied};
 ghost use Rattle.std.specs.Ordering.{nat_cmp};
 ghost use Rattle.std.specs.BTreeMap.{get, IsEmpty};
-ghost use Rattle.std.specs.BTreeMap.Range.{IsLeBy};
-ghost use Rattle.std.specs.BTreeSet as sorted;
 ghost use Rattle.terms.specs.Listing.{ListsRising};
-ghost use Rattle.std.specs.declared.ops.Bound.{Bound};
 ghost use Rattle.journal.specs.Casting.{is_here};
-ghost use Rattle.hub_state.specs.Seats.{IsIndex, SeatMap, seat_cmp, seat_map_code, SameSeats, WithSeat, WithoutSeat};
+ghost use Rattle.hub_state.specs.Seats.{IsIndex, SeatMap, seat_map_code, SameSeats, WithSeat, WithoutSeat};
 
 use journal::Socket;
 use std::alloc::{AllocError, Global};
@@ -54,13 +51,6 @@ impl Seats {
         self.by_sid.get(&sid)
     }
 
-    /// Whether there is a socket with this session id. It takes the logarithm.
-    pub fn contains_key(&self, sid: Sid) -> bool
-        ensures { result ≡ is_some (get nat_cmp self.now sid) }
-    {
-        self.by_sid.contains_key(&sid)
-    }
-
     /// Adds a socket whose session id is free. It takes the logarithm.
     pub fn insert(&mut self, socket: Socket) -> Result<(), AllocError>
         requires free { get nat_cmp self.old socket.sid ≡ None }
@@ -95,22 +85,7 @@ impl Seats {
     {
         let place = u32::from(space);
         let least = Sid::new(0);
-        sids_between(alloc, &self.by_space, (place, least), (place + 1, least))
+        let here = self.by_space.range((place, least)..(place + 1, least));
+        here.map(|(_, sid)| *sid).collect(alloc)
     }
-}
-
-/// The session ids of what stands between two pairs, in its order.
-fn sids_between(
-    alloc: Global,
-    by_space: &BTreeSet<(u32, Sid)>,
-    from: (u32, Sid),
-    to: (u32, Sid),
-) -> Result<Vec<Sid>, AllocError>
-    requires { IsLeBy seat_cmp from to }
-    ensures ordered { sorted.IsOrdered seat_cmp by_space.now }
-    ensures items { IfOk result (λ sids.
-        let inside = sorted.keys_between seat_cmp (Bound.Included from) (Bound.Excluded to)
-        in sids.items ≡ map (λ q. q.1) (inside by_space.now)) }
-{
-    by_space.range(from..to).map(|(_, sid)| *sid).collect(alloc)
 }

@@ -3,7 +3,6 @@
 ghost use Rattle.std.specs.Prelude.{◌≡◌, ◌+◌, ◌<◌, ◌≤◌, ◌||◌, max, List, [], ◌∷◌, ◌++◌, length, IfOk, IfErr, None, unwrap_or, min, reverse, option_copied, slice_get, if◌then◌else◌};
 ghost use Rattle.room_maps.specs.Mirror.{IsMirrored};
 ghost use Rattle.journal.specs.Config.{config_refusal, empty_base};
-ghost use Rattle.journal.specs.Journal.{moment_at};
 ghost use Rattle.journal.specs.Totals as counted;
 ghost use Rattle.journal.specs.Totals.{is_past};
 ghost use Rattle.journal.specs.Legal.{IsLegal, IsSound};
@@ -28,7 +27,7 @@ mod recover;
 mod rooms;
 mod seal;
 
-use crate::client::{Client, Outbox};
+use crate::client::{Clients, Outbox};
 use crate::limits::Limits;
 use crate::seats::Seats;
 use crate::steps::Steps;
@@ -36,11 +35,14 @@ use continuity::heard_is_due;
 pub use end::EndedSocket;
 use journal::{Base, Config, Counts, HubError, Step, Totals, What};
 use recovery::{PacketLog, Pid, SavedTable};
-use room_maps::Rooms;
+use room_maps::{RoomMap, Rooms, SocketMap};
 use std::alloc::Global;
 use std::collections::{BTreeMap, BTreeSet};
 use std::marker::Model;
-use terms::{Entry, Room, Sid, let_go};
+use terms::{Entry, Sid, let_go};
+
+/// What a command answers, or why it is refused.
+pub(crate) type Result<X = (), E = HubError> = std::result::Result<X, E>;
 
 /// What a hub holds. In a contract it is its base, its limits and its journal, the newest step
 /// first: all else is what these say.
@@ -48,7 +50,7 @@ pub struct State {
     limits: Limits,
     base: Base,
     records: Records,
-    clients: BTreeMap<u128, Client>,
+    clients: Clients,
     live: Live,
     /// The sessions that may come back.
     saved: SavedTable,
@@ -144,7 +146,7 @@ fn empty_base(alloc: Global, config: &Config) -> Base
 impl State {
     /// A hub with no clients and an empty journal. Refused as `BadConfig`, then for `Memory`. It
     /// compares each two of the namespaces.
-    pub fn new(alloc: Global, config: Config) -> Result<State, HubError>
+    pub fn new(alloc: Global, config: Config) -> Result<State>
         ensures ok { IfOk result (λ state. (config_refusal config ≡ None) × (state
             ≡ record { base = empty_base config.first_offset; limits = config; journal = [] })) }
         ensures err { IfErr result (λ e. e ≡ unwrap_or (config_refusal config) HubError.Memory) }
@@ -200,13 +202,6 @@ impl State {
         heard_is_due();
     }
 
-    /// The moment of a step that is made now.
-    pub(crate) fn moment_at(&self, now: u64) -> u64
-        ensures { result ≡ moment_at self.now now }
-    {
-        now.max(self.records.last)
-    }
-
     /// Whether the count of commands, of placed or of dropped entries would pass the greatest u64.
     fn passes(&self, puts: u64, drops: u64) -> bool
         ensures passes { let h = self.now
@@ -223,7 +218,7 @@ impl State {
     }
 
     /// Refused as `Spent`, where a step that puts and drops so many can't be counted.
-    pub(crate) fn may_count(&self, puts: u64, drops: u64) -> Result<(), HubError>
+    pub(crate) fn may_count(&self, puts: u64, drops: u64) -> Result
         ensures { OfEach self.now puts drops (λ what. Reports result (spent_by self.now what)) }
     {
         // The type's invariant is known once a field is read.
@@ -291,12 +286,7 @@ impl State {
 
     /// The rooms of each connected socket, its own among them, and the sockets of each room: no
     /// room is empty (Socket.IO server documentation, "Rooms").
-    pub fn mirrors(
-        &self,
-    ) -> (
-        &BTreeMap<Sid, BTreeSet<Room>>,
-        &BTreeMap<Room, BTreeSet<Sid>>,
-    )
+    pub fn mirrors(&self) -> (&SocketMap, &RoomMap)
         ensures { IsMirrored (rooms self.now.base self.now.journal) result.0.now result.1.now }
     {
         self.live.rooms.mirrors()
@@ -313,7 +303,7 @@ impl State {
     pub fn is_connected(&self, sid: Sid) -> bool
         ensures { result ≡ is_connected sid_of self.now.base self.now.journal sid }
     {
-        self.live.seats.contains_key(sid)
+        self.live.seats.get(sid).is_some()
     }
 
     /// How many entries wait for a client, or `None` where it isn't open.

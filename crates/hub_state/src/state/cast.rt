@@ -3,7 +3,7 @@
 //! documentation, "Rooms" and "Adapter"; Socket.IO protocol 5, "Sending and receiving data" and
 //! "Acknowledgement").
 
-ghost use Rattle.std.specs.Prelude.{◌≡◌, not, ◌++◌, filter, IfOk, OnOk, ◌<◌, ◌≤◌, ◌^◌, ℕ, false, map, nat_eq, None, Some, IfSome, IfErr, OnErr, [], length, get_or};
+ghost use Rattle.std.specs.Prelude.{◌≡◌, not, filter, IfOk, OnOk, ◌<◌, ◌≤◌, ◌^◌, ℕ, false, map, nat_eq, None, Some, IfSome, IfErr, OnErr, [], length, get_or};
 ghost use Rattle.std.specs.List.{flat_map, list_any, IsDistinct, AllByRecursion};
 ghost use Rattle.std.specs.Ordering.{nat_cmp};
 ghost use Rattle.std.specs.BTreeMap.{get};
@@ -11,9 +11,9 @@ ghost use Rattle.std.specs.Arc.{arc_value};
 ghost use Rattle.room_maps.specs.Membership.{is_in};
 ghost use Rattle.room_maps.specs.Addressed.{is_addressed};
 ghost use Rattle.journal.specs.Membership.{is_in_space, place_of};
-ghost use Rattle.journal.specs.Casting.{in_space, ListsInside, is_full_in, message_for, missing_of, receiver_of, pair_of, with_entries, with_logged, refusal_of, offset_of, has_no_offset, IsCastOf, IsCastError, CastDoes};
+ghost use Rattle.journal.specs.Casting.{in_space, ListsInside, is_full_in, receiver_of, pair_of, with_entries, with_logged, refusal_of, offset_of, has_no_offset, IsCastOf, IsCastError, CastDoes};
 ghost use Rattle.journal.specs.Casting as casting;
-ghost use Rattle.hub_state.specs.Words.{rooms_now, aimed, TellsNow, AllHear};
+ghost use Rattle.hub_state.specs.Words.{rooms_now, TellsNow, AllHear};
 ghost use Rattle.std.specs.Option.{option_map, option_map_or};
 ghost use Rattle.sio_wire.specs.Header.{Plain};
 ghost use Rattle.sio_wire.specs.Offset.{payload_with_offset};
@@ -25,36 +25,17 @@ ghost use Rattle.journal.specs.declared.step.What.{What};
 ghost use Rattle.hub_state.specs.Changes.{SameClients, WithoutNewest, MakesStep};
 ghost use Rattle.hub_state.specs.Sending.{done_of, IsCounted};
 
-use crate::client::Client;
+use crate::client::Clients;
 use crate::seats::Seats;
 use crate::state::deliver::{put_entry, take_back};
-use crate::state::{NONE, State};
+use crate::state::{NONE, Result, State};
 use journal::{Broadcast, Cast, CastDone, Counts, Form, HubError, Message, Socket, What};
 use recovery::{Logged, PacketLog};
 use room_maps::Rooms;
 use sio_wire::{Header, with_offset, write_header};
 use std::alloc::{AllocError, Global};
-use std::collections::BTreeMap;
 use std::sync::Arc;
 use terms::{Attachments, Entry, Room, Sid, Text};
-
-/// Adds the socket with an id, where it is in the namespace at a place.
-fn add_socket(
-    sockets: &mut Vec<Socket>,
-    seats: &Seats,
-    sid: Sid,
-    space: u16,
-) -> Result<(), AllocError>
-    ensures ok { OnOk result (sockets.new.items
-        ≡ sockets.old.items ++ in_space space (get nat_cmp seats.now sid)) }
-{
-    if let Some(socket) = seats.get(sid) {
-        if socket.space == space {
-            sockets.push(*socket)?;
-        }
-    }
-    Ok(())
-}
 
 /// Those of the sockets with these ids that are in the namespace at a place, in the same order.
 pub(crate) fn sockets_in(
@@ -68,7 +49,11 @@ pub(crate) fn sockets_in(
 {
     let mut sockets = Vec::new(alloc);
     for sid in sids {
-        add_socket(&mut sockets, seats, *sid, space)?;
+        if let Some(socket) = seats.get(*sid)
+            && socket.space == space
+        {
+            sockets.push(*socket)?;
+        }
     }
     Ok(sockets)
 }
@@ -89,7 +74,7 @@ fn retain_outside(sids: &mut Vec<Sid>, inside: &Rooms, rooms: &[Room])
 }
 
 /// Whether the client's outbox has no space for the entry.
-pub(crate) fn is_full(clients: &BTreeMap<u128, Client>, client: u128, entry: &Entry) -> bool
+pub(crate) fn is_full(clients: &Clients, client: u128, entry: &Entry) -> bool
     ensures { result ≡ is_full_in (get nat_cmp clients.now) entry.now client }
 {
     clients
@@ -97,33 +82,10 @@ pub(crate) fn is_full(clients: &BTreeMap<u128, Client>, client: u128, entry: &En
         .is_some_and(|known| known.outbox.has_no_space(entry))
 }
 
-/// Adds a message for the socket's client where its outbox has space, and else who misses it.
-fn address(
-    messages: &mut Vec<Message>,
-    missing: &mut Vec<Sid>,
-    clients: &BTreeMap<u128, Client>,
-    socket: &Socket,
-    entry: &Arc<Entry>,
-) -> Result<(), AllocError>
-    ensures told { OnOk result (messages.new.items ≡ messages.old.items
-        ++ message_for (get nat_cmp clients.now) (arc_value entry.now) socket.now.client) }
-    ensures missing { OnOk result (missing.new.items ≡ missing.old.items
-        ++ missing_of (get nat_cmp clients.now) (arc_value entry.now) socket.now) }
-{
-    let client = socket.client;
-    if is_full(clients, client, entry) {
-        missing.push(socket.sid)?;
-    } else {
-        let entry = Arc::try_clone(entry)?;
-        messages.push(Message { client, entry })?;
-    }
-    Ok(())
-}
-
 /// A message for each of the sockets whose client's outbox has space, and the ids of the others.
 pub(crate) fn messages_for(
     alloc: Global,
-    clients: &BTreeMap<u128, Client>,
+    clients: &Clients,
     sockets: &[Socket],
     entry: &Arc<Entry>,
 ) -> Result<(Vec<Message>, Vec<Sid>), AllocError>
@@ -134,13 +96,19 @@ pub(crate) fn messages_for(
 {
     let (mut messages, mut missing) = (Vec::new(alloc), Vec::new(alloc));
     for socket in sockets {
-        address(&mut messages, &mut missing, clients, socket, entry)?;
+        let client = socket.client;
+        if is_full(clients, client, entry) {
+            missing.push(socket.sid)?;
+        } else {
+            let entry = Arc::try_clone(entry)?;
+            messages.push(Message { client, entry })?;
+        }
     }
     Ok((messages, missing))
 }
 
 /// Takes the newest entry of each of these clients' outboxes away again.
-fn take_all_back(clients: &mut BTreeMap<u128, Client>, receivers: &[u128])
+fn take_all_back(clients: &mut Clients, receivers: &[u128])
     ensures { WithoutNewest receivers.now clients.old clients.new }
 {
     for client in receivers {
@@ -151,7 +119,7 @@ fn take_all_back(clients: &mut BTreeMap<u128, Client>, receivers: &[u128])
 /// Puts each message into the outbox of its client, which is named at the same place of the list,
 /// or where memory is refused in the middle none.
 pub(crate) fn put_messages(
-    clients: &mut BTreeMap<u128, Client>,
+    clients: &mut Clients,
     messages: Vec<Message>,
     receivers: &[u128],
 ) -> Result<(), AllocError>
@@ -246,38 +214,8 @@ impl State {
             retain_outside(&mut sids, &self.live.rooms, excepted);
             return Ok(sids);
         }
-        match self.live.rooms.addressees(alloc, rooms, excepted) {
-            Ok(sids) => Ok(sids),
-            Err(_) => Err(AllocError),
-        }
-    }
-
-    /// The broadcast with those who miss it, and the messages for the others.
-    pub(crate) fn aim(
-        &self,
-        alloc: Global,
-        space: u16,
-        rooms: Vec<Room>,
-        excepted: Vec<Room>,
-        offset: Option<u64>,
-        entry: Arc<Entry>,
-    ) -> Result<(Broadcast, Vec<Message>), AllocError>
-        ensures broadcast { IfOk result (λ both. both.0
-            ≡ aimed space rooms.items excepted.items offset (arc_value entry) both.0.dropped) }
-        ensures tells { IfOk result (λ both. TellsNow self.now both.0 both.1.items) }
-    {
-        let sids = self.listeners(alloc, space, &rooms, &excepted)?;
-        let sockets = sockets_in(alloc, &self.live.seats, &sids, space)?;
-        let (messages, dropped) = messages_for(alloc, &self.clients, &sockets, &entry)?;
-        let broadcast = Broadcast {
-            space,
-            rooms,
-            excepted,
-            offset,
-            entry,
-            dropped,
-        };
-        Ok((broadcast, messages))
+        let sids = self.live.rooms.addressees(alloc, rooms, excepted);
+        sids.map_err(|_| AllocError)
     }
 
     /// The offset of the next broadcast that is logged, or `None` where the greatest was used.
@@ -295,7 +233,7 @@ impl State {
         messages: Vec<Message>,
         entry: Option<Logged>,
         now: u64,
-    ) -> Result<CastDone, HubError>
+    ) -> Result<CastDone>
         requires formed { IsOfAForm self.old.limits broadcast }
         requires counted { IsCounted self.old broadcast }
         requires tells { TellsNow self.old broadcast messages.items }
@@ -323,7 +261,7 @@ impl State {
     }
 
     /// The place of the namespace that a cast is for, and its offset.
-    fn judge(&self, cast: &Cast) -> Result<(u16, Option<u64>), HubError>
+    fn judge(&self, cast: &Cast) -> Result<(u16, Option<u64>)>
         ensures place { IfOk result (λ both. both.0 ≡ place_of self.now.limits cast.now.space) }
         ensures offset { IfOk result (λ both. both.1 ≡ offset_of self.now cast.now.form) }
         ensures accepted { IfOk result (λ _. refusal_of self.now cast.now ≡ None) }
@@ -365,15 +303,19 @@ impl State {
             payload,
             attachments,
         } = cast;
-        let entry = self.entry(
-            alloc,
-            usize::from(place),
-            form,
-            payload,
-            attachments,
+        let entry = self.entry(alloc, place, form, payload, attachments, offset)?;
+        let sids = self.listeners(alloc, place, &rooms, &excepted)?;
+        let sockets = sockets_in(alloc, &self.live.seats, &sids, place)?;
+        let (messages, dropped) = messages_for(alloc, &self.clients, &sockets, &entry)?;
+        let broadcast = Broadcast {
+            space: place,
+            rooms,
+            excepted,
             offset,
-        )?;
-        self.aim(alloc, place, rooms, excepted, offset, entry)
+            entry,
+            dropped,
+        };
+        Ok((broadcast, messages))
     }
 
     /// Puts an event, a question or an answer into the outboxes of the sockets of a namespace that
@@ -385,7 +327,7 @@ impl State {
     ///
     /// After it, accepted or refused, each connected session has heard just the journal's logged
     /// broadcasts that are due to it, as `facts` says.
-    pub fn cast(&mut self, alloc: Global, cast: Cast, now: u64) -> Result<CastDone, HubError>
+    pub fn cast(&mut self, alloc: Global, cast: Cast, now: u64) -> Result<CastDone>
         ensures does { CastDoes self.old self.new now cast result }
         ensures continuity { AllHear self.new }
     {
@@ -394,7 +336,7 @@ impl State {
         let (place, offset) = self.judge(&cast)?;
         let (broadcast, messages) = self.build(alloc, place, offset, cast)?;
         self.may_count(messages.len() as u64, broadcast.dropped.len() as u64)?;
-        let entry = log_entry(alloc, self.moment_at(now), &broadcast)?;
+        let entry = log_entry(alloc, now.max(self.records.last), &broadcast)?;
         let done = self.send(alloc, broadcast, messages, entry, now);
         self.facts();
         done
@@ -404,7 +346,7 @@ impl State {
     pub(crate) fn entry(
         &self,
         alloc: Global,
-        place: usize,
+        place: u16,
         form: Form,
         payload: Text,
         attachments: Attachments,
@@ -420,7 +362,7 @@ impl State {
     {
         let header = Header {
             kind: form.kind(attachments.len()),
-            space: Text::copy_of(alloc, self.name_at(place))?,
+            space: Text::copy_of(alloc, self.name_at(usize::from(place)))?,
             id: form.id(),
             payload: payload_of(alloc, payload, offset)?,
             count: attachments.len() as u32,

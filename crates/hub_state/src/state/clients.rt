@@ -1,28 +1,23 @@
 //! Clients are opened and closed, or lost, so that their sockets' sessions are saved; what is
 //! outdated is dropped (Socket.IO server documentation, "Connection state recovery").
 
-ghost use Rattle.std.specs.Prelude.{◌≡◌, ℕ, length, ◌==◌, IfOk, if◌then◌else◌, None, ◌-◌, OnOk, OnErr, ◌+◌, max};
+ghost use Rattle.std.specs.Prelude.{◌≡◌, ℕ, length, ◌==◌, IfOk, if◌then◌else◌, None, OnOk, OnErr, ◌+◌};
 ghost use Rattle.std.specs.Ordering.{nat_cmp};
 ghost use Rattle.std.specs.BTreeMap.{get};
 ghost use Rattle.journal.specs.Command.{Does};
 ghost use Rattle.journal.specs.Fields.{new_client, held_entries};
 ghost use Rattle.journal.specs.declared.step.What.{What};
-ghost use Rattle.hub_state.specs.Changes.{refusal_now, Reports};
 ghost use Rattle.recovery.specs.SavedTable as table;
-ghost use Rattle.recovery.specs.PacketLog.{swept};
-ghost use Rattle.recovery.specs.SavedTable.{table_swept};
 ghost use Rattle.journal.specs.Parking.{lost_in, HasNoneOf, with_lost, without_lost};
 ghost use Rattle.hub_state.specs.Words.{saves, logs};
 
-use crate::client::{Client, Outbox, Sockets};
-use crate::limits::Limits;
+use crate::client::{Client, Clients, Outbox, Sockets};
 use crate::state::end::{as_ended, rooms_in};
-use crate::state::{NONE, State};
+use crate::state::{NONE, Result, State};
 use journal::{Config, Counts, Ending, HubError, Socket, Swept, What};
-use recovery::{PacketLog, Saved, SavedTable};
+use recovery::{Saved, SavedTable};
 use room_maps::Rooms;
 use std::alloc::{AllocError, Global};
-use std::collections::BTreeMap;
 
 /// A client with no sockets, for which nothing waits.
 fn new_client(alloc: Global, config: &Config) -> Result<Client, AllocError>
@@ -36,7 +31,7 @@ fn new_client(alloc: Global, config: &Config) -> Result<Client, AllocError>
 }
 
 /// Forgets a client, and says how many entries waited for it.
-fn forget_client(clients: &mut BTreeMap<u128, Client>, client: u128) -> u64
+fn forget_client(clients: &mut Clients, client: u128) -> u64
     ensures discards { result ≡ length (held_entries (get nat_cmp clients.old client)) }
     ensures clients { (q : ℕ) → get nat_cmp clients.new q
         ≡ (if client == q then None else get nat_cmp clients.old q) }
@@ -98,23 +93,12 @@ fn save_all(
     Ok(())
 }
 
-/// Drops what is outdated at a moment.
-fn drop_outdated(log: &mut PacketLog, saved: &mut SavedTable, limits: &Limits, at: u64) -> Swept
-    ensures log { log.new ≡ swept log.old limits.now.keep (max log.old.last at) }
-    ensures saved { saved.new ≡ table_swept saved.old limits.now.keep at }
-    ensures log_count { length log.new.entries + result.log ≡ length log.old.entries }
-    ensures saved_count { length saved.new.sessions + result.saved ≡ length saved.old.sessions }
-{
-    let keep = limits.config().keep;
-    Swept {
-        log: log.sweep(at, keep),
-        saved: saved.sweep(at, keep),
-    }
-}
-
 impl State {
-    fn may_open(&self, client: u128) -> Result<(), HubError>
-        ensures { Reports result (refusal_now self.now (What.Opened client)) }
+    /// Opens a client, with no sockets and an empty outbox, which takes its memory as entries come.
+    /// Refused as `IdTaken`, `TooManyClients`, `Spent`, then for `Memory`. It takes the logarithm
+    /// of the clients.
+    pub fn open(&mut self, alloc: Global, client: u128, now: u64) -> Result
+        ensures { Does self.old self.new now (What.Opened client) result }
     {
         if self.is_open(client) {
             return Err(HubError::IdTaken);
@@ -122,16 +106,7 @@ impl State {
         if self.limits.config().clients <= self.clients.len() {
             return Err(HubError::TooManyClients);
         }
-        self.may_count(0, 0)
-    }
-
-    /// Opens a client, with no sockets and an empty outbox, which takes its memory as entries come.
-    /// Refused as `IdTaken`, `TooManyClients`, `Spent`, then for `Memory`. It takes the logarithm
-    /// of the clients.
-    pub fn open(&mut self, alloc: Global, client: u128, now: u64) -> Result<(), HubError>
-        ensures { Does self.old self.new now (What.Opened client) result }
-    {
-        self.may_open(client)?;
+        self.may_count(0, 0)?;
         self.records.steps.reserve()?;
         let opened = new_client(alloc, self.limits.config())?;
         self.clients.insert(client, opened)?;
@@ -139,23 +114,18 @@ impl State {
         Ok(())
     }
 
-    fn may_close(&self, client: u128) -> Result<(), HubError>
-        ensures { Reports result (refusal_now self.now (What.Closed client)) }
+    /// Closes a client: its sockets end, nothing of them is saved, and what waits for it is
+    /// discarded. Refused as `UnknownClient`, `Spent`, then for `Memory`. It takes the logarithm of
+    /// the clients, and for each room of its sockets that of the sockets and of the rooms.
+    pub fn close(&mut self, alloc: Global, client: u128, now: u64) -> Result
+        ensures { Does self.old self.new now (What.Closed client) result }
     {
+        // The prover needs that no client is listed twice.
         self.facts();
         if !self.is_open(client) {
             return Err(HubError::UnknownClient);
         }
-        self.may_count(0, 0)
-    }
-
-    /// Closes a client: its sockets end, nothing of them is saved, and what waits for it is
-    /// discarded. Refused as `UnknownClient`, `Spent`, then for `Memory`. It takes the logarithm of
-    /// the clients, and for each room of its sockets that of the sockets and of the rooms.
-    pub fn close(&mut self, alloc: Global, client: u128, now: u64) -> Result<(), HubError>
-        ensures { Does self.old self.new now (What.Closed client) result }
-    {
-        self.may_close(client)?;
+        self.may_count(0, 0)?;
         let sockets = self.its_sockets(alloc, client)?;
         let mut ended = as_ended(&self.live.rooms, alloc, Ending::Closed, &sockets)?;
         self.records.steps.reserve()?;
@@ -168,9 +138,14 @@ impl State {
         Ok(())
     }
 
-    fn may_park(&self, client: u128) -> Result<(), HubError>
-        ensures { Reports result (refusal_now self.now (What.Parked client)) }
+    /// Parks a client that was lost: the sessions of its sockets are saved with their rooms, its
+    /// sockets end, and what waits for it is discarded. Refused as `UnknownClient`, `SavedFull`
+    /// where the saved sessions leave fewer places than it has sockets, `Spent`, then for `Memory`.
+    /// It takes as much as `close`, and the logarithm of the saved sessions for each of its sockets.
+    pub fn park(&mut self, alloc: Global, client: u128, now: u64) -> Result
+        ensures { Does self.old self.new now (What.Parked client) result }
     {
+        // The prover needs that no client is listed twice.
         self.facts();
         let Some(known) = self.clients.get(&client) else {
             return Err(HubError::UnknownClient);
@@ -179,17 +154,7 @@ impl State {
         if free < known.sockets.len() {
             return Err(HubError::SavedFull);
         }
-        self.may_count(0, 0)
-    }
-
-    /// Parks a client that was lost: the sessions of its sockets are saved with their rooms, its
-    /// sockets end, and what waits for it is discarded. Refused as `UnknownClient`, `SavedFull`
-    /// where the saved sessions leave fewer places than it has sockets, `Spent`, then for `Memory`.
-    /// It takes as much as `close`, and the logarithm of the saved sessions for each of its sockets.
-    pub fn park(&mut self, alloc: Global, client: u128, now: u64) -> Result<(), HubError>
-        ensures { Does self.old self.new now (What.Parked client) result }
-    {
-        self.may_park(client)?;
+        self.may_count(0, 0)?;
         let at = now.max(self.records.last);
         let sockets = self.its_sockets(alloc, client)?;
         let mut ended = as_ended(&self.live.rooms, alloc, Ending::Saved, &sockets)?;
@@ -212,7 +177,7 @@ impl State {
     /// Drops the entries of the log and the saved sessions that are older than the hub keeps them,
     /// and says how many. Refused as `Spent`, then for `Memory`. Each that is dropped takes the
     /// logarithm of the saved sessions, and it looks at one more of both.
-    pub fn sweep(&mut self, _alloc: Global, now: u64) -> Result<Swept, HubError>
+    pub fn sweep(&mut self, _alloc: Global, now: u64) -> Result<Swept>
         ensures does { Does self.old self.new now What.Swept result }
         ensures counts { IfOk result (λ dropped.
             (length (logs self.old) ≡ length (logs self.new) + dropped.log)
@@ -221,7 +186,11 @@ impl State {
         self.may_count(0, 0)?;
         let at = now.max(self.records.last);
         self.records.steps.reserve()?;
-        let swept = drop_outdated(&mut self.log, &mut self.saved, &self.limits, at);
+        let keep = self.limits.config().keep;
+        let swept = Swept {
+            log: self.log.sweep(at, keep),
+            saved: self.saved.sweep(at, keep),
+        };
         self.records.add(now, What::Swept, NONE);
         Ok(swept)
     }

@@ -5,37 +5,25 @@ ghost use Rattle.std.specs.Option.{option_map};
 ghost use Rattle.std.specs.BTreeMap.{get};
 ghost use Rattle.std.specs.Arc.{arc_value};
 ghost use Rattle.terms.specs.Entry.{entry_size};
-ghost use Rattle.sio_wire.specs.ConnectAnswer as connect_answer;
 ghost use Rattle.journal.specs.Membership.{place_of, is_space, is_connected, sid_of, socket_of};
 ghost use Rattle.journal.specs.Outboxes.{is_full};
-ghost use Rattle.journal.specs.Outboxes as outboxes;
 ghost use Rattle.journal.specs.Refusals.{is_taken};
 ghost use Rattle.journal.specs.Command.{Does};
 ghost use Rattle.journal.specs.Fields.{plus_socket, without_last};
 ghost use Rattle.journal.specs.declared.socket.Socket.{Socket};
 ghost use Rattle.journal.specs.declared.step.What.{What};
 ghost use Rattle.hub_state.specs.Changes.{ChangesClient, SameClients, SameLive, WithSocket, IsNew, IsAlone, refusal_now};
-ghost use Rattle.hub_state.specs.Words.{opened, plain_entry, socket_for, answer_at};
+ghost use Rattle.hub_state.specs.Words.{opened, socket_for, answer_at};
 
-use crate::client::Client;
+use crate::client::Clients;
 use crate::state::deliver::{put_entry, shared_text, take_back};
-use crate::state::{Live, NONE, State};
+use crate::state::{Live, NONE, Result, State};
 use journal::{Counts, HubError, Socket, What};
 use recovery::Pid;
 use sio_wire::connected_text;
 use std::alloc::{AllocError, Global};
-use std::collections::BTreeMap;
 use std::sync::Arc;
 use terms::{Entry, Room, Sid, Text};
-
-/// The answer to a CONNECT to this namespace, which outboxes may share.
-fn answer_to(alloc: Global, name: &str, sid: Sid, pid: Pid) -> Result<Arc<Entry>, AllocError>
-    ensures ok { IfOk result (λ entry.
-        arc_value entry ≡ plain_entry (connect_answer.connected_text name.now sid pid)) }
-{
-    let text = connected_text(alloc, name, sid.number(), pid.number()).map_err(|_| AllocError)?;
-    shared_text(alloc, text)
-}
 
 impl Live {
     /// Makes a socket known by both its ids, which are free, in its own room and in these.
@@ -61,7 +49,7 @@ impl Live {
 }
 
 /// Gives a client a socket more, where it has none at the socket's place.
-fn add_socket(clients: &mut BTreeMap<u128, Client>, socket: &Socket) -> Result<(), AllocError>
+fn add_socket(clients: &mut Clients, socket: &Socket) -> Result<(), AllocError>
     requires { IsAlone socket.now clients.old }
     ensures ok { let k = socket.now
         in OnOk result (ChangesClient (plus_socket k) k.client clients.old clients.new) }
@@ -74,7 +62,7 @@ fn add_socket(clients: &mut BTreeMap<u128, Client>, socket: &Socket) -> Result<(
 }
 
 /// Takes the newest socket of a client away.
-fn drop_socket(clients: &mut BTreeMap<u128, Client>, client: u128)
+fn drop_socket(clients: &mut Clients, client: u128)
     ensures { ChangesClient without_last client clients.old clients.new }
 {
     if let Some(known) = clients.get_mut(&client) {
@@ -86,7 +74,7 @@ fn drop_socket(clients: &mut BTreeMap<u128, Client>, client: u128)
 /// its own room and in these, or for want of memory does nothing.
 pub(crate) fn seat(
     alloc: Global,
-    clients: &mut BTreeMap<u128, Client>,
+    clients: &mut Clients,
     live: &mut Live,
     socket: &Socket,
     inside: &[Room],
@@ -110,7 +98,7 @@ pub(crate) fn seat(
 impl State {
     /// The place of a namespace in the hub's list. Refused as `UnknownNamespace`.
     #[tactic(auto, unfolding(journal::specs::Membership::place_of))]
-    pub(crate) fn place_of(&self, space: &str) -> Result<u16, HubError>
+    pub(crate) fn place_of(&self, space: &str) -> Result<u16>
         ensures place { IfOk result (λ place. place ≡ place_of self.now.limits space.now) }
         ensures known { IfOk result (λ place. is_space self.now.limits place ≡ true) }
         ensures unknown { IfErr result (λ _.
@@ -190,7 +178,9 @@ impl State {
         ensures ok { IfOk result (λ entry. (c : ℕ)
             → arc_value entry ≡ answer_at self.now c place sid pid) }
     {
-        answer_to(alloc, self.name_at(place), sid, pid)
+        let (name, sid, pid) = (self.name_at(place), sid.number(), pid.number());
+        let text = connected_text(alloc, name, sid, pid).map_err(|_| AllocError)?;
+        shared_text(alloc, text)
     }
 
     /// Whether an open client's outbox has no space for the answer to a CONNECT.
@@ -205,7 +195,7 @@ impl State {
     }
 
     /// The socket that is to be connected, or why it can't be.
-    fn attaching(&self, client: u128, space: &str, sid: Sid, pid: Pid) -> Result<Socket, HubError>
+    fn attaching(&self, client: u128, space: &str, sid: Sid, pid: Pid) -> Result<Socket>
         ensures socket { IfOk result (λ k. k ≡ socket_for self.now client space.now sid pid) }
         ensures accepted { IfOk result (λ k. refusal_now self.now (What.Attached k) ≡ None) }
         ensures refused { let k = socket_for self.now client space.now sid pid
@@ -246,7 +236,7 @@ impl State {
         sid: Sid,
         pid: Pid,
         now: u64,
-    ) -> Result<(), HubError>
+    ) -> Result
         ensures { let socket = socket_for self.old client space.now sid pid
             in Does self.old self.new now (What.Attached socket) result }
     {

@@ -1,27 +1,26 @@
 //! Entries are put into clients' outboxes and handed out.
 
-ghost use Rattle.std.specs.Prelude.{◌≡◌, ◌≤◌, true, false, length, min, take, string_bytes, IfOk, IfErr, IfSome, OnOk, OnErr, None, Some};
+ghost use Rattle.std.specs.Prelude.{◌≡◌, false, length, min, take, string_bytes, IfOk, IfErr, IfSome, OnOk, OnErr, None, Some};
 ghost use Rattle.std.specs.Ordering.{nat_cmp};
 ghost use Rattle.std.specs.BTreeMap.{get};
 ghost use Rattle.std.specs.Arc.{arc_value};
-ghost use Rattle.journal.specs.Outboxes.{is_full, has_no_space};
+ghost use Rattle.journal.specs.Outboxes.{has_no_space};
 ghost use Rattle.journal.specs.Command.{Does};
 ghost use Rattle.journal.specs.Fields.{without_first, with_entry};
 ghost use Rattle.journal.specs.declared.step.What.{What};
-ghost use Rattle.hub_state.specs.Changes.{ChangesClient, SameClients, without_newest, refusal_now, Reports};
-ghost use Rattle.hub_state.specs.Words.{opened, waits, plain_entry, told, took};
+ghost use Rattle.hub_state.specs.Changes.{ChangesClient, SameClients, without_newest, refusal_now};
+ghost use Rattle.hub_state.specs.Words.{waits, plain_entry, told, took};
 
-use crate::client::Client;
+use crate::client::Clients;
 use crate::state::cast::is_full;
-use crate::state::{NONE, State};
+use crate::state::{NONE, Result, State};
 use journal::{Counts, HubError, Message, What};
 use std::alloc::{AllocError, Global};
-use std::collections::BTreeMap;
 use std::sync::Arc;
 use terms::{Attachments, Entry, Text};
 
 /// Takes the first entries of a client's outbox away.
-fn hand_out(clients: &mut BTreeMap<u128, Client>, client: u128, count: usize)
+fn hand_out(clients: &mut Clients, client: u128, count: usize)
     ensures { ChangesClient (without_first count) client clients.old clients.new }
 {
     if let Some(known) = clients.get_mut(&client) {
@@ -40,7 +39,7 @@ pub(crate) fn shared_text(alloc: Global, text: String) -> Result<Arc<Entry>, All
 
 /// Puts an entry at the end of a client's outbox, which has space for it.
 pub(crate) fn put_entry(
-    clients: &mut BTreeMap<u128, Client>,
+    clients: &mut Clients,
     client: u128,
     entry: Arc<Entry>,
 ) -> Result<(), AllocError>
@@ -57,7 +56,7 @@ pub(crate) fn put_entry(
 }
 
 /// Takes the newest entries of a client's outbox away again, as many as are named.
-pub(crate) fn take_back(clients: &mut BTreeMap<u128, Client>, client: u128, count: usize)
+pub(crate) fn take_back(clients: &mut Clients, client: u128, count: usize)
     ensures { ChangesClient (without_newest count) client clients.old clients.new }
 {
     if let Some(known) = clients.get_mut(&client) {
@@ -66,32 +65,18 @@ pub(crate) fn take_back(clients: &mut BTreeMap<u128, Client>, client: u128, coun
 }
 
 impl State {
-    fn may_tell(&self, client: u128, entry: &Entry) -> Result<(), HubError>
-        ensures refusal { Reports result (refusal_now self.now (told client entry.now)) }
-        ensures place { let h = self.now
-            in OnOk result (is_full h.base h.limits h.journal client entry.now ≡ false) }
+    /// Puts an entry at the end of a client's outbox. Refused as `UnknownClient`, `OutboxFull`,
+    /// `Spent`, then for `Memory`. It takes the logarithm of the clients.
+    pub fn tell(&mut self, alloc: Global, client: u128, entry: Entry, now: u64) -> Result
+        ensures { Does self.old self.new now (told client entry) result }
     {
         if !self.is_open(client) {
             return Err(HubError::UnknownClient);
         }
-        if is_full(&self.clients, client, entry) {
+        if is_full(&self.clients, client, &entry) {
             return Err(HubError::OutboxFull);
         }
-        self.may_count(1, 0)
-    }
-
-    /// Puts an entry at the end of a client's outbox. Refused as `UnknownClient`, `OutboxFull`,
-    /// `Spent`, then for `Memory`. It takes the logarithm of the clients.
-    pub fn tell(
-        &mut self,
-        alloc: Global,
-        client: u128,
-        entry: Entry,
-        now: u64,
-    ) -> Result<(), HubError>
-        ensures { Does self.old self.new now (told client entry) result }
-    {
-        self.may_tell(client, &entry)?;
+        self.may_count(1, 0)?;
         let entry = Arc::new(alloc, entry)?;
         let shared = Arc::try_clone(&entry)?;
         self.records.steps.reserve()?;
@@ -103,7 +88,7 @@ impl State {
     }
 
     /// How many entries a `take` hands out, or why it is refused.
-    fn takes(&self, client: u128, most: usize) -> Result<usize, HubError>
+    fn takes(&self, client: u128, most: usize) -> Result<usize>
         ensures number { IfOk result (λ n. n ≡ min most (length (waits self.now client))) }
         ensures accepted { IfOk result (λ n.
             refusal_now self.now (What.Took client most n) ≡ None) }
@@ -119,13 +104,7 @@ impl State {
     /// Hands out the first `most` entries that wait for a client, or all where fewer wait. Refused
     /// as `UnknownClient`, `Spent`, then for `Memory`. It takes the logarithm of the clients, and
     /// copies what it hands out.
-    pub fn take(
-        &mut self,
-        alloc: Global,
-        client: u128,
-        most: usize,
-        now: u64,
-    ) -> Result<Vec<Entry>, HubError>
+    pub fn take(&mut self, alloc: Global, client: u128, most: usize, now: u64) -> Result<Vec<Entry>>
         ensures entries { IfOk result (λ all. all.items ≡ take most (waits self.old client)) }
         ensures does { Does self.old self.new now (took self.old client most) result }
     {
@@ -146,7 +125,7 @@ impl State {
         client: u128,
         most: usize,
         now: u64,
-    ) -> Result<usize, HubError>
+    ) -> Result<usize>
         ensures number { IfOk result (λ n. n ≡ min most (length (waits self.old client))) }
         ensures does { Does self.old self.new now (took self.old client most) result }
     {

@@ -4,7 +4,7 @@
 ghost use Rattle.std.specs.Prelude.{◌≡◌, min, map, true, IfOk, Some, ℕ, ◌==◌, false, if◌then◌else◌};
 ghost use Rattle.hub_state.specs.EndedSockets.{ended_size, PlainEnded, as_ended, ended_sockets};
 ghost use Rattle.std.specs.List.{AllByRecursion, list_any};
-ghost use Rattle.journal.specs.Membership.{is_space, sockets_of, socket_with, sid_of, place_of};
+ghost use Rattle.journal.specs.Membership.{is_space, sockets_of, place_of};
 ghost use Rattle.journal.specs.Sessions.{rooms_rising};
 ghost use Rattle.room_maps.specs.Membership as room_maps;
 ghost use Rattle.journal.specs.Command.{Does};
@@ -15,25 +15,21 @@ ghost use Rattle.hub_state.specs.Changes.{ChangesClient, WithoutPid, WithoutSock
 ghost use Rattle.std.specs.Option.{option_map};
 ghost use Rattle.std.specs.Ordering.{nat_cmp};
 ghost use Rattle.std.specs.BTreeMap.{get};
-ghost use Rattle.std.specs.Arc.{arc_value};
-ghost use Rattle.journal.specs.Outboxes as outboxes;
 ghost use Rattle.journal.specs.ManySockets.{dismissal};
 ghost use Rattle.journal.specs.Totals.{is_spent};
 ghost use Rattle.journal.specs.declared.socket.Socket.{Socket};
 ghost use Rattle.hub_state.specs.Words.{DismissesNow};
 
-use crate::client::Client;
+use crate::client::Clients;
 use crate::state::cast::{messages_for, put_messages, receivers, sockets_in};
 use crate::state::deliver::shared_text;
-use crate::state::{Live, NONE, State};
+use crate::state::{Live, NONE, Result, State};
 use journal::{Counts, Dismissal, Dismissed, Ending, HubError, Message, Side, Socket, What};
 use room_maps::Rooms;
 use sio_wire::disconnect_text;
 use std::alloc::{AllocError, Global};
-use std::collections::BTreeMap;
 use std::marker::Model;
-use std::sync::Arc;
-use terms::{Entry, Room, Sid};
+use terms::{Room, Sid};
 
 /// A socket that ended. In a contract it is plain data.
 #[derive(Drop)]
@@ -97,7 +93,7 @@ pub(crate) fn as_ended(
 }
 
 /// Takes the socket at a place out of its client's list.
-pub(crate) fn drop_from(clients: &mut BTreeMap<u128, Client>, client: u128, place: usize)
+pub(crate) fn drop_from(clients: &mut Clients, client: u128, place: usize)
     ensures { ChangesClient (without_place place) client clients.old clients.new }
 {
     if let Some(known) = clients.get_mut(&client) {
@@ -129,15 +125,8 @@ impl Live {
     }
 }
 
-/// The ids of the sockets, in the same order.
-fn ids_of(alloc: Global, sockets: &[Socket]) -> Result<Vec<Sid>, AllocError>
-    ensures ok { IfOk result (λ sids. sids.items ≡ map sid_of sockets.now) }
-{
-    sockets.iter().map(|socket| socket.sid).collect(alloc)
-}
-
 /// Takes the sockets, which are all at this place, out of their clients' lists.
-fn drop_all(clients: &mut BTreeMap<u128, Client>, sockets: &[Socket], place: usize)
+fn drop_all(clients: &mut Clients, sockets: &[Socket], place: usize)
     ensures { (q : ℕ) → get nat_cmp clients.new q
         ≡ (if list_any (λ (k : Socket). k.client == q) sockets.now
         then option_map (without_place place) (get nat_cmp clients.old q)
@@ -173,20 +162,14 @@ impl State {
         Ok(list)
     }
 
-    /// The connected socket with a session id.
-    pub(crate) fn socket_with(&self, sid: Sid) -> Option<Socket>
-        ensures { result ≡ socket_with sid_of self.now.base self.now.journal sid }
-    {
-        self.live.seats.get(sid).copied()
-    }
-
     /// Ends a socket alone, by this side: nothing is saved. Refused as `UnknownSocket`, `Spent`,
     /// then for `Memory`. It takes the logarithm of the clients, and for each of its rooms that of
     /// the sockets and rooms.
-    pub fn end(&mut self, alloc: Global, sid: Sid, by: Side, now: u64) -> Result<(), HubError>
+    pub fn end(&mut self, alloc: Global, sid: Sid, by: Side, now: u64) -> Result
         ensures { Does self.old self.new now (What.Ended sid by) result }
     {
-        let socket = self.socket_with(sid).ok_or(HubError::UnknownSocket)?;
+        let known = self.live.seats.get(sid).copied();
+        let socket = known.ok_or(HubError::UnknownSocket)?;
         self.may_count(0, 0)?;
         let mut ended = as_ended(&self.live.rooms, alloc, Ending::Alone(by), &[socket])?;
         self.records.steps.reserve()?;
@@ -196,16 +179,6 @@ impl State {
         self.live.rooms.kept_facts();
         self.records.add(now, What::Ended(sid, by), NONE);
         Ok(())
-    }
-
-    /// What a client is told whose socket in the namespace at a place is ended.
-    fn farewell(&self, alloc: Global, place: usize) -> Result<Arc<Entry>, AllocError>
-        ensures ok { IfOk result (λ e. arc_value e ≡ outboxes.farewell self.now.limits place) }
-    {
-        match disconnect_text(alloc, self.name_at(place)) {
-            Ok(text) => shared_text(alloc, text),
-            Err(_) => Err(AllocError),
-        }
     }
 
     /// The dismissal that is asked for, the sockets that it ends, and what it tells their clients.
@@ -222,9 +195,11 @@ impl State {
     {
         let sids = self.listeners(alloc, space, &rooms, &excepted)?;
         let sockets = sockets_in(alloc, &self.live.seats, &sids, space)?;
-        let entry = self.farewell(alloc, usize::from(space))?;
+        let name = self.name_at(usize::from(space));
+        let text = disconnect_text(alloc, name).map_err(|_| AllocError)?;
+        let entry = shared_text(alloc, text)?;
         let (messages, _missing) = messages_for(alloc, &self.clients, &sockets, &entry)?;
-        let ended = ids_of(alloc, &sockets)?;
+        let ended = sockets.iter().map(|socket| socket.sid).collect(alloc)?;
         let mut told = receivers(alloc, &messages)?;
         told.sort_unstable();
         let dismissal = Dismissal {
@@ -245,7 +220,7 @@ impl State {
         sockets: Vec<Socket>,
         messages: Vec<Message>,
         now: u64,
-    ) -> Result<(), HubError>
+    ) -> Result
         requires known { is_space self.old.limits dismissal.space ≡ true }
         requires makes { DismissesNow self.old dismissal sockets.items messages.items }
         requires unspent { let what = What.AllEnded dismissal
@@ -285,7 +260,7 @@ impl State {
         rooms: Vec<Room>,
         excepted: Vec<Room>,
         now: u64,
-    ) -> Result<Dismissed, HubError>
+    ) -> Result<Dismissed>
         ensures done { let place = place_of self.old.limits space.now
             in IfOk result (λ done. let d = dismissal self.old place rooms.items excepted.items
             in (done.ended.items ≡ d.ended) × (done.told.items ≡ d.told)) }

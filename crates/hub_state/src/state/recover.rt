@@ -1,12 +1,12 @@
 //! Saved sessions come back, with what they have missed (Socket.IO server documentation,
 //! "Connection state recovery").
 
-ghost use Rattle.std.specs.Prelude.{◌≡◌, ◌+◌, ◌≤◌, ◌||◌, true, [], ◌∷◌, ◌++◌, length, map, filter, nat_lt, OnOk, IfSome, IfNone, ℕ, ◌^◌, ◌<◌, false, IfOk, IfErr, OnErr, None, Some, is_some};
+ghost use Rattle.std.specs.Prelude.{◌≡◌, ◌+◌, ◌≤◌, ◌||◌, true, ◌++◌, length, map, filter, nat_lt, OnOk, IfSome, IfNone, ℕ, ◌^◌, ◌<◌, false, IfOk, IfErr, OnErr, None, Some, is_some};
 ghost use Rattle.std.specs.Arc.{arc_value};
 ghost use Rattle.recovery.specs.Missed.{is_for};
 ghost use Rattle.journal.specs.Outboxes.{total_size, waiting};
 ghost use Rattle.journal.specs.Recovery.{gets, brought_back, with_entries};
-ghost use Rattle.hub_state.specs.Recovering.{gets_back, recovery_asked, session_refusal_at, recover_refusal_of, puts_again};
+ghost use Rattle.hub_state.specs.Recovering.{gets_back, recovery_asked, recover_refusal_of, puts_again};
 ghost use Rattle.std.specs.Ordering.{nat_cmp};
 ghost use Rattle.std.specs.BTreeMap.{get};
 ghost use Rattle.recovery.specs.PacketLog.{later_than};
@@ -21,14 +21,13 @@ ghost use Rattle.journal.specs.declared.step.What.{What};
 ghost use Rattle.hub_state.specs.Changes.{ChangesClient, SameClients, MakesStep};
 ghost use Rattle.hub_state.specs.Words.{opened, waits, logs, saves, answer_at, AllHear};
 
-use crate::client::{Client, Outbox, free_after};
+use crate::client::{Clients, Outbox, free_after};
 use crate::state::connect::seat;
 use crate::state::deliver::take_back;
-use crate::state::{NONE, State};
+use crate::state::{NONE, Result, State};
 use journal::{Counts, HubError, Recovery, RecoveryRefusal, Socket, What};
 use recovery::{Logged, Pid, Saved};
 use std::alloc::{AllocError, Global};
-use std::collections::BTreeMap;
 use std::sync::Arc;
 use terms::{Entry, Room, Sid};
 
@@ -78,31 +77,12 @@ fn left_after(
 {
     let mut left = (places, bytes);
     for logged in broadcasts {
-        left = left_after_one(logged, space, rooms, left)?;
+        if logged.is_for(space, rooms) {
+            let free = free_after(left.1, &logged.entry)?;
+            left = (left.0.checked_sub(1)?, free);
+        }
     }
     Some(left)
-}
-
-/// What is left of the places and bytes once a socket has the broadcast, where it gets it.
-fn left_after_one(
-    logged: &Logged,
-    space: u16,
-    rooms: &[Room],
-    left: (usize, usize),
-) -> Option<(usize, usize)>
-    ensures places { let puts = gets space rooms.now (logged.now ∷ [])
-        in IfSome result (λ less. less.0 + length puts ≡ left.0) }
-    ensures bytes { let puts = gets space rooms.now (logged.now ∷ [])
-        in IfSome result (λ less. less.1 + total_size puts ≡ left.1) }
-    ensures none { let puts = gets space rooms.now (logged.now ∷ []) in IfNone result
-        ((nat_lt left.0 (length puts) || nat_lt left.1 (total_size puts)) ≡ true) }
-{
-    if !logged.is_for(space, rooms) {
-        return Some(left);
-    }
-    let places = left.0.checked_sub(1)?;
-    let bytes = free_after(left.1, &logged.entry)?;
-    Some((places, bytes))
 }
 
 /// Adds what a socket gets of the broadcasts, and their offsets, to two lists.
@@ -147,11 +127,7 @@ fn push_all(outbox: &mut Outbox, entries: Vec<Arc<Entry>>) -> Result<(), AllocEr
 }
 
 /// Puts entries at the end of a client's outbox, or where memory is refused none.
-fn put_all(
-    clients: &mut BTreeMap<u128, Client>,
-    client: u128,
-    entries: Vec<Arc<Entry>>,
-) -> Result<(), AllocError>
+fn put_all(clients: &mut Clients, client: u128, entries: Vec<Arc<Entry>>) -> Result<(), AllocError>
     requires places { IfSome (get nat_cmp clients.old client) (λ known.
         length known.outbox.waiting + length entries.items ≤ known.outbox.capacity) }
     requires bytes { let puts = map arc_value entries.items
@@ -168,41 +144,6 @@ fn put_all(
 }
 
 impl State {
-    /// The session with a private id, with what the log has past an offset, or why it can't come
-    /// back at this moment.
-    fn found(
-        &self,
-        pid: Pid,
-        place: usize,
-        offset: u64,
-        at: u64,
-    ) -> Result<FoundSession<'_>, HubError>
-        ensures session { IfOk result (λ found.
-            session_with pid (saves self.now) ≡ Some found.session.now) }
-        ensures later { IfOk result (λ found.
-            found.front.now ++ found.back.now ≡ later_than offset (logs self.now)) }
-        ensures accepted { IfOk result (λ _. session_refusal_at self.now pid place offset at ≡ None) }
-        ensures refused { IfErr result (λ e. session_refusal_at self.now pid place offset at ≡ Some e) }
-    {
-        let Some(session) = self.saved.look_up(pid) else {
-            return Err(HubError::NotRecoverable(RecoveryRefusal::UnknownPid));
-        };
-        if usize::from(session.space) != place {
-            return Err(HubError::NotRecoverable(RecoveryRefusal::UnknownPid));
-        }
-        if session.is_outdated(self.limits.config().keep, at) {
-            return Err(HubError::NotRecoverable(RecoveryRefusal::Expired));
-        }
-        let Some((front, back)) = self.log.later(offset) else {
-            return Err(HubError::NotRecoverable(RecoveryRefusal::OffsetGone));
-        };
-        Ok(FoundSession {
-            session,
-            front,
-            back,
-        })
-    }
-
     /// How many entries and bytes are free in an open client's outbox beside a CONNECT's answer.
     fn free_beside_answer(&self, client: u128, place: usize) -> Option<(usize, usize)>
         requires { opened self.now client ≡ true }
@@ -255,7 +196,7 @@ impl State {
         pid: Pid,
         offset: u64,
         at: u64,
-    ) -> Result<FoundSession<'_>, HubError>
+    ) -> Result<FoundSession<'_>>
         ensures session { IfOk result (λ found.
             session_with pid (saves self.now) ≡ Some found.session.now) }
         ensures later { IfOk result (λ found.
@@ -273,7 +214,23 @@ impl State {
         if self.socket_at(client, place).is_some() {
             return Err(HubError::AlreadyConnected);
         }
-        let found = self.found(pid, place, offset, at)?;
+        let Some(session) = self.saved.look_up(pid) else {
+            return Err(HubError::NotRecoverable(RecoveryRefusal::UnknownPid));
+        };
+        if session.space != space {
+            return Err(HubError::NotRecoverable(RecoveryRefusal::UnknownPid));
+        }
+        if session.is_outdated(self.limits.config().keep, at) {
+            return Err(HubError::NotRecoverable(RecoveryRefusal::Expired));
+        }
+        let Some((front, back)) = self.log.later(offset) else {
+            return Err(HubError::NotRecoverable(RecoveryRefusal::OffsetGone));
+        };
+        let found = FoundSession {
+            session,
+            front,
+            back,
+        };
         let Some(puts) = self.put_count(client, found, offset) else {
             return Err(HubError::OutboxFull);
         };
@@ -329,7 +286,7 @@ impl State {
         recovery: Recovery,
         puts: Vec<Arc<Entry>>,
         now: u64,
-    ) -> Result<Sid, HubError>
+    ) -> Result<Sid>
         requires accepted { let at = moment_at self.old now
             in None ≡ refusal self.old at (What.Recovered recovery) }
         requires right { RightRecovery self.old.base self.old.limits self.old.journal recovery }
@@ -374,7 +331,7 @@ impl State {
         pid: Pid,
         offset: u64,
         now: u64,
-    ) -> Result<Sid, HubError>
+    ) -> Result<Sid>
         ensures sid { let r = recovery_asked client space.now pid offset self.old
             in IfOk result (λ sid. sid ≡ r.socket.sid) }
         ensures does { let r = recovery_asked client space.now pid offset self.old
@@ -383,7 +340,7 @@ impl State {
     {
         // The prover needs what holds of every hub, before and after.
         self.facts();
-        let at = self.moment_at(now);
+        let at = now.max(self.records.last);
         let found = self.returning(client, space, pid, offset, at)?;
         let (recovery, puts) = self.what_returns(alloc, client, found, offset)?;
         let back = self.bring_back(alloc, recovery, puts, now);

@@ -2,7 +2,7 @@
 //! (Socket.IO server documentation, "Rooms", and "Server API", `socketsJoin`, `socketsLeave`,
 //! `fetchSockets` and `socket.rooms`).
 
-ghost use Rattle.std.specs.Prelude.{◌≡◌, not, filter, IfOk, true, false, IfErr, Err};
+ghost use Rattle.std.specs.Prelude.{◌≡◌, not, filter, IfOk, true, false, IfErr, Err, MatchBool, if◌then◌else◌};
 ghost use Rattle.std.specs.Ordering.{nat_cmp};
 ghost use Rattle.std.specs.BTreeMap.{get};
 ghost use Rattle.room_maps.specs.Membership.{is_in};
@@ -12,30 +12,23 @@ ghost use Rattle.journal.specs.ManySockets as many;
 ghost use Rattle.journal.specs.ManySockets.{RightJoining, RightLeaving};
 ghost use Rattle.journal.specs.Casting as casting;
 ghost use Rattle.journal.specs.declared.step.What.{What};
-ghost use Rattle.hub_state.specs.Changes.{refusal_now, Reports};
 ghost use Rattle.journal.specs.Sessions.{rooms_rising};
 ghost use Rattle.hub_state.specs.Words.{ListsMembers, rooms_now, selected};
 
 use crate::seats::Seats;
 use crate::state::end::rooms_in;
-use crate::state::{NONE, State};
+use crate::state::{NONE, Result, State};
 use journal::{HubError, RoomChange, What};
 use room_maps::Rooms;
 use std::alloc::{AllocError, Global};
 use terms::{Room, Sid};
 
-/// Keeps the sockets that aren't in the room.
-fn keep_outside(sids: &mut Vec<Sid>, inside: &Rooms, room: Room)
-    ensures { sids.new.items ≡ filter (λ s. not (is_in inside.now s room)) sids.old.items }
+/// Keeps the sockets that are in the room, or those that aren't.
+fn keep_members(sids: &mut Vec<Sid>, inside: &Rooms, room: Room, members: bool)
+    ensures { sids.new.items ≡ filter (λ s. if members
+        then is_in inside.now s room else not (is_in inside.now s room)) sids.old.items }
 {
-    sids.retain(|sid| !inside.is_in(*sid, room));
-}
-
-/// Keeps the sockets that are in the room.
-fn keep_inside(sids: &mut Vec<Sid>, inside: &Rooms, room: Room)
-    ensures { sids.new.items ≡ filter (λ s. is_in inside.now s room) sids.old.items }
-{
-    sids.retain(|sid| inside.is_in(*sid, room));
+    sids.retain(|sid| inside.is_in(*sid, room) == members);
 }
 
 /// Whether the socket with an id is in the namespace at a place.
@@ -54,8 +47,10 @@ pub(crate) fn keep_here(sids: &mut Vec<Sid>, seats: &Seats, space: u16)
 }
 
 impl State {
-    fn may_join(&self, sid: Sid, room: Room) -> Result<(), HubError>
-        ensures { Reports result (refusal_now self.now (What.Joined sid room)) }
+    /// A socket joins a room. Refused as `UnknownSocket`, `RoomRefused`, `Spent`, then for
+    /// `Memory`. It takes the logarithm of the sockets and of the rooms.
+    pub fn join(&mut self, alloc: Global, sid: Sid, room: Room, now: u64) -> Result
+        ensures { Does self.old self.new now (What.Joined sid room) result }
     {
         if !self.is_connected(sid) {
             return Err(HubError::UnknownSocket);
@@ -63,27 +58,7 @@ impl State {
         if let Some(refusal) = self.live.rooms.join_refusal(sid, room) {
             return Err(HubError::RoomRefused(refusal));
         }
-        self.may_count(0, 0)
-    }
-
-    fn may_leave(&self, sid: Sid, room: Room) -> Result<(), HubError>
-        ensures { Reports result (refusal_now self.now (What.Left sid room)) }
-    {
-        if !self.is_connected(sid) {
-            return Err(HubError::UnknownSocket);
-        }
-        if let Some(refusal) = self.live.rooms.leave_refusal(sid, room) {
-            return Err(HubError::RoomRefused(refusal));
-        }
-        self.may_count(0, 0)
-    }
-
-    /// A socket joins a room. Refused as `UnknownSocket`, `RoomRefused`, `Spent`, then for
-    /// `Memory`. It takes the logarithm of the sockets and of the rooms.
-    pub fn join(&mut self, alloc: Global, sid: Sid, room: Room, now: u64) -> Result<(), HubError>
-        ensures { Does self.old self.new now (What.Joined sid room) result }
-    {
-        self.may_join(sid, room)?;
+        self.may_count(0, 0)?;
         self.records.steps.reserve()?;
         if self.live.rooms.join(alloc, sid, room).is_err() {
             return Err(HubError::Memory);
@@ -95,10 +70,16 @@ impl State {
 
     /// A socket leaves a room. Refused as `UnknownSocket`, `RoomRefused`, `Spent`, then for
     /// `Memory`. It takes the logarithm of the sockets and of the rooms.
-    pub fn leave(&mut self, _alloc: Global, sid: Sid, room: Room, now: u64) -> Result<(), HubError>
+    pub fn leave(&mut self, _alloc: Global, sid: Sid, room: Room, now: u64) -> Result
         ensures { Does self.old self.new now (What.Left sid room) result }
     {
-        self.may_leave(sid, room)?;
+        if !self.is_connected(sid) {
+            return Err(HubError::UnknownSocket);
+        }
+        if let Some(refusal) = self.live.rooms.leave_refusal(sid, room) {
+            return Err(HubError::RoomRefused(refusal));
+        }
+        self.may_count(0, 0)?;
         self.records.steps.reserve()?;
         let _left = self.live.rooms.leave(sid, room);
         self.live.rooms.kept_facts();
@@ -106,47 +87,25 @@ impl State {
         Ok(())
     }
 
-    /// The change that is made where all that match join a room.
-    fn joining(
+    /// The change that is made where all that match leave a room, or join it.
+    fn room_change(
         &self,
         alloc: Global,
         space: u16,
         rooms: Vec<Room>,
         excepted: Vec<Room>,
         room: Room,
+        leaves: bool,
     ) -> Result<RoomChange, AllocError>
-        ensures change { IfOk result (λ m.
-            m ≡ many.joining self.now space rooms.items excepted.items room) }
-        ensures right { IfOk result (λ m. RightJoining self.now.base self.now.journal m) }
+        ensures change { IfOk result (λ m. m ≡ (if leaves
+            then many.leaving self.now space rooms.items excepted.items room
+            else many.joining self.now space rooms.items excepted.items room)) }
+        ensures right { let h = self.now in IfOk result (λ m. MatchBool leaves
+            (RightLeaving h.base h.journal m) (RightJoining h.base h.journal m)) }
     {
         let mut changed = self.listeners(alloc, space, &rooms, &excepted)?;
         keep_here(&mut changed, &self.live.seats, space);
-        keep_outside(&mut changed, &self.live.rooms, room);
-        Ok(RoomChange {
-            space,
-            rooms,
-            excepted,
-            room,
-            changed,
-        })
-    }
-
-    /// The change that is made where all that match leave a room.
-    fn leaving(
-        &self,
-        alloc: Global,
-        space: u16,
-        rooms: Vec<Room>,
-        excepted: Vec<Room>,
-        room: Room,
-    ) -> Result<RoomChange, AllocError>
-        ensures change { IfOk result (λ m.
-            m ≡ many.leaving self.now space rooms.items excepted.items room) }
-        ensures right { IfOk result (λ m. RightLeaving self.now.base self.now.journal m) }
-    {
-        let mut changed = self.listeners(alloc, space, &rooms, &excepted)?;
-        keep_here(&mut changed, &self.live.seats, space);
-        keep_inside(&mut changed, &self.live.rooms, room);
+        keep_members(&mut changed, &self.live.rooms, room, leaves);
         Ok(RoomChange {
             space,
             rooms,
@@ -171,7 +130,7 @@ impl State {
         excepted: Vec<Room>,
         room: Room,
         now: u64,
-    ) -> Result<Vec<Sid>, HubError>
+    ) -> Result<Vec<Sid>>
         ensures changed { let place = place_of self.old.limits space.now
             in let change = many.joining self.old place rooms.items excepted.items room
             in IfOk result (λ sids. sids.items ≡ change.changed) }
@@ -180,7 +139,7 @@ impl State {
             in Does self.old self.new now (What.AllJoined change) result }
     {
         let place = self.place_of(space)?;
-        let change = self.joining(alloc, place, rooms, excepted, room)?;
+        let change = self.room_change(alloc, place, rooms, excepted, room, false)?;
         if let Some(refusal) = self.live.rooms.join_all_refusal(&change.changed, room) {
             return Err(HubError::RoomRefused(refusal));
         }
@@ -207,7 +166,7 @@ impl State {
         excepted: Vec<Room>,
         room: Room,
         now: u64,
-    ) -> Result<Vec<Sid>, HubError>
+    ) -> Result<Vec<Sid>>
         ensures changed { let place = place_of self.old.limits space.now
             in let change = many.leaving self.old place rooms.items excepted.items room
             in IfOk result (λ sids. sids.items ≡ change.changed) }
@@ -216,7 +175,7 @@ impl State {
             in Does self.old self.new now (What.AllLeft change) result }
     {
         let place = self.place_of(space)?;
-        let change = self.leaving(alloc, place, rooms, excepted, room)?;
+        let change = self.room_change(alloc, place, rooms, excepted, room, true)?;
         self.live.rooms.kept_facts();
         if let Some(refusal) = self.live.rooms.leave_all_refusal(&change.changed, room) {
             return Err(HubError::RoomRefused(refusal));
@@ -234,7 +193,7 @@ impl State {
     /// The connected sockets of a namespace that are in a room, rising by their ids. Refused as
     /// `UnknownNamespace`, then for `Memory`. It takes the logarithm of the namespaces, and
     /// walks the room's members of all namespaces, each with the logarithm.
-    pub fn members(&self, alloc: Global, space: &str, room: Room) -> Result<Vec<Sid>, HubError>
+    pub fn members(&self, alloc: Global, space: &str, room: Room) -> Result<Vec<Sid>>
         ensures members { let place = place_of self.now.limits space.now
             in IfOk result (λ sids. ListsMembers self.now place room sids.items) }
         ensures refused { is_space self.now.limits (place_of self.now.limits space.now) ≡ false
@@ -259,7 +218,7 @@ impl State {
         space: &str,
         rooms: &[Room],
         excepted: &[Room],
-    ) -> Result<Vec<Sid>, HubError>
+    ) -> Result<Vec<Sid>>
         ensures selected { let place = place_of self.now.limits space.now
             in IfOk result (λ sids. sids.items ≡ selected self.now place rooms.now excepted.now) }
         ensures refused { is_space self.now.limits (place_of self.now.limits space.now) ≡ false

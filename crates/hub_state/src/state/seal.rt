@@ -6,12 +6,11 @@ ghost use Rattle.std.specs.BTreeMap.{IsOrdered};
 ghost use Rattle.journal.specs.Seal.{ids_of, base_of, LeadsTo, Seals};
 ghost use Rattle.hub_state.specs.Words.{RunsOn};
 
-use crate::client::{Client, Sockets};
-use crate::state::State;
-use journal::{Base, BaseClient, Epoch, HubError};
+use crate::client::{Clients, Sockets};
+use crate::state::{Result, State};
+use journal::{Base, BaseClient, Epoch};
 use recovery::Pid;
 use std::alloc::{AllocError, Global};
-use std::collections::BTreeMap;
 use std::mem::replace;
 use terms::Sid;
 
@@ -27,10 +26,7 @@ fn socket_ids(alloc: Global, sockets: &Sockets) -> Result<Vec<(u16, Sid, Pid)>, 
 }
 
 /// All clients as a base has them, rising. They share the entries that wait.
-fn copy_clients(
-    alloc: Global,
-    clients: &BTreeMap<u128, Client>,
-) -> Result<Vec<BaseClient>, AllocError>
+fn copy_clients(alloc: Global, clients: &Clients) -> Result<Vec<BaseClient>, AllocError>
     ensures ordered { IsOrdered nat_cmp clients.now }
     ensures clients { IfOk result (λ copies. copies.items ≡ map base_of clients.now.entries) }
 {
@@ -78,7 +74,7 @@ impl State {
     /// nothing that can be asked of the hub changes but its base and its steps. Refused for
     /// `Memory` alone. It takes time and memory for the present state, whose entries are shared,
     /// and none for the journal.
-    pub fn seal(&mut self, alloc: Global) -> Result<Epoch, HubError>
+    pub fn seal(&mut self, alloc: Global) -> Result<Epoch>
         ensures { Seals self.old result self.new }
     {
         let present = self.present(alloc)?;

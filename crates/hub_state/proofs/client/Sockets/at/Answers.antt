@@ -7,18 +7,20 @@ use Rattle.journal.specs.declared.socket.Socket.{Socket}
 use Rattle.hub_state.proofs.SocketIndexLemmas.{by, found_by}
 use Rattle.hub_state.proofs.client.Sockets.at.Goals as goal
 
-pub returns-in-Some : goal.returns-in-Some
-returns-in-Some c =
-    let serial : lookup (is_at (nat_cmp c.args.place)) c.self.inside.by_place.entries ≡ Some c.in-Some.serial.now = search rules in
-    let found : c.copied.result ≡ by c.self.inside.by_serial.entries (Some c.in-Some.serial.now) = search rules in
+pub returns : goal.returns
+returns c =
+    let serial : lookup (is_at (nat_cmp c.args.place)) c.self.inside.by_place.entries ≡ Some c.in_ok-get.field-0.now = search rules in
+    let found : c.copied.result ≡ by c.self.inside.by_serial.entries (Some c.in_ok-get.field-0.now) = search rules in
     found
     ∙ ap (by c.self.inside.by_serial.entries) (sym serial)
     ∙ sym (found_by c.self.inside.by_serial.entries c.self.inside.by_place.entries c.args.place c.self.invariant)
     ∙ ap (find (λ (k : Socket). k.space == c.args.place)) c.self.view_is
 
-pub returns-in-None : goal.returns-in-None
-returns-in-None c =
+pub returns-in_err-get : goal.returns-in_err-get
+returns-in_err-get c =
+    let failed : c.from_residual.result ≡ None = search rules in
     let none : lookup (is_at (nat_cmp c.args.place)) c.self.inside.by_place.entries ≡ None = search rules in
-    ap (by c.self.inside.by_serial.entries) (sym none)
+    failed
+    ∙ ap (by c.self.inside.by_serial.entries) (sym none)
     ∙ sym (found_by c.self.inside.by_serial.entries c.self.inside.by_place.entries c.args.place c.self.invariant)
     ∙ ap (find (λ (k : Socket). k.space == c.args.place)) c.self.view_is

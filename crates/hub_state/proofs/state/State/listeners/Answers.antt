@@ -5,7 +5,7 @@ use Rattle.std.specs.BTreeMap.{get}
 use Rattle.terms.specs.Listing.{ListsRising}
 use Rattle.room_maps.specs.Membership.{is_in}
 use Rattle.journal.specs.Casting.{is_here}
-use Rattle.journal.proofs.AimLemmas.{everybody, kept, none_named, of-those-inside}
+use Rattle.journal.proofs.AimLemmas.{everybody, kept, none_named}
 use Rattle.hub_state.proofs.state.State.listeners.Goals as goal
 
 pub returns-then-is_empty : goal.returns-then-is_empty
@@ -18,8 +18,3 @@ returns-then-is_empty c =
           rw (none_named c.args.rooms.now (sym c.is_empty.ensures ∙ c.if-is_empty.true), ← c.self.view_is)
           (everybody c.self.inside.base c.self.inside.limits c.self.inside.records.steps.steps c.self.invariant.2 (get nat_cmp c.self.inside.live.seats) c.self.invariant.0.seats c.args.space c.args.excepted.now c.retain_outside.new.sids.items lists);
     }
-
-pub returns-in-Ok : goal.returns-in-Ok
-returns-in-Ok c =
-    let lists = rw c.self.invariant.0.rooms_are at c.in-Ok.ensures.addressed in
-    record { ok = rw (← c.self.view_is) (of-those-inside _ _ c.in-Ok.sids.items lists) }

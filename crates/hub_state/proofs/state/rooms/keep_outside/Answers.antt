@@ -1,7 +1,0 @@
-use Rattle.std.proofs.Common.{rules, ◌≡◌, refl}
-use Rattle.hub_state.proofs.RetainLemmas.{filtered_by}
-use Rattle.hub_state.proofs.state.rooms.keep_outside.Goals as goal
-
-pub returns : goal.returns
-returns c =
-    filtered_by _ (λ f. (f.0.now ≡ c.args.inside.now) × (f.1.now ≡ c.args.room)) _ (λ p x b q i h. search rules) _ _ _ (refl, refl) c.retain.ensures.filtered
