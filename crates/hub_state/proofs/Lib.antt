@@ -6,6 +6,5 @@ pub mod RetainLemmas
 pub mod RecoverLemmas
 pub mod SpaceLemmas
 pub mod PutsLemmas
-pub mod SocketIndexLemmas
 pub mod SeatsLemmas
 pub mod OutboxLemmas

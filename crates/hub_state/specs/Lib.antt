@@ -6,5 +6,4 @@ pub mod Counting
 pub mod Sending
 pub mod Words
 pub mod Steps
-pub mod Sockets
 pub mod Seats

@@ -11,7 +11,7 @@ ghost use Rattle.recovery.specs.SavedTable as table;
 ghost use Rattle.journal.specs.Parking.{lost_in, HasNoneOf, with_lost, without_lost};
 ghost use Rattle.hub_state.specs.Words.{saves, logs};
 
-use crate::client::{Client, Clients, Outbox, Sockets};
+use crate::client::{Client, Clients, Outbox};
 use crate::state::end::{as_ended, rooms_in};
 use crate::state::{NONE, Result, State};
 use journal::{Config, Counts, Ending, HubError, Socket, Swept, What};
@@ -25,7 +25,7 @@ fn new_client(alloc: Global, config: &Config) -> Result<Client, AllocError>
 {
     let outbox = Outbox::new(alloc, config.capacity, config.bytes)?;
     Ok(Client {
-        sockets: Sockets::new(alloc),
+        sockets: Vec::new(alloc),
         outbox,
     })
 }

@@ -15,7 +15,7 @@ ghost use Rattle.journal.specs.declared.step.What.{What};
 ghost use Rattle.hub_state.specs.Changes.{ChangesClient, SameClients, SameLive, WithSocket, IsNew, IsAlone, refusal_now};
 ghost use Rattle.hub_state.specs.Words.{opened, socket_for, answer_at};
 
-use crate::client::Clients;
+use crate::client::{Clients, find_at};
 use crate::state::deliver::{put_entry, shared_text, take_back};
 use crate::state::{Live, NONE, Result, State};
 use journal::{Counts, HubError, Socket, What};
@@ -122,11 +122,11 @@ impl State {
     pub(crate) fn socket_at(&self, client: u128, place: usize) -> Option<Socket>
         ensures { result ≡ socket_of self.now.base self.now.journal client place }
     {
-        self.clients.get(&client)?.sockets.at(place)
+        find_at(&self.clients.get(&client)?.sockets, place).copied()
     }
 
-    /// The session id of a client's socket in a namespace. It takes the logarithm of the clients,
-    /// of the namespaces and of the client's sockets.
+    /// The session id of a client's socket in a namespace. It takes the logarithm of the clients and
+    /// of the namespaces, and looks at the client's sockets.
     pub fn socket_of(&self, client: u128, space: &str) -> Option<Sid>
         ensures { let place = place_of self.now.limits space.now
             in result ≡ option_map sid_of (socket_of self.now.base self.now.journal client place) }

@@ -20,7 +20,7 @@ ghost use Rattle.journal.specs.Totals.{is_spent};
 ghost use Rattle.journal.specs.declared.socket.Socket.{Socket};
 ghost use Rattle.hub_state.specs.Words.{DismissesNow};
 
-use crate::client::Clients;
+use crate::client::{Clients, remove_at};
 use crate::state::cast::{messages_for, put_messages, receivers, sockets_in};
 use crate::state::deliver::shared_text;
 use crate::state::{Live, NONE, Result, State};
@@ -97,7 +97,7 @@ pub(crate) fn drop_from(clients: &mut Clients, client: u128, place: usize)
     ensures { ChangesClient (without_place place) client clients.old clients.new }
 {
     if let Some(known) = clients.get_mut(&client) {
-        known.sockets.remove(place);
+        remove_at(&mut known.sockets, place);
     }
 }
 
@@ -152,14 +152,10 @@ impl State {
         ensures ok { let h = self.now
             in IfOk result (λ all. all.items ≡ sockets_of h.base h.journal client) }
     {
-        let mut list = Vec::new(alloc);
-        let Some(known) = self.clients.get(&client) else {
-            return Ok(list);
-        };
-        for socket in known.sockets.values() {
-            list.push(*socket)?;
+        match self.clients.get(&client) {
+            Some(known) => Vec::from_slice(alloc, &known.sockets),
+            None => Ok(Vec::new(alloc)),
         }
-        Ok(list)
     }
 
     /// Ends a socket alone, by this side: nothing is saved. Refused as `UnknownSocket`, `Spent`,

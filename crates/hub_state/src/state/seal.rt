@@ -6,23 +6,22 @@ ghost use Rattle.std.specs.BTreeMap.{IsOrdered};
 ghost use Rattle.journal.specs.Seal.{ids_of, base_of, LeadsTo, Seals};
 ghost use Rattle.hub_state.specs.Words.{RunsOn};
 
-use crate::client::{Clients, Sockets};
+use crate::client::Clients;
 use crate::state::{Result, State};
-use journal::{Base, BaseClient, Epoch};
+use journal::{Base, BaseClient, Epoch, Socket};
 use recovery::Pid;
 use std::alloc::{AllocError, Global};
 use std::mem::replace;
 use terms::Sid;
 
 /// The namespace, the session id and the private session id of each of the sockets.
-fn socket_ids(alloc: Global, sockets: &Sockets) -> Result<Vec<(u16, Sid, Pid)>, AllocError>
+fn socket_ids(alloc: Global, sockets: &[Socket]) -> Result<Vec<(u16, Sid, Pid)>, AllocError>
     ensures { IfOk result (λ ids. ids.items ≡ map ids_of sockets.now) }
 {
-    let mut ids = Vec::with_capacity(alloc, sockets.len())?;
-    for socket in sockets.values() {
-        ids.push((socket.space, socket.sid, socket.pid))?;
-    }
-    Ok(ids)
+    sockets
+        .iter()
+        .map(|socket| (socket.space, socket.sid, socket.pid))
+        .collect(alloc)
 }
 
 /// All clients as a base has them, rising. They share the entries that wait.

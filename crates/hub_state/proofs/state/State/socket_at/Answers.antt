@@ -9,7 +9,7 @@ pub returns : goal.returns
 returns c =
     let base = c.self.inside.base in
     let journal = c.self.inside.records.steps.steps in
-    let found : c.at.result ≡ (if is_open base journal c.args.client then find (λ (k : Socket). k.space == c.args.place) (sockets_of base journal c.args.client) else None) = search rules in
+    let found : c.copied.result ≡ (if is_open base journal c.args.client then find (λ (k : Socket). k.space == c.args.place) (sockets_of base journal c.args.client) else None) = search rules in
     rw (← c.self.view_is) (found ∙ socket_of-open base c.self.inside.limits journal c.args.client c.args.place c.self.invariant.2.of_open_clients)
 
 pub returns-in_err-get : goal.returns-in_err-get

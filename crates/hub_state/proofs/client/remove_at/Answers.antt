@@ -1,0 +1,7 @@
+use Rattle.std.proofs.Common.{rules, ◌≡◌, refl}
+use Rattle.hub_state.proofs.RetainLemmas.{filtered_by}
+use Rattle.hub_state.proofs.client.remove_at.Goals as goal
+
+pub returns : goal.returns
+returns c =
+    filtered_by _ (λ f. f.0.now ≡ c.args.place) _ (λ p x b q i h. search rules) _ _ _ refl c.retain.ensures.filtered
