@@ -255,26 +255,20 @@ pub(crate) enum LineState {
 }
 
 impl LineState {
-    fn after(self, byte: u8) -> LineState
-        ensures { result ≡ next self byte }
-    {
-        match (self, byte) {
-            (LineState::Blank, b'\r' | b'\n') => LineState::Blank,
-            (LineState::Text, b'\n') => LineState::Ended,
-            (LineState::Ended, b'\r') => LineState::Return,
-            (LineState::Ended | LineState::Return, b'\n') => LineState::Empty,
-            (LineState::Empty, _) => LineState::Empty,
-            _ => LineState::Text,
-        }
-    }
-
     /// What the last bytes are, once these have come.
     pub(crate) fn after_all(self, bytes: &[u8]) -> LineState
         ensures { result ≡ walk self bytes.now }
     {
         let mut line = self;
         for byte in bytes {
-            line = line.after(*byte);
+            line = match (line, *byte) {
+                (LineState::Blank, b'\r' | b'\n') => LineState::Blank,
+                (LineState::Text, b'\n') => LineState::Ended,
+                (LineState::Ended, b'\r') => LineState::Return,
+                (LineState::Ended | LineState::Return, b'\n') => LineState::Empty,
+                (LineState::Empty, _) => LineState::Empty,
+                _ => LineState::Text,
+            };
         }
         line
     }

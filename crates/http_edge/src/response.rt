@@ -77,21 +77,6 @@ pub fn write_response<W: Wire>(
         (http.answer status (option_map string_bytes origin.now) body.now)) }
     ensures broken { IfErr result (λ e. e ≡ Device → W.is_broken wire.new ≡ true) }
 {
-    let text = answer_text(alloc, status, origin, body)?;
-    write_all(wire, text.as_str().as_bytes()).map_err(|_| EdgeError::Device)
-}
-
-// The bytes of an answer are text.
-#[tactic(auto, unfolding(crate::specs::Answer::answer))]
-fn answer_text(
-    alloc: Global,
-    status: Status,
-    origin: &Option<String>,
-    body: &str,
-) -> Result<String, AllocError>
-    ensures { IfOk result (λ text.
-        string_bytes text ≡ http.answer status (option_map string_bytes origin.now) body.now) }
-{
     let mut text = String::new(alloc);
     let (code, reason) = status.line();
     push_status_line(&mut text, code, reason)?;
@@ -100,7 +85,7 @@ fn answer_text(
     push_field(&mut text, "Connection", "close")?;
     text.push_str("\r\n")?;
     text.push_str(body)?;
-    Ok(text)
+    write_all(wire, text.as_str().as_bytes()).map_err(|_| EdgeError::Device)
 }
 
 fn push_status_line(text: &mut String, code: u16, reason: &str) -> Result<(), AllocError>
