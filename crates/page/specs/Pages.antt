@@ -3,8 +3,8 @@ use Rattle.std.specs.Prelude.{ℕ, ◌+◌, ◌==◌, cond, nat_le, nat_lt, List
 use Rattle.std.specs.List.{find, sum_by}
 use Rattle.terms.specs.Refusal.{first_refusal}
 use Rattle.page.specs.declared.file.File.{File}
-use Rattle.page.specs.declared.pages.PageError.{PageError}
-use Rattle.page.specs.declared.pages.PageError.TheVariants.{TooMany, TooLarge}
+use Rattle.page.specs.declared.folder.FolderError.{FolderError}
+use Rattle.page.specs.declared.folder.FolderError.TheVariants.{TooMany, TooLarge}
 
 abbrev pub Files : Type 0
 Files = List File
@@ -32,7 +32,7 @@ file_for [] files = None
 file_for (b ∷ name) files = cond (b == 47) (file_behind name files) None
 
 -- why a file is not taken: there are a thousand, or the bytes would be more than 16 MiB
-abbrev pub refusal : Files → File → Option PageError
+abbrev pub refusal : Files → File → Option FolderError
 refusal files file =
     first_refusal
     ((nat_le 1000 (length files), TooMany)

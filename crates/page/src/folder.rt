@@ -1,14 +1,12 @@
 //! Reading the files of a folder.
 
 ghost use Rattle.std.specs.Prelude.{◌≡◌, ◌++◌, ◌∷◌, [], None, IfSome, OnOk, OnErr};
-ghost use Rattle.page.specs.Folders.{IsOfPage};
 ghost use Rattle.page.specs.Pages.{file_of, refusal};
 
 use crate::file::File;
-use crate::pages::{MOST_BYTES, MOST_FILES, Page, PageError};
+use crate::pages::{MOST_BYTES, MOST_FILES, Page};
 use std::alloc::{AllocError, Global};
 use std::io::{ErrorKind, Read};
-use std::path::Path;
 use std::rt::Files;
 use std::{fs, io};
 use terms::{Bytes, Text};
@@ -29,18 +27,6 @@ pub enum FolderError {
     TooMany,
     #[error("its files have more than {MOST_BYTES} bytes together")]
     TooLarge,
-}
-
-impl From<PageError> for FolderError {
-    ghost from_gives = { λ error fault. IsOfPage error fault };
-
-    fn from(error: PageError) -> FolderError {
-        match error {
-            PageError::TooMany => FolderError::TooMany,
-            PageError::TooLarge => FolderError::TooLarge,
-            PageError::Memory => FolderError::Memory(AllocError),
-        }
-    }
 }
 
 /// What a failed call on this path of a folder comes to.
@@ -67,21 +53,16 @@ pub fn read_folder<R: Files + AllocGlobal + Clone + Drop>(
     for entry in entries {
         let entry = entry.map_err(|error| fault_at(alloc, folder, &error))?;
         let path = entry.path();
-        let file = open_file(rt, path).map_err(|error| fault_at(alloc, path.as_str(), &error))?;
-        if let Some(file) = file {
+        let about = fs::metadata(rt, path);
+        let about = about.map_err(|error| fault_at(alloc, path.as_str(), &error))?;
+        if about.is_file() {
+            let file = fs::open(rt, path);
+            let file = file.map_err(|error| fault_at(alloc, path.as_str(), &error))?;
             let name = Text::copy_of(alloc, entry.file_name())?;
             add_whole(alloc, &mut page, path.as_str(), name, file)?;
         }
     }
     Ok(page)
-}
-
-/// The file at a path, or nothing where it is no file.
-fn open_file<R: Files>(rt: &R, path: Path<'_>) -> io::Result<Option<R::File>> {
-    if !fs::metadata(rt, path)?.is_file() {
-        return Ok(None);
-    }
-    Ok(Some(fs::open(rt, path)?))
 }
 
 /// Adds the file of this name that has all that the reader gives. Of one that is too large just one

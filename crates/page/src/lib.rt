@@ -8,4 +8,4 @@ mod pages;
 
 pub use file::{File, media_type};
 pub use folder::{FolderError, read_folder};
-pub use pages::{MOST_BYTES, MOST_FILES, Page, PageError};
+pub use pages::{MOST_BYTES, MOST_FILES, Page};

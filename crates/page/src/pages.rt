@@ -3,10 +3,11 @@
 ghost use Rattle.std.specs.Prelude.{◌≡◌, ◌⊎◌, ◌-◌, ◌≤◌, ◌++◌, ◌∷◌, [], length, IfErr, OnOk, OnErr, None, Some, option_copied};
 ghost use Rattle.page.specs.Pages as pages;
 ghost use Rattle.page.specs.Pages.{Files, file_for, refusal, size_of};
-ghost use Rattle.page.specs.declared.pages.PageError.TheVariants.{Memory};
+ghost use Rattle.page.specs.Folders.{IsMemory};
 
 use crate::file::File;
-use std::alloc::Global;
+use crate::folder::FolderError;
+use std::alloc::{AllocError, Global};
 use std::marker::Model;
 
 /// The most files of a page.
@@ -17,17 +18,6 @@ pub const MOST_BYTES: usize = 16_777_216;
 
 /// The file that the path `/` asks for.
 const INDEX: &str = "index.html";
-
-/// Why a file is not taken in a page, in the order in which it is tested.
-#[derive(Clone, Copy, Debug, PartialEq, Eq)]
-pub enum PageError {
-    /// There are as many files as a page may have.
-    TooMany,
-    /// The files would have more bytes than a page may have.
-    TooLarge,
-    /// An allocation was refused.
-    Memory,
-}
 
 /// The files of a page. In a contract it is their list.
 #[derive(Drop)]
@@ -65,21 +55,22 @@ impl Page {
         self.size
     }
 
-    /// Adds a file.
-    pub fn add(&mut self, file: File) -> Result<(), PageError>
+    /// Adds a file, unless there are too many, or they would have too many bytes.
+    pub fn add(&mut self, file: File) -> Result<(), FolderError>
         ensures added { OnOk result (self.new ≡ self.old ++ file ∷ []) }
         ensures allowed { OnOk result (refusal self.old file ≡ None) }
         ensures unchanged { OnErr result (self.new ≡ self.old) }
-        ensures refused { IfErr result (λ e. (e ≡ Memory) ⊎ (refusal self.old file ≡ Some e)) }
+        ensures refused { IfErr result (λ e. IsMemory e ⊎ (refusal self.old file ≡ Some e)) }
     {
         if self.files.len() >= MOST_FILES {
-            return Err(PageError::TooMany);
+            return Err(FolderError::TooMany);
         }
         let length = file.bytes.as_slice().len();
         if length > MOST_BYTES - self.size {
-            return Err(PageError::TooLarge);
+            return Err(FolderError::TooLarge);
         }
-        self.files.push(file).map_err(|_| PageError::Memory)?;
+        let pushed = self.files.push(file);
+        pushed.map_err(|_| FolderError::Memory(AllocError))?;
         self.size += length;
         Ok(())
     }
