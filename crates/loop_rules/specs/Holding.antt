@@ -1,8 +1,7 @@
 -- Who isn't read on, where much of what comes isn't whole.
-use Rattle.std.specs.Prelude.{◌≡◌, ◌⊎◌, ℕ, Bool, false, Option, None, Some, List}
+use Rattle.std.specs.Prelude.{◌≡◌, ◌⊎◌, ℕ, false, Option, None, Some, List}
 use Rattle.loop_rules.specs.Receiving.{counted_of, overdue_of}
 use Rattle.loop_rules.specs.Rotas.{Waiting, called_at}
-use Rattle.loop_rules.specs.Takers.{taker_of}
 use Rattle.loop_rules.specs.declared.receiving.Receiving.{Receiving}
 use Rattle.loop_rules.specs.declared.receiving.Sender.{Sender}
 use Rattle.loop_rules.specs.declared.receiving.Sender.TheVariants as sender
@@ -48,11 +47,3 @@ client_by (Some (sender.Connection key)) links = (link_at links key).client
 
 abbrev pub overdue_client : (now : ℕ) → Links → Option ℕ
 overdue_client now l = client_by (overdue_of now l.receiving.ahead) l.links.items
-
-abbrev pub held_by : Option ℕ → List Link → Bool
-held_by None links = false
-held_by (Some key) links = (link_at links key).held
-
--- the connection is held over which a client is told what is put for it
-abbrev pub is_held : (client : ℕ) → Links → Bool
-is_held client l = held_by (taker_of l.roster.takers client) l.links.items

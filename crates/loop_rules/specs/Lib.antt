@@ -19,7 +19,6 @@ pub mod Moments
 pub mod Notes
 pub mod Owners
 pub mod Paces
-pub mod Pacing
 pub mod Packets
 pub mod Parts
 pub mod Pressures

@@ -223,13 +223,13 @@ abbrev pub is_end : Period → Bool
 is_end period.Ends = true
 is_end _ = false
 
--- for how long none of its bytes have gone, where some wait
-abbrev pub stalled_for : (unsent moved now : ℕ) → Option ℕ
-stalled_for unsent moved now = cond (nat_lt 0 unsent) (Some (now - moved)) None
+-- some of its bytes wait, and none have gone for 30 s
+abbrev pub is_stuck : (unsent moved now : ℕ) → Bool
+is_stuck unsent moved now = nat_lt 0 unsent && nat_le 30000 (now - moved)
 
 abbrev pub overdue_of : Period → (unsent : ℕ) → (cutting : Bool) → (now : ℕ) → Link → Do
 overdue_of p unsent cutting now l =
-    cond (cutting && not (is_end p)) what.Fail (overdue_at p (now - l.since) (stalled_for unsent l.moved now))
+    cond (cutting && not (is_end p)) what.Fail (overdue_at p (now - l.since) (is_stuck unsent l.moved now))
 
 -- one that is to fail has failed
 abbrev pub failed_by : Do → (now : ℕ) → Link → Link

@@ -1,5 +1,5 @@
 -- The connections of a loop as values, by their keys.
-use Rattle.std.specs.Prelude.{◌≡◌, ◌-◌, ℕ, Bool, true, false, Option, None, Some, cond, nat_lt, List, length, slice_index_or, slice_set}
+use Rattle.std.specs.Prelude.{◌≡◌, ◌≢◌, ◌-◌, ℕ, Bool, true, false, Option, None, Some, cond, nat_lt, List, length, slice_index_or, slice_set}
 use Rattle.events.specs.Answer.{Answer}
 use Rattle.events.specs.declared.event.Event.{Event}
 use Rattle.events.specs.declared.outcome.Outcome.TheVariants as outcome
@@ -13,7 +13,7 @@ use Rattle.loop_rules.specs.declared.receiving.Sender.TheVariants as sender
 use Rattle.loop_rules.specs.declared.pressure.Pressure.{Pressure}
 use Rattle.loop_rules.specs.declared.roster.Takers.{Takers}
 use Rattle.loop_rules.specs.Pressures.{holds}
-use Rattle.loop_rules.specs.Receiving.{done_ahead, has_room, limit_of, next_of, SameBytes}
+use Rattle.loop_rules.specs.Receiving.{has_room, limit_of, next_of, IsDone}
 use Rattle.loop_rules.specs.Rotas as rotas
 use Rattle.loop_rules.specs.Rotas.{Waiting, decision_at, followed_at}
 use Rattle.loop_rules.specs.Decisions.{left_after}
@@ -40,9 +40,17 @@ pub record KeepsAllBut (old new : Links) : Type 0 where
   pub roster : new.roster ≡ old.roster
   pub receiving : new.receiving ≡ old.receiving
   pub pressure : new.pressure ≡ old.pressure
-  pub pacing : new.pacing ≡ old.pacing
+  pub paces : new.paces ≡ old.paces
   pub delays : new.delays ≡ old.delays
   pub unsent : new.unsent ≡ old.unsent
+
+-- each other one is as it was
+abbrev pub KeepsOthers : (key : ℕ) → (old new : Links) → Type 0
+KeepsOthers key old new = (k : ℕ) → k ≢ key → link_at new.links.items k ≡ link_at old.links.items k
+
+-- what befalls one befalls none of the others
+abbrev pub changed_at : (key : ℕ) → (Link → Link) → Links → List Link
+changed_at key change l = put_at key (change (link_at l.links.items key)) l.links.items
 
 -- who sends over a connection
 abbrev pub sender_at : (key : ℕ) → List Link → Sender
@@ -74,11 +82,10 @@ abbrev pub IsReleased : (key : ℕ) → Option ℕ → Takers → Type 0
 IsReleased key None t = Unit {0}
 IsReleased key (Some client) t = is_taker (taker_of t client) key ≡ false
 
--- a sender has so many bytes unfinished: where these are few, it goes on beyond the share no more
+-- so it is, and who is held stays so
 pub record IsLeft (s : Sender) (bytes : ℕ) (old new : Receiving) : Type 0 where
-  pub ahead : new.ahead ≡ done_ahead s bytes old.ahead
+  pub turn : IsDone s bytes old new
   pub held : new.held ≡ old.held
-  pub same : SameBytes old new
 
 -- the first connection that is held, if it may be read on
 abbrev pub next_held : Receiving → Option ℕ

@@ -1,5 +1,5 @@
 -- How fast one client may send: an allowance that fills with time, in thousandths of an event.
-use Rattle.std.specs.Prelude.{◌≡◌, ℕ, ◌+◌, ◌-◌, ◌*◌, ◌≤◌, ◌<◌, max, Bool, true, false, ◌||◌, cond, nat_eq, nat_le, nat_lt, Option, None, Some, IsSome, List, [], ◌∷◌, ◌++◌, sum_by}
+use Rattle.std.specs.Prelude.{◌≡◌, ◌⊎◌, ℕ, ◌+◌, ◌-◌, ◌*◌, ◌≤◌, ◌<◌, max, min, Bool, true, false, ◌||◌, cond, nat_eq, nat_le, nat_lt, Option, None, Some, IsSome, List, [], ◌∷◌, ◌++◌, sum_by}
 use Rattle.std.specs.HashMap.{get}
 use Rattle.loop_rules.specs.declared.paces.Lack.{Lack}
 use Rattle.loop_rules.specs.declared.paces.Pace.{Pace}
@@ -90,3 +90,28 @@ KeepsPace p o count now =
     (newer older : List Step) (start : ℕ) → lack_after p (newer ++ older) ≡ o → IsPaced p (newer ++ older)
     → latest (newer ++ older) ≤ now → IsSince start newer → now < start + 1000 → 1000 ≤ p.stretch
     → sum_by events_of newer + count ≤ p.rate + max p.burst count
+
+-- so many were let through, and were counted
+pub record IsBrought (p : Pace) (count now : ℕ) (old new : Option Lack) : Type 0 where
+  pub counted : new ≡ taken p count now old
+  pub may : may_bring p count now old ≡ true
+  pub law : KeepsPace p old count now
+
+-- neither the pace changes, nor how often one has begun to wait
+pub record SamePace (old new : Paces) : Type 0 where
+  pub pace : new.pace ≡ old.pace
+  pub times : new.times ≡ old.times
+
+-- ## Who waits
+
+-- it needn't wait where it brings nothing, or what it brings may come now, as far as a u64 goes; else it waits until a
+-- later moment, before which that may not come
+abbrev pub WaitsUntil : Pace → Option Lack → (count now until : ℕ) → Type 0
+WaitsUntil pace lack count now until =
+    ((until ≡ 0) × ((count ≡ 0) ⊎ (now < 18446744073709551615 → may_bring pace count now lack ≡ true)))
+    ⊎ ((now < until) × ((t : ℕ) → now ≤ t → t < until → may_bring pace count t lack ≡ false))
+
+-- one that begins to wait counts, as far as a u64 goes
+abbrev pub times_after : (before until times : ℕ) → ℕ
+times_after before until times =
+    cond (nat_lt 0 until) (cond (nat_eq before 0) (min (times + 1) 18446744073709551615) times) times

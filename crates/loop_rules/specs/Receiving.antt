@@ -62,3 +62,8 @@ pub record SameBytes (old new : Receiving) : Type 0 where
   pub share : new.share ≡ old.share
   pub messages : new.messages ≡ old.messages
   pub attachments : new.attachments ≡ old.attachments
+
+-- a sender has so many bytes: with few it goes on beyond the share no more
+pub record IsDone (s : Sender) (bytes : ℕ) (old new : Receiving) : Type 0 where
+  pub ahead : new.ahead ≡ done_ahead s bytes old.ahead
+  pub same : SameBytes old new

@@ -61,9 +61,8 @@ called_after key seen is_request l =
 
 -- what a driver is told where bytes can't be sent
 abbrev pub told_failure : Do → Do
-told_failure what.End = what.End
-told_failure what.Cut = what.Cut
-told_failure _ = what.Nothing
+told_failure what.Queue = what.Nothing
+told_failure d = d
 
 abbrev pub after_failure : (is_request : Bool) → Link → Do
 after_failure is_request l = told_failure (link.after_failure is_request l)

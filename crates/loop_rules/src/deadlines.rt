@@ -1,7 +1,7 @@
 //! How long connections may take.
 
 ghost use Rattle.std.specs.Prelude.{◌≡◌, None, Some, false};
-ghost use Rattle.loop_rules.specs.Deadlines.{has_stopped, overdue_at};
+ghost use Rattle.loop_rules.specs.Link as one;
 ghost use Rattle.loop_rules.specs.Links as all;
 ghost use Rattle.loop_rules.specs.Lateness as late;
 
@@ -19,9 +19,6 @@ const PROBE: u64 = 10_000;
 
 /// How long a connection may take nothing of what is to be sent.
 const STALL: u64 = 30_000;
-
-/// How long a message or attachments are waited for of which no byte comes.
-const STOP: u64 = 30_000;
 
 /// How long a connection may take to end.
 const END: u64 = 2_000;
@@ -43,13 +40,15 @@ pub enum Period {
     Ends,
 }
 
-/// What is to be done with a connection that has been so long at this period, and whose bytes have
-/// not gone on for so long, if some are unsent.
-pub fn find_overdue(period: Period, age: u64, stalled: Option<u64>) -> Do
-    ensures { result ≡ overdue_at period age stalled }
+/// What is to be done with a connection where this period took too long, or its bytes, of which
+/// some are unsent, have not gone on for too long, or all that serve are to fail.
+pub fn find_overdue(link: Link, period: Period, unsent: usize, cutting: bool, now: u64) -> Do
+    ensures { result ≡ one.overdue_of period unsent cutting now link }
 {
-    let is_stuck = matches!(stalled, Some(time) if time >= STALL);
+    let age = now.saturating_sub(link.since);
+    let is_stuck = unsent > 0 && now.saturating_sub(link.moved) >= STALL;
     match period {
+        _ if cutting && !matches!(period, Period::Ends) => Do::Fail,
         Period::Request if age >= REQUEST => Do::End,
         Period::Waits if age >= WAIT => Do::GiveUp,
         Period::Knocks if age >= PROBE => Do::Cut,
@@ -60,13 +59,6 @@ pub fn find_overdue(period: Period, age: u64, stalled: Option<u64>) -> Do
         Period::Ends if age >= END => Do::End,
         _ => Do::Nothing,
     }
-}
-
-/// Whether what isn't whole comes on no more, where its bytes last moved at a moment.
-pub fn has_stopped(moved: u64, now: u64) -> bool
-    ensures { result ≡ has_stopped moved now }
-{
-    now.saturating_sub(moved) >= STOP
 }
 
 impl Links {
@@ -81,7 +73,7 @@ impl Links {
         let is_taker = self.is_taker(key);
         let mut link = self.keep_waiting(key, now);
         let period = link.period(seen.idle, is_taker, cutting);
-        let what = link.overdue(period, seen.unsent, cutting, now);
+        let what = find_overdue(link, period, seen.unsent, cutting, now);
         if matches!(what, Do::Fail) {
             link = link.fail(now);
         }
@@ -101,10 +93,8 @@ impl Links {
     pub fn is_taker(&self, key: usize) -> bool
         ensures { result ≡ all.is_taker_at key self.now }
     {
-        match self.link(key).client {
-            Some(client) => self.roster.takers.is_taker(client, key),
-            None => false,
-        }
+        let client = self.link(key).client;
+        client.is_some_and(|client| self.roster.takers.is_taker(client, key))
     }
 
     /// A connection, as it is by now: a POST that has to wait isn't late by that.

@@ -97,7 +97,7 @@ impl Links {
         ensures delays { moments.IsNotAfter result self.now.delays }
     {
         let due = self.delays.first().unwrap_or(most).min(most);
-        let paced = self.pacing.as_ref().and_then(|pacing| pacing.first());
+        let paced = self.paces.as_ref().and_then(|paces| paces.first());
         paced.unwrap_or(due).min(due)
     }
 
@@ -108,25 +108,14 @@ impl Links {
         ensures receiving { self.new.receiving ≡ self.old.receiving }
     {
         for _ in 0..usize::MAX {
-            let Some(key) = self.pop_due(now) else {
+            let due = match (self.delays.pop_due(now), &mut self.paces) {
+                (None, Some(paces)) => paces.pop_due(now),
+                (due, _) => due,
+            };
+            let Some(key) = due else {
                 break;
             };
             self.roster.rota.call(key);
-        }
-    }
-
-    /// The first one whose moment has come.
-    fn pop_due(&mut self, now: u64) -> Option<usize>
-        ensures links { self.new.links ≡ self.old.links }
-        ensures roster { self.new.roster ≡ self.old.roster }
-        ensures receiving { self.new.receiving ≡ self.old.receiving }
-    {
-        if let Some(key) = self.delays.pop_due(now) {
-            return Some(key);
-        }
-        match &mut self.pacing {
-            Some(pacing) => pacing.pop_due(now),
-            None => None,
         }
     }
 
@@ -139,10 +128,10 @@ impl Links {
         ensures receiving { self.new.receiving ≡ self.old.receiving }
     {
         self.delays.forget_old(now);
-        match &mut self.pacing {
-            Some(pacing) => {
-                pacing.paces.forget_full(now);
-                pacing.take_times()
+        match &mut self.paces {
+            Some(paces) => {
+                paces.forget_full(now);
+                paces.take_times()
             }
             None => 0,
         }

@@ -4,7 +4,7 @@ ghost use Rattle.std.specs.Prelude.{◌≡◌};
 ghost use Rattle.std.specs.Option.{option_copied};
 ghost use Rattle.loop_rules.specs.Heard as heard;
 
-use crate::looks::{Found, left_after_message};
+use crate::looks::Found;
 use crate::paces::carries;
 use events::{Answered, CoreFault, Done, Event, Outcome, WsFrame};
 
@@ -57,11 +57,19 @@ pub fn found_passed(idle: bool) -> Found
 pub fn left_unbrought(unbrought: usize, message: Option<usize>, is_post: bool, read: usize) -> usize
     ensures { result ≡ heard.left_unbrought unbrought message is_post read }
 {
-    match message {
-        Some(length) => left_after_message(unbrought, length).min(read),
-        None if is_post => 0,
-        None => unbrought,
-    }
+    let Some(length) = message else {
+        return if is_post { 0 } else { unbrought };
+    };
+    // The shortest head of a client's frame with such a payload (RFC 6455, section 5.2).
+    let head = match length {
+        ..126 => 6,
+        ..65_536 => 8,
+        _ => 14,
+    };
+    unbrought
+        .saturating_sub(length)
+        .saturating_sub(head)
+        .min(read)
 }
 
 /// What was done of an event, which may have put something for others.

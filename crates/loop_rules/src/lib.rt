@@ -29,7 +29,7 @@ pub use link::{Course, Do, Link, Seen, Serving, client_of, events_in};
 pub use links::Links;
 pub use looks::{Decision, Found, LookState, Pause};
 pub use mailbox::{Mail, Mailbox};
-pub use paces::{Pace, Paces, Pacing};
+pub use paces::{Pace, Paces};
 pub use pressure::{Backlog, Pressure};
 pub use receiving::{Receiving, Sender, Unfinished};
 pub use roster::{LOOPS, Notes, Roster, Rota, Takers, loop_of, marked, owner_of};

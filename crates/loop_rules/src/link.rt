@@ -4,7 +4,7 @@ ghost use Rattle.std.specs.Prelude.{◌≡◌};
 ghost use Rattle.loop_rules.specs.Course as courses;
 ghost use Rattle.loop_rules.specs.Link as links;
 
-use crate::deadlines::{Period, find_overdue};
+use crate::deadlines::Period;
 use crate::looks::{EVENTS, Pause};
 use crate::paces::carried;
 use crate::receiving::Sender;
@@ -130,20 +130,6 @@ impl Course {
             Course::Serves(Serving::Socket { speaks, .. }) if asks_due => Course::Serves(
                 Serving::Socket { speaks, asked },
             ),
-            other => other,
-        }
-    }
-
-    /// What is put for its client goes over it from now on: a client speaks over its WebSocket.
-    pub fn assigned(self) -> Course
-        ensures { result ≡ courses.assigned self }
-    {
-        let speaks = true;
-        match self {
-            Course::Serves(Serving::Socket { asked, .. }) => Course::Serves(Serving::Socket {
-                speaks,
-                asked,
-            }),
             other => other,
         }
     }
@@ -404,20 +390,14 @@ impl Link {
 
     /// Its bytes can't be sent. A WebSocket is read no more, so its peer finds that it has ended.
     /// An answer over HTTP that can't be sent loses its client, unless the core was told of that.
-    pub fn unsendable(&mut self, is_request: bool, now: u64) -> Do
-        ensures what { result ≡ links.after_failure is_request self.old }
-        ensures link { self.new ≡ links.after_unsendable is_request now self.old }
+    pub fn unsendable(self, is_request: bool) -> Do
+        ensures { result ≡ links.after_failure is_request self }
     {
-        let told = matches!(self.course, Course::Closes { told: true });
-        if told || self.client.is_none() {
-            return Do::End;
-        }
         match self.course {
+            Course::Closes { told: true } => Do::End,
+            _ if self.client.is_none() => Do::End,
             Course::Loses(_) => Do::Cut,
-            _ if is_request => {
-                *self = self.fail(now);
-                Do::Queue
-            }
+            _ if is_request => Do::Queue,
             Course::Serves(_) => Do::Cut,
             Course::Gathers | Course::Closes { .. } | Course::Lingers => Do::End,
         }
@@ -436,16 +416,5 @@ impl Link {
                 Period::Knocks,
             Course::Serves(_) => Period::Served,
         }
-    }
-
-    /// What is to be done with it where this period took too long, or all that serve are to fail.
-    pub fn overdue(self, period: Period, unsent: usize, cutting: bool, now: u64) -> Do
-        ensures { result ≡ links.overdue_of period unsent cutting now self }
-    {
-        if cutting && !matches!(period, Period::Ends) {
-            return Do::Fail;
-        }
-        let stalled = (unsent > 0).then_some(now.saturating_sub(self.moved));
-        find_overdue(period, now.saturating_sub(self.since), stalled)
     }
 }

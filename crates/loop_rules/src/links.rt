@@ -1,17 +1,17 @@
 //! The connections of a loop, and which of them have something to do.
 
-ghost use Rattle.std.specs.Prelude.{◌≡◌, ◌≢◌, ◌<◌, [], ℕ, Some, false};
+ghost use Rattle.std.specs.Prelude.{◌≡◌, ◌<◌, [], ℕ, Some, false};
 ghost use Rattle.std.specs.Bool.{OnTrue};
 ghost use Rattle.loop_rules.specs.Link as one;
 ghost use Rattle.loop_rules.specs.Rotas as rotas;
 ghost use Rattle.loop_rules.specs.Unfinished.{bytes_of};
 ghost use Rattle.loop_rules.specs.declared.receiving.Sender.TheVariants as sender;
 ghost use Rattle.loop_rules.specs.Links as all;
-ghost use Rattle.loop_rules.specs.Links.{link_at, KeepsAllBut};
+ghost use Rattle.loop_rules.specs.Links.{link_at, KeepsAllBut, KeepsOthers};
 
 use crate::delays::Delays;
 use crate::link::Link;
-use crate::paces::{Pace, Pacing};
+use crate::paces::{Pace, Paces};
 use crate::pressure::Pressure;
 use crate::receiving::{Receiving, Sender};
 use crate::roster::Roster;
@@ -30,7 +30,7 @@ pub struct Links {
     /// Whose clients aren't read, since much waits for their backend.
     pub pressure: Pressure,
     /// Whose clients send too fast, where that is bounded.
-    pub pacing: Option<Pacing>,
+    pub paces: Option<Paces>,
     /// GETs that are served a little later.
     pub delays: Delays,
     /// Those that may have bytes to send, in the order in which they were noted: so a client that
@@ -41,7 +41,7 @@ pub struct Links {
 /// Written out, so that a crate above takes the drop of all that lies in it by this one call.
 impl Drop for Links {
     fn drop(self) {
-        let_go!(self; links, roster, receiving, pressure, pacing, delays, unsent);
+        let_go!(self; links, roster, receiving, pressure, paces, delays, unsent);
     }
 }
 
@@ -58,7 +58,7 @@ impl Links {
             roster: Roster::new(alloc),
             receiving: Receiving::new(alloc, share),
             pressure: Pressure::new(alloc, stretch),
-            pacing: pace.map(|pace| Pacing::new(alloc, pace)),
+            paces: pace.map(|pace| Paces::new(alloc, pace)),
             delays: Delays::new(alloc),
             unsent: VecDeque::new(alloc),
         }
@@ -84,8 +84,7 @@ impl Links {
     /// A connection has come, its key at most one above all others. Answers whether memory allows.
     pub fn admit(&mut self, key: usize, now: u64) -> bool
         ensures there { OnTrue result (link_at self.new.links.items key ≡ one.first now) }
-        ensures others { (k : ℕ) → k ≢ key
-            → link_at self.new.links.items k ≡ link_at self.old.links.items k }
+        ensures others { KeepsOthers key self.old self.new }
         ensures takers { self.new.roster.takers ≡ self.old.roster.takers }
         ensures receiving { self.new.receiving ≡ self.old.receiving }
     {
@@ -142,8 +141,7 @@ impl Links {
     /// A connection is gone: nothing of it is unfinished or goes on, and nothing is put for it.
     pub fn dismiss(&mut self, key: usize)
         ensures over { link_at self.new.links.items key ≡ one.over }
-        ensures others { (k : ℕ) → k ≢ key
-            → link_at self.new.links.items k ≡ link_at self.old.links.items k }
+        ensures others { KeepsOthers key self.old self.new }
         ensures released { all.IsReleased key (link_at self.old.links.items key).client
             self.new.roster.takers }
         ensures rota { self.new.roster.rota ≡ rotas.dismissed_at key self.old.roster.rota }

@@ -1,7 +1,6 @@
 //! What a connection does next, and when it may rest: it looks at all that came for it first.
 
 ghost use Rattle.std.specs.Prelude.{◌≡◌};
-ghost use Rattle.loop_rules.specs.Frames as frames;
 ghost use Rattle.loop_rules.specs.Looks as looks;
 ghost use Rattle.loop_rules.specs.Looks.{NeverRests};
 ghost use Rattle.loop_rules.specs.Decisions.{left_after, decision_for};
@@ -68,23 +67,6 @@ pub enum Decision {
     Held,
 }
 
-/// What follows where so many events are left of a stint, and a connection is idle or has too much
-/// unsent, or not. One that goes on spends an event.
-fn decide(events: &mut u32, idle: bool, full: bool) -> Decision
-    ensures decision { result ≡ decision_for events.old idle full }
-    ensures left { events.new ≡ left_after events.old result }
-{
-    match (full, idle, *events) {
-        (true, _, _) => Decision::Held,
-        (_, true, _) => Decision::Rests,
-        (_, _, 0) => Decision::Again,
-        _ => {
-            *events -= 1;
-            Decision::GoesOn
-        }
-    }
-}
-
 #[tactic(auto, using(crate::proofs::LookLemmas::never_calm, crate::proofs::LookLemmas::never_rested))]
 impl LookState {
     /// Whether it stands in the queue.
@@ -146,16 +128,19 @@ impl LookState {
         ensures law { NeverRests self.old self.new }
     {
         let (calm, over, dry) = (self.is_calm(), self.has_looked(found), found == Found::Dry);
-        let decision = decide(events, calm && over, full);
-        *self = match decision {
-            Decision::Rests => LookState::Rests,
-            Decision::Held => LookState::Full,
-            Decision::Again => LookState::Again,
+        let (decision, state) = match *events {
+            _ if full => (Decision::Held, LookState::Full),
+            _ if calm && over => (Decision::Rests, LookState::Rests),
+            0 => (Decision::Again, LookState::Again),
             // Where its look is over, another begins.
-            Decision::GoesOn if over => LookState::Looks { dry: false },
-            Decision::GoesOn if calm => LookState::Looks { dry },
-            Decision::GoesOn => LookState::Stirred { dry },
+            _ if over => (Decision::GoesOn, LookState::Looks { dry: false }),
+            _ if calm => (Decision::GoesOn, LookState::Looks { dry }),
+            _ => (Decision::GoesOn, LookState::Stirred { dry }),
         };
+        if decision == Decision::GoesOn {
+            *events -= 1;
+        }
+        *self = state;
         decision
     }
 
@@ -171,18 +156,4 @@ impl LookState {
             Pause::Done | Pause::More => LookState::Called,
         };
     }
-}
-
-/// How many of these bytes are left at the most behind a message of so many. Where none is, no
-/// other message is among them.
-pub fn left_after_message(bytes: usize, payload: usize) -> usize
-    ensures { result ≡ frames.left_after_message bytes payload }
-{
-    // The shortest head of a client's frame with such a payload (RFC 6455, section 5.2).
-    let head = match payload {
-        ..126 => 6,
-        ..65_536 => 8,
-        _ => 14,
-    };
-    bytes.saturating_sub(payload).saturating_sub(head)
 }

@@ -75,28 +75,35 @@ impl Lack {
     }
 }
 
-/// How fast each client of a loop sends. Who sent nothing lately isn't listed, and may send.
+/// How fast each client of a loop sends, and the connections that wait since theirs sent too fast.
+/// Who sent nothing lately isn't listed, and may send.
 #[derive(Drop)]
 pub struct Paces {
     pace: Pace,
     lacks: HashMap<u128, Lack>,
+    /// Those that wait, each after its moment. One may stand here that waits no more.
+    waiting: BTreeSet<(u64, usize)>,
+    /// How often one has begun to wait since that was told. It stays at the greatest u64.
+    times: u64,
     ghost some: { 0 < pace.rate },
 }
 
-#[tactic(auto, using(crate::proofs::PaceLemmas::keeps_pace))]
 impl Paces {
     ghost use Rattle.loop_rules.specs.Paces as paces;
-    ghost use Rattle.loop_rules.specs.Paces.{allowance, may_bring, taken, KeepsPace, Known};
+    ghost use Rattle.loop_rules.specs.Paces.{allowance, may_bring, IsBrought, Known, SamePace};
 
-    /// All allowances are full. At least one event a second may come.
+    /// All allowances are full, and nobody waits. At least one event a second may come.
     pub fn new(alloc: Global, pace: Pace) -> Paces
         ensures pace { result.pace ≡ record pace { rate = max 1 pace.rate } }
         ensures full { (c : ℕ) → allowance result c ≡ None }
+        ensures times { result.times ≡ 0 }
     {
         let rate = pace.rate.max(1);
         Paces {
             pace: Pace { rate, ..pace },
             lacks: HashMap::new(alloc),
+            waiting: BTreeSet::new(alloc),
+            times: 0,
         }
     }
 
@@ -114,25 +121,54 @@ impl Paces {
         ensures comes { result < 2 ^ 64 - 1
             → may_bring self.now.pace count result (allowance self.now client) ≡ true }
     {
-        match self.allowance(client) {
-            None => now,
-            Some(lack) => self.pace.moment_for(lack, count, now),
+        let Some(lack) = self.allowance(client) else {
+            return now;
+        };
+        let (pace, rate) = (self.pace, self.pace.rate);
+        let (left, spare) = (lack.left(rate, now), pace.spare(count));
+        if left <= spare || now.saturating_sub(lack.since) >= pace.stretch {
+            return now;
         }
+        let wait = (left - spare).div_ceil(u128::from(rate));
+        let full = u128::from(now.max(lack.since)).saturating_add(wait);
+        let most = lack.since.saturating_add(pace.stretch);
+        full.min(u128::from(most)) as u64
+    }
+
+    /// Until when a connection waits that is to bring so many events, and waited before; or 0.
+    pub fn wait(&mut self, key: usize, client: u128, count: u64, before: u64, now: u64) -> u64
+        ensures until { paces.WaitsUntil self.old.pace
+            (allowance self.old client) count now result }
+        ensures times { self.new.times ≡ paces.times_after before result self.old.times }
+        ensures lacks { self.new.lacks ≡ self.old.lacks }
+        ensures pace { self.new.pace ≡ self.old.pace }
+    {
+        let until = match count {
+            0 => 0,
+            _ => self.moment_for(client, count, now),
+        };
+        if until <= now {
+            return 0;
+        }
+        if before == 0 {
+            self.times = self.times.saturating_add(1);
+        }
+        if before != until {
+            // Where there is no memory to list it, it is looked at in the next beat.
+            let _ = self.waiting.insert((until, key));
+        }
+        until
     }
 
     /// A client is to bring so many events. Answers whether it may, and they are counted.
     pub fn bring(&mut self, client: u128, count: u64, now: u64) -> bool
-        ensures counted { OnTrue result (allowance self.new client
-            ≡ taken self.old.pace count now (allowance self.old client)) }
-        ensures may { OnTrue result
-            (may_bring self.old.pace count now (allowance self.old client) ≡ true) }
-        ensures law { OnTrue result
-            (KeepsPace self.old.pace (allowance self.old client) count now) }
+        ensures brought { OnTrue result (IsBrought self.old.pace count now
+            (allowance self.old client) (allowance self.new client)) }
         ensures kept { OnFalse result (allowance self.new client ≡ allowance self.old client) }
         ensures refused { OnFalse result (Known self.old client
             → may_bring self.old.pace count now (allowance self.old client) ≡ false) }
         ensures others { (c : ℕ) → c ≢ client → allowance self.new c ≡ allowance self.old c }
-        ensures pace { self.new.pace ≡ self.old.pace }
+        ensures same { SamePace self.old self.new }
     {
         let Some(lack) = self.pace.taken(self.allowance(client), count, now) else {
             return false;
@@ -144,10 +180,36 @@ impl Paces {
     pub fn forget_full(&mut self, now: u64)
         ensures forgotten { (c : ℕ) → allowance self.new c
             ≡ paces.unless_full self.old.pace.rate now (allowance self.old c) }
-        ensures pace { self.new.pace ≡ self.old.pace }
+        ensures same { SamePace self.old self.new }
     {
         let rate = self.pace.rate;
         self.lacks.retain(|_, lack| lack.left(rate, now) > 0);
+    }
+
+    /// The moment of the first one that waits.
+    pub fn first(&self) -> Option<u64> {
+        Some(self.waiting.first()?.0)
+    }
+
+    /// The first one, if its moment has come. It waits no more, and its key may be another's.
+    pub fn pop_due(&mut self, now: u64) -> Option<usize>
+        ensures lacks { self.new.lacks ≡ self.old.lacks }
+        ensures same { SamePace self.old self.new }
+    {
+        if self.first()? > now {
+            return None;
+        }
+        Some(self.waiting.pop_first()?.1)
+    }
+
+    /// How often one has begun to wait. It is told once.
+    pub fn take_times(&mut self) -> u64
+        ensures told { result ≡ self.old.times }
+        ensures none { self.new.times ≡ 0 }
+        ensures lacks { self.new.lacks ≡ self.old.lacks }
+        ensures pace { self.new.pace ≡ self.old.pace }
+    {
+        mem::replace(&mut self.times, 0)
     }
 }
 
@@ -173,114 +235,5 @@ impl Pace {
             return None;
         }
         Some(Lack { lacks, since })
-    }
-
-    /// The first moment from which on so many events may come, where an allowance lacked this.
-    fn moment_for(self, lack: Lack, count: u64, now: u64) -> u64
-        requires { 0 < self.rate }
-        ensures later { now ≤ result }
-        ensures held { (t : ℕ) → now ≤ t → t < result → may_bring self count t (Some lack) ≡ false }
-        ensures comes { result < 2 ^ 64 - 1 → may_bring self count result (Some lack) ≡ true }
-    {
-        let (left, spare) = (lack.left(self.rate, now), self.spare(count));
-        if left <= spare || now.saturating_sub(lack.since) >= self.stretch {
-            return now;
-        }
-        let wait = (left - spare).div_ceil(u128::from(self.rate));
-        let full = u128::from(now.max(lack.since)).saturating_add(wait);
-        let most = lack.since.saturating_add(self.stretch);
-        full.min(u128::from(most)) as u64
-    }
-}
-
-/// How fast the clients of a loop send, and the connections that wait since theirs sent too fast.
-#[derive(Drop)]
-pub struct Pacing {
-    pub paces: Paces,
-    /// Those that wait, each after its moment. One may stand here that waits no more.
-    waiting: BTreeSet<(u64, usize)>,
-    /// How often one has begun to wait since that was told. It stays at the greatest u64.
-    pub times: u64,
-}
-
-impl Pacing {
-    ghost use Rattle.loop_rules.specs.Paces as paces;
-    ghost use Rattle.loop_rules.specs.Paces.{allowance};
-    ghost use Rattle.loop_rules.specs.Pacing as pacing;
-
-    /// Nobody waits.
-    pub fn new(alloc: Global, pace: Pace) -> Pacing
-        ensures pace { result.paces.pace ≡ record pace { rate = max 1 pace.rate } }
-        ensures full { (c : ℕ) → allowance result.paces c ≡ None }
-        ensures times { result.times ≡ 0 }
-    {
-        Pacing {
-            paces: Paces::new(alloc, pace),
-            waiting: BTreeSet::new(alloc),
-            times: 0,
-        }
-    }
-
-    /// Until when a connection waits that is to bring so many events, and waited before; or 0.
-    pub fn wait(&mut self, key: usize, client: u128, count: u64, before: u64, now: u64) -> u64
-        ensures until { pacing.WaitsUntil self.old.paces.pace
-            (allowance self.old.paces client) count now result }
-        ensures times { self.new.times ≡ pacing.times_after before result self.old.times }
-        ensures paces { self.new.paces ≡ self.old.paces }
-    {
-        let until = match count {
-            0 => 0,
-            _ => self.paces.moment_for(client, count, now),
-        };
-        if until <= now {
-            return 0;
-        }
-        if before == 0 {
-            self.times = self.times.saturating_add(1);
-        }
-        if before != until {
-            // Where there is no memory to list it, it is looked at in the next beat.
-            let _ = self.waiting.insert((until, key));
-        }
-        until
-    }
-
-    /// A client brings so many events. Answers whether they may come, and were counted.
-    pub fn bring(&mut self, client: u128, count: u64, now: u64) -> bool
-        ensures counted { OnTrue result (allowance self.new.paces client
-            ≡ pacing.brought self.old.paces.pace count now (allowance self.old.paces client)) }
-        ensures kept { OnFalse result
-            (allowance self.new.paces client ≡ allowance self.old.paces client) }
-        ensures none { count ≡ 0 → result ≡ true }
-        ensures others { (c : ℕ) → c ≢ client
-            → allowance self.new.paces c ≡ allowance self.old.paces c }
-        ensures times { self.new.times ≡ self.old.times }
-    {
-        count == 0 || self.paces.bring(client, count, now)
-    }
-
-    /// The moment of the first one that waits.
-    pub fn first(&self) -> Option<u64> {
-        Some(self.waiting.first()?.0)
-    }
-
-    /// The first one, if its moment has come. It waits no more, and its key may be another's.
-    pub fn pop_due(&mut self, now: u64) -> Option<usize>
-        ensures paces { self.new.paces ≡ self.old.paces }
-        ensures times { self.new.times ≡ self.old.times }
-    {
-        if self.first()? > now {
-            return None;
-        }
-        Some(self.waiting.pop_first()?.1)
-    }
-
-    /// How often one has begun to wait. It is told once.
-    pub fn take_times(&mut self) -> u64
-        ensures told { result ≡ self.old.times }
-        ensures none { self.new.times ≡ 0 }
-        ensures paces { self.new.paces ≡ self.old.paces }
-    {
-        mem::replace(&mut self.times, 0)
     }
 }

@@ -7,7 +7,6 @@ ghost use Rattle.loop_rules.specs.Rotas.{times};
 ghost use Rattle.std.specs.Bool.{OnTrue, OnFalse};
 ghost use Rattle.std.specs.List.{list_any};
 
-use crate::deadlines::has_stopped;
 use crate::link::{Link, Seen};
 use crate::links::Links;
 use std::alloc::{AllocError, Global};
@@ -64,7 +63,7 @@ impl Unfinished {
         ensures { result ≡ first_stale now self.now.parts }
     {
         let mut parts = self.parts.iter();
-        match parts.find(|entry| has_stopped(entry.1.moved, now)) {
+        match parts.find(|entry| now.saturating_sub(entry.1.moved) >= STOP) {
             Some((number, _)) => Some(*number),
             None => None,
         }
@@ -137,6 +136,9 @@ impl Unfinished {
 /// Who has fewer bytes than this that aren't whole is always read on.
 const SMALL: usize = 16_384;
 
+/// How long a message or attachments are waited for of which no byte comes, in milliseconds.
+const STOP: u64 = 30_000;
+
 /// For how long one goes on beyond its loop's share, in milliseconds.
 const TURN: u64 = 30_000;
 
@@ -175,7 +177,7 @@ pub struct Receiving {
 }
 
 impl Receiving {
-    ghost use Rattle.loop_rules.specs.Receiving.{ahead_after, done_ahead, goes_on, has_room, is_ahead};
+    ghost use Rattle.loop_rules.specs.Receiving.{ahead_after, goes_on, has_room, is_ahead, IsDone};
     ghost use Rattle.loop_rules.specs.Receiving.{limit_of, listed, next_of, SameBytes};
     ghost use Rattle.loop_rules.specs.Holding.{SameTurns};
 
@@ -228,9 +230,8 @@ impl Receiving {
 
     /// A sender has so many bytes unfinished. With few it goes on beyond the share no more.
     pub fn note_left(&mut self, sender: Sender, bytes: usize)
-        ensures ahead { self.new.ahead ≡ done_ahead sender bytes self.old.ahead }
+        ensures turn { IsDone sender bytes self.old self.new }
         ensures held { self.new.held ≡ self.old.held }
-        ensures same { SameBytes self.old self.new }
     {
         if bytes < SMALL && self.is_ahead(sender) {
             self.ahead = None;
@@ -247,8 +248,7 @@ impl Receiving {
         ensures goes { goes_on (has_room self.old) sender bytes self.old.ahead ≡ true
             → result ≡ Ok false }
         ensures again { list_any (λ k. nat_eq k key) self.old.held.items ≡ true → IsOk result }
-        ensures ahead { self.new.ahead ≡ done_ahead sender bytes self.old.ahead }
-        ensures same { SameBytes self.old self.new }
+        ensures turn { IsDone sender bytes self.old self.new }
     {
         self.note_left(sender, bytes);
         let is_small = bytes < SMALL;
@@ -303,7 +303,7 @@ impl Receiving {
 
 impl Links {
     ghost use Rattle.loop_rules.specs.Links as all;
-    ghost use Rattle.loop_rules.specs.Links.{link_at};
+    ghost use Rattle.loop_rules.specs.Links.{KeepsOthers, link_at};
     ghost use Rattle.loop_rules.specs.Holding as holding;
 
     /// A connection has been read: what came of it is counted, and it is held where that is much.
@@ -311,8 +311,7 @@ impl Links {
     pub fn settle(&mut self, key: usize, seen: Seen, now: u64)
         ensures held { holding.IsSettled seen
             (link_at self.old.links.items key) (link_at self.new.links.items key) }
-        ensures others { (k : ℕ) → k ≢ key
-            → link_at self.new.links.items k ≡ link_at self.old.links.items k }
+        ensures others { KeepsOthers key self.old self.new }
         ensures takers { self.new.roster.takers ≡ self.old.roster.takers }
     {
         let link = self.count(key, seen, now);
@@ -332,8 +331,7 @@ impl Links {
     fn count(&mut self, key: usize, seen: Seen, now: u64) -> Link
         ensures link { result ≡ link_at self.new.links.items key }
         ensures counted { holding.IsCounted seen (link_at self.old.links.items key) result }
-        ensures others { (k : ℕ) → k ≢ key
-            → link_at self.new.links.items k ≡ link_at self.old.links.items k }
+        ensures others { KeepsOthers key self.old self.new }
         ensures roster { self.new.roster ≡ self.old.roster }
     {
         let mut link = self.link(key);
@@ -425,20 +423,13 @@ impl Links {
     {
         for _ in 0..usize::MAX {
             let client = self.receiving.attachments.find_stale(now)?;
-            if !self.is_held(client) {
+            let taker = self.roster.takers.of(client);
+            if !matches!(taker, Some(key) if self.link(key).held) {
                 return Some(client);
             }
             self.receiving.attachments.keep(client, now);
         }
         None
-    }
-
-    /// Whether the connection of a client is held.
-    fn is_held(&self, client: u128) -> bool
-        ensures { result ≡ holding.is_held client self.now }
-    {
-        let taker = self.roster.takers.of(client);
-        taker.is_some_and(|key| self.link(key).held)
     }
 
     /// A client has so many bytes of attachments that aren't whole, counted if memory allows.

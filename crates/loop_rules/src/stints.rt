@@ -2,10 +2,11 @@
 
 ghost use Rattle.std.specs.Prelude.{◌≡◌, ◌≢◌, ℕ, None, Some, true, false, length, ◌<◌, IfSome};
 ghost use Rattle.std.specs.Prelude.{slice_index_or};
+ghost use Rattle.loop_rules.specs.Course as courses;
 ghost use Rattle.loop_rules.specs.Link as one;
 ghost use Rattle.loop_rules.specs.Rotas as rotas;
 ghost use Rattle.loop_rules.specs.Links as all;
-ghost use Rattle.loop_rules.specs.Links.{link_at, KeepsAllBut};
+ghost use Rattle.loop_rules.specs.Links.{link_at, KeepsAllBut, KeepsOthers};
 ghost use Rattle.loop_rules.specs.Stints as stints;
 ghost use Rattle.loop_rules.specs.Sending as sending;
 ghost use Rattle.loop_rules.specs.Rosters.{Keeps};
@@ -38,9 +39,8 @@ impl Links {
 
     /// A connection is served from now on, for a client where that is known: its request was whole.
     pub fn serve(&mut self, key: usize, serving: Serving, client: Option<u128>, now: u64)
-        ensures links { self.new.links.items ≡ all.put_at key
-            (one.served serving client now (link_at self.old.links.items key))
-            self.old.links.items }
+        ensures links { self.new.links.items
+            ≡ all.changed_at key (one.served serving client now) self.old }
         ensures roster { self.new.roster ≡ self.old.roster }
     {
         let mut link = self.link(key).turn_to(Course::Serves(serving), now);
@@ -51,8 +51,7 @@ impl Links {
 
     /// A connection closes: what is unsent goes out, and nobody serves it.
     pub fn close(&mut self, key: usize, now: u64)
-        ensures links { self.new.links.items ≡ all.put_at key
-            (one.closed now (link_at self.old.links.items key)) self.old.links.items }
+        ensures links { self.new.links.items ≡ all.changed_at key (one.closed now) self.old }
         ensures rest { KeepsAllBut self.old self.new }
     {
         let link = self.link(key);
@@ -62,8 +61,8 @@ impl Links {
     /// A connection's peer brings no event: it has failed, or has no more. Answers what follows.
     pub fn finish(&mut self, key: usize, failed: bool, now: u64) -> Do
         ensures what { result ≡ stints.after_end failed }
-        ensures links { self.new.links.items ≡ all.put_at key
-            (stints.ended failed now (link_at self.old.links.items key)) self.old.links.items }
+        ensures links { self.new.links.items
+            ≡ all.changed_at key (stints.ended failed now) self.old }
         ensures rest { KeepsAllBut self.old self.new }
     {
         if failed {
@@ -80,10 +79,9 @@ impl Links {
     pub fn next(&mut self, key: usize, seen: Seen, now: u64) -> Do
         ensures next { stints.DoesNext
             (all.is_pressed (all.sender_at key self.old.links.items) now self.old.pressure)
-            self.old.pacing key seen now self.old.receiving (link_at self.old.links.items key)
+            self.old.paces key seen now self.old.receiving (link_at self.old.links.items key)
             result self.old.links.items self.new.links.items }
-        ensures others { (k : ℕ) → k ≢ key
-            → link_at self.new.links.items k ≡ link_at self.old.links.items k }
+        ensures others { KeepsOthers key self.old self.new }
         ensures roster { self.new.roster ≡ self.old.roster }
         ensures receiving { self.new.receiving ≡ self.old.receiving }
     {
@@ -98,7 +96,7 @@ impl Links {
     fn look_ahead(&mut self, key: usize, now: u64) -> Link
         ensures ahead { stints.LooksAhead
             (all.is_pressed (all.sender_at key self.old.links.items) now self.old.pressure)
-            self.old.pacing key now (link_at self.old.links.items key) result }
+            self.old.paces key now (link_at self.old.links.items key) result }
         ensures links { self.new.links.items ≡ all.put_at key result self.old.links.items }
         ensures roster { self.new.roster ≡ self.old.roster }
         ensures receiving { self.new.receiving ≡ self.old.receiving }
@@ -107,9 +105,9 @@ impl Links {
         let sender = link.sender(key);
         let pressed = self.is_pressed(sender, now);
         if !pressed {
-            link.paced = match (&mut self.pacing, sender) {
-                (Some(pacing), Sender::Client(client)) => {
-                    pacing.wait(key, client, link.course.events_next(), link.paced, now)
+            link.paced = match (&mut self.paces, sender) {
+                (Some(paces), Sender::Client(client)) => {
+                    paces.wait(key, client, link.course.events_next(), link.paced, now)
                 }
                 _ => 0,
             };
@@ -139,13 +137,15 @@ impl Links {
 
     /// Counts the events of a POST that are brought now. Answers whether there was memory for it.
     fn counts(&mut self, link: Link, now: u64) -> bool
-        ensures unbounded { self.old.pacing ≡ None → result ≡ true }
+        ensures unbounded { self.old.paces ≡ None → result ≡ true }
+        ensures none { courses.events_next link.course ≡ 0 → result ≡ true }
         ensures links { self.new.links ≡ self.old.links }
         ensures roster { self.new.roster ≡ self.old.roster }
         ensures receiving { self.new.receiving ≡ self.old.receiving }
     {
-        match (&mut self.pacing, link.client) {
-            (Some(pacing), Some(client)) => pacing.bring(client, link.course.events_next(), now),
+        let count = link.course.events_next();
+        match (&mut self.paces, link.client) {
+            (Some(paces), Some(client)) if count > 0 => paces.bring(client, count, now),
             _ => true,
         }
     }
@@ -159,8 +159,8 @@ impl Links {
     {
         let mut link = self.link(key);
         let counts = is_message(event);
-        if let (true, Some(pacing), Some(client)) = (counts, &mut self.pacing, link.client) {
-            let _ = pacing.bring(client, 1, at);
+        if let (true, Some(paces), Some(client)) = (counts, &mut self.paces, link.client) {
+            let _ = paces.bring(client, 1, at);
         }
         let asks_due = matches!(event, Event::Tick { .. });
         link.course = link.course.brought(asks_due, at);
@@ -187,8 +187,7 @@ impl Links {
     /// The core answered a connection's event: where that opened a client, it is known whose it is.
     pub fn know(&mut self, key: usize, got: &Answered)
         ensures links { self.new.links.items ≡ all.known_by key got.now self.old.links.items }
-        ensures others { (k : ℕ) → k ≢ key
-            → link_at self.new.links.items k ≡ link_at self.old.links.items k }
+        ensures others { KeepsOthers key self.old self.new }
         ensures rest { KeepsAllBut self.old self.new }
     {
         if let Ok(Outcome::Opened(opening)) = got {
@@ -202,8 +201,7 @@ impl Links {
     pub fn hear_loss(&mut self, key: usize, got: &Answered, now: u64) -> Option<Pause>
         ensures pause { result ≡ one.after_loss (link_at self.old.links.items key).course got.now }
         ensures links { self.new.links.items
-            ≡ all.put_at key (one.heard_loss got.now now (link_at self.old.links.items key))
-            self.old.links.items }
+            ≡ all.changed_at key (one.heard_loss got.now now) self.old }
         ensures rest { KeepsAllBut self.old self.new }
     {
         let mut link = self.link(key);
@@ -225,8 +223,7 @@ impl Links {
     /// It may have bytes to send. Without memory to note that, it gets a stint, and is noted then.
     pub fn note_unsent(&mut self, key: usize)
         ensures noted { sending.IsNoted key self.old self.new }
-        ensures others { (k : ℕ) → k ≢ key
-            → link_at self.new.links.items k ≡ link_at self.old.links.items k }
+        ensures others { KeepsOthers key self.old self.new }
         ensures takers { self.new.roster.takers ≡ self.old.roster.takers }
         ensures receiving { self.new.receiving ≡ self.old.receiving }
     {
@@ -292,15 +289,17 @@ impl Links {
         ensures receiving { self.new.receiving ≡ self.old.receiving }
     {
         let mut link = self.link(key);
-        let what = link.unsendable(request, now);
+        let what = link.unsendable(request);
+        if matches!(what, Do::Queue) {
+            link = link.fail(now);
+        }
         self.put(key, link);
         if !matches!(what, Do::End) {
             self.roster.rota.call(key);
         }
         match what {
-            Do::End => Do::End,
-            Do::Cut => Do::Cut,
-            _ => Do::Nothing,
+            Do::Queue => Do::Nothing,
+            _ => what,
         }
     }
 
@@ -312,9 +311,12 @@ impl Links {
     {
         self.roster.wake(client);
         self.roster.takers.list(client, key);
-        let link = self.link(key);
-        let course = link.course.assigned();
-        self.put(key, Link { course, ..link });
+        let mut link = self.link(key);
+        if let Course::Serves(Serving::Socket { asked, .. }) = link.course {
+            let speaks = true;
+            link.course = Course::Serves(Serving::Socket { speaks, asked });
+        }
+        self.put(key, link);
         self.note_whole(key);
     }
 
