@@ -65,6 +65,13 @@ pub struct Metrics {
     pub paced: u64,
 }
 
+/// Adds names with one number: of each the name, the kind, what it says, and the number.
+macro_rules! push_rows {
+    ($text:expr; $($name:literal, $kind:literal, $help:literal, $number:expr;)*) => {
+        $(push_row($text, $name, $kind, $help, $number)?;)*
+    };
+}
+
 impl Metrics {
     /// Nothing was counted yet, of so many loops.
     pub fn new(alloc: Global, loops: usize) -> Result<Metrics, AllocError>
@@ -148,21 +155,20 @@ impl Metrics {
             self.now.core self.now.loops.items self.now.refused.items self.now.paced) }
     {
         let mut text = totals_text(alloc, &self.core.totals)?;
-        text.push_str(unheard_text(alloc, self.core.unheard)?.as_str())?;
+        push_rows! { &mut text;
+            "socketio_unheard_total", "counter", "Events of clients that went to no backend.",
+                self.core.unheard;
+        }
         text.push_str(sizes_text(alloc, &self.core.sizes)?.as_str())?;
         text.push_str(connections_text(alloc, self.loops.as_slice())?.as_str())?;
         text.push_str(requests_text(alloc, self.loops.as_slice())?.as_str())?;
         text.push_str(refused_text(alloc, self.refused.as_slice())?.as_str())?;
-        text.push_str(paced_text(alloc, self.paced)?.as_str())?;
+        push_rows! { &mut text;
+            "socketio_paced_total", "counter",
+                "Times that a client sent too fast and wasn't read.", self.paced;
+        }
         Ok(text)
     }
-}
-
-/// Adds names with one number: of each the name, the kind, what it says, and the number.
-macro_rules! push_rows {
-    ($text:expr; $($name:literal, $kind:literal, $help:literal, $number:expr;)*) => {
-        $(push_row($text, $name, $kind, $help, $number)?;)*
-    };
 }
 
 fn totals_text(alloc: Global, totals: &Totals) -> Result<String, AllocError>
@@ -179,26 +185,6 @@ fn totals_text(alloc: Global, totals: &Totals) -> Result<String, AllocError>
         "socketio_messages_discarded_total", "counter",
             "Messages that waited when their client ended.", totals.discarded;
         "socketio_messages_waiting", "gauge", "Messages that wait.", totals.waiting;
-    }
-    Ok(text)
-}
-
-fn unheard_text(alloc: Global, unheard: u64) -> Result<String, AllocError>
-    ensures { IfOk result (λ text. string_bytes text ≡ metrics.unheard_text unheard) }
-{
-    let mut text = String::new(alloc);
-    push_rows! { &mut text;
-        "socketio_unheard_total", "counter", "Events of clients that went to no backend.", unheard;
-    }
-    Ok(text)
-}
-
-fn paced_text(alloc: Global, paced: u64) -> Result<String, AllocError>
-    ensures { IfOk result (λ text. string_bytes text ≡ metrics.paced_text paced) }
-{
-    let mut text = String::new(alloc);
-    push_rows! { &mut text;
-        "socketio_paced_total", "counter", "Times that a client sent too fast and wasn't read.", paced;
     }
     Ok(text)
 }
