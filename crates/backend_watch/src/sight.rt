@@ -71,18 +71,6 @@ impl Sight<'_> {
         self.backend(client).is_some()
     }
 
-    /// The digits with which a client's sessions in the other namespaces begin.
-    fn digits_of(&self, client: u128) -> u16
-        ensures { result ≡ watching.digits_of self.now.state.now client self.now.others.now }
-    {
-        let (mut digits, others) = (0, self.others);
-        for name in others {
-            let session = self.state.socket_of(client, name.as_str());
-            digits |= session.map_or(0, first_digit);
-        }
-        digits
-    }
-
     /// The digits that a backend is told of, which are rooms that it is in; all where there is no
     /// memory to list them.
     fn digits_told(&self, backend: Sid) -> u16
@@ -98,7 +86,8 @@ impl Sight<'_> {
         digits
     }
 
-    /// The digits of a client's sessions, where its event brings messages. A backend has none.
+    /// The digits with which a client's sessions in the other namespaces begin, where its event
+    /// brings messages. A backend has none.
     pub fn digits_brought(&self, client: u128, event: &Event) -> Option<u16>
         ensures { let own = watching.own_digits self.now.state.now self.now.space.now self.now.others.now client
             in result ≡ (if watching.brings event.now then Some own else None) }
@@ -109,7 +98,12 @@ impl Sight<'_> {
         if self.is_backend(client) {
             return Some(0);
         }
-        Some(self.digits_of(client))
+        let (mut digits, others) = (0, self.others);
+        for name in others {
+            let session = self.state.socket_of(client, name.as_str());
+            digits |= session.map_or(0, first_digit);
+        }
+        Some(digits)
     }
 
     /// What waits for a client.
@@ -125,17 +119,8 @@ impl Sight<'_> {
         }
     }
 
-    /// Whether a client isn't to be listed any more: it is no backend, or less than half waits for
-    /// it of what may.
-    fn is_over(&self, client: u128) -> bool
-        ensures { result ≡ watching.is_over self.now.state.now self.now.space.now
-            self.now.capacity self.now.bytes client }
-    {
-        !self.is_backend(client) || self.backlog(client).is_low()
-    }
-
-    /// A client that is listed may be pressed no more, since it took something, or ended. Answers
-    /// whether that is so.
+    /// A client that is listed may be pressed no more, since it took something, or ended: it is no
+    /// backend, or less than half waits for it of what may. Answers whether that is so.
     pub fn relieve(&self, client: u128, listed: &mut Vec<Pressed>) -> bool
         ensures over { result ≡ (watching.is_listed client listed.old.items
             && watching.is_over self.now.state.now self.now.space.now
@@ -143,7 +128,8 @@ impl Sight<'_> {
         ensures left { listed.new.items
             ≡ (if result then watching.without client listed.old.items else listed.old.items) }
     {
-        let is_over = is_listed(client, listed.as_slice()) && self.is_over(client);
+        let is_over = is_listed(client, listed.as_slice())
+            && (!self.is_backend(client) || self.backlog(client).is_low());
         if is_over {
             strike(client, listed);
         }
@@ -206,7 +192,7 @@ impl Sight<'_> {
         if self.is_backend(client) {
             return 0;
         }
-        count_unheard(got)
+        count_empty(lists_of(got)) as u64
     }
 }
 
@@ -217,23 +203,16 @@ fn first_digit(sid: Sid) -> u16
     1 << ((sid.number() >> 124) as u32)
 }
 
-/// The digit with this character, if there is one.
-fn digit_of(character: u8) -> u16
-    ensures { result ≡ digits.digit_of character }
-{
-    match character {
-        b'0'..=b'9' => 1 << u32::from(character - b'0'),
-        b'a'..=b'f' => 1 << u32::from(character - b'a' + 10),
-        _ => 0,
-    }
-}
-
 /// The digit that a room is named by, if it is.
 fn named_digit(room: Room) -> u16
     ensures { result ≡ digits.named_digit room }
 {
-    match room.bytes() {
-        [character] => digit_of(*character),
+    let [character] = room.bytes() else {
+        return 0;
+    };
+    match *character {
+        b'0'..=b'9' => 1 << u32::from(*character - b'0'),
+        b'a'..=b'f' => 1 << u32::from(*character - b'a' + 10),
         _ => 0,
     }
 }
@@ -254,11 +233,4 @@ fn count_empty(lists: &[Vec<u128>]) -> usize
     ensures { result ≡ length (filter (λ ids. receivers.is_empty ids.items) lists.now) }
 {
     lists.iter().filter(|ids| ids.is_empty()).count()
-}
-
-/// How many broadcasts of an event got to nobody but its own client.
-fn count_unheard(got: &Answered) -> u64
-    ensures { result ≡ length (filter receivers.is_empty (receivers.lists_of got.now)) }
-{
-    count_empty(lists_of(got)) as u64
 }
