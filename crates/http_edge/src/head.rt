@@ -9,7 +9,7 @@ ghost use Rattle.httparse.specs.Spans.{IsHeaderWithin, IsRequestWithin, IsReques
 ghost use Rattle.http_edge.specs.Request.{IsTargetOf, values, NamesLength, IsLength, IsOnlyText, is_upgrade};
 ghost use Rattle.http_edge.specs.Reading.{EndsNoLine, HasEmptyLine, HasNoHead, LacksLength, NamesTooMuch, IsFault};
 ghost use Rattle.http_edge.specs.Head.{IsHeadOf, HasParsed};
-ghost use Rattle.http_edge.specs.LineState.{next, walk};
+ghost use Rattle.http_edge.specs.LineState.{walk};
 ghost use Rattle.http_edge.specs.Values.{TellsValues};
 ghost use Rattle.http_edge.specs.declared.head.LineState.TheVariants.{Blank};
 ghost use Rattle.http_edge.specs.declared.error.EdgeError.TheVariants.{Memory, BadHead, HeadTooLong, NoLength, BodyTooLong};

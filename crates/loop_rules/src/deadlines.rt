@@ -1,6 +1,6 @@
 //! How long connections may take.
 
-ghost use Rattle.std.specs.Prelude.{◌≡◌, None, Some, false};
+ghost use Rattle.std.specs.Prelude.{◌≡◌};
 ghost use Rattle.loop_rules.specs.Link as one;
 ghost use Rattle.loop_rules.specs.Links as all;
 ghost use Rattle.loop_rules.specs.Lateness as late;

@@ -1,6 +1,6 @@
 //! The connections of a loop, and which of them have something to do.
 
-ghost use Rattle.std.specs.Prelude.{◌≡◌, ◌<◌, [], ℕ, Some, false};
+ghost use Rattle.std.specs.Prelude.{◌≡◌, ◌<◌, [], Some, false};
 ghost use Rattle.std.specs.Bool.{OnTrue};
 ghost use Rattle.loop_rules.specs.Link as one;
 ghost use Rattle.loop_rules.specs.Rotas as rotas;

@@ -1,6 +1,6 @@
 //! What a connection does in its stint, what the answer to its event leads to, and what it sends.
 
-ghost use Rattle.std.specs.Prelude.{◌≡◌, ◌≢◌, ℕ, None, Some, true, false, length, ◌<◌, IfSome};
+ghost use Rattle.std.specs.Prelude.{◌≡◌, ℕ, None, Some, true, false, length, ◌<◌, IfSome};
 ghost use Rattle.std.specs.Prelude.{slice_index_or};
 ghost use Rattle.loop_rules.specs.Course as courses;
 ghost use Rattle.loop_rules.specs.Link as one;
