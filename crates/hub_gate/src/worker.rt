@@ -16,13 +16,12 @@ use dispatch::Core;
 use events::{Answered, App, CoreError, CoreFault, Event, IdSource, Loss, Outcome, Peer, Retry};
 use hub_totals::Pass;
 use journal::{Epoch, HubError};
+use room_maps::{RoomMap, SocketMap};
 use std::alloc::Global;
-use std::collections::{BTreeMap, BTreeSet};
 use std::snapshot::Snapshot;
 use std::sync::ledger::Ledger;
 use std::sync::{Mutex, MutexGuard, Wait};
 use std::vec::IntoIter;
-use terms::{Room, Sid};
 
 /// A core under its lock. Each event is one `Core::apply` under it, and no other lock stands around
 /// the state.
@@ -107,12 +106,7 @@ impl<C: Ledger, T: Ledger> Locked<C, T> {
 
 /// The two maps of rooms that a core's hub keeps, and no others: the rooms of each connected
 /// socket, and the sockets of each room. They mirror each other, and hold what the history says.
-pub fn mirrors_of<C: Ledger, T: Ledger>(
-    core: &Core<C, T>,
-) -> (
-    &BTreeMap<Sid, BTreeSet<Room>>,
-    &BTreeMap<Room, BTreeSet<Sid>>,
-)
+pub fn mirrors_of<C: Ledger, T: Ledger>(core: &Core<C, T>) -> (&SocketMap, &RoomMap)
     ensures { let h = core.now.hub.history in
         IsMirrored (rooms h.base h.journal) result.0.now result.1.now }
 {
