@@ -10,7 +10,7 @@ use Rattle.tokens.specs.declared.verifier.Flaw.TheVariants.{Form}
 use Rattle.std.specs.Str.{IsUtf8, is_utf8}
 use Rattle.std.proofs.lemmas.Str.{is_utf8-from_IsUtf8, IsUtf8-from_is_utf8}
 use Rattle.tokens.specs.Steps.{◌>>=◌}
-use Rattle.tokens.specs.Form.{Parts, is_dot, cut, three, parts_of, bytes_in, as_text, text_in}
+use Rattle.tokens.specs.Form.{Parts, is_dot, cut, three, parts_of, bytes_in, as_text, text_in, opened}
 
 lacks : (b : Bool) (n m : ℕ) (rest : Bool) → cond (not b) (1 + n) 0 ≡ suc m → (n ≡ m → rest ≡ false) → (b || rest) ≡ false
 lacks true n m rest e more = absurd (omega (arith, e))
@@ -70,6 +70,17 @@ parts_made token header rest claims signature signed first second is =
     ap (λ s. Ok (record { header = header; claims = claims; signature = signature; signed = s })) is
     ∙ sym (ap (λ c. c >>= (λ pair. Ok (three header pair.0 pair.1))) second)
     ∙ sym (ap (λ c. c >>= (λ pair. cut pair.1 >>= (λ other. Ok (three pair.0 other.0 other.1)))) first)
+
+-- what the parts say makes what the token says
+pub opened_made : (token first second third signed header claims signature : List ℕ) → Ok (record { header = first; claims = second; signature = third; signed = signed }) ≡ parts_of token
+    → Ok header ≡ text_in first → Ok claims ≡ text_in second → Ok signature ≡ bytes_in third
+    → Ok (record { header = header; claims = claims; signature = signature; signed = signed }) ≡ opened token
+unfolding opened
+opened_made token first second third signed header claims signature parts is_header is_claims is_signature =
+    ap (λ r. r >>= (λ s. Ok (record { header = header; claims = claims; signature = s; signed = signed }))) is_signature
+    ∙ ap (λ r. r >>= (λ c. bytes_in third >>= (λ s. Ok (record { header = header; claims = c; signature = s; signed = signed })))) is_claims
+    ∙ ap (λ r. r >>= (λ h. text_in second >>= (λ c. bytes_in third >>= (λ s. Ok (record { header = h; claims = c; signature = s; signed = signed }))))) is_header
+    ∙ ap (λ r. r >>= (λ (p : Parts). text_in p.header >>= (λ h. text_in p.claims >>= (λ c. bytes_in p.signature >>= (λ s. Ok (record { header = h; claims = c; signature = s; signed = p.signed })))))) parts
 
 as_text_by : (bytes : List ℕ) (b : Bool) → is_utf8 bytes ≡ b → as_text bytes ≡ (if b then Ok bytes else Err Form)
 as_text_by bytes b is = ap (λ (b : Bool). if b then Ok bytes else Err Form) is

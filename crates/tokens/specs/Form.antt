@@ -7,7 +7,6 @@ use Rattle.base64.specs.GeneralPurpose.{decode_of}
 use Rattle.base64.specs.declared.decode.DecodeError.{DecodeError}
 use Rattle.tokens.specs.declared.verifier.Flaw.{Flaw}
 use Rattle.tokens.specs.declared.verifier.Flaw.TheVariants.{Form}
-use Rattle.tokens.specs.declared.form.Parts.{Parts as PartsInRust}
 use Rattle.tokens.specs.declared.form.Opened.{Opened as OpenedInRust}
 use Rattle.tokens.specs.Steps.{◌>>=◌}
 
@@ -63,9 +62,6 @@ opened token = do
   Ok (record { header = header; claims = claims; signature = signature; signed = parts.signed })
 
 -- ---- what contracts see of them
-
-abbrev pub parts_view : PartsInRust → Parts
-parts_view p = record { header = p.header.now; claims = p.claims.now; signature = p.signature.now; signed = p.signed.now }
 
 abbrev pub opened_view : OpenedInRust → Parts
 opened_view o = record { header = o.header; claims = o.claims; signature = o.signature.items; signed = o.signed.now }

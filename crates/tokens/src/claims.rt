@@ -68,7 +68,7 @@ fn check_members(claims: &Value, audience: &Option<Text>, seconds: u64) -> Resul
     if is_early(begins, seconds) {
         return Err(Flaw::Early);
     }
-    if is_late(expires, seconds) {
+    if expires.is_some_and(|expires| is_over(expires, seconds)) {
         return Err(Flaw::Expired);
     }
     Ok(expires)
@@ -79,14 +79,6 @@ fn is_early(begins: Option<u64>, seconds: u64) -> bool
     ensures { result ≡ table.is_early begins seconds }
 {
     begins.is_some_and(|begins| begins > LEEWAY && begins - LEEWAY > seconds)
-}
-
-/// Whether the time of a token that expires so is over (RFC 7519, section 4.1.4): from thirty
-/// seconds after that on it isn't valid. Both are in seconds since 1970.
-fn is_late(expires: Option<u64>, seconds: u64) -> bool
-    ensures { result ≡ table.is_late expires seconds }
-{
-    expires.is_some_and(|expires| seconds >= LEEWAY && seconds - LEEWAY >= expires)
 }
 
 /// Whether what `aud` says is this audience, or a list that has it (RFC 7519, section 4.1.3).
@@ -136,14 +128,14 @@ fn date_in(member: Option<&Value>) -> Result<Option<u64>, Flaw>
     ensures { result ≡ dates.date_in (option_map (λ v. value_view v.now) member.entry) }
 {
     match member {
-        Some(value) => Ok(Some(date_of(value).ok_or(Flaw::Claims)?)),
+        Some(value) => Ok(Some(seconds_of(value).ok_or(Flaw::Claims)?)),
         None => Ok(None),
     }
 }
 
 /// The seconds since 1970 that a value says, where it is a number that `exp` may be (RFC 7519,
 /// section 2, "NumericDate").
-fn date_of(value: &Value) -> Option<u64>
+pub fn seconds_of(value: &Value) -> Option<u64>
     ensures { result ≡ dates.date_of (value_view value.now) }
 {
     read_seconds(value.as_number()?)
@@ -170,7 +162,7 @@ fn are_digits(bytes: &[u8]) -> bool
 }
 
 /// The integer that at most fifteen digits write.
-fn read_whole(text: &str) -> Option<u64>
+pub fn read_whole(text: &str) -> Option<u64>
     ensures { result ≡ dates.read_whole text.now }
 {
     if text.len() > 15 {
@@ -186,17 +178,10 @@ fn read_whole(text: &str) -> Option<u64>
     Some(seconds)
 }
 
-/// The seconds that a number says, where it is one that `exp` may be.
-pub fn seconds_of(value: &Value) -> Option<u64>
-    ensures { result ≡ dates.date_of (value_view value.now) }
-{
-    date_of(value)
-}
-
-/// Whether the time of a token that expires so is over: from thirty seconds after that on it isn't
-/// valid. Both are in seconds since 1970.
+/// Whether the time of a token that expires so is over (RFC 7519, section 4.1.4): from thirty
+/// seconds after that on it isn't valid. Both are in seconds since 1970.
 pub fn is_over(expires: u64, seconds: u64) -> bool
     ensures { result ≡ table.is_late (Some expires) seconds }
 {
-    is_late(Some(expires), seconds)
+    seconds >= LEEWAY && seconds - LEEWAY >= expires
 }

@@ -21,31 +21,18 @@ use terms::Text;
 /// The one algorithm (RFC 7518, section 3.2).
 const ALGORITHM: &str = "HS256";
 
-/// The three parts of a token, as they stand there.
-#[derive(Drop)]
-pub(crate) struct Parts<'t> {
-    /// The part before the first dot.
-    pub header: &'t str,
-    /// The part between the dots.
-    pub claims: &'t str,
-    /// The part behind the second dot.
-    pub signature: &'t str,
-    /// What is signed: all before the second dot.
-    pub signed: &'t [u8],
-}
-
 /// What the three parts of a token say.
 #[derive(Drop)]
 pub(crate) struct Opened<'t> {
     pub header: Text,
     pub claims: Text,
     pub signature: Vec<u8>,
-    /// What is signed, as it stands in the token.
+    /// What is signed, as it stands in the token: all before the second dot.
     pub signed: &'t [u8],
 }
 
 /// What the parts of a token say, or `Form`.
-#[tactic(auto, unfolding(crate::specs::Form::opened))]
+#[tactic(auto, unfolding(crate::specs::Form::opened, crate::specs::Form::parts_of))]
 pub(crate) fn read_parts<'t>(
     alloc: Global,
     token: &'t str,
@@ -53,43 +40,15 @@ pub(crate) fn read_parts<'t>(
     ensures { IfOk result (λ opened. seen_by table.opened_view opened
         ≡ table.opened token.now) }
 {
-    let parts = match parts_of(token) {
-        Ok(parts) => parts,
-        Err(flaw) => return Ok(Err(flaw)),
-    };
-    let header = match text_in(alloc, parts.header)? {
-        Ok(header) => header,
-        Err(flaw) => return Ok(Err(flaw)),
-    };
-    let claims = match text_in(alloc, parts.claims)? {
-        Ok(claims) => claims,
-        Err(flaw) => return Ok(Err(flaw)),
-    };
-    match bytes_in(alloc, parts.signature)? {
-        Ok(signature) => Ok(Ok(Opened {
-            header,
-            claims,
-            signature,
-            signed: parts.signed,
-        })),
-        Err(flaw) => Ok(Err(flaw)),
-    }
-}
-
-/// The parts of a token, where there are two dots.
-#[tactic(auto, unfolding(crate::specs::Form::parts_of))]
-fn parts_of(token: &str) -> Result<Parts<'_>, Flaw>
-    ensures { seen_by table.parts_view result ≡ table.parts_of token.now }
-{
-    let (header, rest) = cut(token)?;
-    let (claims, signature) = cut(rest)?;
+    let (header, rest) = unless_flawed!(cut(token));
+    let (claims, signature) = unless_flawed!(cut(rest));
     let signed = &token.as_bytes()[..header.len() + 1 + claims.len()];
-    Ok(Parts {
-        header,
-        claims,
-        signature,
+    Ok(Ok(Opened {
+        header: unless_flawed!(text_in(alloc, header)?),
+        claims: unless_flawed!(text_in(alloc, claims)?),
+        signature: unless_flawed!(bytes_in(alloc, signature)?),
         signed,
-    })
+    }))
 }
 
 /// What stands before the first dot, and behind it.
@@ -109,12 +68,9 @@ fn cut(text: &str) -> Result<(&str, &str), Flaw>
 fn text_in(alloc: Global, part: &str) -> Result<Result<Text, Flaw>, AllocError>
     ensures { IfOk result (λ text. text ≡ table.text_in part.now) }
 {
-    match bytes_in(alloc, part)? {
-        Ok(bytes) => match String::from_utf8(bytes) {
-            Ok(text) => Ok(Ok(Text::from_string(text))),
-            Err(_) => Ok(Err(Flaw::Form)),
-        },
-        Err(flaw) => Ok(Err(flaw)),
+    match String::from_utf8(unless_flawed!(bytes_in(alloc, part)?)) {
+        Ok(text) => Ok(Ok(Text::from_string(text))),
+        Err(_) => Ok(Err(Flaw::Form)),
     }
 }
 
@@ -145,10 +101,8 @@ pub(crate) fn check_header(
     let Some(header) = object_of(alloc, token.header.as_str(), &mut scratch)? else {
         return Ok(Err(Flaw::Header));
     };
-    match key_name(&header) {
-        Ok(name) => Ok(check_signature(keys, name, token.signed, &token.signature)),
-        Err(flaw) => Ok(Err(flaw)),
-    }
+    let name = unless_flawed!(key_name(&header));
+    Ok(check_signature(keys, name, token.signed, &token.signature))
 }
 
 /// The key that a header names, if it names one. The algorithm that it names is compared, and

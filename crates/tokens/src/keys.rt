@@ -48,12 +48,7 @@ pub(crate) fn check_signature(
 fn key_named<'k>(keys: &'k [Key], name: &str) -> Option<&'k Key>
     ensures { option_map (λ key. key.now) result ≡ table.key_named keys.now name.now }
 {
-    for key in keys {
-        if key.name.as_str() == name {
-            return Some(key);
-        }
-    }
-    None
+    keys.iter().find(|key| key.name.as_str() == name)
 }
 
 /// Whether any of the keys signed a text.

@@ -3,9 +3,8 @@
 //! RFC 7519, section 4).
 
 ghost use Rattle.std.specs.Prelude.{◌≡◌, [], IfOk, option_map, string_bytes};
-ghost use Rattle.json.specs.Find.{as_object};
 ghost use Rattle.json.specs.Print.{print};
-ghost use Rattle.json.specs.Tree.{HasNumbers, MembersHaveNumbers};
+ghost use Rattle.json.specs.Tree.{MembersHaveNumbers};
 ghost use Rattle.json.specs.Value.{value_view, members_view};
 ghost use Rattle.tokens.specs.Object as objects;
 ghost use Rattle.tokens.specs.Payload as table;
@@ -40,21 +39,12 @@ pub fn without_token(alloc: Global, payload: &str) -> Result<Text, AllocError>
 {
     let mut scratch = Scratch::new(alloc);
     match Value::parse(alloc, payload, &mut scratch) {
-        Ok(value) => left_of(alloc, payload, &value),
+        Ok(value) => match &value {
+            Value::Object(members) => others(alloc, members),
+            _ => Text::copy_of(alloc, payload),
+        },
         Err(Error::Invalid) => Text::copy_of(alloc, payload),
         Err(_) => Err(AllocError),
-    }
-}
-
-/// What is left of a payload that is this value.
-fn left_of(alloc: Global, payload: &str, value: &Value) -> Result<Text, AllocError>
-    requires { HasNumbers (value_view value.now) }
-    ensures { IfOk result (λ text. text
-        ≡ table.others_or payload.now (as_object (value_view value.now))) }
-{
-    match value {
-        Value::Object(members) => others(alloc, members),
-        _ => Text::copy_of(alloc, payload),
     }
 }
 
@@ -76,7 +66,7 @@ fn others(alloc: Global, members: &Vec<(&str, Value)>) -> Result<Text, AllocErro
 }
 
 /// What was written to a writer that began with nothing.
-fn text_of(writer: Writer) -> String
+pub fn text_of(writer: Writer) -> String
     requires { writer.before ≡ [] }
     ensures { string_bytes result ≡ print writer.tokens }
 {

@@ -67,18 +67,11 @@ impl Verifier {
         if token.len() > MAX_TOKEN {
             return Ok(Err(Flaw::TooLong));
         }
-        let opened = match read_parts(alloc, token)? {
-            Ok(opened) => opened,
-            Err(flaw) => return Ok(Err(flaw)),
-        };
-        if let Err(flaw) = check_header(alloc, &self.keys, &opened)? {
-            return Ok(Err(flaw));
-        }
+        let opened = unless_flawed!(read_parts(alloc, token)?);
+        unless_flawed!(check_header(alloc, &self.keys, &opened)?);
         let text = opened.claims;
-        match check_claims(alloc, &self.audience, seconds, text.as_str())? {
-            Ok(expires) => Ok(Ok(Claims { text, expires })),
-            Err(flaw) => Ok(Err(flaw)),
-        }
+        let expires = unless_flawed!(check_claims(alloc, &self.audience, seconds, text.as_str())?);
+        Ok(Ok(Claims { text, expires }))
     }
 
     /// The claims of a token that one of the keys signed, whatever they say of times and audiences,
