@@ -107,7 +107,14 @@ impl Deadlines {
     pub fn due(&self, alloc: Global, seconds: u64) -> Result<Vec<Due>, AllocError>
         ensures { IfOk result (λ due. due.items ≡ table.due_at seconds self.now) }
     {
-        list_due(alloc, &self.sockets, seconds)
+        let mut due = Vec::new(alloc);
+        for (room, watched) in &self.sockets {
+            if watched.is_due(seconds) {
+                let space = Text::copy_of(alloc, watched.space.as_str())?;
+                due.push(Due { room: *room, space })?;
+            }
+        }
+        Ok(due)
     }
 
     /// Forgets those whose session can't come back any more at this moment.
@@ -116,24 +123,6 @@ impl Deadlines {
     {
         self.sockets.retain(|_, watched| watched.stays(moment));
     }
-}
-
-/// Those of the sockets that are there and whose token's time is over.
-fn list_due(
-    alloc: Global,
-    sockets: &BTreeMap<Room, Watched>,
-    seconds: u64,
-) -> Result<Vec<Due>, AllocError>
-    ensures { IfOk result (λ due. due.items ≡ due_at seconds sockets.now.entries) }
-{
-    let mut due = Vec::new(alloc);
-    for (room, watched) in sockets {
-        if watched.is_due(seconds) {
-            let space = Text::copy_of(alloc, watched.space.as_str())?;
-            due.push(Due { room: *room, space })?;
-        }
-    }
-    Ok(due)
 }
 
 /// Whoever came, or came back, and has done nothing else since is among those that are to be ended

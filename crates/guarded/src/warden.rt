@@ -15,7 +15,7 @@ use journal::{Cast, Ending, Form};
 use json::{Error, Scratch, Value, Writer};
 use std::alloc::{AllocError, Global};
 use terms::{Attachments, Room, Text, ascii_text, id_text};
-use tokens::{expires_in, seconds_of};
+use tokens::{expires_in, seconds_of, text_of};
 
 /// The namespace of the warden.
 pub const EXPIRY: &str = "/expiry";
@@ -51,8 +51,8 @@ pub(crate) fn told_of_end(alloc: Global, who: &Who, ending: Ending) -> Result<Te
     }
 }
 
-/// The event of what the warden is told, if it is, before what the app inside wants: where that
-/// ends the socket, nothing may follow.
+/// What the warden is told, if it is, as an event for everybody in its namespace, before what the app
+/// inside wants: where that ends the socket, nothing may follow.
 pub(crate) fn with_told(alloc: Global, told: Option<Text>, mut inner: Vec<Effect>) -> Wanted
     ensures { IfOk result (λ effects. effects.items ≡ table.events_of told ++ inner.items) }
 {
@@ -60,23 +60,16 @@ pub(crate) fn with_told(alloc: Global, told: Option<Text>, mut inner: Vec<Effect
         return Ok(inner);
     };
     let mut effects = Vec::new(alloc);
-    effects.push(event(alloc, payload)?)?;
-    effects.append(&mut inner)?;
-    Ok(effects)
-}
-
-/// An event for everybody in the namespace of the warden.
-fn event(alloc: Global, payload: Text) -> Result<Effect, AllocError>
-    ensures { IfOk result (λ effect. effect ≡ table.event payload) }
-{
-    Ok(Effect::Emit(Cast {
+    effects.push(Effect::Emit(Cast {
         space: Text::copy_of(alloc, EXPIRY)?,
         rooms: Vec::new(alloc),
         excepted: Vec::new(alloc),
         form: Form::Event { logged: false },
         payload,
         attachments: Attachments::new(alloc),
-    }))
+    }))?;
+    effects.append(&mut inner)?;
+    Ok(effects)
 }
 
 /// That a socket has come whose token expires, and when, in seconds since 1970.
@@ -138,23 +131,12 @@ fn begin(alloc: Global, name: &str, space: &str, id: &str) -> Result<Writer, All
 }
 
 /// What was written, as an array that ends here.
-fn array_text(mut writer: Writer) -> Result<Text, AllocError>
+pub fn array_text(mut writer: Writer) -> Result<Text, AllocError>
     requires { writer.before ≡ [] }
     ensures { IfOk result (λ text. text ≡ print (writer.tokens ++ end_array ∷ [])) }
 {
     writer.end_array()?;
     Ok(Text::from_string(text_of(writer)))
-}
-
-/// What was written to a writer that began with nothing.
-fn text_of(writer: Writer) -> String
-    requires { writer.before ≡ [] }
-    ensures { string_bytes result ≡ print writer.tokens }
-{
-    match String::from_utf8(writer.into_inner()) {
-        Ok(text) => text,
-        Err(_) => unreachable!(),
-    }
 }
 
 /// The name of a room.
@@ -207,33 +189,17 @@ fn told_by(alloc: Global, event: &Value) -> Result<Option<Told>, AllocError>
     let Some(room) = room_at(event, 2) else {
         return Ok(None);
     };
-    match name {
-        "came" => came(alloc, room, space, seconds_at(event, 3)),
-        "back" => Ok(Some(Told::Back(room))),
-        "away" => Ok(Some(Told::Away(room))),
-        "gone" => Ok(Some(Told::Gone(room))),
+    match (name, seconds_at(event, 3)) {
+        ("came", Some(expires)) => Ok(Some(Told::Came {
+            room,
+            space: Text::copy_of(alloc, space)?,
+            expires,
+        })),
+        ("back", _) => Ok(Some(Told::Back(room))),
+        ("away", _) => Ok(Some(Told::Away(room))),
+        ("gone", _) => Ok(Some(Told::Gone(room))),
         _ => Ok(None),
     }
-}
-
-/// That a socket has come, where it is said when its token expires.
-fn came(
-    alloc: Global,
-    room: Room,
-    space: &str,
-    expires: Option<u64>,
-) -> Result<Option<Told>, AllocError>
-    ensures { IfOk result (λ told. told ≡ option_map (reading.came room space.now) expires) }
-{
-    let Some(expires) = expires else {
-        return Ok(None);
-    };
-    let space = Text::copy_of(alloc, space)?;
-    Ok(Some(Told::Came {
-        room,
-        space,
-        expires,
-    }))
 }
 
 /// The seconds that an element of an array says.
@@ -257,27 +223,21 @@ pub(crate) fn commanded(alloc: Global, arrived: &Arrived) -> Wanted
     Ok(effects)
 }
 
-/// The sockets that an event means.
+/// The sockets that an event means: those of a namespace in a room.
 fn read_command(alloc: Global, payload: &str) -> Result<Option<Selection>, AllocError>
     ensures { IfOk result (λ selection.
         selection ≡ option_and_then commands.meant (document payload.now)) }
 {
     let mut scratch = Scratch::new(alloc);
-    match Value::parse(alloc, payload, &mut scratch) {
-        Ok(command) => meant(alloc, &command),
-        Err(Error::Invalid) => Ok(None),
-        Err(_) => Err(AllocError),
-    }
-}
-
-/// The sockets that a command means: those of a namespace in a room.
-fn meant(alloc: Global, command: &Value) -> Result<Option<Selection>, AllocError>
-    ensures { IfOk result (λ selection. selection ≡ commands.meant (value_view command.now)) }
-{
-    let (Some(name), Some(space)) = (text_at(command, 0), text_at(command, 1)) else {
+    let command = match Value::parse(alloc, payload, &mut scratch) {
+        Ok(command) => command,
+        Err(Error::Invalid) => return Ok(None),
+        Err(_) => return Err(AllocError),
+    };
+    let (Some(name), Some(space)) = (text_at(&command, 0), text_at(&command, 1)) else {
         return Ok(None);
     };
-    let Some(room) = room_at(command, 2) else {
+    let Some(room) = room_at(&command, 2) else {
         return Ok(None);
     };
     if name != "end" {
