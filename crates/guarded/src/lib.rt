@@ -8,6 +8,4 @@ mod warden;
 
 pub use deadlines::{Deadlines, Due, Watched, everybody_due_is_listed};
 pub use guarded::{Entrance, Expiring, Guarded, NOT_ALLOWED, Pass, has_token};
-pub use warden::{
-    EXPIRY, Told, array_text, begin_of, connect_text, end_text, read_told, room_name,
-};
+pub use warden::{EXPIRY, Told, begin_of, connect_text, end_text, read_told, room_name};

@@ -131,7 +131,7 @@ fn begin(alloc: Global, name: &str, space: &str, id: &str) -> Result<Writer, All
 }
 
 /// What was written, as an array that ends here.
-pub fn array_text(mut writer: Writer) -> Result<Text, AllocError>
+fn array_text(mut writer: Writer) -> Result<Text, AllocError>
     requires { writer.before ≡ [] }
     ensures { IfOk result (λ text. text ≡ print (writer.tokens ++ end_array ∷ [])) }
 {

@@ -1,5 +1,4 @@
 mod ArgumentsLemmas
 mod CleanLemmas
-mod FormLemmas
 mod SocketsLemmas
 mod TellingLemmas

@@ -1,10 +1,10 @@
 -- What `emit` sends: an event, a question or an answer.
-use Rattle.std.specs.Prelude.{ℕ, ◌+◌, ◌*◌, ◌-◌, Bool, false, not, if◌then◌else◌, nat_lt, List, [], ◌∷◌, length, codes, Option, Some, None, option_and_then, Result, Ok, Err}
-use Rattle.std.specs.Char.{is_ascii_digit}
+use Rattle.std.specs.Prelude.{ℕ, Bool, false, not, List, codes, Option, Some, None, option_and_then, Result, Ok, Err}
 use Rattle.json.specs.Json.{Json}
 use Rattle.json.specs.Find.{get, as_number, as_bool}
 use Rattle.journal.specs.declared.form.Form.{Form}
 use Rattle.journal.specs.declared.form.Form.TheVariants.{Event, Question, Answer}
+use Rattle.tokens.specs.Dates.{read_whole}
 use Rattle.switchboard.specs.declared.command.CommandError.{CommandError}
 use Rattle.switchboard.specs.declared.command.CommandError.TheVariants.{BadId}
 
@@ -17,18 +17,9 @@ is_true (Some flag) = flag
 abbrev pub is_volatile : Json → Bool
 is_volatile options = is_true (option_and_then as_bool (get (codes "volatile") options))
 
--- the number that digits write which follow those of another one
-abbrev pub read_on : ℕ → List ℕ → Option ℕ
-read_on n [] = Some n
-read_on n (c ∷ cs) = if is_ascii_digit c then read_on (n * 10 + (c - 48)) cs else None
-
--- at most fifteen digits
-abbrev pub read_id : List ℕ → Option ℕ
-read_id text = if nat_lt 15 (length text) then None else read_on 0 text
-
 -- the id that a value is
 abbrev pub id_of : Json → Option ℕ
-id_of member = option_and_then read_id (as_number member)
+id_of member = option_and_then read_whole (as_number member)
 
 -- a question under an id
 abbrev pub question : Option ℕ → Result Form CommandError

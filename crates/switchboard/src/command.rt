@@ -112,9 +112,7 @@ fn wanted(alloc: Global, spaces: &[Text], message: &Message) -> Result<Vec<Effec
         Err(_) => return Err(CommandError::Memory),
     };
     let name = name_in(&command)?;
-    let Some(options) = options_of(&command) else {
-        return Err(CommandError::Malformed);
-    };
+    let options = options_of(&command).ok_or(CommandError::Malformed)?;
     match name {
         Name::Emit => emit(alloc, spaces, &command, options, message),
         Name::SocketsJoin => {
@@ -140,13 +138,8 @@ fn wanted(alloc: Global, spaces: &[Text], message: &Message) -> Result<Vec<Effec
 fn name_in(command: &Value) -> Result<Name, CommandError>
     ensures { result ≡ table.name_in (value_view command.now) }
 {
-    let Some(first) = command.at(0) else {
-        return Err(CommandError::Malformed);
-    };
-    let Some(name) = first.as_str() else {
-        return Err(CommandError::UnknownCommand);
-    };
-    match name {
+    let first = command.at(0).ok_or(CommandError::Malformed)?;
+    match first.as_str().ok_or(CommandError::UnknownCommand)? {
         "emit" => Ok(Name::Emit),
         "socketsJoin" => Ok(Name::SocketsJoin),
         "socketsLeave" => Ok(Name::SocketsLeave),
@@ -219,12 +212,7 @@ fn options_of<'v, 'a>(command: &'v Value<'a>) -> Option<&'v Value<'a>>
     ensures { option_map (λ v. value_view v.now) result
         ≡ members.options_of (value_view command.now) }
 {
-    let options = command.at(1)?;
-    if are_options(options) {
-        Some(options)
-    } else {
-        None
-    }
+    command.at(1).filter(|options| are_options(options))
 }
 
 /// Whether a value is an object, and each of its members that is known is of its type.
@@ -255,30 +243,21 @@ fn name_form(options: &Value) -> bool
 fn is_text(member: Option<&Value>) -> bool
     ensures { result ≡ members.is_text (option_map (λ v. value_view v.now) member.entry) }
 {
-    match member {
-        Some(value) => value.as_str().is_some(),
-        None => true,
-    }
+    member.is_none_or(|value| value.as_str().is_some())
 }
 
 /// Whether it is a number, or isn't there.
 fn is_number(member: Option<&Value>) -> bool
     ensures { result ≡ members.is_number (option_map (λ v. value_view v.now) member.entry) }
 {
-    match member {
-        Some(value) => value.as_number().is_some(),
-        None => true,
-    }
+    member.is_none_or(|value| value.as_number().is_some())
 }
 
 /// Whether it is a truth value, or isn't there.
 fn is_flag(member: Option<&Value>) -> bool
     ensures { result ≡ members.is_flag (option_map (λ v. value_view v.now) member.entry) }
 {
-    match member {
-        Some(value) => value.as_bool().is_some(),
-        None => true,
-    }
+    member.is_none_or(|value| value.as_bool().is_some())
 }
 
 /// Whether it is a list of texts, or isn't there.

@@ -11,12 +11,12 @@ ghost use Rattle.switchboard.specs.Replies.{Gives};
 
 use crate::command::{CommandError, ok_reply};
 use crate::sockets::selection_of;
-use crate::telling::text_of;
 use events::{Effect, Message, Selection};
 use journal::{Cast, Form};
 use json::{Value, Writer};
 use std::alloc::{AllocError, Global};
 use terms::Text;
+use tokens::{read_whole, text_of};
 
 /// The effects of `emit`.
 pub(crate) fn emit(
@@ -84,10 +84,7 @@ fn has_event(command: &Value, options: &Value) -> bool
 fn is_name(first: Option<&Value>) -> bool
     ensures { result ≡ table.is_name (option_map (λ v. value_view v.now) first.entry) }
 {
-    match first {
-        Some(name) => name.as_str().is_some() || name.as_number().is_some(),
-        None => false,
-    }
+    first.is_some_and(|name| name.as_str().is_some() || name.as_number().is_some())
 }
 
 /// Whether it is an event, or a question, with a name that no event may have.
@@ -139,24 +136,7 @@ fn is_volatile(options: &Value) -> bool
 fn id_of(number: &Value) -> Option<u64>
     ensures { result ≡ forms.id_of (value_view number.now) }
 {
-    read_id(number.as_number()?)
-}
-
-/// The integer that at most fifteen digits write.
-fn read_id(text: &str) -> Option<u64>
-    ensures { result ≡ forms.read_id text.now }
-{
-    if text.len() > 15 {
-        return None;
-    }
-    let mut id: u64 = 0;
-    for digit in text.as_bytes() {
-        if !digit.is_ascii_digit() {
-            return None;
-        }
-        id = id * 10 + u64::from(*digit - b'0');
-    }
-    Some(id)
+    read_whole(number.as_number()?)
 }
 
 /// The elements of a command from the third on, as an array. Members keep their order, and numbers

@@ -42,27 +42,19 @@ pub(crate) fn move_of(
     ensures { Gives result (λ m. m)
         (changes.move_of spaces.now (value_view command.now) (value_view options.now)) }
 {
-    let Some(name) = command.at(2) else {
-        return Err(CommandError::Malformed);
-    };
+    let name = command.at(2).ok_or(CommandError::Malformed)?;
     if name.as_str().is_none() {
         return Err(CommandError::Malformed);
     }
     let selection = selection_of(alloc, spaces, options)?;
-    match room_of(name) {
-        Some(room) => Ok((selection, room)),
-        None => Err(CommandError::BadRoom),
-    }
+    Ok((selection, room_of(name).ok_or(CommandError::BadRoom)?))
 }
 
 /// The namespace that is meant.
 fn space_of<'a>(options: &Value<'a>) -> &'a str
     ensures { result.now ≡ table.space_of (value_view options.now) }
 {
-    match options.get("in").and_then(Value::as_str) {
-        Some(space) => space,
-        None => "/",
-    }
+    options.get("in").and_then(Value::as_str).unwrap_or("/")
 }
 
 /// Whether the server has a namespace.
@@ -89,10 +81,7 @@ fn read_rooms(alloc: Global, names: &Vec<Value>) -> Result<Vec<Room>, CommandErr
 {
     let mut rooms = Vec::new(alloc);
     for name in names {
-        match room_of(name) {
-            Some(room) => rooms.push(room)?,
-            None => return Err(CommandError::BadRoom),
-        }
+        rooms.push(room_of(name).ok_or(CommandError::BadRoom)?)?;
     }
     Ok(rooms)
 }

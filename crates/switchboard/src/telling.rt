@@ -1,15 +1,15 @@
 //! What backends are told: the event of each thing that a client did.
 
-ghost use Rattle.std.specs.Prelude.{◌≡◌, ◌++◌, [], ◌∷◌, IfOk, OnOk, string_bytes};
-ghost use Rattle.json.specs.Print.{print};
+ghost use Rattle.std.specs.Prelude.{◌≡◌, ◌++◌, ◌∷◌, [], IfOk, OnOk, string_bytes};
 ghost use Rattle.switchboard.specs.Telling as table;
 
 use events::{Arrived, Effect, Wanted, Who, ending_word};
+use guarded::{begin_of, room_name};
 use journal::{Cast, Ending, Form};
 use json::Writer;
 use std::alloc::{AllocError, Global};
-use std::str;
 use terms::{Attachments, Room, Text, ascii_text, id_text};
+use tokens::text_of;
 
 /// The namespace of the backends.
 pub(crate) const BACKENDS: &str = "/backend";
@@ -89,7 +89,7 @@ fn connection_text(
     ensures { IfOk result (λ text.
         text ≡ table.connection_text who.now payload.now claims.now) }
 {
-    let mut writer = begin(alloc, "connection", who)?;
+    let mut writer = begin_of(alloc, "connection", who)?;
     writer.null()?;
     let mut text = text_of(writer);
     push_element(&mut text, payload)?;
@@ -102,7 +102,7 @@ fn connection_text(
 fn return_text(alloc: Global, who: &Who, rooms: &[Room]) -> Result<Text, AllocError>
     ensures { IfOk result (λ text. text ≡ table.return_text who.now rooms.now) }
 {
-    let mut writer = begin(alloc, "connection", who)?;
+    let mut writer = begin_of(alloc, "connection", who)?;
     write_rooms(&mut writer, rooms)?;
     writer.end_array()?;
     Ok(Text::from_string(text_of(writer)))
@@ -119,7 +119,7 @@ fn packet_text(
 ) -> Result<Text, AllocError>
     ensures { IfOk result (λ text. text ≡ table.packet_text name.now who.now id payload.now) }
 {
-    let mut writer = begin(alloc, name, who)?;
+    let mut writer = begin_of(alloc, name, who)?;
     match id {
         Some(id) => writer.u64(id)?,
         None => writer.null()?,
@@ -133,25 +133,11 @@ fn packet_text(
 fn end_text(alloc: Global, who: &Who, rooms: &[Room], ending: Ending) -> Result<Text, AllocError>
     ensures { IfOk result (λ text. text ≡ table.end_text who.now rooms.now ending) }
 {
-    let mut writer = begin(alloc, "disconnection", who)?;
+    let mut writer = begin_of(alloc, "disconnection", who)?;
     writer.string(ending_word(ending))?;
     write_rooms(&mut writer, rooms)?;
     writer.end_array()?;
     Ok(Text::from_string(text_of(writer)))
-}
-
-/// The beginning of each of these events: its name, and the namespace and session id of the socket.
-fn begin(alloc: Global, name: &str, who: &Who) -> Result<Writer, AllocError>
-    ensures before { IfOk result (λ writer. writer.before ≡ []) }
-    ensures tokens { IfOk result (λ writer. writer.tokens ≡ table.head name.now who.now) }
-{
-    let id = id_text(who.sid.number());
-    let mut writer = Writer::new(Vec::with_capacity(alloc, 128)?);
-    writer.begin_array()?;
-    writer.string(name)?;
-    writer.string(who.space.as_str())?;
-    writer.string(ascii_text(&id))?;
-    Ok(writer)
 }
 
 /// Adds a list of rooms.
@@ -162,30 +148,9 @@ fn write_rooms(writer: &mut Writer, rooms: &[Room]) -> Result<(), AllocError>
 {
     writer.begin_array()?;
     for room in rooms {
-        writer.string(name_of(room))?;
+        writer.string(room_name(room))?;
     }
     writer.end_array()
-}
-
-/// The name of a room.
-fn name_of(room: &Room) -> &str
-    ensures { result.now ≡ room.now }
-{
-    match str::from_utf8(room.bytes()) {
-        Ok(name) => name,
-        Err(_) => unreachable!(),
-    }
-}
-
-/// What was written to a writer that began with nothing.
-pub(crate) fn text_of(writer: Writer) -> String
-    requires { writer.before ≡ [] }
-    ensures { string_bytes result ≡ print writer.tokens }
-{
-    match String::from_utf8(writer.into_inner()) {
-        Ok(text) => text,
-        Err(_) => unreachable!(),
-    }
 }
 
 /// Adds one more element to a text that ends with an element, where it isn't empty.
